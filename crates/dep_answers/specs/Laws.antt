@@ -1,9 +1,11 @@
 -- Words of the laws.
-use Rattle.std.specs.Prelude.{◌≡◌, Bool, true, false, Some, None, []}
+use Rattle.std.specs.Prelude.{◌≡◌, ◌⊎◌, Bool, true, false, Some, None, []}
 use Rattle.std.specs.FinMap as finmap
 use Rattle.dep_types.specs.State.{State, Object}
 use Rattle.dep_types.specs.Rows.{object_view, upload_row}
 use Rattle.dep_types.specs.declared.config.Config.{Config}
+use Rattle.dep_types.specs.declared.refusal.Refusal.{Refusal}
+use Rattle.dep_types.specs.declared.target.Method.TheVariants.{Post, Put}
 use Rattle.dep_types.specs.declared.target.Resource.{Resource}
 use Rattle.dep_types.specs.declared.target.Resource.TheVariants.{FileSet, Staging}
 use Rattle.dep_docs_out.specs.Documents.{status_document, object_url, upload_document, upload_url}
@@ -11,7 +13,8 @@ use Rattle.dep_fields.specs.declared.kind.Opening.{Opening}
 use Rattle.dep_decisions.specs.Effects.{effect, fresh}
 use Rattle.dep_decisions.specs.declared.operation.Operation.{Operation}
 use Rattle.dep_answers.specs.Answers.{Document, answer}
-use Rattle.dep_answers.specs.Steps.{accepted_answer}
+use Rattle.dep_answers.specs.Replies.{front_text, refused_answer}
+use Rattle.dep_answers.specs.Steps.{accepted_answer, is_head, operation_step}
 
 -- the resources that have a GET
 abbrev pub is_shown : Resource → Bool
@@ -36,3 +39,16 @@ pub record IsToldUpload (config : Config) (s : State) (op : Operation) : Type 0 
       ≡ answer 201
       (Some (Document (upload_document config (upload_row s.next.upload (fresh s opening)) [])))
       None (Some (upload_url config s.next.upload))
+
+-- the request is a POST or a PUT
+abbrev pub IsPostOrPut : Operation → Type 0
+IsPostOrPut op = (op.target.method ≡ Post) ⊎ (op.target.method ≡ Put)
+
+-- the tag that is answered is the number of the change
+abbrev pub IsToldTag : Config → State → Operation → Type 0
+IsToldTag config s op = (accepted_answer config (effect config s op) op).tag ≡ Some s.next.change
+
+-- what is sent is the reply to this refusal
+abbrev pub IsToldRefusal : Config → State → Operation → Refusal → Type 0
+IsToldRefusal config s op r = (operation_step config s op).front
+    ≡ front_text (refused_answer s.clock r None) s.clock (is_head op.target.method) op.closes

@@ -5,5 +5,6 @@ pub mod Steps
 pub mod Subjects
 pub mod Told
 pub mod Performing
+pub mod Telling
 pub mod Laws
 pub mod Examples

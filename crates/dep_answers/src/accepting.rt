@@ -8,6 +8,7 @@ ghost use Rattle.dep_answers.specs.Answers.{answer, Document};
 ghost use Rattle.dep_answers.specs.Performing.{HasEnd, Says};
 ghost use Rattle.dep_answers.specs.Replies.{answer_to, shown_answer};
 ghost use Rattle.dep_answers.specs.Subjects.{shown_at, subject_at, subject_of};
+ghost use Rattle.dep_answers.specs.Telling.{SaysShown};
 
 use crate::answer::{Answer, Content};
 use crate::bags::{bag_list, bag_reply};
@@ -33,9 +34,8 @@ pub fn accepted(
     shown: &Shown,
     delivery: Delivery,
 ) -> Result<Option<Performed>, AllocError>
-    ensures says { IfOk result (λ said. (s : State) → IsSound s
-        → shown.now ≡ shown_at s (subject_of s.next target.now.resource target.now.method)
-        → Says s (answer_to service.now s target.now.resource target.now.method) delivery said) }
+    ensures says { IfOk result
+        (SaysShown service.now target.now shown.now delivery) }
     ensures ends { IfOk result (λ said. IfSome said HasEnd) }
 {
     match target.method {

@@ -1,16 +1,15 @@
 //! Replies that show the bag of an object (RFC 8493).
 ghost use Rattle.std.specs.Prelude.{◌≡◌, ℕ, IfOk, IfSome, Some, None};
 ghost use Rattle.std.specs.FinMap as map;
-ghost use Rattle.dep_types.specs.State.{State, Object as StateObject, File as StateFile, file_at};
-ghost use Rattle.dep_types.specs.Rows.{file_row, object_view};
+ghost use Rattle.dep_types.specs.State.{State};
 ghost use Rattle.dep_types.specs.Sound.{IsSound};
 ghost use Rattle.dep_bag.specs.Bag.{list_text};
 ghost use Rattle.dep_bag.specs.Numbered.{file_number};
-ghost use Rattle.dep_answers.specs.Answers.{answer, StoredContent};
-ghost use Rattle.dep_answers.specs.Bags.{shown_in_bag};
+ghost use Rattle.dep_answers.specs.Answers.{answer};
 ghost use Rattle.dep_answers.specs.Performing.{HasEnd, Says};
 ghost use Rattle.dep_answers.specs.Subjects.{shown_at, subject_in_bag};
 ghost use Rattle.dep_answers.specs.Told.{told_list, form_at, bag_answer};
+ghost use Rattle.dep_answers.specs.Telling.{SaysPayload, SaysTagFile};
 
 use crate::answer::{Answer, Content, Form};
 use crate::performed::{Delivery, Performed};
@@ -75,9 +74,7 @@ fn file_reply_at(
     path: &[u8],
     delivery: Delivery,
 ) -> Result<Option<Performed>, AllocError>
-    ensures says { IfOk result (λ said. (s : State) (n : ℕ) (f : ℕ) (it : StateFile) → IsSound s
-        → file_number path.now ≡ Some f → file_at s n f ≡ Some it → row.now ≡ file_row n f it
-        → Says s (bag_answer s n path.now) delivery said) }
+    ensures says { IfOk result (SaysPayload path.now row.now delivery) }
     ensures ends { IfOk result (λ said. IfSome said HasEnd) }
 {
     if is_payload_path(path, row) {
@@ -94,9 +91,7 @@ fn tag_file_reply(
     path: &[u8],
     delivery: Delivery,
 ) -> Result<Option<Performed>, AllocError>
-    ensures says { IfOk result (λ said. (s : State) (n : ℕ) (o : StateObject) → IsSound s
-        → file_number path.now ≡ None → map.get s.objects n ≡ Some o → view.now ≡ object_view n o
-        → Says s (answer 200 (shown_in_bag o path.now) None None) delivery said) }
+    ensures says { IfOk result (SaysTagFile path.now view.now delivery) }
     ensures ends { IfOk result (λ said. IfSome said HasEnd) }
 {
     match bag_file(alloc, view, path)? {

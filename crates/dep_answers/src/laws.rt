@@ -1,5 +1,5 @@
 //! Laws of the answers, apart from any code.
-ghost use Rattle.std.specs.Prelude.{◌≡◌, ◌⊎◌, ℕ, Bool, true, false, List, [], codes, Option, Some, None, IsTrue, is_some, IfSome, map as each};
+ghost use Rattle.std.specs.Prelude.{◌≡◌, ℕ, Bool, true, false, List, [], codes, Option, Some, None, IsTrue, is_some, IfSome, map as each};
 ghost use Rattle.dep_types.specs.Base.{IsBase};
 ghost use Rattle.dep_types.specs.State.{State, Object as StateObject};
 ghost use Rattle.dep_types.specs.Sound.{IsSound};
@@ -9,7 +9,6 @@ ghost use Rattle.dep_types.specs.declared.target.Method.{Method as AMethod};
 ghost use Rattle.dep_types.specs.declared.target.Resource.{Resource as AResource};
 ghost use Rattle.dep_types.specs.declared.target.Method.TheVariants.{Get as AGet, Post as APost, Put as APut};
 ghost use Rattle.dep_types.specs.declared.target.Resource.TheVariants.{Service as AService, Object as AnObject, Staging as AStaging, Upload as AnUpload, File as AFile, Metadata as AMetadata};
-ghost use Rattle.dep_decisions.specs.Effects.{effect};
 ghost use Rattle.dep_decisions.specs.Rules.{refusal, presence_refusal};
 ghost use Rattle.dep_decisions.specs.declared.operation.Operation.{Operation as AnOperation};
 ghost use Rattle.dep_reply.specs.Lines.{is_unbroken, IsUnbroken};
@@ -18,9 +17,9 @@ ghost use Rattle.dep_answers.specs.Answers.{bytes_of, head_of};
 ghost use Rattle.dep_answers.specs.Bags.{bag_entries};
 ghost use Rattle.dep_docs_out.specs.ExampleDocuments.{example_config};
 ghost use Rattle.dep_answers.specs.Examples.{example_state, created_reply, upload_reply, file_head, changed_reply};
-ghost use Rattle.dep_answers.specs.Laws.{IsToldObject, IsToldUpload, is_shown};
+ghost use Rattle.dep_answers.specs.Laws.{IsToldObject, IsToldUpload, IsToldTag, IsToldRefusal, IsPostOrPut, is_shown};
 ghost use Rattle.dep_answers.specs.Replies.{answer_to, content_at, refused_answer, front_text, stored_text};
-ghost use Rattle.dep_answers.specs.Steps.{accepted_answer, is_head, operation_step};
+ghost use Rattle.dep_answers.specs.Steps.{operation_step};
 
 /// What is shown at the paths of an object's bag are the files of the bag.
 pub fn bags_show_their_files()
@@ -64,9 +63,9 @@ pub fn openings_are_told_their_upload()
 /// tag.
 pub fn changes_are_told_their_tag()
     ensures { (config : AConfig) (s : State) (op : AnOperation) (n : ℕ)
-        → op.target.resource ≡ AnObject n → (op.target.method ≡ APost) ⊎ (op.target.method ≡ APut)
+        → op.target.resource ≡ AnObject n → IsPostOrPut op
         → refusal config s op ≡ None
-        → (accepted_answer config (effect config s op) op).tag ≡ Some s.next.change }
+        → IsToldTag config s op }
 {}
 
 /// A refused request changes nothing: it leaves the state as it was, and is sent the reply to its
@@ -75,8 +74,7 @@ pub fn refused_requests_change_nothing()
     ensures state { (config : AConfig) (s : State) (op : AnOperation) (r : ARefusal)
         → refusal config s op ≡ Some r → (operation_step config s op).state ≡ s }
     ensures reply { (config : AConfig) (s : State) (op : AnOperation) (r : ARefusal)
-        → refusal config s op ≡ Some r → (operation_step config s op).front
-        ≡ front_text (refused_answer s.clock r None) s.clock (is_head op.target.method) op.closes }
+        → refusal config s op ≡ Some r → IsToldRefusal config s op r }
     ensures alone { (config : AConfig) (s : State) (op : AnOperation) (r : ARefusal)
         → refusal config s op ≡ Some r → (operation_step config s op).stored ≡ [] }
 {}

@@ -1,11 +1,10 @@
 //! Replies with the content of a stored file.
 ghost use Rattle.std.specs.Prelude.{◌≡◌, IfOk, IfSome, Some, None, ℕ, List, length};
-ghost use Rattle.dep_types.specs.State.{State, File as StateFile, file_at};
-ghost use Rattle.dep_types.specs.Rows.{file_row};
-ghost use Rattle.dep_answers.specs.Answers.{answer, StoredContent};
-ghost use Rattle.dep_answers.specs.Performing.{HasEnd, IsReply, Says, stored_behind};
+ghost use Rattle.dep_types.specs.State.{State};
+ghost use Rattle.dep_answers.specs.Performing.{HasEnd, Says, stored_behind};
 ghost use Rattle.dep_answers.specs.Subjects.{shown_at};
 ghost use Rattle.dep_answers.specs.Told.{file_answer};
+ghost use Rattle.dep_answers.specs.Telling.{IsContentOf};
 ghost use Rattle.dep_answers.specs.declared.performed.FileId.{FileId as AFileId};
 ghost use Rattle.dep_answers.specs.declared.subject.Subject.TheVariants.{File};
 
@@ -39,10 +38,7 @@ pub(crate) fn stored_reply(
     tag: Option<u64>,
     delivery: Delivery,
 ) -> Result<Performed, AllocError>
-    ensures says { IfOk result (λ p. (s : State) (file : StateFile)
-        → file_at s row.now.object row.now.file ≡ Some file
-        → row.now ≡ file_row row.now.object row.now.file file
-        → IsReply s (answer 200 (Some (StoredContent file.media file.content)) tag None) delivery p) }
+    ensures says { IfOk result (IsContentOf row.now tag delivery) }
     ensures ends { IfOk result HasEnd }
 {
     let head = Reply {

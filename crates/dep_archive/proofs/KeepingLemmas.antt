@@ -1,5 +1,6 @@
 -- What was hashed of uploads is what was received of them, as the state goes on.
-use Rattle.std.proofs.Common.{inl, inr, Result, Ok, Err, IfOk, OnOk, OnErr, arith, get_or}
+use Rattle.std.proofs.Common.{inl, inr, Result, Ok, Err, IsErr, IsTrue, arith, get_or}
+use Rattle.std.proofs.lemmas.Result.{IfOk-weaker, on_err_weaker}
 use Rattle.sqlite.specs.State as db
 use Rattle.dep_types.specs.State.{State}
 use Rattle.dep_decisions.specs.Laws.{KeepsSegments}
@@ -8,7 +9,11 @@ use Rattle.dep_staging.specs.declared.running.RunningHash.{RunningHash}
 use Rattle.dep_staging.specs.declared.running.RunningHashes.{RunningHashes}
 use Rattle.dep_staging.proofs.AheadLemmas.{still_hashed}
 use Rattle.dep_schema.specs.States.{StandsFor}
-use Rattle.dep_archive.specs.Archive.{Keeps}
+use Rattle.dep_types.specs.Conditions.{Condition}
+use Rattle.dep_hub.specs.Archives.{TriesTo, KeepsAll, FailsIfShut}
+use Rattle.dep_store.specs.Archive as store
+use Rattle.dep_store.specs.Shut as db_shut
+use Rattle.dep_archive.specs.Archive.{Keeps, shown_by}
 
 -- what was hashed of one upload
 still_running : (s t : State) (run : RunningHash) → KeepsSegments s t → IsRunning s run → IsRunning t run
@@ -23,17 +28,42 @@ still_running s t run keeps (inr begun) = inr (record {
 pub are_running_still : (s t : State) (runs : RunningHashes) → KeepsSegments s t → AreRunning s runs → AreRunning t runs
 are_running_still s t runs keeps are k d within = still_running s t (get_or runs.uploads.items k d) keeps (are k d within)
 
--- ---- what a call leaves, where what was hashed is what was received
+-- ---- what a call leaves, as what was hashed is what was received
 
-module _ {A E : Type 0} (d : db.State) (runs : RunningHashes) (t : State) (are : AreRunning t runs) where
-  pub ok_keeps : (r : Result A E) (told : A → Type 0) → IfOk r (λ x. told x × StandsFor d t) → IfOk r (λ x. told x × Keeps d runs t)
-  ok_keeps (Ok x) told it = (it.0, record { stands = it.1; hashed = are })
-  ok_keeps (Err e) told it = tt
+module _ (d d' : db.State) (runs runs' : RunningHashes) where
+  -- a call of the store, from each state for which that holds
+  pub tries_hashed : {A E : Type 0} (holds given : State → Type 0) (told : State → A → Type 0) (next : State → State) (r : Result A E)
+      → ((s : State) → given s → AreRunning s runs → holds s) → ((s : State) → AreRunning s runs → AreRunning s runs') → ((s : State) → AreRunning s runs → AreRunning (next s) runs')
+      → TriesTo (store.shown_by d) (store.shown_by d') holds told next r → TriesTo (shown_by d runs) (shown_by d' runs') given told next r
+  tries_hashed {A} {E} holds given told next r knows stay go it = record {
+    ok = λ clean s keeps its. IfOk-weaker r (λ answer. told s answer × StandsFor d' (next s)) (λ answer. told s answer × Keeps d' runs' (next s))
+        (λ answer h. (h.0, record { stands = h.1; hashed = go s keeps.hashed })) (it.ok clean s keeps.stands (knows s its keeps.hashed));
+    err = λ is_open s keeps. on_err_weaker r (λ (stands : StandsFor d' s). record { stands = stands; hashed = stay s keeps.hashed }) (it.err is_open s keeps.stands);
+    honest = it.honest;
+    was_open = it.was_open;
+    stop = λ clean s keeps its. it.stop clean s keeps.stands (knows s its keeps.hashed);
+  }
 
-  pub done_keeps : (r : Result A E) → OnOk r (StandsFor d t) → OnOk r (Keeps d runs t)
-  done_keeps (Ok x) stands = record { stands = stands; hashed = are }
-  done_keeps (Err e) stands = tt
+  -- a call that asks for nothing that the store keeps
+  pub keeps_hashed : (IsTrue d'.is_open → (s : State) → StandsFor d s → AreRunning s runs → AreRunning s runs') → KeepsAll (store.shown_by d) (store.shown_by d')
+      → KeepsAll (shown_by d runs) (shown_by d' runs')
+  keeps_hashed hashed it = record {
+    kept = λ is_open s keeps. record { stands = it.kept is_open s keeps.stands; hashed = hashed is_open s keeps.stands keeps.hashed };
+    honest = it.honest;
+    was_open = it.was_open;
+    left = it.left;
+  }
 
-  pub err_keeps : (r : Result A E) → OnErr r (StandsFor d t) → OnErr r (Keeps d runs t)
-  err_keeps (Ok x) stands = tt
-  err_keeps (Err e) stands = record { stands = stands; hashed = are }
+  pub shut_hashed : {A E : Type 0} (r : Result A E) → db_shut.FailsIfShut d d' r → FailsIfShut (shown_by d runs) (shown_by d' runs') r
+  shut_hashed r it = record { opened = it.opened; left = λ clean shut image h. (image, it.left clean shut image h, λ s. (λ x. x, λ x. x)) }
+
+-- it failed as another call did
+pub tries_failed : {A E F : Type 0} (old new : Condition) (holds : State → Type 0) (told : State → A → Type 0) (next : State → State) (fault : F) (r : Result A E) → IsErr r
+    → TriesTo old new holds told next (Err fault) → TriesTo old new holds told next r
+tries_failed old new holds told next fault (Ok answer) failed it = cc failed
+tries_failed old new holds told next fault (Err e) failed it =
+    record { ok = λ clean s at its. tt; err = it.err; honest = it.honest; was_open = it.was_open; stop = it.stop }
+
+pub fails_failed : {A E F : Type 0} (old new : Condition) (fault : F) (r : Result A E) → IsErr r → FailsIfShut {A = A} old new (Err fault) → FailsIfShut old new r
+fails_failed old new fault (Ok answer) failed it = cc failed
+fails_failed old new fault (Err e) failed it = record { opened = λ clean. tt; left = it.left }

@@ -1,14 +1,12 @@
 //! A hub over a database, also over what a stop left.
-ghost use Rattle.std.specs.Prelude.{◌≡◌, [], List, false, IfOk, IfErr, IsTrue, MatchResult};
+ghost use Rattle.std.specs.Prelude.{◌≡◌, [], false, IfOk, IfErr, IsTrue, MatchResult};
 ghost use Rattle.sqlite.specs.Held.{state};
 ghost use Rattle.sqlite.specs.State.{HasCleanDisk};
-ghost use Rattle.dep_types.specs.State.{State, empty_state};
+ghost use Rattle.dep_types.specs.State.{empty_state};
 ghost use Rattle.dep_types.specs.Config.{IsChecked};
 ghost use Rattle.dep_schema.specs.Standing.{HoldsNone, IsOpenable};
-ghost use Rattle.dep_schema.specs.States.{IsLeftAs, StandsFor};
 ghost use Rattle.dep_upgrading.specs.Migrating.{Keeps};
-ghost use Rattle.dep_archive.specs.Starting.{OpeningLeaves, outcome_of_start};
-ghost use Rattle.dep_hub.specs.Records.{Record, Run, first_world};
+ghost use Rattle.dep_archive.specs.Starting.{GoesOnFromStop, IsStore, OpeningLeaves, outcome_of_start};
 ghost use Rattle.dep_hub.specs.Standing.{StandsAfter, IsClean, IsHonest};
 ghost use Rattle.dep_archive.specs.Archive.{condition_of};
 
@@ -69,10 +67,7 @@ pub fn open_hub<S: Alter, W: Watch>(
         → StandsAfter (condition_of S.Store) hub empty_state []) }
     // Over what a stop left it goes on from the records before it, for each state that the stop
     // may have left.
-    ensures again { IfOk result (λ hub. IsHonest (condition_of S.Store) hub
-        → (found : State) → IsLeftAs (state S.Store connection).now.trees found
-        → (first : State) (records : List Record) → Run config first records (first_world found)
-        → StandsAfter (condition_of S.Store) hub first records) }
+    ensures again { IfOk result (GoesOnFromStop S.Store config (state S.Store connection)) }
     ensures config { IfOk result (λ hub. hub.config ≡ config) }
     ensures checked { IfOk result (λ _. IsChecked config) }
     ensures next { IfOk result (λ hub. hub.next ≡ 0) }
@@ -87,11 +82,7 @@ pub fn open_hub<S: Alter, W: Watch>(
         → ⊥) }
     // One that is opened for a hub which is refused is handed back as a store.
     ensures kept { IfErr result (λ e. (fault : HubFault) → e.0 ≡ StartFault.Hub fault
-        → HasCleanDisk (state S.Store e.1)
-        → (HoldsNone (state S.Store connection).now.trees
-        → StandsFor (state S.Store e.1) empty_state)
-        × ((found : State) → IsLeftAs (state S.Store connection).now.trees found
-        → StandsFor (state S.Store e.1) found)) }
+        → IsStore (state S.Store connection) (state S.Store e.1)) }
     ensures refused { IfErr result (λ e. e.0 ≡ StartFault.Hub HubFault.Config
         → ¬ IsChecked config) }
     ensures honest { MatchResult result

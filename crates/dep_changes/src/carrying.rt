@@ -2,8 +2,7 @@
 
 ghost use Rattle.std.specs.Prelude.{◌≡◌, Ok, IsTrue};
 ghost use Rattle.dep_types.specs.Numbers.{room_for};
-ghost use Rattle.dep_tables.specs.Clauses.{StaysWithin};
-ghost use Rattle.dep_row_maps.specs.Clauses.{KeepsOurs};
+ghost use Rattle.dep_row_maps.specs.Clauses.{ChangesWithin};
 ghost use Rattle.dep_decisions.specs.Decisions.{numbers_for};
 ghost use Rattle.dep_decisions.specs.Effects.{effect_of};
 ghost use Rattle.dep_decisions.specs.declared.decision.Decision.TheVariants.{Show};
@@ -43,11 +42,10 @@ pub fn carry_out<T: Statements>(
         (λ s. IsAccepted s view.now content.now decision.now)
         (λ s. effect_of s content.now decision.now) }
     ensures untouched { decision.now ≡ Show → (result ≡ Ok tt) × (tx.new ≡ tx.old) }
-    ensures ours { KeepsOurs (T.state tx.old) (T.state tx.new) result }
     ensures cause { FailsFromMaps T.state tx.old tx.new result
         (λ s. IsStorableRequest s view.now content.now decision.now)
         (λ s. TakesMemory s decision.now) }
-    ensures stays { StaysWithin T.lenders T.state tx.old tx.new result }
+    ensures keeps { ChangesWithin T.lenders T.state tx.old tx.new result }
 {
     let change = Change {
         alloc,
@@ -77,9 +75,8 @@ fn change_maps<T: Statements>(
     requires { IsTrue (room_for change.now.view.now.next (numbers_for decision.now)) }
     ensures map { CarriesOut T.state tx.old tx.new result change.now decision.now }
     ensures untouched { decision.now ≡ Show → (result ≡ Ok tt) × (tx.new ≡ tx.old) }
-    ensures ours { KeepsOurs (T.state tx.old) (T.state tx.new) result }
     ensures cause { FailsCarryingMaps T.state tx.old tx.new result change.now decision.now }
-    ensures stays { StaysWithin T.lenders T.state tx.old tx.new result }
+    ensures keeps { ChangesWithin T.lenders T.state tx.old tx.new result }
 {
     match decision {
         Decision::Show => Ok(()),

@@ -5,9 +5,8 @@ ghost use Rattle.std.specs.FinMap as map;
 ghost use Rattle.dep_types.specs.Limits.{IsStorable};
 ghost use Rattle.dep_types.specs.State.{Object};
 ghost use Rattle.dep_types.specs.Numbers.{has_room};
-ghost use Rattle.dep_tables.specs.Clauses.{StaysWithin};
 ghost use Rattle.dep_row_maps.specs.TablesAre.{with_metadata, with_object};
-ghost use Rattle.dep_row_maps.specs.Clauses.{KeepsOurs};
+ghost use Rattle.dep_row_maps.specs.Clauses.{ChangesWithin};
 ghost use Rattle.dep_row_maps.specs.Causes.{FailsByOne, FailsByStatement, FailsHolding};
 ghost use Rattle.dep_decisions.specs.Decisions.{count_of};
 ghost use Rattle.dep_decisions.specs.declared.decision.Decision.TheVariants.{Append, Create, Replace};
@@ -59,10 +58,9 @@ fn fill<T: Statements>(
 ) -> Result<(), StoreFault>
     requires { IsTrue (has_room change.now.view.now.next.file (count_of deposit.now)) }
     ensures map { PutsIn T.state tx.old tx.new result change.now object deposit.now }
-    ensures ours { KeepsOurs (T.state tx.old) (T.state tx.new) result }
     ensures cause { FailsByOne T.state tx.old tx.new result
         (IsStorableAt change.now object deposit.now) (FailsHolding (HasCopies deposit.now)) }
-    ensures stays { StaysWithin T.lenders T.state tx.old tx.new result }
+    ensures keeps { ChangesWithin T.lenders T.state tx.old tx.new result }
 {
     match deposit {
         Deposit::Files(files) => put_new_files(tx, change, object, files.as_slice()),
@@ -80,10 +78,9 @@ pub(crate) fn create<T: Statements>(
     requires { IsTrue (has_room change.now.view.now.next.file (count_of deposit.now)) }
     ensures map { CarriesOut T.state tx.old tx.new result change.now
         (Create deposit.now ingests) }
-    ensures ours { KeepsOurs (T.state tx.old) (T.state tx.new) result }
     ensures cause { FailsCarrying T.state tx.old tx.new result change.now
         (Create deposit.now ingests) }
-    ensures stays { StaysWithin T.lenders T.state tx.old tx.new result }
+    ensures keeps { ChangesWithin T.lenders T.state tx.old tx.new result }
 {
     let object = change.view.next.object;
     add_object(tx, &blank_row(change.view, object, ingests))?;
@@ -95,9 +92,8 @@ fn clear_metadata<T: Statements>(tx: &mut T, alloc: Global, object: u64) -> Resu
     ensures map { (o : Object) → Makes T.state tx.old tx.new result
         (λ s. map.get s.objects object ≡ Some o)
         (λ s. with_object s object (with_metadata o map.empty)) }
-    ensures ours { KeepsOurs (T.state tx.old) (T.state tx.new) result }
     ensures cause { FailsByOne T.state tx.old tx.new result (IsStorable object) FailsByStatement }
-    ensures stays { StaysWithin T.lenders T.state tx.old tx.new result }
+    ensures keeps { ChangesWithin T.lenders T.state tx.old tx.new result }
 {
     let none = Metadata::new(alloc);
     let cleared = set_metadata(tx, alloc, object, &none);
@@ -115,10 +111,9 @@ pub(crate) fn replace<T: Statements>(
     requires { IsTrue (has_room change.now.view.now.next.file (count_of deposit.now)) }
     ensures map { (n : ℕ) → CarriesOut T.state tx.old tx.new result change.now
         (Replace n deposit.now ingests) }
-    ensures ours { KeepsOurs (T.state tx.old) (T.state tx.new) result }
     ensures cause { (n : ℕ) → FailsCarryingMaps T.state tx.old tx.new result change.now
         (Replace n deposit.now ingests) }
-    ensures stays { StaysWithin T.lenders T.state tx.old tx.new result }
+    ensures keeps { ChangesWithin T.lenders T.state tx.old tx.new result }
 {
     let row = ingested_by(touched(change.view)?, ingests);
     delete_files(tx, change.alloc, row.object)?;
@@ -135,11 +130,10 @@ fn append_files<T: Statements>(
 ) -> Result<(), StoreFault>
     requires { IsTrue (has_room change.now.view.now.next.file (length files.now)) }
     ensures map { Appends T.state tx.old tx.new result change.now row (Deposit.Files files.now) }
-    ensures ours { KeepsOurs (T.state tx.old) (T.state tx.new) result }
     ensures cause { FailsByOne T.state tx.old tx.new result
         (IsStorableBeside change.now row map.empty (Deposit.Files files.now))
         (FailsHolding (files.now ≢ [])) }
-    ensures stays { StaysWithin T.lenders T.state tx.old tx.new result }
+    ensures keeps { ChangesWithin T.lenders T.state tx.old tx.new result }
 {
     write_row(tx, &files_changed(change.view, row))?;
     put_new_files(tx, change, row.object, files)
@@ -153,10 +147,9 @@ fn append_texts<T: Statements>(
 ) -> Result<(), StoreFault>
     ensures map { Appends T.state tx.old tx.new result change.now row
         (Deposit.Metadata metadata.now) }
-    ensures ours { KeepsOurs (T.state tx.old) (T.state tx.new) result }
     ensures cause { FailsAppending T.state tx.old tx.new result change.now row
         (Deposit.Metadata metadata.now) }
-    ensures stays { StaysWithin T.lenders T.state tx.old tx.new result }
+    ensures keeps { ChangesWithin T.lenders T.state tx.old tx.new result }
 {
     write_row(tx, &texts_changed(change.view, row))?;
     append_metadata(tx, change.alloc, row.object, metadata)
@@ -172,10 +165,9 @@ pub(crate) fn append<T: Statements>(
     requires { IsTrue (has_room change.now.view.now.next.file (count_of deposit.now)) }
     ensures map { (n : ℕ) → CarriesOut T.state tx.old tx.new result change.now
         (Append n deposit.now ingests) }
-    ensures ours { KeepsOurs (T.state tx.old) (T.state tx.new) result }
     ensures cause { (n : ℕ) → FailsCarryingMaps T.state tx.old tx.new result change.now
         (Append n deposit.now ingests) }
-    ensures stays { StaysWithin T.lenders T.state tx.old tx.new result }
+    ensures keeps { ChangesWithin T.lenders T.state tx.old tx.new result }
 {
     let row = ingested_by(touched(change.view)?, ingests);
     match deposit {

@@ -7,8 +7,7 @@ ghost use Rattle.dep_types.specs.Rows.{upload_row};
 ghost use Rattle.dep_types.specs.Numbers.{has_room};
 ghost use Rattle.dep_types.specs.Uploads.{assembled};
 ghost use Rattle.dep_fixity.specs.Fixity.{digests_of};
-ghost use Rattle.dep_tables.specs.Clauses.{StaysWithin};
-ghost use Rattle.dep_row_maps.specs.Clauses.{KeepsOurs};
+ghost use Rattle.dep_row_maps.specs.Clauses.{ChangesWithin};
 ghost use Rattle.dep_row_maps.specs.Causes.{FailsByOne, FailsHolding};
 ghost use Rattle.dep_decisions.specs.Effects.{is_reference};
 ghost use Rattle.dep_decisions.specs.declared.decision.Decision.TheVariants.{SetFile, SetFiles};
@@ -108,10 +107,9 @@ fn put_posted<T: Statements>(
 ) -> Result<(), StoreFault>
     ensures map { (place : ℕ) → PutsFile T.state tx.old tx.new result change.now numbers new.now
         place (Posted digests) }
-    ensures ours { KeepsOurs (T.state tx.old) (T.state tx.new) result }
     ensures cause { (place : ℕ) → FailsByOne T.state tx.old tx.new result
         (IsStorableNewFile change.now numbers place (Posted digests)) (FailsHolding ⊤) }
-    ensures stays { StaysWithin T.lenders T.state tx.old tx.new result }
+    ensures keeps { ChangesWithin T.lenders T.state tx.old tx.new result }
 {
     let extent = Extent {
         size: change.content.as_slice().len() as u64,
@@ -163,10 +161,9 @@ fn put_assembled<T: Statements>(
 ) -> Result<(), StoreFault>
     ensures map { (u : ℕ) → PutsFile T.state tx.old tx.new result change.now numbers new.now
         index (Assembled u) }
-    ensures ours { KeepsOurs (T.state tx.old) (T.state tx.new) result }
     ensures cause { (u : ℕ) → FailsByOne T.state tx.old tx.new result
         (IsStorableNewFile change.now numbers index (Assembled u)) (FailsHolding ⊤) }
-    ensures stays { StaysWithin T.lenders T.state tx.old tx.new result }
+    ensures keeps { ChangesWithin T.lenders T.state tx.old tx.new result }
 {
     let upload = whole_upload(change.view, index)?;
     let extent = Extent {
@@ -187,10 +184,9 @@ fn put_new_file<T: Statements>(
 ) -> Result<(), StoreFault>
     ensures map { PutsFile T.state tx.old tx.new result change.now numbers new.now
         index new.now.source }
-    ensures ours { KeepsOurs (T.state tx.old) (T.state tx.new) result }
     ensures cause { FailsByOne T.state tx.old tx.new result
         (IsStorableNewFile change.now numbers index new.now.source) (FailsHolding ⊤) }
-    ensures stays { StaysWithin T.lenders T.state tx.old tx.new result }
+    ensures keeps { ChangesWithin T.lenders T.state tx.old tx.new result }
 {
     match new.source {
         Source::Posted(digests) => put_posted(tx, change, numbers, new, digests),
@@ -207,10 +203,9 @@ pub(crate) fn put_new_files<T: Statements>(
 ) -> Result<(), StoreFault>
     requires { IsTrue (has_room change.now.view.now.next.file (length files.now)) }
     ensures map { PutsIn T.state tx.old tx.new result change.now object (Files files.now) }
-    ensures ours { KeepsOurs (T.state tx.old) (T.state tx.new) result }
     ensures cause { FailsByOne T.state tx.old tx.new result
         (IsStorableAt change.now object (Files files.now)) (FailsHolding (files.now ≢ [])) }
-    ensures stays { StaysWithin T.lenders T.state tx.old tx.new result }
+    ensures keeps { ChangesWithin T.lenders T.state tx.old tx.new result }
 {
     'files: for (index, new) in files.iter().enumerate() {
         let numbers = FileNumbers {
@@ -231,10 +226,9 @@ pub(crate) fn set_files<T: Statements>(
     requires { IsTrue (has_room change.now.view.now.next.file (length files.now)) }
     ensures map { (n : ℕ) → CarriesOut T.state tx.old tx.new result change.now
         (SetFiles n files.now) }
-    ensures ours { KeepsOurs (T.state tx.old) (T.state tx.new) result }
     ensures cause { (n : ℕ) → FailsCarryingMaps T.state tx.old tx.new result change.now
         (SetFiles n files.now) }
-    ensures stays { StaysWithin T.lenders T.state tx.old tx.new result }
+    ensures keeps { ChangesWithin T.lenders T.state tx.old tx.new result }
 {
     let row = touched(change.view)?;
     delete_files(tx, change.alloc, row.object)?;
@@ -251,10 +245,9 @@ pub(crate) fn set_file<T: Statements>(
 ) -> Result<(), StoreFault>
     ensures map { (n : ℕ) → CarriesOut T.state tx.old tx.new result change.now
         (SetFile n file new.now) }
-    ensures ours { KeepsOurs (T.state tx.old) (T.state tx.new) result }
     ensures cause { (n : ℕ) → FailsCarrying T.state tx.old tx.new result change.now
         (SetFile n file new.now) }
-    ensures stays { StaysWithin T.lenders T.state tx.old tx.new result }
+    ensures keeps { ChangesWithin T.lenders T.state tx.old tx.new result }
 {
     let Source::Posted(digests) = new.source else {
         return Err(StoreFault::Store);

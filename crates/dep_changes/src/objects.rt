@@ -5,11 +5,11 @@ ghost use Rattle.std.specs.FinMap as map;
 ghost use Rattle.dep_types.specs.State.{Object};
 ghost use Rattle.dep_types.specs.Limits.{IsStorable};
 ghost use Rattle.dep_types.specs.Sound.{IsSound};
-ghost use Rattle.dep_tables.specs.Clauses.{FailsByRunning, StaysWithin};
+ghost use Rattle.dep_tables.specs.Clauses.{FailsByRunning};
 ghost use Rattle.dep_tables.specs.Rows.{IsStorableObject, object_values};
 ghost use Rattle.dep_tables.specs.Texts.{write_object_text};
 ghost use Rattle.dep_row_maps.specs.TablesAre.{with_object, without_object};
-ghost use Rattle.dep_row_maps.specs.Clauses.{KeepsOurs};
+ghost use Rattle.dep_row_maps.specs.Clauses.{ChangesWithin};
 ghost use Rattle.dep_decisions.specs.declared.decision.Decision.TheVariants.{Complete, DropFile, SetMetadata};
 ghost use Rattle.dep_changes.specs.Clauses.{CarriesOut, FailsCarrying, FailsFromMaps, Makes};
 ghost use Rattle.dep_changes.specs.Told.{Rewrites};
@@ -26,10 +26,9 @@ use std::alloc::Global;
 pub(crate) fn write_row<T: Statements>(tx: &mut T, row: &ObjectRow) -> Result<(), StoreFault>
     ensures map { (o : Object) → Makes T.state tx.old tx.new result
         (λ s. Rewrites s row.now o) (λ s. with_object s row.now.object o) }
-    ensures ours { KeepsOurs (T.state tx.old) (T.state tx.new) result }
     ensures cause { FailsByRunning (T.state tx.old) (T.state tx.new) result
         (IsStorableObject row.now) write_object_text (object_values row.now) }
-    ensures stays { StaysWithin T.lenders T.state tx.old tx.new result }
+    ensures keeps { ChangesWithin T.lenders T.state tx.old tx.new result }
 {
     put_object(tx, row)
 }
@@ -37,9 +36,8 @@ pub(crate) fn write_row<T: Statements>(tx: &mut T, row: &ObjectRow) -> Result<()
 /// The object becomes ingested.
 pub(crate) fn complete<T: Statements>(tx: &mut T, change: &Change<'_>) -> Result<(), StoreFault>
     ensures map { (n : ℕ) → CarriesOut T.state tx.old tx.new result change.now (Complete n) }
-    ensures ours { KeepsOurs (T.state tx.old) (T.state tx.new) result }
     ensures cause { (n : ℕ) → FailsCarrying T.state tx.old tx.new result change.now (Complete n) }
-    ensures stays { StaysWithin T.lenders T.state tx.old tx.new result }
+    ensures keeps { ChangesWithin T.lenders T.state tx.old tx.new result }
 {
     let view = change.view;
     let row = touched(view)?;
@@ -78,10 +76,9 @@ pub(crate) fn set_texts<T: Statements>(
 ) -> Result<(), StoreFault>
     ensures map { (n : ℕ) → CarriesOut T.state tx.old tx.new result change.now
         (SetMetadata n metadata.now) }
-    ensures ours { KeepsOurs (T.state tx.old) (T.state tx.new) result }
     ensures cause { (n : ℕ) → FailsCarrying T.state tx.old tx.new result change.now
         (SetMetadata n metadata.now) }
-    ensures stays { StaysWithin T.lenders T.state tx.old tx.new result }
+    ensures keeps { ChangesWithin T.lenders T.state tx.old tx.new result }
 {
     let row = touched(change.view)?;
     write_row(tx, &texts_changed(change.view, row))?;
@@ -112,10 +109,9 @@ pub(crate) fn drop_file<T: Statements>(
 ) -> Result<(), StoreFault>
     ensures map { (n : ℕ) → CarriesOut T.state tx.old tx.new result change.now
         (DropFile n file) }
-    ensures ours { KeepsOurs (T.state tx.old) (T.state tx.new) result }
     ensures cause { (n : ℕ) → FailsCarrying T.state tx.old tx.new result change.now
         (DropFile n file) }
-    ensures stays { StaysWithin T.lenders T.state tx.old tx.new result }
+    ensures keeps { ChangesWithin T.lenders T.state tx.old tx.new result }
 {
     let row = touched(change.view)?;
     write_row(tx, &files_changed(change.view, row))?;
@@ -130,10 +126,9 @@ pub(crate) fn drop_object<T: Statements>(
 ) -> Result<(), StoreFault>
     ensures map { (o : Object) → Makes T.state tx.old tx.new result
         (λ s. map.get s.objects object ≡ Some o) (λ s. without_object s object) }
-    ensures ours { KeepsOurs (T.state tx.old) (T.state tx.new) result }
     ensures cause { FailsFromMaps T.state tx.old tx.new result
         (λ s. IsSound s × IsStorable object) (λ _. ⊥) }
-    ensures stays { StaysWithin T.lenders T.state tx.old tx.new result }
+    ensures keeps { ChangesWithin T.lenders T.state tx.old tx.new result }
 {
     delete_files(tx, alloc, object)?;
     delete_object(tx, object)

@@ -5,7 +5,7 @@ ghost use Rattle.dep_tables.specs.Clauses.{RefusesNumbers, StaysWithin};
 ghost use Rattle.dep_tables.specs.Edits.{without_blocks_of};
 ghost use Rattle.dep_tables.specs.Rows.{IsStorableOwner};
 ghost use Rattle.dep_row_maps.specs.Stored.{blocks_of, put_blocks};
-ghost use Rattle.dep_row_maps.specs.Clauses.{Becomes, FailsUncommitted};
+ghost use Rattle.dep_row_maps.specs.Clauses.{Becomes};
 ghost use Rattle.dep_row_maps.specs.Causes.{FailsByOne, FailsByStatement};
 ghost use Rattle.dep_files.specs.Causes.{FailsToDeleteBlocks};
 
@@ -30,7 +30,6 @@ pub fn put_blocks<T: Statements, C: Content>(
         }) }
     ensures cause { FailsByOne T.state tx.old tx.new result
         (IsStorableOwner owner × (part < 2 ^ 63)) FailsByStatement }
-    ensures err { FailsUncommitted (T.state tx.old) (T.state tx.new) result }
     ensures stays { StaysWithin T.lenders T.state tx.old tx.new result }
 {
     for place in 0..content.count() {
@@ -51,7 +50,6 @@ pub fn delete_blocks<T: Statements>(tx: &mut T, owner: BlockOwner) -> Result<(),
         (IsStorableOwner owner) }
     ensures cause { FailsByOne T.state tx.old tx.new result
         (IsStorableOwner owner) (FailsToDeleteBlocks owner) }
-    ensures err { FailsUncommitted (T.state tx.old) (T.state tx.new) result }
     ensures stays { StaysWithin T.lenders T.state tx.old tx.new result }
 {
     if !is_storable_owner(owner) {

@@ -6,7 +6,7 @@ ghost use Rattle.dep_types.specs.State.{Object, file_at};
 ghost use Rattle.dep_types.specs.Sound.{IsSound};
 ghost use Rattle.dep_tables.specs.Rows.{IsStorableFile};
 ghost use Rattle.dep_tables.specs.Clauses.{RefusesNumbers, StaysWithin};
-ghost use Rattle.dep_row_maps.specs.Clauses.{Becomes, FromMaps, KeepsOurs, SeesState, FailsUncommitted, FailsReadingUncommitted};
+ghost use Rattle.dep_row_maps.specs.Clauses.{Becomes, FromMaps, SeesState, ChangesWithin};
 ghost use Rattle.dep_row_maps.specs.Laws.{without_contents};
 ghost use Rattle.dep_row_maps.specs.Causes.{FailsByOne, FailsByStatement, FailsSince};
 ghost use Rattle.dep_files.specs.Edits.{without_files, with_whole_file, PutsFile, DropsFile};
@@ -34,11 +34,9 @@ pub fn put_file<T: Statements, C: Content>(
         (with_whole_file row.now (C.bytes content.now)) }
     ensures free { FromMaps (T.state tx.old) (T.state tx.new)
         (λ s. OnOk result ((n : ℕ) → file_at s n row.now.file ≡ None)) }
-    ensures ours { KeepsOurs (T.state tx.old) (T.state tx.new) result }
     ensures cause { FailsByOne T.state tx.old tx.new result
         (IsStorableFile row.now) FailsByStatement }
-    ensures err { FailsUncommitted (T.state tx.old) (T.state tx.new) result }
-    ensures stays { StaysWithin T.lenders T.state tx.old tx.new result }
+    ensures keeps { ChangesWithin T.lenders T.state tx.old tx.new result }
 {
     put_blocks(tx, BlockOwner::File(row.file), ONLY_PART, content)?;
     insert_sha512(tx, BlockOwner::File(row.file), &row.sha512)?;
@@ -53,11 +51,9 @@ pub fn delete_file<T: Statements>(tx: &mut T, file: u64) -> Result<(), StoreFaul
     ensures absent { FromMaps (T.state tx.old) (T.state tx.new)
         (λ s. ((n : ℕ) → file_at s n file ≡ None)
         → OnOk result (SeesState (T.state tx.new) s)) }
-    ensures ours { KeepsOurs (T.state tx.old) (T.state tx.new) result }
     ensures numbers { RefusesNumbers (T.state tx.old) (T.state tx.new) result (file < 2 ^ 63) }
     ensures cause { FailsByOne T.state tx.old tx.new result (file < 2 ^ 63) FailsByStatement }
-    ensures err { FailsUncommitted (T.state tx.old) (T.state tx.new) result }
-    ensures stays { StaysWithin T.lenders T.state tx.old tx.new result }
+    ensures keeps { ChangesWithin T.lenders T.state tx.old tx.new result }
 {
     delete_blocks(tx, BlockOwner::File(file))?;
     delete_sha512(tx, BlockOwner::File(file))?;
@@ -69,7 +65,6 @@ fn delete_contents<T: Statements>(tx: &mut T, rows: &[FileRow]) -> Result<(), St
         (without_contents (map (λ row. row.file) rows.now)) }
     ensures cause { FailsByOne T.state tx.old tx.new result
         (All (λ row. row.file < 2 ^ 63) rows.now) FailsByStatement }
-    ensures err { FailsUncommitted (T.state tx.old) (T.state tx.new) result }
     ensures stays { StaysWithin T.lenders T.state tx.old tx.new result }
 {
     'rows: for row in rows {
@@ -85,13 +80,11 @@ pub fn delete_files<T: Statements>(tx: &mut T, alloc: Global, object: u64) -> Re
     ensures map { FromMaps (T.state tx.old) (T.state tx.new)
         (λ s. (o : Object) → finmap.get s.objects object ≡ Some o
         → OnOk result (SeesState (T.state tx.new) (without_files s object o))) }
-    ensures ours { KeepsOurs (T.state tx.old) (T.state tx.new) result }
     ensures numbers { RefusesNumbers (T.state tx.old) (T.state tx.new) result (object < 2 ^ 63) }
     ensures cause { FromMaps (T.state tx.old) (T.state tx.new)
         (λ s. IsSound s → object < 2 ^ 63
         → IfErr result (FailsSince T.state FailsByStatement tx.old tx.new)) }
-    ensures err { FailsReadingUncommitted (T.state tx.old) (T.state tx.new) result }
-    ensures stays { StaysWithin T.lenders T.state tx.old tx.new result }
+    ensures keeps { ChangesWithin T.lenders T.state tx.old tx.new result }
 {
     let rows = files_of(tx, alloc, object)?;
     delete_contents(tx, rows.as_slice())?;

@@ -5,7 +5,7 @@ ghost use Rattle.std.specs.FinMap as finmap;
 ghost use Rattle.sqlite.specs.declared.types.Value.TheVariants.{Int};
 ghost use Rattle.dep_types.specs.State.{file_at};
 ghost use Rattle.dep_types.specs.Rows.{file_row};
-ghost use Rattle.dep_tables.specs.Clauses.{AtMostOne, ReadsOnly, FailsReading, FailsByReading, StaysWithin, RefusesNumbers};
+ghost use Rattle.dep_tables.specs.Clauses.{AtMostOne, FailsByReading, RefusesNumbers, ReadsWithin};
 ghost use Rattle.dep_tables.specs.Rows.{IsFileRow};
 ghost use Rattle.dep_tables.specs.Texts.{files_of_text, find_file_text};
 ghost use Rattle.dep_row_maps.specs.TablesAre.{files_at};
@@ -26,12 +26,10 @@ pub fn load_files<T: Statements>(
     ensures map { Tells (T.state tx.old) (T.state tx.new) result
         (λ s found. found
         ≡ map (λ e. file_row object e.0 e.1) (finmap.entries (files_at s.objects object))) }
-    ensures same { ReadsOnly (T.state tx.old) (T.state tx.new) result }
     ensures numbers { RefusesNumbers (T.state tx.old) (T.state tx.new) result (object < 2 ^ 63) }
     ensures cause { FailsByReading (T.state tx.old) (T.state tx.new) result
         (object < 2 ^ 63) files_of_text (Int (pos object) ∷ []) (All IsFileRow) }
-    ensures err { FailsReading (T.state tx.old) (T.state tx.new) result }
-    ensures stays { StaysWithin T.lenders T.state tx.old tx.new result }
+    ensures keeps { ReadsWithin T.lenders T.state tx.old tx.new result }
 {
     Ok(FileRows::new(files_of(tx, alloc, object)?))
 }
@@ -54,12 +52,10 @@ pub fn find_file<T: Statements>(
 ) -> Result<Option<FileRow>, StoreFault>
     ensures map { Tells (T.state tx.old) (T.state tx.new) result
         (λ s found. found ≡ option_map (file_row object file) (file_at s object file)) }
-    ensures same { ReadsOnly (T.state tx.old) (T.state tx.new) result }
     ensures numbers { RefusesNumbers (T.state tx.old) (T.state tx.new) result (file < 2 ^ 63) }
     ensures cause { FailsByReading (T.state tx.old) (T.state tx.new) result
         (file < 2 ^ 63) find_file_text (Int (pos file) ∷ []) (AtMostOne IsFileRow) }
-    ensures err { FailsReading (T.state tx.old) (T.state tx.new) result }
-    ensures stays { StaysWithin T.lenders T.state tx.old tx.new result }
+    ensures keeps { ReadsWithin T.lenders T.state tx.old tx.new result }
 {
     Ok(of_object(dep_tables::find_file(tx, file)?, object))
 }

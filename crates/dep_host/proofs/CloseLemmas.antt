@@ -72,12 +72,12 @@ module _ {A R K S : Type 0} (condition : A → Condition) (unread : R → Option
   -- a store that is open was open before
   pub clean_before : {p q : Position A R K S} {more : List Deed} → Step condition unread taken held p q more → IsClean condition q.hub → IsClean condition p.hub
   clean_before {p = p} {q = q} (refused r) clean = same_store_clean p.hub q.hub r.same_store clean
-  clean_before {p = p} {q = q} (asks r) clean = r.clean clean
+  clean_before {p = p} {q = q} (asks r) clean = r.hub.clean clean
   clean_before {p = p} {q = q} (comes r) clean = same_store_clean p.hub q.hub r.same_store clean
-  clean_before {p = p} {q = q} (rests t r) clean = t.clean clean
-  clean_before {p = p} {q = q} (offers t o) clean = t.clean clean
-  clean_before {p = p} {q = q} (refuses t r) clean = t.clean clean
-  clean_before {p = p} {q = q} (answers t a) clean = t.clean clean
+  clean_before {p = p} {q = q} (rests t r) clean = t.hub.clean clean
+  clean_before {p = p} {q = q} (offers t o) clean = t.hub.clean clean
+  clean_before {p = p} {q = q} (refuses t r) clean = t.hub.clean clean
+  clean_before {p = p} {q = q} (answers t a) clean = t.hub.clean clean
   clean_before {p = p} {q = q} (leaves r) clean = same_store_clean p.hub q.hub r.same_store clean
 
   -- where the host stood when a connection was closed, which sat there

@@ -78,11 +78,11 @@ module _ {A R K S : Type 0} (condition : A → Condition) (unread : R → Option
       → HasTurn condition unread taken held p q at before after → ((n : ℕ) → IsOfOthers n more)
       → (is_ended after.course.phase ≡ false → Keeps (unread before.source) (unread after.source)) → Given q (deeds ++ more)
   given_turn p q deeds more at before after g t none keeps =
-      let later : p.hub.next ≤ q.hub.next = let e = t.next in omega (arith, e) in
+      let later : p.hub.next ≤ q.hub.next = let e = t.hub.next in omega (arith, e) in
       let was = given_on before deeds more (g.given at before t.sat) (none before.connection) in
       let now : IsGiven unread (deeds ++ more) after = record {
         rest = was.rest;
-        whole = subst (λ (n : ℕ). given_of n (deeds ++ more) ≡ Some (read_of n (deeds ++ more) ++ was.rest) ∷ []) (sym t.same) was.whole;
+        whole = subst (λ (n : ℕ). given_of n (deeds ++ more) ≡ Some (read_of n (deeds ++ more) ++ was.rest) ∷ []) (sym t.client.connection) was.whole;
         left = λ h. told_keeps (unread before.source) (unread after.source) was.rest (keeps h) (gives after.source) (was.left (not_ended (is_ended before.course.phase) (is_ended after.course.phase) t.ended h));
       } in
       given_set p q deeds more at (Some after) g t.there t.sits later
@@ -94,7 +94,7 @@ module _ {A R K S : Type 0} (condition : A → Condition) (unread : R → Option
       → Given p deeds → HasTurn condition unread taken held p q at before after → ((n : ℕ) → given_by n one ≡ []) → ((n : ℕ) → read_by n one ≡ (if n == before.connection then piece else []))
       → is_ended before.course.phase ≡ false → Consumes (unread before.source) (unread after.source) piece → Given q (deeds ++ one ∷ [])
   given_piece p q deeds one at before after piece tidy g t none read was_open consumes =
-      let later : p.hub.next ≤ q.hub.next = let e = t.next in omega (arith, e) in
+      let later : p.hub.next ≤ q.hub.next = let e = t.hub.next in omega (arith, e) in
       let was = g.given at before t.sat in
       let takes = consumed (unread before.source) (unread after.source) was.rest piece consumes (gives after.source) (was.left was_open) in
       let unopened : (n : ℕ) → given_of n (one ∷ []) ≡ [] = λ n. append-nil (given_by n one) ∙ none n in
@@ -109,7 +109,7 @@ module _ {A R K S : Type 0} (condition : A → Condition) (unread : R → Option
       ∙ (sym (append_assoc (read_of before.connection deeds) piece takes.0) ∙ ap (λ l. l ++ takes.0) (sym reads)))) in
       let now : IsGiven unread (deeds ++ one ∷ []) after = record {
         rest = takes.0;
-        whole = subst (λ (n : ℕ). given_of n (deeds ++ one ∷ []) ≡ Some (read_of n (deeds ++ one ∷ []) ++ takes.0) ∷ []) (sym t.same) whole;
+        whole = subst (λ (n : ℕ). given_of n (deeds ++ one ∷ []) ≡ Some (read_of n (deeds ++ one ∷ []) ++ takes.0) ∷ []) (sym t.client.connection) whole;
         left = λ h. takes.1.0;
       } in
       given_set p q deeds (one ∷ []) at (Some after) g t.there t.sits later
@@ -120,7 +120,7 @@ module _ {A R K S : Type 0} (condition : A → Condition) (unread : R → Option
   step_given : {p q : Position A R K S} {deeds more : List Deed} → Tidy condition unread taken held p deeds → Given p deeds
       → Step condition unread taken held p q more → Given q (deeds ++ more)
   step_given {p = p} {q = q} {deeds = deeds} tidy g (refused r) = given_same p q deeds r.sits r.next g
-  step_given {p = p} {q = q} {deeds = deeds} tidy g (asks r) = given_same p q deeds r.sits r.next g
+  step_given {p = p} {q = q} {deeds = deeds} tidy g (asks r) = given_same p q deeds r.sits r.hub.next g
   step_given {p = p} {q = q} {deeds = deeds} tidy g (comes {at = at} {seat = seat} r) =
       let later : p.hub.next ≤ q.hub.next = let e = r.next in omega (arith, e) in
       let first : p.hub.next ≤ seat.connection = let e = r.is_next in omega (arith, e) in

@@ -1,6 +1,7 @@
 -- How a host goes on.
 use Rattle.std.proofs.Common.{◌≡◌, ◌⊎◌, ◌<◌, ◌≤◌, ◌+◌, ◌==◌, ℕ, zero, suc, Bool, true, false, if◌then◌else◌, List, [], ◌∷◌, ◌++◌, Option, None, Some, refl, sym, ap, subst, ◌∙◌, append_assoc, length, get_or, set, take, nat_lt, is_some, IsTrue, add-one, inl, inr, arith}
-use Rattle.std.proofs.lemmas.List.{append-nil, get_or_default, set-get_or, get_or_past, get_or-set_other}
+use Rattle.std.proofs.lemmas.List.{append-nil, get_or_default, set-get_or, get_or_past}
+use Rattle.std.proofs.Math.ListN.{length-set}
 use Rattle.std.proofs.lemmas.Bool.{ne_eqb, cases_eq, cases_lt, lt-ltb}
 use Rattle.std.proofs.KnownBytes.{Keeps-refl}
 use Rattle.std.specs.Prelude.{IfSome, IsSomeAnd, MatchOption}
@@ -14,13 +15,14 @@ use Rattle.dep_outbox.specs.declared.wire.Wire.{Wire}
 use Rattle.dep_outbox.specs.Wires.{told}
 use Rattle.dep_host.specs.Courses.{is_ended, closing as why}
 use Rattle.dep_host.specs.declared.seat.Seat.{Seat}
+use Rattle.dep_host.specs.declared.seat.Time.{Time}
 use Rattle.dep_host.specs.declared.host.Host.{Host}
 use Rattle.dep_host.specs.declared.limits.Limits.{Limits}
 use Rattle.dep_host.specs.declared.log.Closing.{Closing}
 use Rattle.dep_host.specs.declared.log.Closing.TheVariants.{Large}
 use Rattle.dep_host.specs.declared.course.Phase.TheVariants.{Open}
-use Rattle.dep_host.specs.Seats.{TakesTurn}
-use Rattle.dep_host.specs.Hosting.{Position, slot, HasTime, MayGo, IsVacant, Deed, Takes, Replies, Declines, Closes, answers_at, pieces_at, unfinished_of, unfinished_in, AreClosedAt, HasTurn, Goes, Asks, Step, refused, asks, rests, offers, refuses, answers, leaves, Steps, begins, goes_on, GoesOn, Serves, GoesRound, Sheds}
+use Rattle.dep_host.specs.Seats.{SameClient, TakesTurn}
+use Rattle.dep_host.specs.Hosting.{Position, slot, HasTime, MayGo, Stays, Deed, Takes, Replies, Declines, Closes, answers_at, pieces_at, unfinished_of, unfinished_in, AreDoneAt, HasTurn, Goes, Asks, Refused, Step, refused, asks, rests, offers, refuses, answers, leaves, Steps, begins, goes_on, GoesOn, Serves, GoesRound, Sheds}
 
 -- what was read at a place is what stands there
 pub slot_read : {X : Type 0} (at : ℕ) (seats : List (Option X)) (x : Option X) → at < length seats → x ≡ get_or seats at x → slot at seats ≡ x
@@ -34,9 +36,9 @@ pieces_append : (place : ℕ) (xs ys : List Deed) → pieces_at place (xs ++ ys)
 pieces_append place [] ys = let none : pieces_at place [] ≡ 0 = refl in omega (arith, none)
 pieces_append place (d ∷ xs) ys = let e = pieces_append place xs ys in omega (arith, e)
 
-closed_append : (second : ℕ) (xs ys : List Deed) → AreClosedAt second xs → AreClosedAt second ys → AreClosedAt second (xs ++ ys)
-closed_append second [] ys h k = k
-closed_append second (d ∷ xs) ys h k = (h.0, closed_append second xs ys h.1 k)
+in_time_append : (time : Time) (xs ys : List Deed) → AreDoneAt time xs → AreDoneAt time ys → AreDoneAt time (xs ++ ys)
+in_time_append time [] ys h k = k
+in_time_append time (d ∷ xs) ys h k = (h.0, in_time_append time xs ys h.1 k)
 
 one_at_most : (b : Bool) → (if b then 1 else 0) + 0 ≤ 1
 one_at_most true = omega arith
@@ -71,16 +73,6 @@ left_sheds {R = R} {K = K} {S = S} old new second was limits before same stays p
   | inr e ↦ subst (λ (x : Option (Seat R K S)). HasTime second limits x) (sym e) tt
 ]
 
--- nobody sits where nobody sat, once who sat elsewhere changed
-pub free_set : {X : Type 0} (seats : List (Option X)) (at place : ℕ) (before after : X) → slot at seats ≡ Some before → slot place seats ≡ None → slot place (set seats at (Some after)) ≡ None
-free_set seats at place before after sat free = elim (cases_eq place at) [
-  | inl e ↦ absurd (let no : None ≡ Some before = sym free ∙ (ap (λ (n : ℕ). slot n seats) e ∙ sat) in cc)
-  | inr ne ↦ get_or-set_other seats at place (Some after) None ne ∙ free
-]
-
-pub free_same : {X : Type 0} (seats : List (Option X)) (at place : ℕ) (x : Option X) → x ≡ get_or seats at x → slot place seats ≡ None → slot place (set seats at x) ≡ None
-free_same {X = X} seats at place x read free = ap (λ (l : List (Option X)). slot place l) (ap (λ (y : Option X). set seats at y) read ∙ set-get_or seats at x) ∙ free
-
 -- why who sits at a place is closed
 pub closing_there : {A R K S : Type 0} (p : Position A R K S) (at second : ℕ) (seat : Seat R K S) (found : Option Closing) → slot at p.seats ≡ Some seat → found ≡ why seat.course second p.limits
     → MatchOption found (HasTime second p.limits (slot at p.seats)) (λ reason. MayGo p second reason (slot at p.seats))
@@ -90,15 +82,34 @@ closing_there {R = R} {K = K} {S = S} p at second seat (Some reason) sat e = sub
 pub none_there : {R K S : Type 0} (seats : List (Option (Seat R K S))) (at second : ℕ) (limits : Limits) → slot at seats ≡ None → HasTime second limits (slot at seats)
 none_there {R = R} {K = K} {S = S} seats at second limits free = subst (λ (o : Option (Seat R K S)). HasTime second limits o) (sym free) tt
 
--- a place that is vacant stays so
-pub vacant_kept : {A R K S : Type 0} (p q : Host A R K S) (o : Option ℕ) → IfSome o (IsVacant p) → length q.seats.items ≡ length p.seats.items
-    → ((place : ℕ) → slot place p.seats.items ≡ None → slot place q.seats.items ≡ None) → q.shut_since ≡ p.shut_since → IfSome o (IsVacant q)
-vacant_kept p q None h long free shut = tt
-vacant_kept p q (Some at) h long free shut = (subst (λ (n : ℕ). at < n) (sym long) h.0, free at h.1, subst (λ (s : Option ℕ). is_some s ≡ false) (sym shut) h.2)
+-- nothing of what stays changed
+pub stays_same : {A R K S : Type 0} (p : Host A R K S) → Stays p p
+stays_same p = record { places = refl; limits = refl; shut = refl; unanswered = refl }
+
+-- one place changed
+pub stays_set : {A R K S : Type 0} (p q : Host A R K S) (at : ℕ) (x : Option (Seat R K S)) → q.seats.items ≡ set p.seats.items at x → q.limits ≡ p.limits → q.shut_since ≡ p.shut_since
+    → q.unanswered ≡ p.unanswered → Stays p q
+stays_set {R = R} {K = K} {S = S} p q at x seats limits shut unanswered = record {
+  places = ap (λ (l : List (Option (Seat R K S))). length l) seats ∙ length-set p.seats.items at x;
+  limits = limits;
+  shut = shut;
+  unanswered = unanswered;
+}
+
+pub stays_on : {A R K S : Type 0} (p q r : Host A R K S) → Stays p q → Stays q r → Stays p r
+stays_on p q r s t = record {
+  places = t.places ∙ s.places;
+  limits = t.limits ∙ s.limits;
+  shut = t.shut ∙ s.shut;
+  unanswered = t.unanswered ∙ s.unanswered;
+}
 
 -- the store is shut where the hub tells that it is
 pub told_shut : (c : Condition) (is_open : Bool) → is_open ≡ false → TellsOpen c is_open → ¬ IsTrue c.is_open
 told_shut c is_open e told = subst (λ (b : Bool). TellsOpen c b) e told
+
+pub told_open : (c : Condition) (is_open : Bool) → is_open ≡ true → TellsOpen c is_open → TellsOpen c true
+told_open c is_open e told = subst (λ (b : Bool). TellsOpen c b) e told
 
 -- nobody sits at one place more
 pub none_more : {X : Type 0} (seats : List (Option X)) → ((at : ℕ) → slot at seats ≡ None) → (at : ℕ) → slot at (seats ++ None ∷ []) ≡ None
@@ -158,20 +169,23 @@ module _ {A R K S : Type 0} (condition : A → Condition) (unread : R → Option
   pub both : (p q r : Position A R K S) → GoesOn condition unread taken held p q → GoesOn condition unread taken held q r → GoesOn condition unread taken held p r
   both p q r g h = (g.0 ++ h.0, steps_join g.1 h.1)
 
+  -- nothing changed
+  pub untouched : (p q : Position A R K S) → q.hub ≡ p.hub → q.limits ≡ p.limits → q.shut ≡ p.shut → q.seats ≡ p.seats → Refused condition unread taken held p q
+  untouched p q hub limits shut seats = record {
+    sits = seats;
+    next = ap (λ (h : Hub A). h.next) hub;
+    keeps = λ lines kept h. subst (λ (k : Hub A). KeepsHolding condition k lines kept) (sym hub) h;
+    same_store = ap (λ (h : Hub A). h.store) hub;
+    same_config = ap (λ (h : Hub A). h.config) hub;
+    same_limits = limits;
+    same_shut = shut;
+  }
+
   -- a place was looked at, and stands as it stood
   unchanged : (p q : Position A R K S) (at : ℕ) (x : Option (Seat R K S)) → q.hub ≡ p.hub → q.limits ≡ p.limits → q.shut ≡ p.shut → q.seats ≡ set p.seats at x → at < length p.seats → x ≡ get_or p.seats at x
       → Step condition unread taken held p q []
   unchanged p q at x hub limits shut seats there read =
-      let same : q.seats ≡ p.seats = seats ∙ (ap (λ (y : Option (Seat R K S)). set p.seats at y) read ∙ set-get_or p.seats at x) in
-      refused (record {
-        sits = same;
-        next = ap (λ (h : Hub A). h.next) hub;
-        keeps = λ lines kept h. subst (λ (k : Hub A). KeepsHolding condition k lines kept) (sym hub) h;
-        same_store = ap (λ (h : Hub A). h.store) hub;
-        same_config = ap (λ (h : Hub A). h.config) hub;
-        same_limits = limits;
-        same_shut = shut;
-      })
+      refused (untouched p q hub limits shut (seats ∙ (ap (λ (y : Option (Seat R K S)). set p.seats at y) read ∙ set-get_or p.seats at x)))
 
   pub same_seats : (p q : Position A R K S) (at : ℕ) (x : Option (Seat R K S)) → q.hub ≡ p.hub → q.limits ≡ p.limits → q.shut ≡ p.shut → q.seats ≡ set p.seats at x → at < length p.seats → x ≡ get_or p.seats at x
       → Steps condition unread taken held p [] q
@@ -183,18 +197,20 @@ module _ {A R K S : Type 0} (condition : A → Condition) (unread : R → Option
 
   -- a connection took note of something, and neither its bytes nor its phase changed
   pub woken : (p q : Position A R K S) (at : ℕ) (before after : Seat R K S) → at < length p.seats → slot at p.seats ≡ Some before → q.seats ≡ set p.seats at (Some after)
-      → q.hub ≡ p.hub → q.limits ≡ p.limits → q.shut ≡ p.shut → after.connection ≡ before.connection → after.source ≡ before.source → after.wire ≡ before.wire
+      → q.hub ≡ p.hub → q.limits ≡ p.limits → q.shut ≡ p.shut → SameClient before after → after.source ≡ before.source → after.wire ≡ before.wire
       → (after.course.phase ≡ Open → before.course.phase ≡ Open) → (is_ended before.course.phase ≡ true → is_ended after.course.phase ≡ true)
       → after.course.unfinished ≡ before.course.unfinished → Steps condition unread taken held p [] q
-  woken p q at before after there sat sits hub limits shut number source wire opens ended count = goes_on begins (rests {at = at} {before = before} {after = after} (record {
+  woken p q at before after there sat sits hub limits shut client source wire opens ended count = goes_on begins (rests {at = at} {before = before} {after = after} (record {
     there = there;
     sat = sat;
     sits = sits;
-    same = number;
-    next = ap (λ (h : Hub A). h.next) hub;
-    same_config = ap (λ (h : Hub A). h.config) hub;
-    clean = λ h. subst (λ (k : Hub A). IsClean condition k) hub h;
-    honest = λ h. subst (λ (k : Hub A). IsHonest condition k) hub h;
+    client = client;
+    hub = record {
+      next = ap (λ (h : Hub A). h.next) hub;
+      same_config = ap (λ (h : Hub A). h.config) hub;
+      clean = λ h. subst (λ (k : Hub A). IsClean condition k) hub h;
+      honest = λ h. subst (λ (k : Hub A). IsHonest condition k) hub h;
+    };
     ended = ended;
     same_limits = limits;
     same_shut = shut;
@@ -207,16 +223,16 @@ module _ {A R K S : Type 0} (condition : A → Condition) (unread : R → Option
   }))
 
   -- nothing was done at a place
-  pub served_none : (p q : Position A R K S) (at second : ℕ) (is_full : Bool) (x : Option (Seat R K S)) → q.hub ≡ p.hub → q.limits ≡ p.limits → q.shut ≡ p.shut → q.seats ≡ set p.seats at x → at < length p.seats → x ≡ get_or p.seats at x
-      → Serves condition unread taken held p q at second is_full
-  served_none p q at second is_full x hub limits shut seats there read = record {
+  pub served_none : (p q : Position A R K S) (at : ℕ) (time : Time) (is_full : Bool) (x : Option (Seat R K S)) → q.hub ≡ p.hub → q.limits ≡ p.limits → q.shut ≡ p.shut → q.seats ≡ set p.seats at x → at < length p.seats → x ≡ get_or p.seats at x
+      → Serves condition unread taken held p q at time is_full
+  served_none p q at time is_full x hub limits shut seats there read = record {
     deeds = [];
     steps = goes_on begins (unchanged p q at x hub limits shut seats there read);
     once = omega arith;
     others = λ place ne. refl;
     waits = λ full some. refl;
     unread_others = λ place ne. refl;
-    closes = tt;
+    in_time = tt;
   }
 
   -- of a request of which something is kept no more was read
@@ -226,63 +242,63 @@ module _ {A R K S : Type 0} (condition : A → Condition) (unread : R → Option
       let no : ⊥ = omega (arith, kept, none, some) in no)
 
   -- a connection had its turn
-  pub took_turn : (p q : Position A R K S) (at second moment : ℕ) (is_full : Bool) (before after : Seat R K S) → HasTurn condition unread taken held p q at before after
-      → TakesTurn condition unread taken held p.hub q.hub before after moment is_full (is_some p.shut) → Serves condition unread taken held p q at second is_full
-  took_turn p q at second moment is_full before after t (inl r) = record {
+  pub took_turn : (p q : Position A R K S) (at : ℕ) (time : Time) (is_full : Bool) (before after : Seat R K S) → HasTurn condition unread taken held p q at before after
+      → TakesTurn condition unread taken held p.hub q.hub before after time.moment is_full (is_some p.shut) → Serves condition unread taken held p q at time is_full
+  took_turn p q at time is_full before after t (inl r) = record {
     deeds = [];
     steps = goes_on begins (rests t r);
     once = omega arith;
     others = λ place ne. refl;
     waits = λ full some. refl;
     unread_others = λ place ne. refl;
-    closes = tt;
+    in_time = tt;
   }
-  took_turn p q at second moment is_full before after t (inr (inl o)) = record {
+  took_turn p q at time is_full before after t (inr (inl o)) = record {
     deeds = Takes at before.connection o.piece ∷ [];
     steps = goes_on begins (offers t o);
     once = omega arith;
     others = λ place ne. refl;
     waits = λ full some. none_read p at _ before t.sat (o.read.allowed full) some;
     unread_others = λ place ne. none_elsewhere at place ne;
-    closes = (tt, tt);
+    in_time = (tt, tt);
   }
-  took_turn p q at second moment is_full before after t (inr (inr (inl r))) = record {
-    deeds = Declines at before.connection r.piece moment r.answers.sent ∷ [];
+  took_turn p q at time is_full before after t (inr (inr (inl r))) = record {
+    deeds = Declines at before.connection r.piece time.moment r.answers.sent ∷ [];
     steps = goes_on begins (refuses t r);
     once = one_at_most (at == at);
     others = λ place ne. none_elsewhere at place ne;
     waits = λ full some. none_read p at _ before t.sat (r.read.allowed full) some;
     unread_others = λ place ne. none_elsewhere at place ne;
-    closes = (tt, tt);
+    in_time = (refl, tt);
   }
-  took_turn p q at second moment is_full before after t (inr (inr (inr a))) = record {
-    deeds = Replies at before.connection moment a.answers.sent ∷ [];
+  took_turn p q at time is_full before after t (inr (inr (inr a))) = record {
+    deeds = Replies at before.connection time.moment a.answers.sent ∷ [];
     steps = goes_on begins (answers t a);
     once = one_at_most (at == at);
     others = λ place ne. none_elsewhere at place ne;
     waits = λ full some. refl;
     unread_others = λ place ne. refl;
-    closes = (tt, tt);
+    in_time = (refl, tt);
   }
 
   -- its turn had begun before
-  pub after_begin : (p q r : Position A R K S) (at second : ℕ) (is_full : Bool) → Steps condition unread taken held p [] q → unfinished_of (slot at q.seats) ≡ unfinished_of (slot at p.seats)
-      → Serves condition unread taken held q r at second is_full → Serves condition unread taken held p r at second is_full
-  after_begin p q r at second is_full b count s = record {
+  pub after_begin : (p q r : Position A R K S) (at : ℕ) (time : Time) (is_full : Bool) → Steps condition unread taken held p [] q → unfinished_of (slot at q.seats) ≡ unfinished_of (slot at p.seats)
+      → Serves condition unread taken held q r at time is_full → Serves condition unread taken held p r at time is_full
+  after_begin p q r at time is_full b count s = record {
     deeds = s.deeds;
     steps = steps_join b s.steps;
     once = s.once;
     others = s.others;
     waits = λ full some. s.waits full (omega (arith, count, some));
     unread_others = s.unread_others;
-    closes = s.closes;
+    in_time = s.in_time;
   }
 
   -- and was closed after it
-  pub then_closed : (p q r : Position A R K S) (at second : ℕ) (is_full : Bool) (seat : Seat R K S) → Serves condition unread taken held p q at second is_full → Goes condition unread taken held q r at second seat
-      → Serves condition unread taken held p r at second is_full
-  then_closed p q r at second is_full seat s g =
-      let more : List Deed = Closes at seat.connection second ∷ [] in
+  pub then_closed : (p q r : Position A R K S) (at : ℕ) (time : Time) (is_full : Bool) (seat : Seat R K S) → Serves condition unread taken held p q at time is_full → Goes condition unread taken held q r at time.second seat
+      → Serves condition unread taken held p r at time is_full
+  then_closed p q r at time is_full seat s g =
+      let more : List Deed = Closes at seat.connection time.second ∷ [] in
       record {
         deeds = s.deeds ++ more;
         steps = goes_on s.steps (leaves g);
@@ -290,7 +306,7 @@ module _ {A R K S : Type 0} (condition : A → Condition) (unread : R → Option
         others = λ place ne. let e = answers_append place s.deeds more in let f : answers_at place more ≡ 0 = refl in let o = s.others place ne in omega (arith, e, f, o);
         waits = λ full some. let e = pieces_append at s.deeds more in let f : pieces_at at more ≡ 0 = refl in let o = s.waits full some in omega (arith, e, f, o);
         unread_others = λ place ne. let e = pieces_append place s.deeds more in let f : pieces_at place more ≡ 0 = refl in let o = s.unread_others place ne in omega (arith, e, f, o);
-        closes = closed_append second s.deeds more s.closes (refl, tt);
+        in_time = in_time_append time s.deeds more s.in_time (refl, tt);
       }
 
   -- who was at a place was closed, or nobody was there
@@ -301,13 +317,13 @@ module _ {A R K S : Type 0} (condition : A → Condition) (unread : R → Option
   pub closing_none : (p q : Position A R K S) (at second : ℕ) (x : Option (Seat R K S)) → x ≡ None → IfSome x (Goes condition unread taken held p q at second)
   closing_none p q at second x e = subst (λ (o : Option (Seat R K S)). IfSome o (Goes condition unread taken held p q at second)) (sym e) tt
 
-  pub closes_served : (p q r : Position A R K S) (at second : ℕ) (is_full : Bool) (reason : Closing) (x : Option (Seat R K S)) → Serves condition unread taken held p q at second is_full → MayGo q second reason x
-      → IfSome x (Goes condition unread taken held q r at second) → Serves condition unread taken held p r at second is_full
-  closes_served p q r at second is_full reason None s d g = absurd d
-  closes_served p q r at second is_full reason (Some seat) s d g = then_closed p q r at second is_full seat s g
+  pub closes_served : (p q r : Position A R K S) (at : ℕ) (time : Time) (is_full : Bool) (reason : Closing) (x : Option (Seat R K S)) → Serves condition unread taken held p q at time is_full → MayGo q time.second reason x
+      → IfSome x (Goes condition unread taken held q r at time.second) → Serves condition unread taken held p r at time is_full
+  closes_served p q r at time is_full reason None s d g = absurd d
+  closes_served p q r at time is_full reason (Some seat) s d g = then_closed p q r at time is_full seat s g
 
   -- the places so far had their turns
-  pub record RoundSoFar (p q : Position A R K S) (at second : ℕ) (is_full : Bool) : Type 0 where
+  pub record RoundSoFar (p q : Position A R K S) (at : ℕ) (time : Time) (is_full : Bool) : Type 0 where
     deeds : List Deed
     steps : Steps condition unread taken held p deeds q
     once : (place : ℕ) → answers_at place deeds ≤ 1
@@ -315,10 +331,10 @@ module _ {A R K S : Type 0} (condition : A → Condition) (unread : R → Option
     waits : is_full ≡ true → (place : ℕ) → 0 < unfinished_of (slot place p.seats) → pieces_at place deeds ≡ 0
     unread_later : (place : ℕ) → at ≤ place → pieces_at place deeds ≡ 0
     stays : (place : ℕ) → at ≤ place → slot place q.seats ≡ slot place p.seats
-    closes : AreClosedAt second deeds
+    in_time : AreDoneAt time deeds
 
-  pub round_begins : (p : Position A R K S) (second : ℕ) (is_full : Bool) → RoundSoFar p p 0 second is_full
-  round_begins p second is_full = record {
+  pub round_begins : (p : Position A R K S) (time : Time) (is_full : Bool) → RoundSoFar p p 0 time is_full
+  round_begins p time is_full = record {
     deeds = [];
     steps = begins;
     once = λ place. omega arith;
@@ -326,12 +342,12 @@ module _ {A R K S : Type 0} (condition : A → Condition) (unread : R → Option
     waits = λ full place some. refl;
     unread_later = λ place h. refl;
     stays = λ place h. refl;
-    closes = tt;
+    in_time = tt;
   }
 
-  pub round_goes_on : (p q r : Position A R K S) (at next second : ℕ) (is_full : Bool) → RoundSoFar p q at second is_full → Serves condition unread taken held q r at second is_full
-      → ((place : ℕ) → (place ≡ at → ⊥) → slot place r.seats ≡ slot place q.seats) → next ≡ at + 1 → RoundSoFar p r next second is_full
-  round_goes_on p q r at next second is_full s t same e = record {
+  pub round_goes_on : (p q r : Position A R K S) (at next : ℕ) (time : Time) (is_full : Bool) → RoundSoFar p q at time is_full → Serves condition unread taken held q r at time is_full
+      → ((place : ℕ) → (place ≡ at → ⊥) → slot place r.seats ≡ slot place q.seats) → next ≡ at + 1 → RoundSoFar p r next time is_full
+  round_goes_on p q r at next time is_full s t same e = record {
     deeds = s.deeds ++ t.deeds;
     steps = steps_join s.steps t.steps;
     once = λ place. elim (cases_eq place at) [
@@ -353,31 +369,31 @@ module _ {A R K S : Type 0} (condition : A → Condition) (unread : R → Option
         let a = pieces_append place s.deeds t.deeds in let b = s.unread_later place (omega (arith, h, e)) in
         let c = t.unread_others place (λ is. omega (arith, is, h, e)) in omega (arith, a, b, c);
     stays = λ place h. same place (λ is. omega (arith, is, h, e)) ∙ s.stays place (omega (arith, h, e));
-    closes = closed_append second s.deeds t.deeds s.closes t.closes;
+    in_time = in_time_append time s.deeds t.deeds s.in_time t.in_time;
   }
 
-  pub round_ends : (p q : Position A R K S) (at second : ℕ) (is_full : Bool) → RoundSoFar p q at second is_full → is_full ≡ nat_lt p.limits.unfinished_bytes (unfinished_in p.seats)
-      → GoesRound condition unread taken held p q second
-  round_ends p q at second is_full s e = record {
+  pub round_ends : (p q : Position A R K S) (at : ℕ) (time : Time) (is_full : Bool) → RoundSoFar p q at time is_full → is_full ≡ nat_lt p.limits.unfinished_bytes (unfinished_in p.seats)
+      → GoesRound condition unread taken held p q time
+  round_ends p q at time is_full s e = record {
     deeds = s.deeds;
     steps = s.steps;
     once = s.once;
     waits = λ more place some. s.waits (e ∙ lt-ltb p.limits.unfinished_bytes (unfinished_in p.seats) more) place some;
-    closes = s.closes;
+    in_time = s.in_time;
   }
 
   -- the largest was closed after it
-  pub round_sheds : (p q r : Position A R K S) (second : ℕ) → GoesRound condition unread taken held p q second → Sheds condition unread taken held q r second
-      → GoesRound condition unread taken held p r second
-  round_sheds p q r second s (inl e) = subst (λ (x : Position A R K S). GoesRound condition unread taken held p x second) (sym e) s
-  round_sheds p q r second s (inr (at, seat, g)) =
-      let more : List Deed = Closes at seat.connection second ∷ [] in
+  pub round_sheds : (p q r : Position A R K S) (time : Time) → GoesRound condition unread taken held p q time → Sheds condition unread taken held q r time.second
+      → GoesRound condition unread taken held p r time
+  round_sheds p q r time s (inl e) = subst (λ (x : Position A R K S). GoesRound condition unread taken held p x time) (sym e) s
+  round_sheds p q r time s (inr (at, seat, g)) =
+      let more : List Deed = Closes at seat.connection time.second ∷ [] in
       record {
         deeds = s.deeds ++ more;
         steps = goes_on s.steps (leaves g);
         once = λ place. let e = answers_append place s.deeds more in let f : answers_at place more ≡ 0 = refl in let o = s.once place in omega (arith, e, f, o);
         waits = λ full place some. let e = pieces_append place s.deeds more in let f : pieces_at place more ≡ 0 = refl in let o = s.waits full place some in omega (arith, e, f, o);
-        closes = closed_append second s.deeds more s.closes (refl, tt);
+        in_time = in_time_append time s.deeds more s.in_time (refl, tt);
       }
 
   -- the largest was closed

@@ -7,3 +7,4 @@ mod CloseLemmas
 mod GivenLemmas
 mod ShutLemmas
 mod RoundLemmas
+mod MeetLemmas

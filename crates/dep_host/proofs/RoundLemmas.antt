@@ -4,10 +4,8 @@ use Rattle.std.proofs.lemmas.List.{get_or_append_left, get_or-append_right, leng
 use Rattle.std.proofs.Math.Seq.{take-append_seam}
 use Rattle.std.proofs.lemmas.List.Elements.{All-nil, All-append, All-take, All-from_get_or, All-from_recursion, Contains-append_left, Contains-append_right}
 use Rattle.std.proofs.lemmas.Bool.{le-ltb}
-use Rattle.std.proofs.KnownBytes.{Appends-nil, Appends-trans}
 use Rattle.std.specs.List.{AllByRecursion}
 use Rattle.std.specs.List.Sorted.{IsNonDecreasing}
-use Rattle.std.specs.Io.KnownBytes.{Appends}
 use Rattle.dep_host.specs.declared.limits.Limits.{Limits}
 use Rattle.dep_host.specs.declared.seat.Time.{Time}
 use Rattle.dep_host.specs.declared.events.Event.{Event}
@@ -90,41 +88,25 @@ in_time_on P ended.Shut xs (y ∷ (z ∷ ys)) short h k =
     let two : length (y ∷ (z ∷ [])) ≡ 2 = refl in
     absurd (let no : ⊥ = omega (arith, short, long, two) in no)
 
--- nothing is told in the end but that it is the end
-pub none_at_end : {R K S : Type 0} (P : ℕ → Type 0) (end : Ended) (event : Event R K S) → (end ≡ ended.Events → event ≡ End) → (end ≡ ended.Spent → ⊥) → (end ≡ ended.Shut → ⊥)
-    → AllByRecursion P (seconds_of event)
-none_at_end {R = R} {K = K} {S = S} P ended.Events event ends spent more = subst (λ (e : Event R K S). AllByRecursion P (seconds_of e)) (sym (ends refl)) tt
-none_at_end P ended.Shut event ends spent more = absurd (more refl)
-none_at_end P ended.Spent event ends spent more = absurd (spent refl)
-
--- it was told in this round
-pub told_round : {R K S : Type 0} (old mid new : Option ℕ) (event : Event R K S) (time : Time) → event ≡ Round time → mid ≡ old → IsTold mid new (time.second ∷ []) → IsTold old new (seconds_of event)
-told_round {R = R} {K = K} {S = S} old mid new event time is same told =
-    subst (λ (e : Event R K S). IsTold old new (seconds_of e)) (sym is) (subst (λ (o : Option ℕ). IsTold o new (time.second ∷ [])) same told)
-
 pub all_round : {R K S : Type 0} (P : ℕ → Type 0) (event : Event R K S) (time : Time) → event ≡ Round time → P time.second → AllByRecursion P (seconds_of event)
 all_round {R = R} {K = K} {S = S} P event time is h = subst (λ (e : Event R K S). AllByRecursion P (seconds_of e)) (sym is) (h, tt)
 
 -- no round so far
-pub rounds_begin : (told : Option (List ℕ)) (shut : Option ℕ) (limits : Limits) → EndsInTime told told shut shut limits ended.Spent
-rounds_begin told shut limits = record {
-  rounds = [];
-  are_told = Appends-nil told;
+pub rounds_begin : (shut : Option ℕ) (limits : Limits) → EndsInTime [] shut shut limits ended.Spent
+rounds_begin shut limits = record {
   is_told = inl refl;
   in_time = λ rises. All-nil (λ second. is_overdue shut second limits ≡ false);
 }
 
 -- an event more
-pub rounds_go_on : (told_old told_mid told_new : Option (List ℕ)) (first mid last : Option ℕ) (was limits : Limits) (end : Ended) (ys : List ℕ)
-    → EndsInTime told_old told_mid first mid was ended.Spent → Appends told_mid told_new ys → IsTold mid last ys → length ys ≤ 1 → limits ≡ was
+pub rounds_go_on : (xs ys : List ℕ) (first mid last : Option ℕ) (was limits : Limits) (end : Ended)
+    → EndsInTime xs first mid was ended.Spent → IsTold mid last ys → length ys ≤ 1 → limits ≡ was
     → ((end ≡ ended.Shut → ⊥) → AllByRecursion (λ second. is_overdue last second limits ≡ false) ys)
-    → EndsInTime told_old told_new first last limits end
-rounds_go_on told_old told_mid told_new first mid last was limits end ys it appends told short same now =
-    let s : EndsInTime told_old told_mid first mid limits ended.Spent = subst (λ (l : Limits). EndsInTime told_old told_mid first mid l ended.Spent) (sym same) it in
+    → EndsInTime (xs ++ ys) first last limits end
+rounds_go_on xs ys first mid last was limits end it told short same now =
+    let s : EndsInTime xs first mid limits ended.Spent = subst (λ (l : Limits). EndsInTime xs first mid l ended.Spent) (sym same) it in
     record {
-      rounds = s.rounds ++ ys;
-      are_told = Appends-trans told_old told_mid told_new s.rounds ys s.are_told appends;
-      is_told = told_on first mid last s.rounds ys s.is_told told;
-      in_time = λ rises. in_time_on (λ second. is_overdue last second limits ≡ false) end s.rounds ys short
-          (earlier mid last limits s.rounds ys told rises (s.in_time (rises_front s.rounds ys rises))) now;
+      is_told = told_on first mid last xs ys s.is_told told;
+      in_time = λ rises. in_time_on (λ second. is_overdue last second limits ≡ false) end xs ys short
+          (earlier mid last limits xs ys told rises (s.in_time (rises_front xs ys rises))) now;
     }

@@ -74,7 +74,7 @@ module _ {A R K S : Type 0} (condition : A → Condition) (unread : R → Option
     more = m.more;
     holds = with_held before.connection (m.holds before.connection ++ o.piece) m.holds;
     follows = takes at before.connection o.piece m.follows;
-    stands = moved p.hub q.hub first (records ++ m.more) m.holds (with_held before.connection (m.holds before.connection ++ o.piece) m.holds) o.same_store t.same_config
+    stands = moved p.hub q.hub first (records ++ m.more) m.holds (with_held before.connection (m.holds before.connection ++ o.piece) m.holds) o.same_store t.hub.same_config
         (λ lines h. o.holds lines m.holds h) m.stands;
   }
   step_run {p = p} {q = q} first records holds m (refuses {at = at} {moment = moment} {before = before} t r) clean =
@@ -84,7 +84,7 @@ module _ {A R K S : Type 0} (condition : A → Condition) (unread : R → Option
         holds = with_held before.connection came.0.rest m.holds;
         follows = declines at before.connection moment r.piece came.0.part came.0.rest r.answers.sent m.follows came.0.whole;
         stands = behind_more q.hub first records m.more (record { event = Arrive before.connection came.0.part moment; sent = r.answers.sent }) (with_held before.connection came.0.rest m.holds)
-            (adds p.hub q.hub before.connection _ moment r.answers.sent _ _ _ first (records ++ m.more) m.holds m.stands came.0 t.same_config clean);
+            (adds p.hub q.hub before.connection _ moment r.answers.sent _ _ _ first (records ++ m.more) m.holds m.stands came.0 t.hub.same_config clean);
       }
   step_run {p = p} {q = q} first records holds m (answers {at = at} {moment = moment} {before = before} t a) clean =
       let came = a.answers.answers (honest q.hub.store clean) m.stands.world m.holds m.stands.at in
@@ -93,7 +93,7 @@ module _ {A R K S : Type 0} (condition : A → Condition) (unread : R → Option
         holds = with_held before.connection came.0.rest m.holds;
         follows = replies at before.connection moment came.0.part came.0.rest a.answers.sent m.follows came.0.whole;
         stands = behind_more q.hub first records m.more (record { event = Arrive before.connection came.0.part moment; sent = a.answers.sent }) (with_held before.connection came.0.rest m.holds)
-            (adds p.hub q.hub before.connection _ moment a.answers.sent _ _ _ first (records ++ m.more) m.holds m.stands came.0 t.same_config clean);
+            (adds p.hub q.hub before.connection _ moment a.answers.sent _ _ _ first (records ++ m.more) m.holds m.stands came.0 t.hub.same_config clean);
       }
   step_run {p = p} {q = q} first records holds m (leaves {at = at} {second = second} {seat = seat} r) clean = record {
     more = m.more ++ record { event = Close seat.connection; sent = [] } ∷ [];

@@ -40,14 +40,14 @@ module _ {A R K S : Type 0} (condition : A → Condition) (unread : R → Option
   step_rightly : {p q : Position A R K S} {more : List Deed} → Step condition unread taken held p q more → IsRightlyTold condition p → IsRightlyTold condition q
   step_rightly {p = p} {q = q} (refused r) h = rightly_kept p q r.same_shut (clean_before condition unread taken held (refused r)) h
   step_rightly {p = p} {q = q} (asks r) h = elim r.told [
-    | inl same ↦ rightly_kept p q same r.clean h
+    | inl same ↦ rightly_kept p q same r.hub.clean h
     | inr first ↦ λ told clean. first.1 clean
   ]
   step_rightly {p = p} {q = q} (comes {at = at} {seat = seat} r) h = rightly_kept p q r.same_shut (clean_before condition unread taken held (comes {at = at} {seat = seat} r)) h
-  step_rightly {p = p} {q = q} (rests t r) h = rightly_kept p q t.same_shut t.clean h
-  step_rightly {p = p} {q = q} (offers t o) h = rightly_kept p q t.same_shut t.clean h
-  step_rightly {p = p} {q = q} (refuses t r) h = rightly_kept p q t.same_shut t.clean h
-  step_rightly {p = p} {q = q} (answers t a) h = rightly_kept p q t.same_shut t.clean h
+  step_rightly {p = p} {q = q} (rests t r) h = rightly_kept p q t.same_shut t.hub.clean h
+  step_rightly {p = p} {q = q} (offers t o) h = rightly_kept p q t.same_shut t.hub.clean h
+  step_rightly {p = p} {q = q} (refuses t r) h = rightly_kept p q t.same_shut t.hub.clean h
+  step_rightly {p = p} {q = q} (answers t a) h = rightly_kept p q t.same_shut t.hub.clean h
   step_rightly {p = p} {q = q} (leaves {at = at} {second = second} {seat = seat} r) h = rightly_kept p q r.same_shut (clean_before condition unread taken held (leaves {at = at} {second = second} {seat = seat} r)) h
 
   pub steps_rightly : {p q : Position A R K S} {deeds : List Deed} → Steps condition unread taken held p deeds q → IsRightlyTold condition p → IsRightlyTold condition q

@@ -149,9 +149,9 @@ module _ {A R K S : Type 0} (condition : A → Condition) (unread : R → Option
   turn_tidy : (p q : Position A R K S) (rs more : List Deed) (at : ℕ) (before after : Seat R K S) → Tidy p rs → HasTurn condition unread taken held p q at before after
       → Keeps (told taken held before.wire) (told taken held after.wire) → ((n : ℕ) → AreOfOthers n more) → Tidy q (rs ++ more)
   turn_tidy p q rs more at before after tidy t keeps none =
-      let later : p.hub.next ≤ q.hub.next = let e = t.next in omega (arith, e) in
+      let later : p.hub.next ≤ q.hub.next = let e = t.hub.next in omega (arith, e) in
       tidy_set p q rs more at (Some after) tidy t.there t.sits later
-      (λ s e. put_there p q rs more at after s (put_kept p q rs more at before after tidy t.sat t.same later (none before.connection).1
+      (λ s e. put_there p q rs more at after s (put_kept p q rs more at before after tidy t.sat t.client.connection later (none before.connection).1
       (λ all. told_keeps (told taken held before.wire) (told taken held after.wire) (replies_to before.connection rs ++ replies_to before.connection more) keeps (tells_of all after)
       (tidy.telling all at before t.sat ∙ ap Some (sym (ap (λ (l : List ℕ). replies_to before.connection rs ++ l) (none before.connection).0 ∙ append-nil (replies_to before.connection rs)))))) e)
       (λ j u ne h. none u.connection) (λ n h. none n)
@@ -161,18 +161,18 @@ module _ {A R K S : Type 0} (condition : A → Condition) (unread : R → Option
       → Appends (told taken held before.wire) (told taken held after.wire) sent → ((n : ℕ) → sent_by n one ≡ (if before.connection == n then sent else []))
       → ((n : ℕ) → StaysOpen n (one ∷ [])) → Tidy q (rs ++ one ∷ [])
   sent_tidy p q rs one at before after sent tidy t appends sends unclosing =
-      let later : p.hub.next ≤ q.hub.next = let e = t.next in omega (arith, e) in
+      let later : p.hub.next ≤ q.hub.next = let e = t.hub.next in omega (arith, e) in
       let here : replies_to before.connection (one ∷ []) ≡ sent = ap (λ (l : List ℕ). l ++ []) (sends before.connection) ∙ sent_here before.connection sent in
       tidy_set p q rs (one ∷ []) at (Some after) tidy t.there t.sits later
-      (λ s e. put_there p q rs (one ∷ []) at after s (put_kept p q rs (one ∷ []) at before after tidy t.sat t.same later (unclosing before.connection)
+      (λ s e. put_there p q rs (one ∷ []) at after s (put_kept p q rs (one ∷ []) at before after tidy t.sat t.client.connection later (unclosing before.connection)
       (λ all. told_appends (told taken held before.wire) (told taken held after.wire) (replies_to before.connection rs) sent appends (tidy.telling all at before t.sat)
       ∙ ap (λ (l : List ℕ). Some (replies_to before.connection rs ++ l)) (sym here))) e)
       (λ j u ne h. (ap (λ (l : List ℕ). l ++ []) (sends u.connection) ∙ sent_elsewhere before.connection u.connection sent (λ same. ne (tidy.apart j at u before h t.sat (sym same))), unclosing u.connection))
-      (λ n h. (ap (λ (l : List ℕ). l ++ []) (sends n) ∙ sent_elsewhere before.connection n sent (λ same. let lower = tidy.below at before t.sat in let e = t.next in omega (arith, lower, h, same, e)), unclosing n))
+      (λ n h. (ap (λ (l : List ℕ). l ++ []) (sends n) ∙ sent_elsewhere before.connection n sent (λ same. let lower = tidy.below at before t.sat in let e = t.hub.next in omega (arith, lower, h, same, e)), unclosing n))
 
   step_tidy : {p q : Position A R K S} {rs more : List Deed} → Tidy p rs → Step condition unread taken held p q more → Tidy q (rs ++ more)
   step_tidy {p = p} {q = q} {rs = rs} tidy (refused r) = tidy_same p q rs r.sits r.next tidy
-  step_tidy {p = p} {q = q} {rs = rs} tidy (asks r) = tidy_same p q rs r.sits r.next tidy
+  step_tidy {p = p} {q = q} {rs = rs} tidy (asks r) = tidy_same p q rs r.sits r.hub.next tidy
   step_tidy {p = p} {q = q} {rs = rs} tidy (comes {at = at} {seat = seat} r) =
       let more : List Deed = Opens at seat.connection (unread seat.source) ∷ [] in
       let later : p.hub.next ≤ q.hub.next = let e = r.next in omega (arith, e) in

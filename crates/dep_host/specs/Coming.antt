@@ -1,6 +1,6 @@
 -- What comes to a host from outside, and from where.
 use Rattle.std.specs.Prelude.{ℕ, ◌+◌, ◌/◌, ◌==◌, Bool, false, List, [], ◌∷◌, Option, None, Some}
-use Rattle.std.specs.List.{count_by}
+use Rattle.std.specs.List.{count_by, flat_map}
 use Rattle.std.specs.Io.KnownBytes.{IsAtEnd}
 use Rattle.std.specs.Net.Addr.{ipv4_bits, ipv6_bits}
 use Rattle.std.specs.declared.net.ip_addr.IpAddr.{IpAddr}
@@ -24,6 +24,10 @@ seconds_of (Ready at r w) = []
 seconds_of (Client client) = []
 seconds_of (Round time) = time.second ∷ []
 seconds_of End = []
+
+-- the seconds of the rounds among events
+abbrev pub seconds_in : {R K S : Type 0} → List (Event R K S) → List ℕ
+seconds_in events = flat_map (λ e. seconds_of e) events
 
 -- a number for those addresses that one client may have: an IPv4 address, or all IPv6 addresses of
 -- the same first 64 bits

@@ -59,13 +59,9 @@ abbrev pub counts_anew : Course → (owes : Bool) → (second : ℕ) → Limits 
 counts_anew c owes second limits =
     not (is_under_way c owes) || (is_past c.mark second limits && not (nat_lt c.moved limits.least_rate))
 
--- how far it is once it is read no more
-abbrev pub shut : Phase → Phase
-shut Open = Last
-shut Answering = Answering
-shut Last = Last
-shut Draining = Draining
-shut Over = Over
+-- its socket may be ready
+abbrev pub woken : Course → (is_readable is_writable : Bool) → Course
+woken c r w = record c { is_readable = c.is_readable || r; is_writable = c.is_writable || w }
 
 -- nothing of what its client sends comes to the hub any more
 abbrev pub is_ended : Phase → Bool

@@ -4,18 +4,19 @@ use Rattle.std.specs.List.{flat_map}
 use Rattle.std.specs.Io.KnownBytes.{IsAtEnd}
 use Rattle.dep_types.specs.Conditions.{Condition}
 use Rattle.dep_hub.specs.Records.{Line, Live, Absent}
-use Rattle.dep_hub.specs.Standing.{IsClean, IsHonest}
+use Rattle.dep_hub.specs.Standing.{IsClean}
 use Rattle.dep_hub.specs.Holding.{KeepsHolding, MovesLine, StandsOn, with_held}
 use Rattle.dep_hub.specs.declared.hub.Hub.{Hub}
 use Rattle.dep_outbox.specs.Wires.{told}
 use Rattle.dep_host.specs.declared.course.Phase.TheVariants.{Open}
 use Rattle.dep_host.specs.declared.seat.Seat.{Seat}
+use Rattle.dep_host.specs.declared.seat.Time.{Time}
 use Rattle.dep_host.specs.declared.host.Host.{Host}
 use Rattle.dep_host.specs.declared.limits.Limits.{Limits}
 use Rattle.dep_host.specs.declared.log.Closing.{Closing}
 use Rattle.dep_host.specs.declared.log.Closing.TheVariants as ends
 use Rattle.dep_host.specs.Courses.{closing, is_ended}
-use Rattle.dep_host.specs.Seats.{Rests, Offers, Refuses, Answers}
+use Rattle.dep_host.specs.Seats.{HubStays, SameClient, Rests, Offers, Refuses, Answers}
 
 -- the hub, who sits where, what bounds them, and at which second it was told that the store is shut
 pub record Position (A R K S : Type 0) : Type 0 where
@@ -36,6 +37,10 @@ position host = record {
 -- who sits at a place
 abbrev pub slot : {X : Type 0} → ℕ → List (Option X) → Option X
 slot at seats = get_or seats at None
+
+-- nobody sits anywhere
+abbrev pub IsEmpty : {A R K S : Type 0} → Position A R K S → Type 0
+IsEmpty p = (at : ℕ) → slot at p.seats ≡ None
 
 -- what a host does for the connection of a number, which sits at a place
 pub data Deed : Type 0 where
@@ -100,17 +105,17 @@ abbrev pub unfinished_in : {R K S : Type 0} → List (Option (Seat R K S)) → �
 unfinished_in [] = 0
 unfinished_in (s ∷ seats) = unfinished_of s + unfinished_in seats
 
--- what is closed is closed at this second
-abbrev pub IsClosedAt : ℕ → Deed → Type 0
-IsClosedAt second (Opens at n given) = Unit {0}
-IsClosedAt second (Takes at n piece) = Unit {0}
-IsClosedAt second (Replies at n moment sent) = Unit {0}
-IsClosedAt second (Declines at n piece moment sent) = Unit {0}
-IsClosedAt second (Closes at n s) = s ≡ second
+-- what is answered is answered at the moment, and what is closed is closed at the second
+abbrev pub IsDoneAt : Time → Deed → Type 0
+IsDoneAt time (Opens at n given) = Unit {0}
+IsDoneAt time (Takes at n piece) = Unit {0}
+IsDoneAt time (Replies at n moment sent) = moment ≡ time.moment
+IsDoneAt time (Declines at n piece moment sent) = moment ≡ time.moment
+IsDoneAt time (Closes at n second) = second ≡ time.second
 
-abbrev pub AreClosedAt : ℕ → List Deed → Type 0
-AreClosedAt second [] = Unit {0}
-AreClosedAt second (d ∷ deeds) = IsClosedAt second d × AreClosedAt second deeds
+abbrev pub AreDoneAt : Time → List Deed → Type 0
+AreDoneAt time [] = Unit {0}
+AreDoneAt time (d ∷ deeds) = IsDoneAt time d × AreDoneAt time deeds
 
 -- the store is shut, if a host was told so
 abbrev pub IsRightlyTold : {A R K S : Type 0} → (A → Condition) → Position A R K S → Type 0
@@ -177,10 +182,7 @@ module _ {A R K S : Type 0} (condition : A → Condition) (unread : R → Option
   -- store works ahead
   pub record Asks (p q : Position A R K S) : Type 0 where
     pub sits : q.seats ≡ p.seats
-    pub next : q.hub.next ≡ p.hub.next
-    pub same_config : q.hub.config ≡ p.hub.config
-    pub clean : IsClean condition q.hub → IsClean condition p.hub
-    pub honest : IsHonest condition q.hub → IsHonest condition p.hub
+    pub hub : HubStays condition p.hub q.hub
     pub stands : StandsOn condition p.hub q.hub
     pub same_limits : q.limits ≡ p.limits
     pub told : (q.shut ≡ p.shut) ⊎ (IsNone p.shut × (IsClean condition q.hub → ⊥))
@@ -190,11 +192,8 @@ module _ {A R K S : Type 0} (condition : A → Condition) (unread : R → Option
     pub there : at < length p.seats
     pub sat : slot at p.seats ≡ Some before
     pub sits : q.seats ≡ set p.seats at (Some after)
-    pub same : after.connection ≡ before.connection
-    pub next : q.hub.next ≡ p.hub.next
-    pub same_config : q.hub.config ≡ p.hub.config
-    pub clean : IsClean condition q.hub → IsClean condition p.hub
-    pub honest : IsHonest condition q.hub → IsHonest condition p.hub
+    pub client : SameClient before after
+    pub hub : HubStays condition p.hub q.hub
     pub ended : is_ended before.course.phase ≡ true → is_ended after.course.phase ≡ true
     pub same_limits : q.limits ≡ p.limits
     pub same_shut : q.shut ≡ p.shut
@@ -246,24 +245,24 @@ module _ {A R K S : Type 0} (condition : A → Condition) (unread : R → Option
   GoesOn first last = (deeds : List Deed) × Steps first deeds last
 
   -- one place has its turn, where too many bytes of unfinished requests are kept or not
-  pub record Serves (p q : Position A R K S) (at second : ℕ) (is_full : Bool) : Type 0 where
+  pub record Serves (p q : Position A R K S) (at : ℕ) (time : Time) (is_full : Bool) : Type 0 where
     pub deeds : List Deed
     pub steps : Steps p deeds q
     pub once : answers_at at deeds ≤ 1
     pub others : (place : ℕ) → (place ≡ at → ⊥) → answers_at place deeds ≡ 0
     pub waits : is_full ≡ true → 0 < unfinished_of (slot at p.seats) → pieces_at at deeds ≡ 0
     pub unread_others : (place : ℕ) → (place ≡ at → ⊥) → pieces_at place deeds ≡ 0
-    pub closes : AreClosedAt second deeds
+    pub in_time : AreDoneAt time deeds
 
   -- each place has its turn: of no connection more than one item is answered, and where too many
   -- bytes of unfinished requests are kept, nothing more is read of these
-  pub record GoesRound (p q : Position A R K S) (second : ℕ) : Type 0 where
+  pub record GoesRound (p q : Position A R K S) (time : Time) : Type 0 where
     pub deeds : List Deed
     pub steps : Steps p deeds q
     pub once : (place : ℕ) → answers_at place deeds ≤ 1
     pub waits : p.limits.unfinished_bytes < unfinished_in p.seats → (place : ℕ)
         → 0 < unfinished_of (slot place p.seats) → pieces_at place deeds ≡ 0
-    pub closes : AreClosedAt second deeds
+    pub in_time : AreDoneAt time deeds
 
   -- the largest is closed, or nothing is done
   abbrev pub Sheds : Position A R K S → Position A R K S → (second : ℕ) → Type 0
@@ -278,6 +277,13 @@ HasTime second limits (Some seat) = closing seat.course second limits ≡ None
 abbrev pub IsVacant : {A R K S : Type 0} → Host A R K S → ℕ → Type 0
 IsVacant host at = (at < length host.seats.items) × (slot at host.seats.items ≡ None)
     × IsNone host.shut_since
+
+-- what bounds a host, what it was told and how many places it has is as it was
+pub record Stays {A R K S : Type 0} (old new : Host A R K S) : Type 0 where
+  pub places : length new.seats.items ≡ length old.seats.items
+  pub limits : new.limits ≡ old.limits
+  pub shut : new.shut_since ≡ old.shut_since
+  pub unanswered : new.unanswered ≡ old.unanswered
 
 -- a connection sits at a place that may be closed for a reason
 abbrev pub MayGo : {A R K S : Type 0} → Position A R K S → (second : ℕ) → Closing

@@ -1,6 +1,9 @@
 pub mod Courses
 pub mod Seats
+pub mod Notes
 pub mod Hosting
 pub mod Runs
 pub mod Coming
 pub mod Rounds
+pub mod Meeting
+pub mod Laws

@@ -2,7 +2,6 @@
 use Rattle.std.specs.Prelude.{◌≡◌, ◌⊎◌, ℕ, ◌-◌, List, length, take, Option, IfSome, IsNone, false}
 use Rattle.std.specs.List.{All, Contains}
 use Rattle.std.specs.List.Sorted.{IsNonDecreasing}
-use Rattle.std.specs.Io.KnownBytes.{Appends}
 use Rattle.dep_host.specs.declared.limits.Limits.{Limits}
 use Rattle.dep_host.specs.declared.serving.Ended.{Ended}
 use Rattle.dep_host.specs.declared.serving.Ended.TheVariants as ended
@@ -19,11 +18,9 @@ gone_on ended.Shut rounds = take (length rounds - 1) rounds
 gone_on ended.Spent rounds = rounds
 
 -- No round behind which a host went on was an idle time later than it was told that its store is shut.
--- Where they are told, these are the seconds of its rounds.
-pub record EndsInTime (told_old told_new : Option (List ℕ)) (old new : Option ℕ) (limits : Limits)
-    (ended : Ended) : Type 0 where
-  pub rounds : List ℕ
-  pub are_told : Appends told_old told_new rounds
+-- These are the seconds of its rounds.
+pub record EndsInTime (rounds : List ℕ) (old new : Option ℕ) (limits : Limits) (ended : Ended)
+    : Type 0 where
   pub is_told : IsTold old new rounds
   pub in_time : IsNonDecreasing rounds
       → All (λ second. is_overdue new second limits ≡ false) (gone_on ended rounds)

@@ -1,5 +1,5 @@
 -- Which records the hub's machine makes of what a host does.
-use Rattle.std.specs.Prelude.{◌≡◌, ◌==◌, ℕ, List, [], ◌∷◌, ◌++◌, if◌then◌else◌, Option, None, Some, false}
+use Rattle.std.specs.Prelude.{◌≡◌, ◌==◌, ℕ, List, [], ◌∷◌, ◌++◌, if◌then◌else◌, Option, Some, false}
 use Rattle.std.specs.List.{flat_map}
 use Rattle.dep_types.specs.State.{State}
 use Rattle.dep_types.specs.Conditions.{Condition}
@@ -10,7 +10,7 @@ use Rattle.dep_hub.specs.declared.hub.Hub.{Hub}
 use Rattle.dep_outbox.specs.Wires.{told}
 use Rattle.dep_host.specs.declared.seat.Seat.{Seat}
 use Rattle.dep_host.specs.Courses.{is_ended}
-use Rattle.dep_host.specs.Hosting.{Position, Steps, slot, Tells, Deed, Opens, Takes, Replies, Declines, Closes}
+use Rattle.dep_host.specs.Hosting.{Position, Steps, IsEmpty, slot, Tells, Deed, Opens, Takes, Replies, Declines, Closes}
 
 -- The records of the deeds, from what each connection held at first to what it holds now: a piece is
 -- held until the items of it are answered, and a part of what is held arrives with each answer.
@@ -142,7 +142,7 @@ KeptToTheLast {A = A} {R = R} {K = K} {S = S} condition unread taken held p firs
 abbrev pub Promises : {A R K S : Type 0} → (A → Condition) → (R → Option (List ℕ))
     → (K → Option (List ℕ)) → (S → Option (List ℕ)) → Position A R K S → Position A R K S → Type 0
 Promises condition unread taken held p q = (first : State) → (before : List Record)
-    → ((at : ℕ) → slot at p.seats ≡ None) → StandsHoldingAfter condition p.hub first before (λ n. [])
+    → IsEmpty p → StandsHoldingAfter condition p.hub first before (λ n. [])
     → IsClean condition q.hub
     → (deeds : List Deed) × (Steps condition unread taken held p deeds q
     × (KeepsPromise condition unread taken held q first before deeds

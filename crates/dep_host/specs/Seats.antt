@@ -4,7 +4,8 @@ use Rattle.std.specs.Io.KnownBytes.{Keeps, Consumes, IsAtEnd}
 use Rattle.dep_types.specs.Conditions.{Condition}
 use Rattle.dep_hub.specs.Records.{Line}
 use Rattle.dep_hub.specs.Turns.{most_read}
-use Rattle.dep_hub.specs.Holding.{KeepsHolding, AnswersOver, IsNext, IsRefused, arrived_by, with_held}
+use Rattle.dep_hub.specs.Standing.{IsClean, IsHonest}
+use Rattle.dep_hub.specs.Holding.{KeepsHolding, AnswersOver, OffersTo, IsNext, IsRefused, arrived_by, with_held}
 use Rattle.dep_hub.specs.declared.hub.Hub.{Hub}
 use Rattle.dep_hub.specs.declared.arrived.Arrived.{Arrived}
 use Rattle.dep_hub.specs.declared.arrived.Arrived.TheVariants as came
@@ -14,7 +15,11 @@ use Rattle.dep_outbox.specs.Wires.{told, owed}
 use Rattle.dep_host.specs.declared.seat.Seat.{Seat}
 use Rattle.dep_host.specs.declared.course.Phase.{Phase}
 use Rattle.dep_host.specs.declared.course.Phase.TheVariants.{Open, Answering, Last, Over}
-use Rattle.dep_host.specs.Courses.{is_ended}
+use Rattle.dep_host.specs.Courses.{is_ended, woken}
+
+-- its socket may be ready
+abbrev pub woken_seat : {R K S : Type 0} → Seat R K S → (is_readable is_writable : Bool) → Seat R K S
+woken_seat seat r w = record seat { course = woken seat.course r w }
 
 -- how far a connection is once a piece of it was offered
 abbrev pub phase_offered : Arrived → Phase
@@ -38,6 +43,18 @@ left_unfinished Waiting n = n
 left_unfinished Closed n = 0
 left_unfinished Cut n = 0
 left_unfinished NoSuch n = 0
+
+-- a connection is the one that it was, of the same client
+pub record SameClient {R K S : Type 0} (before after : Seat R K S) : Type 0 where
+  pub connection : after.connection ≡ before.connection
+  pub address : after.address ≡ before.address
+
+-- no connection was opened, and the store is open only where it was before, and the disk honest
+pub record HubStays {A : Type 0} (condition : A → Condition) (old new : Hub A) : Type 0 where
+  pub next : new.next ≡ old.next
+  pub same_config : new.config ≡ old.config
+  pub clean : IsClean condition new → IsClean condition old
+  pub honest : IsHonest condition new → IsHonest condition old
 
 module _ {A R K S : Type 0} (condition : A → Condition) (unread : R → Option (List ℕ))
     (taken : K → Option (List ℕ)) (held : S → Option (List ℕ)) where
@@ -110,3 +127,16 @@ module _ {A R K S : Type 0} (condition : A → Condition) (unread : R → Option
       Rests old new before after
       ⊎ (Offers old new before after is_full is_shut
       ⊎ (Refuses old new before after moment is_full is_shut ⊎ Answers old new before after moment))
+
+  -- a turn in which a piece may be read, where it may be
+  abbrev pub MayRead : (old new : Hub A) → (before after : Seat R K S) → Type 0
+  MayRead old new before after = (moment : ℕ) (is_full is_shut : Bool)
+      → (is_full ≡ true → before.course.unfinished ≡ 0) → is_shut ≡ false
+      → TakesTurn old new before after moment is_full is_shut
+
+  -- what becomes of a piece that was offered
+  abbrev pub IsOffered : (old new : Hub A) → (before after : Seat R K S) → (piece : List ℕ) → Type 0
+  IsOffered old new before after piece = (answer : Arrived)
+      × OffersTo condition (told taken held before.wire) (told taken held after.wire)
+      before.wire.failures after.wire.failures old new before.connection piece answer
+      × (after.course.phase ≡ phase_offered answer)

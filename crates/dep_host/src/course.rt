@@ -1,6 +1,6 @@
 //! How far a connection is, and what it does next.
 ghost use Rattle.std.specs.Prelude.{◌≡◌, ◌+◌, ◌^◌, ◌-◌, ◌||◌, nat_lt, min, if◌then◌else◌, true, false};
-ghost use Rattle.dep_host.specs.Courses.{duty, closing, counts_anew, is_under_way, shut, is_past, is_silent, is_slow};
+ghost use Rattle.dep_host.specs.Courses.{duty, closing, counts_anew, is_under_way, is_past};
 
 use crate::limits::Limits;
 use crate::log::Closing;
@@ -137,16 +137,6 @@ impl Course {
         }
     }
 
-    /// It is read no more, once what was read is answered.
-    pub fn shut(&mut self)
-        ensures phase { self.new.phase ≡ shut self.old.phase }
-        ensures unfinished { self.new.unfinished ≡ self.old.unfinished }
-    {
-        if self.phase == Phase::Open {
-            self.phase = Phase::Last;
-        }
-    }
-
     /// Takes note that so many bytes were read or taken.
     pub fn count(&mut self, bytes: u64)
         ensures phase { self.new.phase ≡ self.old.phase }
@@ -165,19 +155,9 @@ impl Course {
     pub fn closing(&self, second: u64, limits: &Limits) -> Option<Closing>
         ensures { result ≡ closing self.now second limits.now }
     {
-        match self.phase {
-            Phase::Over => Some(Closing::Over),
-            Phase::Open | Phase::Answering | Phase::Last | Phase::Draining => {
-                self.overdue(second, limits)
-            }
-        }
-    }
-
-    fn overdue(&self, second: u64, limits: &Limits) -> Option<Closing>
-        ensures { result ≡ (if is_silent self.now second limits.now then Some Closing.Silent
-            else if is_slow self.now second limits.now then Some Closing.Slow else None) }
-    {
-        if self.has_moved {
+        if self.phase == Phase::Over {
+            Some(Closing::Over)
+        } else if self.has_moved {
             None
         } else if is_past(self.since, second, limits) {
             Some(Closing::Silent)

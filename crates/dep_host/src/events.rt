@@ -1,7 +1,7 @@
 //! What comes to a host from outside.
-ghost use Rattle.std.specs.Prelude.{◌≡◌, IsTrue, Bool, ℕ, List, Option, None};
-ghost use Rattle.std.specs.Io.KnownBytes.{Appends};
-ghost use Rattle.dep_host.specs.Coming.{IsFresh, origin, comes_from, seconds_of};
+ghost use Rattle.std.specs.Prelude.{◌≡◌, IsTrue, Bool, List, [], ◌∷◌, Option, None};
+ghost use Rattle.dep_host.specs.Coming.{IsFresh, origin, comes_from};
+ghost use Rattle.dep_host.specs.Notes.{Grows};
 
 use crate::seat::{Seat, Time};
 use dep_outbox::{Sink, Source, Spool, Wire};
@@ -57,7 +57,7 @@ pub(crate) fn comes_from<R: Source, K: Sink, S: Spool>(
     ensures { result ≡ comes_from from place.now }
 {
     match place {
-        Some(seat) => origin(seat.address()) == from,
+        Some(seat) => origin(seat.address) == from,
         None => false,
     }
 }
@@ -82,17 +82,19 @@ pub enum Event<R, K, S> {
 /// What tells a host what comes. Before each `Round` it has told of all sockets that it knows to be
 /// ready: only then are connections judged that were silent for too long.
 pub trait Events<R: Source, K: Sink, S: Spool> {
+    ghost use Rattle.dep_host.specs.declared.events.Event.{Event};
+
     /// Whether no more comes.
     ghost is_over: { Self → Bool };
 
-    /// The seconds of the rounds so far, where it tells them.
-    ghost rounds: { Self → Option (List ℕ) } = { λ _. None };
+    /// What came so far, where it tells.
+    ghost given: { Self → Option (List (Event R K S)) } = { λ _. None };
 
     /// The next event. A client comes to the place, where one is given, and none where it isn't, so
     /// that further ones wait in the queue of the system. It waits for something to come only where
     /// the host can't go on at once, and not for long, since a `Round` closes who is silent.
     fn next(&mut self, vacancy: Option<usize>, is_busy: bool) -> Event<R, K, S>
         ensures fresh { IsFresh K.taken S.held result }
-        ensures rounds { Appends (rounds self.old) (rounds self.new) (seconds_of result) }
+        ensures given { Grows (given self.old) (given self.new) (result ∷ []) }
         ensures end { result ≡ Event.End → IsTrue (is_over self.new) };
 }

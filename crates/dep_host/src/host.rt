@@ -3,13 +3,14 @@ ghost use Rattle.std.specs.Prelude.{◌≡◌, ◌⊎◌, ◌<◌, ◌≤◌, �
 ghost use Rattle.std.specs.Io.KnownBytes.{IsAtEnd};
 ghost use Rattle.dep_hub.specs.Turns.{most_read};
 ghost use Rattle.dep_outbox.specs.Wires.{told};
-ghost use Rattle.dep_host.specs.Hosting.{GoesOn, Steps, Serves, Goes, GoesRound, Sheds, HasTime, MayGo, IsVacant, position, slot, unfinished_of, unfinished_in};
+ghost use Rattle.dep_host.specs.Hosting.{Steps, Serves, Goes, GoesRound, Sheds, Stays, HasTime, MayGo, IsEmpty, IsVacant, position, slot, unfinished_of, unfinished_in};
 ghost use Rattle.dep_host.specs.Coming.{origin, seated_from};
 ghost use Rattle.dep_host.specs.Courses.{is_overdue};
-ghost use Rattle.dep_host.specs.Rounds.{IsTold};
+ghost use Rattle.dep_host.specs.Meeting.{Admits, IsAsked, IsOffer, Wakes};
+ghost use Rattle.dep_host.specs.Notes.{TurnedAway, Grows};
 ghost use Rattle.dep_host.specs.declared.course.Phase.TheVariants.{Open};
 
-use crate::course::is_past;
+use crate::course::{Phase, is_past};
 use crate::events::{Client, comes_from, origin};
 use crate::limits::Limits;
 use crate::log::{Closing, HostLog, Refusal};
@@ -30,6 +31,8 @@ pub struct Host<A, R, K, S> {
     limits: Limits,
     /// The second at which it was told that the store is shut.
     shut_since: Option<u64>,
+    /// How often it could not be told whether the store is open, up to 2^64 - 1. Clauses alone read it.
+    unanswered: u64,
 }
 
 impl<A: Archive, R: Source + Drop, K: Sink + Drop, S: Spool + Drop> Host<A, R, K, S> {
@@ -49,6 +52,7 @@ impl<A: Archive, R: Source + Drop, K: Sink + Drop, S: Spool + Drop> Host<A, R, K
             seats,
             limits,
             shut_since: None,
+            unanswered: 0,
         })
     }
 
@@ -61,26 +65,17 @@ impl<A: Archive, R: Source + Drop, K: Sink + Drop, S: Spool + Drop> Host<A, R, K
             seats: _,
             limits: _,
             shut_since: _,
+            unanswered: _,
         } = self;
         hub
-    }
-
-    /// What bounds its connections.
-    pub fn limits(&self) -> Limits
-        ensures { result ≡ self.now.limits }
-    {
-        self.limits
     }
 
     /// Asks at a second whether the store is open, until it is told that it isn't. From then on no
     /// client is let in, and no connection is read. It answers whether it was never told so.
     pub fn is_open(&mut self, second: u64) -> bool
-        ensures goes { Steps A.condition R.unread K.taken S.held (position self.old) []
-            (position self.new) }
+        ensures asks { IsAsked A.condition R.unread K.taken S.held self.old self.new second }
         ensures untold { result ≡ true → IsNone self.new.shut_since }
         ensures shut { result ≡ false → IsSome self.new.shut_since }
-        ensures told { IsTold self.old.shut_since self.new.shut_since (second ∷ []) }
-        ensures limits { self.new.limits ≡ self.old.limits }
     {
         if self.shut_since.is_some() {
             return false;
@@ -90,7 +85,11 @@ impl<A: Archive, R: Source + Drop, K: Sink + Drop, S: Spool + Drop> Host<A, R, K
                 self.shut_since = Some(second);
                 false
             }
-            Ok(true) | Err(_) => true,
+            Ok(true) => true,
+            Err(_) => {
+                self.unanswered = self.unanswered.saturating_add(1);
+                true
+            }
         }
     }
 
@@ -99,8 +98,7 @@ impl<A: Archive, R: Source + Drop, K: Sink + Drop, S: Spool + Drop> Host<A, R, K
     pub fn work_ahead(&mut self) -> bool
         ensures goes { Steps A.condition R.unread K.taken S.held (position self.old) []
             (position self.new) }
-        ensures limits { self.new.limits ≡ self.old.limits }
-        ensures shut { self.new.shut_since ≡ self.old.shut_since }
+        ensures stays { Stays self.old self.new }
     {
         self.hub.work_ahead()
     }
@@ -118,7 +116,7 @@ impl<A: Archive, R: Source + Drop, K: Sink + Drop, S: Spool + Drop> Host<A, R, K
     /// Where a further connection can be seated. There is no place once it was told that the store is
     /// shut.
     pub fn vacancy(&self) -> Option<usize>
-        ensures { IfSome result (IsVacant self.now) }
+        ensures { IsOffer self.now result }
     {
         if self.shut_since.is_some() {
             return None;
@@ -142,8 +140,15 @@ impl<A: Archive, R: Source + Drop, K: Sink + Drop, S: Spool + Drop> Host<A, R, K
     }
 
     /// Whether nobody sits there.
-    pub fn is_empty(&self) -> bool {
-        self.seats.iter().all(|seat| seat.is_none())
+    pub fn is_empty(&self) -> bool
+        ensures { result ≡ true → IsEmpty (position self.now) }
+    {
+        for at in 0..self.seats.len() {
+            if self.seats[at].is_some() {
+                return false;
+            }
+        }
+        true
     }
 
     /// Opens a connection over a socket that has taken nothing, and seats it there. Where it is
@@ -156,19 +161,8 @@ impl<A: Archive, R: Source + Drop, K: Sink + Drop, S: Spool + Drop> Host<A, R, K
     ) -> Result<(), Refusal>
         requires vacant { IsVacant self.old at }
         requires fresh { IsAtEnd (told K.taken S.held client.wire) }
-        ensures goes { GoesOn A.condition R.unread K.taken S.held (position self.old)
-            (position self.new) }
-        ensures seats { length self.new.seats.items ≡ length self.old.seats.items }
-        ensures limits { self.new.limits ≡ self.old.limits }
-        ensures shut { self.new.shut_since ≡ self.old.shut_since }
-        ensures source { IfOk result (λ _. IsSomeAnd (slot at self.new.seats.items)
-            (λ seat. seat.source ≡ client.source)) }
-        // Fewer sit there that come from its address than may, and it is refused for that where not.
-        ensures room { IfOk result (λ _. seated_from (origin client.address)
-            self.old.seats.items < self.old.limits.address_connections) }
-        ensures address { IfErr result (λ refusal. refusal ≡ Refusal.Address
-            → self.old.limits.address_connections
-            ≤ seated_from (origin client.address) self.old.seats.items) }
+        ensures { Admits A.condition R.unread K.taken S.held L.notes self.old self.new
+            log.old log.new at client result }
     {
         if self.seated_from(client.address) >= self.limits.address_connections {
             return Err(turn_away(client, Refusal::Address, log));
@@ -201,32 +195,12 @@ impl<A: Archive, R: Source + Drop, K: Sink + Drop, S: Spool + Drop> Host<A, R, K
 
     /// Takes note that a socket may be ready.
     pub fn awake(&mut self, at: usize, is_readable: bool, is_writable: bool)
-        ensures goes { GoesOn A.condition R.unread K.taken S.held (position self.old)
-            (position self.new) }
-        ensures seats { length self.new.seats.items ≡ length self.old.seats.items }
-        ensures limits { self.new.limits ≡ self.old.limits }
-        ensures shut { self.new.shut_since ≡ self.old.shut_since }
-        // Nobody sits where nobody sat.
-        ensures free { (place : ℕ) → slot place self.old.seats.items ≡ None
-            → slot place self.new.seats.items ≡ None }
+        ensures { Wakes self.old self.new at is_readable is_writable }
     {
         if at < self.seats.len() {
-            self.wake(at, is_readable, is_writable);
-        }
-    }
-
-    fn wake(&mut self, at: usize, is_readable: bool, is_writable: bool)
-        requires there { at < length self.old.seats.items }
-        ensures goes { GoesOn A.condition R.unread K.taken S.held (position self.old)
-            (position self.new) }
-        ensures seats { length self.new.seats.items ≡ length self.old.seats.items }
-        ensures limits { self.new.limits ≡ self.old.limits }
-        ensures shut { self.new.shut_since ≡ self.old.shut_since }
-        ensures free { (place : ℕ) → slot place self.old.seats.items ≡ None
-            → slot place self.new.seats.items ≡ None }
-    {
-        if let Some(seat) = &mut self.seats[at] {
-            seat.awake(is_readable, is_writable);
+            if let Some(seat) = &mut self.seats[at] {
+                seat.awake(is_readable, is_writable);
+            }
         }
     }
 
@@ -236,12 +210,10 @@ impl<A: Archive, R: Source + Drop, K: Sink + Drop, S: Spool + Drop> Host<A, R, K
     pub fn round<L: HostLog>(&mut self, room: &mut [u8], time: &Time, log: &mut L) -> bool
         requires room { length room.old ≤ most_read }
         ensures goes { GoesRound A.condition R.unread K.taken S.held (position self.old)
-            (position self.new) time.now.second }
+            (position self.new) time.now }
         ensures left { (at : ℕ)
             → HasTime time.now.second self.new.limits (slot at self.new.seats.items) }
-        ensures seats { length self.new.seats.items ≡ length self.old.seats.items }
-        ensures limits { self.new.limits ≡ self.old.limits }
-        ensures shut { self.new.shut_since ≡ self.old.shut_since }
+        ensures stays { Stays self.old self.new }
     {
         let turn = Turn {
             time: *time,
@@ -261,12 +233,10 @@ impl<A: Archive, R: Source + Drop, K: Sink + Drop, S: Spool + Drop> Host<A, R, K
             (unfinished_in self.old.seats.items) }
         requires shut { turn.now.is_shut ≡ is_some self.old.shut_since }
         ensures goes { GoesRound A.condition R.unread K.taken S.held (position self.old)
-            (position self.new) turn.now.time.second }
+            (position self.new) turn.now.time }
         ensures left { (at : ℕ)
             → HasTime turn.now.time.second self.new.limits (slot at self.new.seats.items) }
-        ensures seats { length self.new.seats.items ≡ length self.old.seats.items }
-        ensures limits { self.new.limits ≡ self.old.limits }
-        ensures shut { self.new.shut_since ≡ self.old.shut_since }
+        ensures stays { Stays self.old self.new }
     {
         let mut is_busy = false;
         for at in 0..self.seats.len() {
@@ -284,14 +254,12 @@ impl<A: Archive, R: Source + Drop, K: Sink + Drop, S: Spool + Drop> Host<A, R, K
         requires room { length room.old ≤ most_read }
         requires shut { turn.now.is_shut ≡ is_some self.old.shut_since }
         ensures goes { Serves A.condition R.unread K.taken S.held (position self.old)
-            (position self.new) at turn.now.time.second turn.now.is_full }
+            (position self.new) at turn.now.time turn.now.is_full }
         ensures here { HasTime turn.now.time.second self.new.limits
             (slot at self.new.seats.items) }
         ensures others { (place : ℕ) → (place ≡ at → ⊥)
             → slot place self.new.seats.items ≡ slot place self.old.seats.items }
-        ensures seats { length self.new.seats.items ≡ length self.old.seats.items }
-        ensures limits { self.new.limits ≡ self.old.limits }
-        ensures shut { self.new.shut_since ≡ self.old.shut_since }
+        ensures stays { Stays self.old self.new }
     {
         self.begin_turn(at, turn.time.second);
         self.take_turn(at, room, turn, log);
@@ -311,7 +279,7 @@ impl<A: Archive, R: Source + Drop, K: Sink + Drop, S: Spool + Drop> Host<A, R, K
             (slot at self.now.seats.items)) }
     {
         match &self.seats[at] {
-            Some(seat) => seat.closing(second, &self.limits),
+            Some(seat) => seat.course.closing(second, &self.limits),
             None => None,
         }
     }
@@ -335,9 +303,7 @@ impl<A: Archive, R: Source + Drop, K: Sink + Drop, S: Spool + Drop> Host<A, R, K
             ≡ unfinished_of (slot at self.old.seats.items) }
         ensures others { (place : ℕ) → (place ≡ at → ⊥)
             → slot place self.new.seats.items ≡ slot place self.old.seats.items }
-        ensures seats { length self.new.seats.items ≡ length self.old.seats.items }
-        ensures limits { self.new.limits ≡ self.old.limits }
-        ensures shut { self.new.shut_since ≡ self.old.shut_since }
+        ensures stays { Stays self.old self.new }
     {
         if let Some(seat) = &mut self.seats[at] {
             seat.begin_turn(second, &self.limits, self.shut_since.is_some());
@@ -350,12 +316,10 @@ impl<A: Archive, R: Source + Drop, K: Sink + Drop, S: Spool + Drop> Host<A, R, K
         requires room { length room.old ≤ most_read }
         requires shut { turn.now.is_shut ≡ is_some self.old.shut_since }
         ensures goes { Serves A.condition R.unread K.taken S.held (position self.old)
-            (position self.new) at turn.now.time.second turn.now.is_full }
+            (position self.new) at turn.now.time turn.now.is_full }
         ensures others { (place : ℕ) → (place ≡ at → ⊥)
             → slot place self.new.seats.items ≡ slot place self.old.seats.items }
-        ensures seats { length self.new.seats.items ≡ length self.old.seats.items }
-        ensures limits { self.new.limits ≡ self.old.limits }
-        ensures shut { self.new.shut_since ≡ self.old.shut_since }
+        ensures stays { Stays self.old self.new }
     {
         if let Some(seat) = &mut self.seats[at] {
             seat.take_turn(&mut self.hub, room, turn, log);
@@ -373,13 +337,11 @@ impl<A: Archive, R: Source + Drop, K: Sink + Drop, S: Spool + Drop> Host<A, R, K
         ensures gone { slot at self.new.seats.items ≡ None }
         ensures others { (place : ℕ) → (place ≡ at → ⊥)
             → slot place self.new.seats.items ≡ slot place self.old.seats.items }
-        ensures seats { length self.new.seats.items ≡ length self.old.seats.items }
-        ensures limits { self.new.limits ≡ self.old.limits }
-        ensures shut { self.new.shut_since ≡ self.old.shut_since }
+        ensures stays { Stays self.old self.new }
     {
         if let Some(seat) = self.seats[at].take() {
-            self.hub.close(seat.connection());
-            log.closed(seat.connection(), seat.address(), closing, seat.bytes());
+            self.hub.close(seat.connection);
+            log.closed(seat.connection, seat.address, closing, seat.bytes());
             drop(seat);
         }
     }
@@ -391,9 +353,7 @@ impl<A: Archive, R: Source + Drop, K: Sink + Drop, S: Spool + Drop> Host<A, R, K
             (position self.new) second }
         ensures left { (at : ℕ) → (slot at self.new.seats.items ≡ slot at self.old.seats.items)
             ⊎ (slot at self.new.seats.items ≡ None) }
-        ensures seats { length self.new.seats.items ≡ length self.old.seats.items }
-        ensures limits { self.new.limits ≡ self.old.limits }
-        ensures shut { self.new.shut_since ≡ self.old.shut_since }
+        ensures stays { Stays self.old self.new }
     {
         if let Some(at) = self.largest() {
             if self.is_full() && self.is_read(at) {
@@ -409,7 +369,7 @@ impl<A: Archive, R: Source + Drop, K: Sink + Drop, S: Spool + Drop> Host<A, R, K
             (λ seat. seat.course.phase ≡ Open) }
     {
         match &self.seats[at] {
-            Some(seat) => seat.is_open(),
+            Some(seat) => seat.course.phase == Phase::Open,
             None => false,
         }
     }
@@ -439,7 +399,7 @@ impl<A: Archive, R: Source + Drop, K: Sink + Drop, S: Spool + Drop> Host<A, R, K
         ensures { result ≡ unfinished_of (slot at self.now.seats.items) }
     {
         match &self.seats[at] {
-            Some(seat) => seat.unfinished(),
+            Some(seat) => seat.course.unfinished,
             None => 0,
         }
     }
@@ -463,7 +423,9 @@ fn turn_away<R: Drop, K: Drop, S: Drop, L: HostLog>(
     refusal: Refusal,
     log: &mut L,
 ) -> Refusal
-    ensures { result ≡ refusal }
+    ensures same { result ≡ refusal }
+    ensures noted { Grows (L.notes log.old) (L.notes log.new)
+        (TurnedAway client.address refusal ∷ []) }
 {
     log.refused(client.address, refusal);
     drop(client);

@@ -1,4 +1,6 @@
 //! What is told of each connection, for a log of them.
+ghost use Rattle.std.specs.Prelude.{List, [], ◌∷◌, Option, None};
+ghost use Rattle.dep_host.specs.Notes.{Note, LetIn, TurnedAway, Grows};
 
 use dep_hub::{AccessLog, ConnId, Next};
 use std::net::IpAddr;
@@ -39,11 +41,18 @@ pub struct Bytes {
 /// What a host tells of its connections. Nothing of what is sent or kept hangs on it. Of what an
 /// `AccessLog` is told it is told between `answering` and `answered`.
 pub trait HostLog: AccessLog {
+    /// What it was told so far of the clients that came, where it tells.
+    ghost notes: { Self → Option (List Note) } = { λ _. None };
+
     /// A client was let in.
-    fn opened(&mut self, connection: ConnId, address: IpAddr);
+    fn opened(&mut self, connection: ConnId, address: IpAddr)
+        ensures noted { Grows (notes self.old) (notes self.new)
+            (LetIn connection address ∷ []) };
 
     /// A client was turned away.
-    fn refused(&mut self, address: IpAddr, refusal: Refusal);
+    fn refused(&mut self, address: IpAddr, refusal: Refusal)
+        ensures noted { Grows (notes self.old) (notes self.new)
+            (TurnedAway address refusal ∷ []) };
 
     /// The next item of a connection is answered, where one is complete: what is told up to
     /// `answered` is of it. None may be.

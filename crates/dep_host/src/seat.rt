@@ -1,18 +1,16 @@
 //! A connection that is served.
 ghost use Rattle.std.specs.Prelude.{◌≡◌, ◌≢◌, ◌<◌, ◌≤◌, ◌⊎◌, ◌+◌, ◌-◌, ◌^◌, ◌||◌, min, nat_lt, ℕ, Bool, length, true, false};
 ghost use Rattle.std.specs.Io.KnownBytes.{Keeps, Consumes, IsAtEnd};
-ghost use Rattle.dep_hub.specs.Holding.{ComesToNext, OffersTo};
-ghost use Rattle.dep_hub.specs.Standing.{IsClean, IsHonest};
+ghost use Rattle.dep_hub.specs.Holding.{ComesToNext};
 ghost use Rattle.dep_hub.specs.Turns.{most_read};
-ghost use Rattle.dep_hub.specs.declared.arrived.Arrived.{Arrived as AnyArrived};
 ghost use Rattle.dep_hub.specs.declared.next.Next.{Next as AnyNext};
 ghost use Rattle.dep_outbox.specs.Wires.{told, owed};
-ghost use Rattle.dep_host.specs.Courses.{closing, is_ended};
-ghost use Rattle.dep_host.specs.Seats.{TakesTurn, Rests, Answers, phase_offered, phase_answered, left_unfinished};
+ghost use Rattle.dep_host.specs.Courses.{is_ended};
+ghost use Rattle.dep_host.specs.Seats.{HubStays, SameClient, TakesTurn, MayRead, IsOffered, Rests, Answers, phase_answered, left_unfinished, woken_seat};
 
 use crate::course::{Course, Duty, Phase};
 use crate::limits::Limits;
-use crate::log::{Bytes, Closing, HostLog};
+use crate::log::{Bytes, HostLog};
 use dep_hub::{Archive, Arrived, ConnId, Hub, Next};
 use dep_moment::Moment;
 use dep_outbox::{Flushed, Received, Sink, Source, Spool, Wire};
@@ -41,11 +39,11 @@ pub(crate) struct Turn {
 /// A connection of the hub, the two ways to its client, and how far it is.
 #[derive(Drop)]
 pub struct Seat<R, K, S> {
-    connection: ConnId,
-    address: IpAddr,
+    pub(crate) connection: ConnId,
+    pub(crate) address: IpAddr,
     source: R,
     wire: Wire<K, S>,
-    course: Course,
+    pub(crate) course: Course,
     /// How many bytes were read, up to 2^64 - 1.
     received: u64,
 }
@@ -77,20 +75,6 @@ impl<R: Source, K: Sink, S: Spool> Seat<R, K, S> {
         }
     }
 
-    /// The number of its connection.
-    pub fn connection(&self) -> ConnId
-        ensures { result ≡ self.now.connection }
-    {
-        self.connection
-    }
-
-    /// Where its client connects from.
-    pub fn address(&self) -> IpAddr
-        ensures { result ≡ self.now.address }
-    {
-        self.address
-    }
-
     /// How many bytes were read of it, and taken by its socket.
     pub fn bytes(&self) -> Bytes
         ensures received { result.received ≡ self.now.received }
@@ -102,21 +86,9 @@ impl<R: Source, K: Sink, S: Spool> Seat<R, K, S> {
         }
     }
 
-    /// How many bytes were read since an item was answered last.
-    pub(crate) fn unfinished(&self) -> u64
-        ensures { result ≡ self.now.course.unfinished }
-    {
-        self.course.unfinished
-    }
-
     /// Takes note that its socket may be ready.
     pub(crate) fn awake(&mut self, is_readable: bool, is_writable: bool)
-        ensures source { self.new.source ≡ self.old.source }
-        ensures wire { self.new.wire ≡ self.old.wire }
-        ensures number { self.new.connection ≡ self.old.connection }
-        ensures address { self.new.address ≡ self.old.address }
-        ensures phase { self.new.course.phase ≡ self.old.course.phase }
-        ensures unfinished { self.new.course.unfinished ≡ self.old.course.unfinished }
+        ensures { self.new ≡ woken_seat self.old is_readable is_writable }
     {
         self.course.is_readable = self.course.is_readable || is_readable;
         self.course.is_writable = self.course.is_writable || is_writable;
@@ -126,8 +98,7 @@ impl<R: Source, K: Sink, S: Spool> Seat<R, K, S> {
     pub(crate) fn begin_turn(&mut self, second: u64, limits: &Limits, is_shut: bool)
         ensures source { self.new.source ≡ self.old.source }
         ensures wire { self.new.wire ≡ self.old.wire }
-        ensures number { self.new.connection ≡ self.old.connection }
-        ensures address { self.new.address ≡ self.old.address }
+        ensures client { SameClient self.old self.new }
         ensures opens { self.new.course.phase ≡ Phase.Open
             → self.old.course.phase ≡ Phase.Open }
         ensures ended { is_ended self.old.course.phase ≡ true
@@ -137,23 +108,9 @@ impl<R: Source, K: Sink, S: Spool> Seat<R, K, S> {
     {
         let owes = self.wire.owes();
         self.course.begin_turn(owes, second, limits);
-        if is_shut {
-            self.course.shut();
+        if is_shut && self.course.phase == Phase::Open {
+            self.course.phase = Phase::Last;
         }
-    }
-
-    /// Why it is closed now, if it is.
-    pub(crate) fn closing(&self, second: u64, limits: &Limits) -> Option<Closing>
-        ensures { result ≡ closing self.now.course second limits.now }
-    {
-        self.course.closing(second, limits)
-    }
-
-    /// Whether it is read, and no request may be complete.
-    pub(crate) fn is_open(&self) -> bool
-        ensures { result ≡ true → self.now.course.phase ≡ Phase.Open }
-    {
-        self.course.phase == Phase::Open
     }
 
     /// Whether it can go on at once.
@@ -171,12 +128,8 @@ impl<R: Source, K: Sink, S: Spool> Seat<R, K, S> {
         log: &mut L,
     )
         requires room { length room.old ≤ most_read }
-        ensures config { hub.new.config ≡ hub.old.config }
-        ensures next { hub.new.next ≡ hub.old.next }
-        ensures clean { IsClean A.condition hub.new → IsClean A.condition hub.old }
-        ensures honest { IsHonest A.condition hub.new → IsHonest A.condition hub.old }
-        ensures number { self.new.connection ≡ self.old.connection }
-        ensures address { self.new.address ≡ self.old.address }
+        ensures hub { HubStays A.condition hub.old hub.new }
+        ensures client { SameClient self.old self.new }
         ensures ended { is_ended self.old.course.phase ≡ true
             → is_ended self.new.course.phase ≡ true }
         ensures turn { TakesTurn A.condition R.unread K.taken S.held hub.old hub.new
@@ -213,12 +166,8 @@ impl<R: Source, K: Sink, S: Spool> Seat<R, K, S> {
         log: &mut L,
     )
         requires room { length room.old ≤ most_read }
-        ensures config { hub.new.config ≡ hub.old.config }
-        ensures next { hub.new.next ≡ hub.old.next }
-        ensures clean { IsClean A.condition hub.new → IsClean A.condition hub.old }
-        ensures honest { IsHonest A.condition hub.new → IsHonest A.condition hub.old }
-        ensures number { self.new.connection ≡ self.old.connection }
-        ensures address { self.new.address ≡ self.old.address }
+        ensures hub { HubStays A.condition hub.old hub.new }
+        ensures client { SameClient self.old self.new }
         ensures ended { is_ended self.old.course.phase ≡ true
             → is_ended self.new.course.phase ≡ true }
         ensures turn { TakesTurn A.condition R.unread K.taken S.held hub.old hub.new
@@ -241,12 +190,8 @@ impl<R: Source, K: Sink, S: Spool> Seat<R, K, S> {
     fn answer<A: Archive, L: HostLog>(&mut self, hub: &mut Hub<A>, moment: Moment, log: &mut L)
         requires unowed { IsAtEnd (owed S.held self.old.wire) }
         requires phase { self.old.course.phase ≡ Phase.Answering }
-        ensures config { hub.new.config ≡ hub.old.config }
-        ensures next { hub.new.next ≡ hub.old.next }
-        ensures clean { IsClean A.condition hub.new → IsClean A.condition hub.old }
-        ensures honest { IsHonest A.condition hub.new → IsHonest A.condition hub.old }
-        ensures number { self.new.connection ≡ self.old.connection }
-        ensures address { self.new.address ≡ self.old.address }
+        ensures hub { HubStays A.condition hub.old hub.new }
+        ensures client { SameClient self.old self.new }
         ensures turn { Rests A.condition R.unread K.taken S.held hub.old hub.new self.old self.new
             ⊎ Answers A.condition R.unread K.taken S.held hub.old hub.new
             self.old self.new moment }
@@ -268,12 +213,8 @@ impl<R: Source, K: Sink, S: Spool> Seat<R, K, S> {
         moment: Moment,
         log: &mut L,
     ) -> Next
-        ensures config { hub.new.config ≡ hub.old.config }
-        ensures next { hub.new.next ≡ hub.old.next }
-        ensures clean { IsClean A.condition hub.new → IsClean A.condition hub.old }
-        ensures honest { IsHonest A.condition hub.new → IsHonest A.condition hub.old }
-        ensures number { self.new.connection ≡ self.old.connection }
-        ensures address { self.new.address ≡ self.old.address }
+        ensures hub { HubStays A.condition hub.old hub.new }
+        ensures client { SameClient self.old self.new }
         ensures source { self.new.source ≡ self.old.source }
         ensures answers { ComesToNext A.condition
             (told K.taken S.held self.old.wire) (told K.taken S.held self.new.wire)
@@ -304,16 +245,10 @@ impl<R: Source, K: Sink, S: Spool> Seat<R, K, S> {
         requires room { length room.old ≤ most_read }
         requires unowed { IsAtEnd (owed S.held self.old.wire) }
         requires phase { self.old.course.phase ≡ Phase.Open }
-        ensures config { hub.new.config ≡ hub.old.config }
-        ensures next { hub.new.next ≡ hub.old.next }
-        ensures clean { IsClean A.condition hub.new → IsClean A.condition hub.old }
-        ensures honest { IsHonest A.condition hub.new → IsHonest A.condition hub.old }
-        ensures number { self.new.connection ≡ self.old.connection }
-        ensures address { self.new.address ≡ self.old.address }
-        ensures turn { (moment : ℕ) (is_full is_shut : Bool)
-            → (is_full ≡ true → self.old.course.unfinished ≡ 0) → is_shut ≡ false
-            → TakesTurn A.condition R.unread K.taken S.held hub.old hub.new
-            self.old self.new moment is_full is_shut }
+        ensures hub { HubStays A.condition hub.old hub.new }
+        ensures client { SameClient self.old self.new }
+        ensures turn { MayRead A.condition R.unread K.taken S.held hub.old hub.new
+            self.old self.new }
         ensures moved { min self.old.course.moved (2 ^ 64 - 1) ≤ self.new.course.moved }
     {
         match self.source.receive(room) {
@@ -325,16 +260,12 @@ impl<R: Source, K: Sink, S: Spool> Seat<R, K, S> {
 
     /// Offers a piece, which counts as moved.
     fn offer<A: Archive>(&mut self, hub: &mut Hub<A>, piece: &[u8])
-        ensures config { hub.new.config ≡ hub.old.config }
-        ensures next { hub.new.next ≡ hub.old.next }
+        ensures hub { HubStays A.condition hub.old hub.new }
         ensures store { hub.new.store ≡ hub.old.store }
-        ensures number { self.new.connection ≡ self.old.connection }
-        ensures address { self.new.address ≡ self.old.address }
+        ensures client { SameClient self.old self.new }
         ensures source { self.new.source ≡ self.old.source }
-        ensures offers { (answer : AnyArrived) × OffersTo A.condition
-            (told K.taken S.held self.old.wire) (told K.taken S.held self.new.wire)
-            self.old.wire.failures self.new.wire.failures hub.old hub.new self.old.connection
-            piece.now answer × (self.new.course.phase ≡ phase_offered answer) }
+        ensures offers { IsOffered A.condition R.unread K.taken S.held hub.old hub.new
+            self.old self.new piece.now }
         ensures has_moved { self.new.course.has_moved
             ≡ (self.old.course.has_moved || nat_lt 0 (length piece.now)) }
         ensures moved { self.new.course.moved
@@ -358,8 +289,7 @@ impl<R: Source, K: Sink, S: Spool> Seat<R, K, S> {
         ensures keeps { Keeps (told K.taken S.held self.old.wire)
             (told K.taken S.held self.new.wire) }
         ensures failures { self.new.wire.failures ≡ self.old.wire.failures }
-        ensures number { self.new.connection ≡ self.old.connection }
-        ensures address { self.new.address ≡ self.old.address }
+        ensures client { SameClient self.old self.new }
         ensures source { self.new.source ≡ self.old.source }
         ensures phase { (self.new.course.phase ≡ self.old.course.phase)
             ⊎ (self.new.course.phase ≡ Phase.Over) }
@@ -377,8 +307,7 @@ impl<R: Source, K: Sink, S: Spool> Seat<R, K, S> {
     /// Tells the client that nothing more is sent.
     fn finish(&mut self)
         ensures keeps { told K.taken S.held self.new.wire ≡ told K.taken S.held self.old.wire }
-        ensures number { self.new.connection ≡ self.old.connection }
-        ensures address { self.new.address ≡ self.old.address }
+        ensures client { SameClient self.old self.new }
         ensures phase { self.new.course.phase ≡ Phase.Draining }
         ensures stirs { self.new.course.has_moved ≡ true }
         ensures moved { self.new.course.moved ≡ self.old.course.moved }
@@ -393,8 +322,7 @@ impl<R: Source, K: Sink, S: Spool> Seat<R, K, S> {
     /// Throws a piece away, which doesn't count.
     fn drain(&mut self, room: &mut [u8])
         ensures wire { self.new.wire ≡ self.old.wire }
-        ensures number { self.new.connection ≡ self.old.connection }
-        ensures address { self.new.address ≡ self.old.address }
+        ensures client { SameClient self.old self.new }
         ensures phase { (self.new.course.phase ≡ self.old.course.phase)
             ⊎ (self.new.course.phase ≡ Phase.Over) }
         ensures stirs { self.new.course.has_moved ≡ self.old.course.has_moved }

@@ -1,11 +1,11 @@
 //! Serving all clients until no more comes.
-ghost use Rattle.std.specs.Prelude.{◌≡◌, ◌≢◌, ◌≤◌, [], ◌∷◌, Err, length, IfOk, IfSome, IsSome, IsTrue, false};
+ghost use Rattle.std.specs.Prelude.{◌≡◌, ◌≢◌, ◌≤◌, [], ◌∷◌, Err, length, IfOk, IsNone, IsTrue, false};
 ghost use Rattle.std.specs.List.{AllByRecursion};
 ghost use Rattle.dep_hub.specs.Turns.{most_read};
 ghost use Rattle.dep_host.specs.Coming.{IsFresh, seconds_of};
 ghost use Rattle.dep_host.specs.Courses.{is_overdue};
-ghost use Rattle.dep_host.specs.Hosting.{GoesOn, Steps, IsRightlyTold, IsVacant, position};
-ghost use Rattle.dep_host.specs.Rounds.{IsTold, EndsInTime};
+ghost use Rattle.dep_host.specs.Hosting.{GoesOn, position};
+ghost use Rattle.dep_host.specs.Meeting.{AsksOn, IsMet, IsOffer, MayEnd, Meets, Met};
 ghost use Rattle.dep_host.specs.Runs.{Promises};
 
 use crate::events::{Client, Event, Events};
@@ -44,18 +44,17 @@ pub fn serve<
     L: HostLog,
 >(host: &mut Host<A, R, K, S>, events: &mut E, room: &mut [u8], log: &mut L) -> Ended
     requires { length room.old ≤ most_read }
+    // What came, and what was made of each.
+    ensures met { Met A.condition R.unread K.taken S.held L.notes (E.given events.old)
+        (E.given events.new) host.old host.new log.old log.new result }
     ensures goes { GoesOn A.condition R.unread K.taken S.held (position host.old)
         (position host.new) }
     // The archive promise, for all connections.
     ensures promise { Promises A.condition R.unread K.taken S.held (position host.old)
         (position host.new) }
     ensures end { result ≡ Ended.Events → IsTrue (E.is_over events.new) }
-    // What it was told before is taken to be true.
-    ensures shut { result ≡ Ended.Shut → IsRightlyTold A.condition (position host.old)
+    ensures shut { result ≡ Ended.Shut → IsNone host.old.shut_since
         → ¬ IsTrue (A.condition host.new.hub.store).is_open }
-    // Once it was told that the store is shut, no round but the last is an idle time later.
-    ensures time { EndsInTime (E.rounds events.old) (E.rounds events.new)
-        host.old.shut_since host.new.shut_since host.new.limits result }
 {
     hosts_keep_the_archive_promise::<A, R, K, S>();
     let mut now = Now {
@@ -82,15 +81,11 @@ fn meet<A: Archive, R: Source + Drop, K: Sink + Drop, S: Spool + Drop, L: HostLo
 ) -> Result<Now, Ended>
     requires room { length room.old ≤ most_read }
     requires fresh { IsFresh K.taken S.held event }
-    requires vacant { IfSome now.vacancy (IsVacant host.old) }
-    ensures goes { GoesOn A.condition R.unread K.taken S.held (position host.old)
-        (position host.new) }
-    ensures vacant { IfOk result (λ next. IfSome next.vacancy (IsVacant host.new)) }
-    ensures end { result ≡ Err Ended.Events → event ≡ Event.End }
-    ensures unspent { result ≢ Err Ended.Spent }
-    ensures shut { result ≡ Err Ended.Shut → IsSome host.new.shut_since }
-    ensures limits { host.new.limits ≡ host.old.limits }
-    ensures told { IsTold host.old.shut_since host.new.shut_since (seconds_of event) }
+    requires vacant { IsOffer host.old now.vacancy }
+    ensures met { IsMet A.condition R.unread K.taken S.held L.notes host.old host.new
+        log.old log.new event result }
+    ensures vacant { IfOk result (λ next. IsOffer host.new next.vacancy) }
+    ensures shut { result ≡ Err Ended.Shut → MayEnd host.new (seconds_of event) }
     ensures time { IfOk result (λ _. AllByRecursion (λ second.
         is_overdue host.new.shut_since second host.new.limits ≡ false) (seconds_of event)) }
 {
@@ -125,14 +120,11 @@ fn go_on<A: Archive, R: Source + Drop, K: Sink + Drop, S: Spool + Drop>(
     is_busy: bool,
     second: u64,
 ) -> Result<Now, Ended>
-    ensures goes { Steps A.condition R.unread K.taken S.held (position host.old) []
-        (position host.new) }
-    ensures vacant { IfOk result (λ next. IfSome next.vacancy (IsVacant host.new)) }
+    ensures asks { AsksOn A.condition R.unread K.taken S.held host.old host.new second }
+    ensures vacant { IfOk result (λ next. IsOffer host.new next.vacancy) }
     ensures end { result ≢ Err Ended.Events }
     ensures unspent { result ≢ Err Ended.Spent }
-    ensures shut { result ≡ Err Ended.Shut → IsSome host.new.shut_since }
-    ensures limits { host.new.limits ≡ host.old.limits }
-    ensures told { IsTold host.old.shut_since host.new.shut_since (second ∷ []) }
+    ensures shut { result ≡ Err Ended.Shut → MayEnd host.new (second ∷ []) }
     ensures time { IfOk result (λ _.
         is_overdue host.new.shut_since second host.new.limits ≡ false) }
 {
@@ -160,11 +152,9 @@ fn let_in<A: Archive, R: Source + Drop, K: Sink + Drop, S: Spool + Drop, L: Host
     log: &mut L,
 )
     requires fresh { IsFresh K.taken S.held (Event.Client client) }
-    requires vacant { IfSome vacancy (IsVacant host.old) }
-    ensures goes { GoesOn A.condition R.unread K.taken S.held (position host.old)
-        (position host.new) }
-    ensures limits { host.new.limits ≡ host.old.limits }
-    ensures shut { host.new.shut_since ≡ host.old.shut_since }
+    requires vacant { IsOffer host.old vacancy }
+    ensures { Meets A.condition R.unread K.taken S.held L.notes host.old host.new
+        log.old log.new (Event.Client client) }
 {
     match vacancy {
         Some(at) => {

@@ -107,14 +107,14 @@ module _ {A : Type 0} (condition : A → Condition) where
   talks_honest n old new failures failures_after turns (turn {mid = mid} {before = between} {turns = before} t talks stays same a) honest =
       talks_honest n old mid failures between before talks (a.honest honest)
   talks_honest n old new failures failures_after turns (ahead {mid = mid} talks stays a) honest =
-      talks_honest n old mid failures failures_after turns talks (a.honest honest)
+      talks_honest n old mid failures failures_after turns talks (a.store.honest honest)
 
   pub talks_clean : (n : ℕ) (old new : Hub A) (failures failures_after : ℕ) (turns : List Turn) → Talks condition n old failures turns new failures_after → IsClean condition new → IsClean condition old
   talks_clean n old new failures failures_after turns silent clean = clean
   talks_clean n old new failures failures_after turns (turn {mid = mid} {before = between} {turns = before} t talks stays same a) clean =
       talks_clean n old mid failures between before talks (a.clean clean)
   talks_clean n old new failures failures_after turns (ahead {mid = mid} talks stays a) clean =
-      talks_clean n old mid failures failures_after turns talks (a.clean clean)
+      talks_clean n old mid failures failures_after turns talks (a.store.was_open clean)
 
   -- one turn more, over a store that is open
   exchange_open : (config : Config) (n : ℕ) (mid new : Hub A) (between failures_after : ℕ) (before : List Turn) (t : Turn) (w : World) → last_answer before ≡ StaysOpen → mid.config ≡ config
@@ -171,17 +171,17 @@ module _ {A : Type 0} (condition : A → Condition) where
         | inr shut ↦ exchange_shut old.config n mid new between failures_after before t w stays same a honest (both_ways (store_of condition mid).is_open shut) h
       ]
   talks_exchange n old new failures failures_after turns settles (ahead {mid = mid} talks stays a) honest w at =
-      let h = talks_exchange n old mid failures failures_after turns settles talks (a.honest honest) w at in
+      let h = talks_exchange n old mid failures failures_after turns settles talks (a.store.honest honest) w at in
       record {
         talked = h.talked;
         exchanges = h.exchanges;
         kept = λ e. keeps_ahead mid new h.talked.line a (h.kept e);
-        stays = λ e. leaves_before (store_of condition mid) (store_of condition new) _ (a.left honest) (h.stays e);
+        stays = λ e. leaves_before (store_of condition mid) (store_of condition new) _ (a.store.left honest) (h.stays e);
         at = λ clean.
-            let stood = h.at (a.clean clean) in
-            record { state = a.kept clean h.talked.state stood.state; kept = keeps_ahead mid new h.talked.line a stood.kept };
-        rests = λ clean. leaves_before (store_of condition mid) (store_of condition new) _ (a.left honest) (h.rests (a.clean clean));
-        stop = leaves_before (store_of condition mid) (store_of condition new) _ (a.left honest) h.stop;
+            let stood = h.at (a.store.was_open clean) in
+            record { state = a.store.kept clean h.talked.state stood.state; kept = keeps_ahead mid new h.talked.line a stood.kept };
+        rests = λ clean. leaves_before (store_of condition mid) (store_of condition new) _ (a.store.left honest) (h.rests (a.store.was_open clean));
+        stop = leaves_before (store_of condition mid) (store_of condition new) _ (a.store.left honest) h.stop;
       }
 
   -- what a stop now leaves goes on from the turns

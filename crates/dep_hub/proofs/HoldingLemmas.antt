@@ -1,5 +1,5 @@
 -- What a hub stands for that holds bytes which have not arrived, after each of its calls.
-use Rattle.std.proofs.Common.{◌≡◌, ◌≢◌, ℕ, ◌==◌, ◌≤◌, Bool, true, false, List, [], ◌∷◌, ◌++◌, set, get_or, Option, Some, None, if◌then◌else◌, refl, sym, ap, subst, ◌∙◌, arith}
+use Rattle.std.proofs.Common.{◌≡◌, ◌≢◌, ℕ, ◌==◌, ◌≤◌, Bool, true, false, List, [], ◌∷◌, ◌++◌, Vec, Global, set, get_or, Option, Some, None, if◌then◌else◌, refl, sym, ap, subst, ◌∙◌, arith}
 use Rattle.std.proofs.lemmas.Bool.{eqb-true}
 use Rattle.dep_types.specs.State.{State}
 use Rattle.dep_types.specs.declared.config.Config.{Config}
@@ -11,7 +11,8 @@ use Rattle.dep_hub.specs.Sending.{Outside, outside}
 use Rattle.dep_hub.specs.Serving.{IsDeadIfShut}
 use Rattle.dep_hub.specs.Nexts.{RunsOut, AnswersNext}
 use Rattle.dep_hub.specs.Standing.{intake_of, IsKeptAs, StandsAt, store_of, IsClean}
-use Rattle.dep_hub.specs.Holding.{with_held, fed, IsHeldAs, Outcome, arrived_by, IsNext, IsRefused, KeepsHolding, StandsHolding, StandsHoldingAfter, MovesLine, PartArrives, AnswersOver, ComesToNext, OffersTo}
+use Rattle.dep_hub.specs.Archives.{KeepsAll}
+use Rattle.dep_hub.specs.Holding.{RestsOn, with_held, fed, IsHeldAs, Outcome, arrived_by, IsNext, IsRefused, KeepsHolding, StandsHolding, StandsHoldingAfter, MovesLine, PartArrives, AnswersOver, ComesToNext, OffersTo}
 use Rattle.dep_hub.specs.Numbers.{index_of, Ascends}
 use Rattle.dep_hub.specs.declared.arrived.Arrived.{Arrived}
 use Rattle.dep_hub.specs.declared.arrived.Arrived.TheVariants as came
@@ -19,7 +20,7 @@ use Rattle.dep_hub.specs.declared.next.Next.{Next}
 use Rattle.dep_hub.specs.declared.next.Next.TheVariants.{More, Waiting, Closed, Cut, NoSuch}
 use Rattle.dep_hub.specs.declared.connections.Connection.{Connection}
 use Rattle.dep_hub.specs.declared.hub.Hub.{Hub}
-use Rattle.dep_hub.proofs.Leaving.{Settles, stays_as, leaves_wider}
+use Rattle.dep_hub.proofs.Leaving.{Settles, stays_as, leaves_wider, leaves_before}
 use Rattle.dep_hub.proofs.ConnectionLemmas.{index_some, intake_set, intake_push, absent_above}
 use Rattle.dep_hub.proofs.HubLemmas.{kept_fresh, stopped_run}
 use Rattle.dep_hub.proofs.ShutLemmas.{ends_sent}
@@ -296,3 +297,24 @@ pub rests_holding : {A : Type 0} (condition : A → Condition) (hub : Hub A) →
 rests_holding condition hub settles first records held h =
     leaves_wider (store_of condition hub) _ _ (λ found e. subst (λ s. Run hub.config first (records ++ stopped ∷ []) (first_world s)) (sym e) (stops h.run))
     (stays_as (store_of condition hub) h.world.state settles h.at.state)
+
+-- between two calls the store was asked for nothing that it keeps
+pub rests_on : {A : Type 0} (condition : A → Condition) (old new : Hub A) → new.config ≡ old.config → new.connections ≡ old.connections → new.next ≡ old.next
+    → Settles (store_of condition old) → KeepsAll (store_of condition old) (store_of condition new) → RestsOn condition old new
+rests_on {A} condition old new config connections next settles store = record {
+  stands = λ clean first records held h. record {
+    world = h.world;
+    run = subst (λ (x : Config). Run x first records h.world) (sym config) h.run;
+    at = record {
+      state = store.kept clean h.world.state h.at.state;
+      kept = subst (λ (x : Config). (number : ℕ) → IsHeldAs x.max_upload (h.world.line number) (held number) (intake_of new.connections.items number)) (sym config)
+          (subst (λ (cs : Vec Connection Global). (number : ℕ) → IsHeldAs old.config.max_upload (h.world.line number) (held number) (intake_of cs.items number)) (sym connections) h.at.kept);
+    };
+  };
+  stops = λ honest first records held h. leaves_before (store_of condition old) (store_of condition new) _ (store.left honest)
+      (rests_holding condition old settles first records held h);
+  store = store;
+  config = config;
+  connections = connections;
+  next = next;
+}

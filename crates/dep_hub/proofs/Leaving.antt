@@ -1,5 +1,5 @@
 -- What a stop leaves of an archive that stands for a state.
-use Rattle.std.proofs.Common.{◌≡◌}
+use Rattle.std.proofs.Common.{◌≡◌, ◌⊎◌, inl, inr}
 use Rattle.dep_types.specs.State.{State}
 use Rattle.dep_types.specs.Conditions.{Condition, StandsFor, Leaves}
 use Rattle.dep_hub.specs.Shut.{LeavesNoMore}
@@ -15,6 +15,10 @@ stays_as c s settles stands = settles s stands
 -- what leaves some states leaves more
 pub leaves_wider : (c : Condition) (P Q : State → Type 0) → ((s : State) → P s → Q s) → Leaves c P → Leaves c Q
 leaves_wider c P Q f leaves image h = let l = leaves image h in (l.0, l.1, f l.0 l.2)
+
+-- it leaves a state or that same state
+pub leaves_once : (c : Condition) (s : State) → Leaves c (λ found. (found ≡ s) ⊎ (found ≡ s)) → Leaves c (λ found. found ≡ s)
+leaves_once c s leaves = leaves_wider c _ _ (λ found e. elim e [ inl same ↦ same | inr same ↦ same ]) leaves
 
 -- what a crash may leave of no more than before stands for the same states
 pub leaves_before : (old new : Condition) (P : State → Type 0) → LeavesNoMore old new → Leaves old P → Leaves new P

@@ -87,7 +87,7 @@ module _ {A : Type 0} (condition : A → Condition) where
   clean_before n old new before after turns (turn {mid = mid} {before = between} {turns = first} t talks stays same a) clean =
       clean_before n old mid before between first talks (a.clean clean)
   clean_before n old new before after turns (ahead {mid = mid} talks stays a) clean =
-      clean_before n old mid before after turns talks (a.clean clean)
+      clean_before n old mid before after turns talks (a.store.was_open clean)
 
   turns_shut : (n : ℕ) (old new : Hub A) (before after : ℕ) (turns : List Turn) → Talks condition n old before turns new after → TurnsShut old new turns
   turns_shut n old new before after turns silent disk shut = (tt, leaves_same (store_of condition old))
@@ -96,8 +96,8 @@ module _ {A : Type 0} (condition : A → Condition) where
       let then = a.shut disk (λ is_open. shut (clean_before n old mid before between first talks is_open)) in
       (fixed_more first t so_far.0 then.sends, leaves_both (store_of condition old) (store_of condition mid) (store_of condition new) so_far.1 then.leaves)
   turns_shut n old new before after turns (ahead {mid = mid} talks stays a) disk shut =
-      let so_far = turns_shut n old mid before after turns talks (a.honest disk) shut in
-      (so_far.0, leaves_both (store_of condition old) (store_of condition mid) (store_of condition new) so_far.1 (a.left disk))
+      let so_far = turns_shut n old mid before after turns talks (a.store.honest disk) shut in
+      (so_far.0, leaves_both (store_of condition old) (store_of condition mid) (store_of condition new) so_far.1 (a.store.left disk))
 
   -- from before the connection was opened until it was closed
   pub conversation_shut : (n : ℕ) (old opened talked new : Hub A) (before after : ℕ) (turns : List Turn) → opened.store ≡ old.store → new.store ≡ talked.store

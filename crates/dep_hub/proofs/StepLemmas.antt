@@ -1,5 +1,6 @@
 -- What is ready is the reply of a step.
-use Rattle.std.proofs.Common.{◌≡◌, ◌⊎◌, inl, inr, ℕ, Bool, List, [], Option, Some, None, ap, subst, ◌∙◌}
+use Rattle.std.proofs.Common.{◌≡◌, inl, ℕ, Bool, List, [], Option, Some, None, Result, Ok, Err, IfOk, OnErr, ap, subst, ◌∙◌}
+use Rattle.std.proofs.lemmas.Result.{IfOk-weaker}
 use Rattle.dep_types.specs.State.{State}
 use Rattle.dep_types.specs.declared.config.Config.{Config}
 use Rattle.dep_types.specs.declared.refusal.Refusal.{Refusal}
@@ -17,10 +18,10 @@ use Rattle.dep_answers.specs.Steps.{Stepped, refused_step, operation_step}
 use Rattle.dep_answers.specs.Performing.{IsReady, IsReply}
 use Rattle.dep_answers.specs.declared.performed.Delivery.{Delivery}
 use Rattle.dep_answers.specs.declared.performed.Performed.{Performed}
-use Rattle.dep_types.specs.Conditions.{Condition, StandsFor, Leaves}
-use Rattle.dep_hub.specs.Performing.{Performs}
+use Rattle.dep_types.specs.Conditions.{Condition, StandsFor}
+use Rattle.dep_hub.specs.Archives.{TriesTo, MakesStep, Tells, Always}
 use Rattle.dep_hub.specs.Machine.{operation_of, routed_step}
-use Rattle.dep_hub.proofs.Leaving.{leaves_wider}
+use Rattle.dep_hub.proofs.Leaving.{Settles, stays_as, leaves_wider}
 
 -- a refusal at a clock
 pub refusal_ready : (s : State) (d : Delivery) (p : Performed) (r : Refusal) (allow : Option (List ℕ)) (b c : Bool)
@@ -29,44 +30,89 @@ pub refusal_ready : (s : State) (d : Delivery) (p : Performed) (r : Refusal) (al
 refusal_ready s d p r allow b c clock bare close e =
     subst (λ (x : Delivery). IsReply s (refused_answer x.clock r allow) x p) (λ i. record { clock = clock i; is_bare = bare i; closes = close i }) (e s)
 
-module _ (config : Config) (m : Message) (d : Delivery) (p : Performed) (bare : d.is_bare ≡ is_bare m.head) (close : d.closes ≡ closes m.head)
-    (store : Condition) (s : State) (stands : StandsFor store s) (clock : d.clock ≡ s.clock) where
-  pub performs_none : NotFound ≡ target m.head.method m.head.path → ((t : State) → IsReply t (refused_answer d.clock why.NotFound None) d p)
-      → Performs (routed_step config s m (target m.head.method m.head.path)) store p
-  performs_none r e = subst (λ (x : Routed). Performs (routed_step config s m x) store p) r
-      (record { state = stands; ready = refusal_ready s d p why.NotFound None (is_bare m.head) (closes m.head) clock bare close e })
+-- ---- what a step comes to on an archive
 
-  pub performs_not_allowed : (methods : List ℕ) → NotAllowed methods ≡ target m.head.method m.head.path
-      → ((t : State) → IsReply t (refused_answer d.clock why.MethodNotAllowed (Some methods)) d p)
-      → Performs (routed_step config s m (target m.head.method m.head.path)) store p
-  performs_not_allowed methods r e = subst (λ (x : Routed). Performs (routed_step config s m x) store p) r
-      (record { state = stands; ready = refusal_ready s d p why.MethodNotAllowed (Some methods) (is_bare m.head) (closes m.head) clock bare close e })
+on_err : {A E : Type 0} (r : Result A E) (P : Type 0) → P → OnErr r P
+on_err (Ok answer) P h = tt
+on_err (Err fault) P h = h
 
--- a resource is named, and a method that it has
-module _ (config : Config) (m : Message) (t : Target) (named : To t ≡ target m.head.method m.head.path) (store : Condition) (s : State) where
-  same_step : operation_step config s (operation_of m t) ≡ routed_step config s m (target m.head.method m.head.path)
-  same_step = ap (λ (x : Routed). routed_step config s m x) named
+-- the archive wasn't asked, and the state stays
+pub tells_still : {A E : Type 0} (store : Condition) → Settles store → (told : State → A → Type 0) (r : Result A E) → ((s : State) → IfOk r (told s))
+    → Tells store store told r
+tells_still store settles told r tells = record {
+  ok = λ clean s at _. IfOk-weaker r (told s) (λ answer. told s answer × StandsFor store s) (λ answer h. (h, at)) (tells s);
+  err = λ is_open s at. on_err r (StandsFor store s) at;
+  honest = λ clean. clean;
+  was_open = λ is_open. is_open;
+  stop = λ clean s at _. leaves_wider store _ _ (λ found e. inl e) (stays_as store s settles at);
+}
 
-  pub performs_operation : (p : Performed) → Performs (operation_step config s (operation_of m t)) store p
-      → Performs (routed_step config s m (target m.head.method m.head.path)) store p
-  performs_operation p h = subst (λ (x : Stepped). Performs x store p) same_step h
+-- it failed before the archive was asked
+pub step_unasked : {E : Type 0} (store : Condition) → Settles store → (stepped : State → Stepped) (fault : E) → MakesStep store store Always stepped (Err fault)
+step_unasked store settles stepped fault = record {
+  ok = λ clean s at _. tt;
+  err = λ is_open s at. at;
+  honest = λ clean. clean;
+  was_open = λ is_open. is_open;
+  stop = λ clean s at _. leaves_wider store _ _ (λ found e. inl e) (stays_as store s settles at);
+}
 
-  pub leaves_operation : Leaves store (λ found. (found ≡ s) ⊎ (found ≡ (operation_step config s (operation_of m t)).state))
-      → Leaves store (λ found. (found ≡ s) ⊎ (found ≡ (routed_step config s m (target m.head.method m.head.path)).state))
-  leaves_operation h = leaves_wider store _ _ (λ c e. elim e [ inl same ↦ inl same | inr next ↦ inr (next ∙ ap (λ (x : Stepped). x.state) same_step) ]) h
+-- what holds of each state need not be asked for
+pub tries_always : {A E : Type 0} (old new : Condition) (holds : State → Type 0) (told : State → A → Type 0) (next : State → State) (r : Result A E)
+    → ((s : State) → holds s) → TriesTo old new holds told next r → TriesTo old new Always told next r
+tries_always old new holds told next r each it = record {
+  ok = λ clean s at _. it.ok clean s at (each s);
+  err = it.err;
+  honest = it.honest;
+  was_open = it.was_open;
+  stop = λ clean s at _. it.stop clean s at (each s);
+}
 
--- where nothing was done
-pub leaves_it : (store : Condition) (s : State) (Q : State → Type 0) → Leaves store (λ found. found ≡ s) → Leaves store (λ found. (found ≡ s) ⊎ Q found)
-leaves_it store s Q h = leaves_wider store _ _ (λ c e. inl e) h
+-- what is told of a state is told where more is known
+told_where : {A E : Type 0} (old new : Condition) (told : State → A → Type 0) (knows : State → Type 0) (next : State → State) (r : Result A E)
+    → TriesTo old new Always told next r → TriesTo old new Always (λ s answer. knows s → told s answer) next r
+told_where old new told knows next r it = record {
+  ok = λ clean s at always. IfOk-weaker r _ _ (λ answer h. (λ _. h.0, h.1)) (it.ok clean s at always);
+  err = it.err;
+  honest = it.honest;
+  was_open = it.was_open;
+  stop = it.stop;
+}
+
+-- a message whose reply tells a clock
+module _ {E : Type 0} (config : Config) (m : Message) (old new : Condition) (clock : ℕ) (r : Result Performed E) where
+  abbrev AnswersIt : Routed → Type 0
+  AnswersIt it = TriesTo old new Always (λ s p. clock ≡ s.clock → IsReady (routed_step config s m it) p) (λ s. (routed_step config s m it).state) r
+
+  -- a resource is named, and a method that it has
+  pub operation_answered : (op : Operation) (t : Target) → op ≡ operation_of m t → To t ≡ target m.head.method m.head.path
+      → MakesStep old new Always (λ s. operation_step config s op) r → AnswersIt (target m.head.method m.head.path)
+  operation_answered op t same named it =
+      let made = subst (λ (x : Operation). MakesStep old new Always (λ s. operation_step config s x) r) same it in
+      subst AnswersIt named (told_where old new (λ s p. IsReady (operation_step config s (operation_of m t)) p) (λ s. clock ≡ s.clock)
+      (λ s. (operation_step config s (operation_of m t)).state) r made)
+
+-- none is named
+module _ {E : Type 0} (config : Config) (m : Message) (d : Delivery) (bare : d.is_bare ≡ is_bare m.head) (close : d.closes ≡ closes m.head)
+    (store : Condition) (settles : Settles store) (r : Result Performed E) where
+  refused_still : (refusal : Refusal) (allow : Option (List ℕ)) → IfOk r (λ p. (t : State) → IsReply t (refused_answer d.clock refusal allow) d p)
+      → Tells store store (λ s p. d.clock ≡ s.clock → IsReady (refused_step s refusal allow (is_bare m.head) (closes m.head)) p) r
+  refused_still refusal allow e = tells_still store settles _ r
+      (λ s. IfOk-weaker r _ _ (λ p h clock. refusal_ready s d p refusal allow (is_bare m.head) (closes m.head) clock bare close h) e)
+
+  pub none_answered : NotFound ≡ target m.head.method m.head.path → IfOk r (λ p. (t : State) → IsReply t (refused_answer d.clock why.NotFound None) d p)
+      → AnswersIt config m store store d.clock r (target m.head.method m.head.path)
+  none_answered named e = subst (AnswersIt config m store store d.clock r) named (refused_still why.NotFound None e)
+
+  pub not_allowed_answered : (methods : List ℕ) → NotAllowed methods ≡ target m.head.method m.head.path
+      → IfOk r (λ p. (t : State) → IsReply t (refused_answer d.clock why.MethodNotAllowed (Some methods)) d p)
+      → AnswersIt config m store store d.clock r (target m.head.method m.head.path)
+  not_allowed_answered methods named e = subst (AnswersIt config m store store d.clock r) named (refused_still why.MethodNotAllowed (Some methods) e)
 
 -- operations that are one
-module _ (config : Config) (s : State) (op it : Operation) (store : Condition) where
-  pub performs_same : (p : Performed) → op ≡ it → Performs (operation_step config s op) store p → Performs (operation_step config s it) store p
-  performs_same p e h = subst (λ (x : Operation). Performs (operation_step config s x) store p) e h
-
-  pub leaves_same : op ≡ it → Leaves store (λ found. (found ≡ s) ⊎ (found ≡ (operation_step config s op).state))
-      → Leaves store (λ found. (found ≡ s) ⊎ (found ≡ (operation_step config s it).state))
-  leaves_same e h = leaves_wider store _ _ (λ c x. elim x [ inl same ↦ inl same | inr next ↦ inr (next ∙ ap (λ (x : Operation). (operation_step config s x).state) e) ]) h
+pub asks_same : {E : Type 0} (config : Config) (old new : Condition) (r : Result Performed E) (op it : Operation) → op ≡ it
+    → MakesStep old new Always (λ s. operation_step config s op) r → MakesStep old new Always (λ s. operation_step config s it) r
+asks_same config old new r op it e h = subst (λ (x : Operation). MakesStep old new Always (λ s. operation_step config s x) r) e h
 
 -- what is asked for doesn't hang on the path, which the resource was read from
 pub same_operation : (m : Message) (h : HeadParts) (t : Target) → h ≡ record { method = m.head.method; path = []; minor = m.head.minor; fields = m.head.fields }

@@ -105,7 +105,7 @@ few_made unread turns Unserved ends = absurd ends
 
 module _ {A : Type 0} (condition : A → Condition) where
   -- no turn yet
-  pub talk_none : {C : Type 0} (ticks : C → ℕ → C → Type 0) (n : ℕ) (at : Session condition C) → Talk condition ticks n at at 0 StaysOpen
+  pub talk_none : {C : Type 0} (ticks : C → ℕ → C → Type 0) (n : ℕ) (at : Session A C) → Talk condition ticks n at at 0 StaysOpen
   talk_none ticks n at = record {
     turns = [];
     counted = refl;
@@ -117,7 +117,7 @@ module _ {A : Type 0} (condition : A → Condition) where
   }
 
   -- one turn more
-  pub talk_more : {C : Type 0} (ticks : C → ℕ → C → Type 0) (n : ℕ) (old mid new : Session condition C) (answer : Arrived) (k : ℕ)
+  pub talk_more : {C : Type 0} (ticks : C → ℕ → C → Type 0) (n : ℕ) (old mid new : Session A C) (answer : Arrived) (k : ℕ)
       → mid.hub.config ≡ old.hub.config → Talk condition ticks n old mid k StaysOpen → OneTurn condition ticks n mid new answer
       → Talk condition ticks n old new (k + 1) answer
   talk_more ticks n old mid new answer k same t o =
@@ -135,11 +135,11 @@ module _ {A : Type 0} (condition : A → Condition) where
       }
 
   -- one turn more that leaves the connection open, and then the store works ahead
-  pub talk_open : {C : Type 0} (ticks : C → ℕ → C → Type 0) (n : ℕ) (old mid new : Session condition C) (k : ℕ)
+  pub talk_open : {C : Type 0} (ticks : C → ℕ → C → Type 0) (n : ℕ) (old mid new : Session A C) (k : ℕ)
       → mid.hub.config ≡ old.hub.config → Talk condition ticks n old mid k StaysOpen → OpenTurn condition ticks n mid new
       → Talk condition ticks n old new (k + 1) StaysOpen
   talk_open ticks n old mid new k same t o =
-      let u = talk_more ticks n old mid (session condition o.served new.wire new.clock) StaysOpen k same t o.turn in
+      let u = talk_more ticks n old mid (session o.served new.wire new.clock) StaysOpen k same t o.turn in
       record {
         turns = u.turns;
         counted = u.counted;
@@ -151,12 +151,12 @@ module _ {A : Type 0} (condition : A → Condition) where
       }
 
   -- a turn of the same connection
-  pub turn_at : {C : Type 0} (ticks : C → ℕ → C → Type 0) (n m : ℕ) (old new : Session condition C) (served : Option Served) → n ≡ m
+  pub turn_at : {C : Type 0} (ticks : C → ℕ → C → Type 0) (n m : ℕ) (old new : Session A C) (served : Option Served) → n ≡ m
       → TurnsTo condition ticks n old new served → TurnsTo condition ticks m old new served
   turn_at ticks n m old new served same t = subst (λ (k : ℕ). TurnsTo condition ticks k old new served) same t
 
   -- nothing more was read
-  pub talk_same : {C : Type 0} (ticks : C → ℕ → C → Type 0) (n : ℕ) (old mid new : Session condition C) (k : ℕ)
+  pub talk_same : {C : Type 0} (ticks : C → ℕ → C → Type 0) (n : ℕ) (old mid new : Session A C) (k : ℕ)
       → Talk condition ticks n old mid k StaysOpen → NoTurn condition mid new → Talk condition ticks n old new k StaysOpen
   talk_same ticks n old mid new k t o = record {
     turns = t.turns;
@@ -172,7 +172,7 @@ module _ {A : Type 0} (condition : A → Condition) where
   }
 
   -- a turn that was the last
-  pub talk_last : {C : Type 0} (ticks : C → ℕ → C → Type 0) (n : ℕ) (old mid new : Session condition C) (served : Served) (k : ℕ)
+  pub talk_last : {C : Type 0} (ticks : C → ℕ → C → Type 0) (n : ℕ) (old mid new : Session A C) (served : Served) (k : ℕ)
       → k < most_reads → mid.hub.config ≡ old.hub.config → mid.wire.reads ≡ reads_after old.wire.reads k
       → Talk condition ticks n old mid k StaysOpen → TurnsTo condition ticks n mid new (Some served) → TalksUntil condition ticks n old new served
   talk_last ticks n old mid new Closed k b same count t o =
@@ -191,7 +191,7 @@ module _ {A : Type 0} (condition : A → Condition) where
   talk_last ticks n old mid new Bound k b same count t o = absurd o
 
   -- as many turns as there may be
-  pub talk_bound : {C : Type 0} (ticks : C → ℕ → C → Type 0) (n : ℕ) (old new : Session condition C) (k : ℕ)
+  pub talk_bound : {C : Type 0} (ticks : C → ℕ → C → Type 0) (n : ℕ) (old new : Session A C) (k : ℕ)
       → k ≡ most_reads → new.wire.reads ≡ reads_after old.wire.reads k → (k ≡ 0) ⊎ (new.wire.last ≡ Bytes)
       → Talk condition ticks n old new k StaysOpen → TalksUntil condition ticks n old new Bound
   talk_bound ticks n old new k e count last t = record {
@@ -204,7 +204,7 @@ module _ {A : Type 0} (condition : A → Condition) where
   }
 
   -- whoever was served took one number
-  pub next_served : {C : Type 0} (ticks : C → ℕ → C → Type 0) (n : ℕ) (old new : Session condition C) (end : Served)
+  pub next_served : {C : Type 0} (ticks : C → ℕ → C → Type 0) (n : ℕ) (old new : Session A C) (end : Served)
       → TalksUntil condition ticks n old new end → (next : ℕ) → next_after next end ≡ next + 1
   next_served ticks n old new Ended t next = refl
   next_served ticks n old new Closed t next = refl
@@ -328,13 +328,13 @@ module _ {A : Type 0} (condition : A → Condition) where
         (subst (λ (x : Config). Run x first (((records ++ c ∷ []) ++ map (record_of n) turns) ++ stopped ∷ []) (first_world found)) same_opened r))
         (talks_stop condition n opened talked failures failures_after turns settles talks (to_talked HasCleanDisk honest) first (records ++ c ∷ []) o.0 from o.2))
 
-  module _ {C : Type 0} (ticks : C → ℕ → C → Type 0) (n : ℕ) (old : Session condition C) (opened talked new : Hub A) (wire : Wire) (now : C)
+  module _ {C : Type 0} (ticks : C → ℕ → C → Type 0) (n : ℕ) (old : Session A C) (opened talked new : Hub A) (wire : Wire) (now : C)
       (is_next : n ≡ old.hub.next) (fresh : intake_of old.hub.connections.items n ≡ None)
       (opens : Moves condition old.hub opened (Connect n) []) (closes : Moves condition talked new (Close n) []) (settles : Settles (store_of condition opened)) (law : IsClean condition new → IsHonest condition new)
       (same_opened : opened.config ≡ old.hub.config) (same_new : new.config ≡ old.hub.config) (same_store : new.store ≡ talked.store) (same_first : opened.store ≡ old.hub.store)
       (gone : intake_of new.connections.items n ≡ None) where
-    converses : (end : Served) → TalksUntil condition ticks n (session condition opened old.wire old.clock) (session condition talked wire now) end
-        → Converses condition ticks old (session condition new wire now) end
+    converses : (end : Served) → TalksUntil condition ticks n (session opened old.wire old.clock) (session talked wire now) end
+        → Converses condition ticks old (session new wire now) end
     converses end u =
         let t = u.talk in
         record {
@@ -361,8 +361,8 @@ module _ {A : Type 0} (condition : A → Condition) where
           shut = conversation_shut condition n old.hub opened talked new old.wire.failures wire.failures t.turns same_first same_store t.talks;
         }
 
-    pub serves_whole : (served : Served) → TalksUntil condition ticks n (session condition opened old.wire old.clock) (session condition talked wire now) served
-        → ConversesOver condition ticks old (session condition new wire now) served
+    pub serves_whole : (served : Served) → TalksUntil condition ticks n (session opened old.wire old.clock) (session talked wire now) served
+        → ConversesOver condition ticks old (session new wire now) served
     serves_whole Closed t = converses Closed t
     serves_whole WriteFault t = converses WriteFault t
     serves_whole Ended t = converses Ended t
@@ -371,17 +371,17 @@ module _ {A : Type 0} (condition : A → Condition) where
     serves_whole Unserved t = absurd t.ends
 
   -- where the store is open, or honest, at the end of the turns, it was so before
-  pub later_clean : {C : Type 0} (ticks : C → ℕ → C → Type 0) (n : ℕ) (old new : Session condition C) (served : Served) → TalksUntil condition ticks n old new served → IsClean condition new.hub → IsClean condition old.hub
+  pub later_clean : {C : Type 0} (ticks : C → ℕ → C → Type 0) (n : ℕ) (old new : Session A C) (served : Served) → TalksUntil condition ticks n old new served → IsClean condition new.hub → IsClean condition old.hub
   later_clean ticks n old new came t clean = talks_clean condition n old.hub new.hub old.wire.failures new.wire.failures t.talk.turns t.talk.talks clean
 
-  pub later_honest : {C : Type 0} (ticks : C → ℕ → C → Type 0) (n : ℕ) (old new : Session condition C) (served : Served) → TalksUntil condition ticks n old new served → IsHonest condition new.hub → IsHonest condition old.hub
+  pub later_honest : {C : Type 0} (ticks : C → ℕ → C → Type 0) (n : ℕ) (old new : Session A C) (served : Served) → TalksUntil condition ticks n old new served → IsHonest condition new.hub → IsHonest condition old.hub
   later_honest ticks n old new came t honest = talks_honest condition n old.hub new.hub old.wire.failures new.wire.failures t.talk.turns t.talk.talks honest
 
   -- not opened
   pub unserved : {C : Type 0} (clock : C) (old new : Hub A) (wire : Wire) → ((w : World) → StandsAt condition old w → StandsAt condition new w) → new.store ≡ old.store
       → ((w : World) → StandsAt condition old w → Leaves (store_of condition new) (λ found. found ≡ w.state))
       → ((first : State) (records : List Record) → StandsAfter condition old first records → StandsAfter condition new first records)
-      → IsUnserved condition (session condition old wire clock) (session condition new wire clock)
+      → IsUnserved condition (session old wire clock) (session new wire clock)
   unserved clock old new wire at store stays same = record {
     same = at;
     same_store = store;

@@ -72,7 +72,7 @@ module _ {A : Type 0} (condition : A → Condition) where
   }
 
   -- a piece was read, and it arrived
-  pub one_turn : {C : Type 0} (ticks : C → ℕ → C → Type 0) (number : ℕ) (before after : Session condition C) (answer : Arrived)
+  pub one_turn : {C : Type 0} (ticks : C → ℕ → C → Type 0) (number : ℕ) (before after : Session A C) (answer : Arrived)
       (n len moment : ℕ) (buffer rest given items whole : List ℕ)
       → whole ≡ take len (buffer ++ rest) → length buffer ≡ length given → length given ≡ len
       → given ≡ items → length items ≡ most_read
@@ -102,7 +102,7 @@ module _ {A : Type 0} (condition : A → Condition) where
       }
 
   -- nothing was read
-  pub no_turn : {C : Type 0} (before after : Session condition C)
+  pub no_turn : {C : Type 0} (before after : Session A C)
       → after.hub ≡ before.hub → after.clock ≡ before.clock → after.wire.taken ≡ before.wire.taken → after.wire.failures ≡ before.wire.failures
       → Keeps before.wire.unread after.wire.unread → after.wire.reads ≡ next_count before.wire.reads → NoTurn condition before after
   no_turn before after hub clock taken failures kept count = record {

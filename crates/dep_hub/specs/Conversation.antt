@@ -3,13 +3,16 @@ use Rattle.std.specs.Prelude.{◌<◌, ◌≤◌, ◌+◌, length, ◌≡◌, �
 use Rattle.std.specs.List.{FoldsTo}
 use Rattle.std.specs.Io.KnownBytes.{Appends, Consumes, Keeps, IsAtEnd}
 use Rattle.dep_types.specs.State.{State}
-use Rattle.dep_types.specs.Conditions.{Condition, StandsFor, Leaves}
+use Rattle.dep_types.specs.Conditions.{Condition, Leaves}
 use Rattle.dep_types.specs.Writing.{next_count}
+use Rattle.dep_types.specs.declared.inlet.Inlet as inlet
 use Rattle.dep_types.specs.declared.inlet.LastRead.{LastRead}
 use Rattle.dep_types.specs.declared.inlet.LastRead.TheVariants as read
+use Rattle.dep_types.specs.declared.outlet.Outlet as outlet
 use Rattle.dep_hub.specs.Records.{World, Connect, Close, Record, stopped, Run, first_world}
 use Rattle.dep_hub.specs.Standing.{StandsAt, StandsAfter, IsClean, IsHonest, Moves, IsArrival, intake_of, store_of}
 use Rattle.dep_hub.specs.Turns.{Turn, pieces_of, replies_of, record_of, records_of, most_read, most_reads, reads_made, reads_after, HasLastRead, ArePieces, last_answer, with_opened, with_closed, Exchanges, LeftByExchanges, EndsAs}
+use Rattle.dep_hub.specs.Archives.{KeepsAll}
 use Rattle.dep_hub.specs.Shut.{LeavesNoMore, IfShut, SendsFixed}
 use Rattle.dep_hub.specs.declared.hub.Hub.{Hub}
 use Rattle.dep_hub.specs.declared.arrived.Arrived.{Arrived}
@@ -71,17 +74,24 @@ abbrev pub AreFixed : List Turn → Type 0
 AreFixed [] = Unit {0}
 AreFixed (t ∷ turns) = SendsFixed t.sent t.answer × AreFixed turns
 
+-- where the serving of a connection stands: its hub, both ends of the connection, and the clock
+pub record Session (A C : Type 0) : Type 0 where
+  pub hub : Hub A
+  pub wire : Wire
+  pub clock : C
+
+-- the same, told one by one
+abbrev pub session : {A C : Type 0} → Hub A → Wire → C → Session A C
+session hub ends clock = record { hub = hub; wire = ends; clock = clock }
+
+-- where it stands over this inlet and this outlet
+abbrev pub standing : {R W A C : Type 0} → (g : inlet.Ghosts R) → (h : outlet.Ghosts W)
+    → Hub A → R → W → C → Session A C
+standing g h hub reader writer clock = session hub
+    (wire (g.unread reader) (g.reads reader) (g.last reader) (h.taken writer) (h.failures writer))
+    clock
+
 module _ {A : Type 0} (condition : A → Condition) where
-  -- where the serving of a connection stands
-  pub record Session (C : Type 0) : Type 0 where
-    pub hub : Hub A
-    pub wire : Wire
-    pub clock : C
-
-  -- a hub, both ends of its connection, and the clock
-  abbrev pub session : {C : Type 0} → Hub A → Wire → C → Session C
-  session hub ends clock = record { hub = hub; wire = ends; clock = clock }
-
   -- for all records that it stood for, the hub stands for them with these after them, if its store
   -- is open
   abbrev pub AddsAll : Hub A → Hub A → List Record → Type 0
@@ -102,12 +112,7 @@ module _ {A : Type 0} (condition : A → Condition) where
   pub record WorksAhead (old new : Hub A) : Type 0 where
     pub same_config : new.config ≡ old.config
     pub same_connections : new.connections ≡ old.connections
-    pub kept : IsClean condition new → (s : State) → StandsFor (store_of condition old) s
-        → StandsFor (store_of condition new) s
-    pub left : IsHonest condition new
-        → LeavesNoMore (store_of condition old) (store_of condition new)
-    pub clean : IsClean condition new → IsClean condition old
-    pub honest : IsHonest condition new → IsHonest condition old
+    pub store : KeepsAll (store_of condition old) (store_of condition new)
 
   -- the turns leave the connection open, one after another, each with the outlet's failures that
   -- the one before left; behind one that leaves it open the store may work ahead
@@ -125,7 +130,7 @@ module _ {A : Type 0} (condition : A → Condition) where
         → Talks number hub failures turns new after
 
   -- turns so far: what they add, read, write, and when
-  pub record Talk {C : Type 0} (ticks : C → ℕ → C → Type 0) (number : ℕ) (before after : Session C)
+  pub record Talk {C : Type 0} (ticks : C → ℕ → C → Type 0) (number : ℕ) (before after : Session A C)
       (count : ℕ) (answer : Arrived) : Type 0 where
     pub turns : List Turn
     pub counted : length turns ≡ count
@@ -137,7 +142,7 @@ module _ {A : Type 0} (condition : A → Condition) where
 
   -- one turn
   pub record OneTurn {C : Type 0} (ticks : C → ℕ → C → Type 0)
-      (number : ℕ) (before after : Session C)
+      (number : ℕ) (before after : Session A C)
       (answer : Arrived) : Type 0 where
     pub piece : List ℕ
     pub moment : ℕ
@@ -153,18 +158,18 @@ module _ {A : Type 0} (condition : A → Condition) where
 
   -- one turn that leaves the connection open, behind which the store works ahead
   pub record OpenTurn {C : Type 0} (ticks : C → ℕ → C → Type 0)
-      (number : ℕ) (before after : Session C) : Type 0 where
+      (number : ℕ) (before after : Session A C) : Type 0 where
     pub served : Hub A
     pub turn : OneTurn ticks number before (session served after.wire after.clock) StaysOpen
     pub ahead : WorksAhead served after.hub
 
   -- nothing was read
-  pub record NoTurn {C : Type 0} (before after : Session C) : Type 0 where
+  pub record NoTurn {C : Type 0} (before after : Session A C) : Type 0 where
     pub same_hub : after.hub ≡ before.hub
     pub nothing : GivesNothing before.wire after.wire
     pub same_clock : after.clock ≡ before.clock
 
-  abbrev pub TurnsTo : {C : Type 0} → (C → ℕ → C → Type 0) → ℕ → (before after : Session C)
+  abbrev pub TurnsTo : {C : Type 0} → (C → ℕ → C → Type 0) → ℕ → (before after : Session A C)
       → Option Served
       → Type 0
   TurnsTo ticks number before after None = OpenTurn ticks number before after
@@ -179,7 +184,7 @@ module _ {A : Type 0} (condition : A → Condition) where
 
   -- the turns up to the end
   pub record TalksUntil {C : Type 0} (ticks : C → ℕ → C → Type 0)
-      (number : ℕ) (before after : Session C)
+      (number : ℕ) (before after : Session A C)
       (served : Served) : Type 0 where
     pub count : ℕ
     pub answer : Arrived
@@ -202,7 +207,7 @@ module _ {A : Type 0} (condition : A → Condition) where
 
   -- one connection: what was read are its pieces, what was written is what was sent, each at the
   -- clock's answer
-  pub record Converses {C : Type 0} (ticks : C → ℕ → C → Type 0) (before after : Session C)
+  pub record Converses {C : Type 0} (ticks : C → ℕ → C → Type 0) (before after : Session A C)
       (served : Served) : Type 0 where
     pub number : ℕ
     pub turns : List Turn
@@ -233,7 +238,7 @@ module _ {A : Type 0} (condition : A → Condition) where
         × LeavesNoMore (store_of condition before.hub) (store_of condition after.hub))
 
   -- nothing is read or written, and the hub stands for what it did
-  pub record IsUnserved {C : Type 0} (before after : Session C) : Type 0 where
+  pub record IsUnserved {C : Type 0} (before after : Session A C) : Type 0 where
     pub same : (w : World) → StandsAt condition before.hub w → StandsAt condition after.hub w
     pub same_store : after.hub.store ≡ before.hub.store
     pub stays : (w : World) → StandsAt condition before.hub w
@@ -243,7 +248,7 @@ module _ {A : Type 0} (condition : A → Condition) where
     pub same_clock : after.clock ≡ before.clock
 
   -- what serving a connection comes to, by its answer
-  abbrev pub ConversesOver : {C : Type 0} → (C → ℕ → C → Type 0) → (before after : Session C)
+  abbrev pub ConversesOver : {C : Type 0} → (C → ℕ → C → Type 0) → (before after : Session A C)
       → Served → Type 0
   ConversesOver ticks before after Unserved = IsUnserved before after
   ConversesOver ticks before after Ended = Converses ticks before after Ended

@@ -8,8 +8,9 @@ use Rattle.dep_types.specs.Conditions.{Condition, StandsFor, Leaves}
 use Rattle.dep_message.specs.Places.{Place, Reading, place_with}
 use Rattle.dep_message.specs.Stream.{Item}
 use Rattle.dep_hub.specs.Machine.{Serves, serves_all, step_fails, gives_up, SendsUpTo, want_of_memory}
-use Rattle.dep_hub.specs.Records.{Record, stopped, Run, Line, World, first_world, with_line, Arrives, at_live, at_shut_line, LeftByArrival}
+use Rattle.dep_hub.specs.Records.{Event, Arrive, Record, stopped, Run, Line, World, first_world, with_line, Arrives, at_live, at_shut_line, LeftByArrival}
 use Rattle.dep_hub.specs.Standing.{IsKeptAs, intake_of, store_of, IsClean, IsHonest, IsNoSuch}
+use Rattle.dep_hub.specs.Archives.{KeepsAll}
 use Rattle.dep_hub.specs.Causes.{HasCause}
 use Rattle.dep_hub.specs.Shut.{LeavesNoMore, IfShut, SendsFixed}
 use Rattle.dep_hub.specs.declared.arrived.Arrived.{Arrived}
@@ -111,11 +112,26 @@ module _ {A : Type 0} (condition : A → Condition) where
       → Leaves (store_of condition new)
       (λ found. Run old.config first (records ++ stopped ∷ []) (first_world found))
 
+  -- whatever lines the hub kept, and whatever it held, it keeps and holds them still
+  abbrev pub HoldsOn : Hub A → Hub A → Type 0
+  HoldsOn old new = (lines : ℕ → Line) → (held : ℕ → List ℕ)
+      → KeepsHolding old lines held → KeepsHolding new lines held
+
   -- whatever lines the hub kept, and whatever it held, this line is another now
   abbrev pub MovesLine : Hub A → Hub A → (number : ℕ) → Line → (left : (ℕ → List ℕ) → ℕ → List ℕ)
       → Type 0
   MovesLine old new number line left = (lines : ℕ → Line) → (held : ℕ → List ℕ)
       → KeepsHolding old lines held → KeepsHolding new (with_line number line lines) (left held)
+
+  -- No connection had a part in it: the hub stands for the same records, holds the same bytes, and
+  -- what a stop now leaves stands for them too. The store was asked for nothing that it keeps.
+  pub record RestsOn (old new : Hub A) : Type 0 where
+    pub stands : StandsOn old new
+    pub stops : StopsOn old new
+    pub store : KeepsAll (store_of condition old) (store_of condition new)
+    pub config : new.config ≡ old.config
+    pub connections : new.connections ≡ old.connections
+    pub next : new.next ≡ old.next
 
   -- A part of the bytes that were offered arrives, as a piece of its own, and the rest is held. From
   -- a world at which the hub stood; the clauses are those of an arrival (`ArrivesTo`).
@@ -212,3 +228,40 @@ module _ {A : Type 0} (condition : A → Condition) where
       (λ held. held ++ piece) moment came.Cut (IsRefused came.Cut)
   OffersTo taken takes failures failures_after old new number piece came.NoSuch =
       IsNoSuch condition taken takes old new number
+
+  -- an arrival of a part of what was held is a run's next record, and the rest is held, while the
+  -- store is open
+  abbrev pub AnswersAdd : Hub A → Hub A → Type 0
+  AnswersAdd old new = (n : ℕ) (offered : List ℕ) (moment : ℕ) (sent : List ℕ)
+      (failures failures_after : ℕ) (answer : Arrived) (first : State) (records : List Record)
+      (held : ℕ → List ℕ) (h : StandsHoldingAfter old first records held)
+      (a : PartArrives old.config new n offered moment sent failures failures_after answer h.world held)
+      → new.config ≡ old.config → IsClean condition new
+      → StandsHoldingAfter new first
+      (records ++ record { event = Arrive n a.part moment; sent = sent } ∷ []) (with_held n a.rest held)
+
+  -- what a stop at its end leaves stands for that record and a stop
+  abbrev pub AnswersStop : Hub A → Hub A → Type 0
+  AnswersStop old new = (n : ℕ) (offered : List ℕ) (moment : ℕ) (sent : List ℕ)
+      (failures failures_after : ℕ) (answer : Arrived) (first : State) (records : List Record)
+      (held : ℕ → List ℕ) (h : StandsHoldingAfter old first records held)
+      (a : PartArrives old.config new n offered moment sent failures failures_after answer h.world held)
+      → Leaves (store_of condition new) (λ found. Run old.config first
+      (records ++ record { event = Arrive n a.part moment; sent = sent } ∷ stopped ∷ [])
+      (first_world found))
+
+  -- an event for which nothing is sent, and which moves one line, is a run's next record, with the
+  -- store as it was
+  abbrev pub LineAdds : Hub A → Hub A → Event → (number : ℕ) → Line
+      → (left : (ℕ → List ℕ) → ℕ → List ℕ) → Type 0
+  LineAdds old new event number line left = (first : State) (records : List Record)
+      (held : ℕ → List ℕ) → StandsHoldingAfter old first records held
+      → new.config ≡ old.config → new.store ≡ old.store → MovesLine old new number line left
+      → StandsHoldingAfter new first (records ++ record { event = event; sent = [] } ∷ []) (left held)
+
+  -- what a stop leaves stands for the records that were answered and a stop
+  abbrev pub StopsAnswered : Hub A → Type 0
+  StopsAnswered hub = (first : State) (records : List Record) (held : ℕ → List ℕ)
+      → StandsHoldingAfter hub first records held
+      → Leaves (store_of condition hub)
+      (λ found. Run hub.config first (records ++ stopped ∷ []) (first_world found))

@@ -11,6 +11,7 @@ pub mod Turns
 pub mod Conversation
 pub mod Numbers
 pub mod Performing
+pub mod Archives
 pub mod Faults
 pub mod Shut
 pub mod Flushing

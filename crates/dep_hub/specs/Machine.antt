@@ -38,6 +38,10 @@ routed_step config s m (NotAllowed methods) =
     refused_step s why.MethodNotAllowed (Some methods) (is_bare m.head) (closes m.head)
 routed_step config s m (To t) = operation_step config s (operation_of m t)
 
+-- what a whole message asks for, by the resource and the method that it names
+abbrev pub message_step : Config → State → Message → Stepped
+message_step config s m = routed_step config s m (target m.head.method m.head.path)
+
 -- what tells a client to send the body (RFC 9110, section 15.2.1)
 abbrev pub continue_line : List ℕ
 continue_line = codes "HTTP/1.1 100 Continue\r\n\r\n"
@@ -53,8 +57,7 @@ unfoldable pub step : Config → State → Item → ℕ → Stepped
 step config s (Fault r bare) moment = refused_step (tick config s moment) r None bare true
 step config s Continue moment =
     record { state = s; front = continue_line; stored = []; closes = false }
-step config s (Request m) moment =
-    routed_step config (tick config s moment) m (target m.head.method m.head.path)
+step config s (Request m) moment = message_step config (tick config s moment) m
 
 -- the state after these items, one step each
 abbrev pub state_after : Config → State → List Item → ℕ → State

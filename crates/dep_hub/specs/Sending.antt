@@ -2,6 +2,7 @@
 use Rattle.std.specs.Prelude.{◌≡◌, ◌⊎◌, ℕ, List, Option, IsTrue}
 use Rattle.std.specs.Io.KnownBytes.{Appends}
 use Rattle.dep_types.specs.Writing.{IsProperPrefix, HasRisen}
+use Rattle.dep_types.specs.declared.outlet.Outlet.{Ghosts}
 use Rattle.dep_types.specs.declared.store_fault.StoreFault.{StoreFault}
 use Rattle.dep_types.specs.declared.store_fault.StoreFault.TheVariants.{Store, Memory}
 use Rattle.dep_answers.specs.Steps.{Stepped, sent_by}
@@ -45,8 +46,13 @@ pub record Outside : Type 1 where
   pub failures : ℕ
   pub store : Condition
 
+-- the same, told one by one
 abbrev pub outside : (taken : Option (List ℕ)) → (failures : ℕ) → (store : Condition) → Outside
 outside taken failures store = record { taken = taken; failures = failures; store = store }
+
+-- what lies outside over this outlet
+abbrev pub outside_of : {O : Type 0} → (g : Ghosts O) → O → Condition → Outside
+outside_of g out store = outside (g.taken out) (g.failures out) store
 
 -- from one to the other these bytes were sent; and where the disk has told no lie up to the second,
 -- or the store is open there, it was so at the first

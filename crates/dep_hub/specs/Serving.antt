@@ -13,6 +13,7 @@ use Rattle.dep_hub.specs.Sending.{IsSentUpTo, IsReplySent, Outside, Passes, Send
 use Rattle.dep_hub.specs.Shut.{LeavesNoMore, IfShut, continues, IsFixed, SendsFixed}
 use Rattle.dep_hub.specs.declared.arrived.Arrived.{Arrived}
 use Rattle.dep_hub.specs.declared.arrived.Arrived.TheVariants.{Open as StaysOpen, Closed, Cut}
+use Rattle.dep_hub.specs.declared.serving.Piece.{Piece}
 use Rattle.dep_hub.specs.declared.sending.Answered.{Answered}
 use Rattle.dep_hub.specs.declared.sending.Answered.TheVariants.{Sent, GaveUp, CutShort}
 
@@ -73,6 +74,10 @@ pub record Arrival : Type 0 where
 
 abbrev pub arrival_of : Reading → (piece : List ℕ) → (moment : ℕ) → Arrival
 arrival_of reading piece moment = record { reading = reading; piece = piece; moment = moment }
+
+-- the same of a piece that comes at its moment
+abbrev pub arrival_with : Reading → Piece → Arrival
+arrival_with reading piece = arrival_of reading piece.bytes.now piece.moment
 
 -- an intake that reads nothing more is dead: behind a request that closes the connection it was shut
 abbrev pub IsDeadIfShut : Reading → Type 0

@@ -71,6 +71,37 @@ module _ {A : Type 0} (condition : A → Condition) where
     pub run : Run hub.config first records world
     pub at : StandsAt hub world
 
+  -- whatever records led to a world without connections, for whose state the store stood, the hub
+  -- stands for them: none yet, or those up to a stop
+  abbrev pub GoesOnFrom : Config → (store : A) → Hub A → Type 0
+  GoesOnFrom config store hub = (first : State) (records : List Record) (w : World)
+      → Run config first records w → ((n : ℕ) → w.line n ≡ Absent)
+      → StandsFor (condition store) w.state → StandsAfter hub first records
+
+  -- a stop leaves of this store the state of each world at which the hub stood
+  abbrev pub LeavesItsState : Hub A → (store : Condition) → Type 0
+  LeavesItsState hub store = (w : World) → StandsAt hub w → Leaves store (λ found. found ≡ w.state)
+
+  -- it serves the same configuration, and the store was open before where it is open now, and its
+  -- disk honest
+  pub record ServesAs (old new : Hub A) : Type 0 where
+    pub config : new.config ≡ old.config
+    pub clean : IsClean new → IsClean old
+    pub honest : IsHonest new → IsHonest old
+
+  -- the same of a call that takes no number
+  pub record GoesOnAs (old new : Hub A) : Type 0 where
+    pub config : new.config ≡ old.config
+    pub next : new.next ≡ old.next
+    pub clean : IsClean new → IsClean old
+    pub honest : IsHonest new → IsHonest old
+
+  -- the same where the store isn't asked
+  pub record KeepsStore (old new : Hub A) : Type 0 where
+    pub config : new.config ≡ old.config
+    pub next : new.next ≡ old.next
+    pub store : new.store ≡ old.store
+
   -- for all records that it stood for, the hub stands for them with one more
   abbrev pub Adds : Hub A → Hub A → Event → List ℕ → Type 0
   Adds old new event sent = (first : State) (records : List Record) → StandsAfter old first records

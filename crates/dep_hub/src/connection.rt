@@ -1,8 +1,8 @@
 //! One connection over an inlet and an outlet.
 ghost use Rattle.std.specs.Prelude.{◌≡◌, ◌<◌, IsSome, length};
-ghost use Rattle.dep_hub.specs.Standing.{intake_of, IsClean, IsHonest};
+ghost use Rattle.dep_hub.specs.Standing.{intake_of, ServesAs};
 ghost use Rattle.dep_hub.specs.Turns.{most_read};
-ghost use Rattle.dep_hub.specs.Conversation.{session, wire, ConversesOver, TalksUntil, TurnsTo, next_after};
+ghost use Rattle.dep_hub.specs.Conversation.{standing, ConversesOver, TalksUntil, TurnsTo, next_after};
 ghost use Rattle.dep_hub.specs.Flushing.{IsFlushed};
 
 use crate::archive::Archive;
@@ -54,16 +54,10 @@ pub fn serve_connection<A: Archive, R: Inlet, W: Flush, C: FnMut() -> Moment>(
 ) -> Served
     requires { C.IsAlwaysCallable clock.old }
     ensures call { C.IsAlwaysCallable clock.new }
-    ensures config { hub.new.config ≡ hub.old.config }
+    ensures goes { ServesAs A.condition hub.old hub.new }
     ensures converses { ConversesOver A.condition C.step
-        (session A.condition hub.old
-        (wire (R.unread reader.old) (R.reads reader.old) (R.last reader.old)
-        (W.taken writer.old) (W.failures writer.old)) clock.old)
-        (session A.condition hub.new
-        (wire (R.unread reader.new) (R.reads reader.new) (R.last reader.new)
-        (W.taken writer.new) (W.failures writer.new)) clock.new) result }
-    ensures clean { IsClean A.condition hub.new → IsClean A.condition hub.old }
-    ensures honest { IsHonest A.condition hub.new → IsHonest A.condition hub.old }
+        (standing R.Inlet W.Outlet hub.old reader.old writer.old clock.old)
+        (standing R.Inlet W.Outlet hub.new reader.new writer.new clock.new) result }
     ensures next { hub.new.next ≡ next_after hub.old.next result }
     // All was sent, or the outlet has given up.
     ensures flushed { IsFlushed (W.held writer.old) (W.has_failed writer.old)
@@ -96,12 +90,8 @@ fn converse<A: Archive, R: Inlet, W: Flush, C: FnMut() -> Moment>(
     ensures config { hub.new.config ≡ hub.old.config }
     ensures next { hub.new.next ≡ hub.old.next }
     ensures talks { TalksUntil A.condition C.step incoming.old.connection
-        (session A.condition hub.old
-        (wire (R.unread reader.old) (R.reads reader.old) (R.last reader.old)
-        (W.taken writer.old) (W.failures writer.old)) clock.old)
-        (session A.condition hub.new
-        (wire (R.unread reader.new) (R.reads reader.new) (R.last reader.new)
-        (W.taken writer.new) (W.failures writer.new)) clock.new) result }
+        (standing R.Inlet W.Outlet hub.old reader.old writer.old clock.old)
+        (standing R.Inlet W.Outlet hub.new reader.new writer.new clock.new) result }
     ensures flushed { IsFlushed (W.held writer.old) (W.has_failed writer.old)
         → IsFlushed (W.held writer.new) (W.has_failed writer.new) }
 {
@@ -131,12 +121,8 @@ fn turn<A: Archive, R: Inlet, W: Flush, C: FnMut() -> Moment>(
     ensures config { hub.new.config ≡ hub.old.config }
     ensures next { hub.new.next ≡ hub.old.next }
     ensures turn { TurnsTo A.condition C.step incoming.old.connection
-        (session A.condition hub.old
-        (wire (R.unread reader.old) (R.reads reader.old) (R.last reader.old)
-        (W.taken writer.old) (W.failures writer.old)) clock.old)
-        (session A.condition hub.new
-        (wire (R.unread reader.new) (R.reads reader.new) (R.last reader.new)
-        (W.taken writer.new) (W.failures writer.new)) clock.new) result }
+        (standing R.Inlet W.Outlet hub.old reader.old writer.old clock.old)
+        (standing R.Inlet W.Outlet hub.new reader.new writer.new clock.new) result }
     ensures flushed { IsFlushed (W.held writer.old) (W.has_failed writer.old)
         → IsFlushed (W.held writer.new) (W.has_failed writer.new) }
 {

@@ -1,9 +1,9 @@
 //! All connections, and the one store that they share.
-ghost use Rattle.std.specs.Prelude.{◌+◌, ◌≡◌, ◌<◌, ◌≤◌, ℕ, [], ◌∷◌, ◌++◌, List, length, MatchResult, IfOk, IfErr, OnErr, IfSome, None, IsErrOf, IsSome, ◌⊎◌, ◌≢◌};
+ghost use Rattle.std.specs.Prelude.{◌+◌, ◌≡◌, ◌<◌, ◌≤◌, [], ◌∷◌, ◌++◌, List, length, MatchResult, IfOk, IfErr, OnErr, IfSome, None, IsErrOf, IsSome, ◌⊎◌, ◌≢◌};
 ghost use Rattle.dep_types.specs.State.{State};
 ghost use Rattle.dep_types.specs.Config.{IsChecked};
 ghost use Rattle.dep_types.specs.Conditions.{StandsFor, Leaves};
-ghost use Rattle.dep_hub.specs.Records.{Connect, Close, Record, Line, World, Run, Absent, Live, stopped, first_world};
+ghost use Rattle.dep_hub.specs.Records.{Connect, Close, Record, World, Run, Absent, Live, stopped, first_world};
 ghost use Rattle.dep_hub.specs.Numbers.{Ascends, Ascends-prop, most_connections, last_number};
 
 use crate::access_log::{AccessLog, NoLog};
@@ -35,18 +35,16 @@ const MOST_CONNECTIONS: usize = 1_024;
 const LAST_NUMBER: u64 = 4_000_000_000_000_000_000;
 
 impl<A: Archive> Hub<A> {
-    ghost use Rattle.dep_hub.specs.Standing.{StandsAfter, StandsAt, IsClean, IsHonest, store_of, Adds, Moves, ComesTo, intake_of};
-    ghost use Rattle.dep_hub.specs.Holding.{KeepsHolding, StandsOn, StopsOn, MovesLine, OffersTo, ComesToNext, with_held};
-    ghost use Rattle.dep_hub.specs.Shut.{LeavesNoMore, TellsOpen};
+    ghost use Rattle.dep_hub.specs.Standing.{StandsAfter, StandsAt, GoesOnFrom, GoesOnAs, KeepsStore, LeavesItsState, store_of, Adds, Moves, ComesTo, intake_of};
+    ghost use Rattle.dep_hub.specs.Holding.{HoldsOn, RestsOn, MovesLine, OffersTo, ComesToNext, with_held};
+    ghost use Rattle.dep_hub.specs.Shut.{TellsOpen};
 
     /// A hub over the store, without connections. A refusal hands the store back.
     pub fn new(alloc: Global, config: Config, store: A) -> Result<Hub<A>, (HubFault, A)>
         ensures stands { IfOk result (λ hub. (first : State) → StandsFor (A.condition store) first
             → StandsAfter A.condition hub first []) }
         // Also after a stop.
-        ensures again { IfOk result (λ hub. (first : State) (records : List Record) (w : World)
-            → Run config first records w → ((n : ℕ) → w.line n ≡ Absent)
-            → StandsFor (A.condition store) w.state → StandsAfter A.condition hub first records) }
+        ensures again { IfOk result (GoesOnFrom A.condition config store) }
         ensures config { IfOk result (λ hub. hub.config ≡ config) }
         ensures kept { IfOk result (λ hub. hub.store ≡ store) }
         ensures checked { IfOk result (λ _. IsChecked config) }
@@ -87,9 +85,7 @@ impl<A: Archive> Hub<A> {
         // What the others hold stays.
         ensures holding { MatchResult result
             (λ number. MovesLine A.condition self.old self.new number (Live []) (λ held. held))
-            (λ _. (lines : ℕ → Line) (held : ℕ → List ℕ)
-            → KeepsHolding A.condition self.old lines held
-            → KeepsHolding A.condition self.new lines held) }
+            (λ _. HoldsOn A.condition self.old self.new) }
         ensures config { self.new.config ≡ self.old.config }
         ensures store { self.new.store ≡ self.old.store }
         ensures next { IfOk result (λ number.
@@ -107,8 +103,7 @@ impl<A: Archive> Hub<A> {
         ensures there { IfOk result
             (λ number. IsSome (intake_of self.new.connections.items number)) }
         // What a stop now leaves.
-        ensures rests { (w : World) → StandsAt A.condition self.old w
-            → Leaves (store_of A.condition self.new) (λ found. found ≡ w.state) }
+        ensures rests { LeavesItsState A.condition self.old (store_of A.condition self.new) }
     {
         if self.connections.len() >= MOST_CONNECTIONS || self.next >= LAST_NUMBER {
             return Err(ConnectFault::Full);
@@ -134,13 +129,9 @@ impl<A: Archive> Hub<A> {
         moment: Moment,
         out: &mut O,
     ) -> Arrived
-        ensures config { self.new.config ≡ self.old.config }
-        ensures next { self.new.next ≡ self.old.next }
+        ensures goes { GoesOnAs A.condition self.old self.new }
         ensures absent { intake_of self.old.connections.items connection ≡ None
             → result ≡ Arrived.NoSuch }
-        // The store is open after it only where it was before, and the disk honest.
-        ensures clean { IsClean A.condition self.new → IsClean A.condition self.old }
-        ensures honest { IsHonest A.condition self.new → IsHonest A.condition self.old }
         // A connection that was there is there.
         ensures there { IsSome (intake_of self.old.connections.items connection)
             → (result ≢ Arrived.NoSuch) × IsSome (intake_of self.new.connections.items connection) }
@@ -164,9 +155,7 @@ impl<A: Archive> Hub<A> {
     /// or `Cut`. Otherwise it is `Open`, also where it has ended, which the next `answer` tells.
     /// Nothing bounds what is held: offer no more before an `answer` was `Waiting`.
     pub fn offer<O: Outlet>(&mut self, connection: ConnId, piece: &[u8], out: &mut O) -> Arrived
-        ensures config { self.new.config ≡ self.old.config }
-        ensures next { self.new.next ≡ self.old.next }
-        ensures store { self.new.store ≡ self.old.store }
+        ensures kept { KeepsStore A.condition self.old self.new }
         ensures absent { intake_of self.old.connections.items connection ≡ None
             → result ≡ Arrived.NoSuch }
         // A connection that was there is there.
@@ -195,13 +184,9 @@ impl<A: Archive> Hub<A> {
         out: &mut O,
         log: &mut L,
     ) -> Next
-        ensures config { self.new.config ≡ self.old.config }
-        ensures next { self.new.next ≡ self.old.next }
+        ensures goes { GoesOnAs A.condition self.old self.new }
         ensures absent { intake_of self.old.connections.items connection ≡ None
             → result ≡ Next.NoSuch }
-        // The store is open after it only where it was before, and the disk honest.
-        ensures clean { IsClean A.condition self.new → IsClean A.condition self.old }
-        ensures honest { IsHonest A.condition self.new → IsHonest A.condition self.old }
         // A connection that was there is there.
         ensures there { IsSome (intake_of self.old.connections.items connection)
             → (result ≢ Next.NoSuch) × IsSome (intake_of self.new.connections.items connection) }
@@ -223,20 +208,7 @@ impl<A: Archive> Hub<A> {
     /// part in it, so it is no event of a run.
     pub fn is_open(&mut self) -> Result<bool, StoreFault>
         ensures told { IfOk result (TellsOpen (store_of A.condition self.new)) }
-        // The hub stands for the same records, and so does what a stop now leaves.
-        ensures stands { StandsOn A.condition self.old self.new }
-        ensures stops { StopsOn A.condition self.old self.new }
-        ensures kept { IsClean A.condition self.new → (s : State)
-            → StandsFor (store_of A.condition self.old) s
-            → StandsFor (store_of A.condition self.new) s }
-        ensures left { IsHonest A.condition self.new
-            → LeavesNoMore (store_of A.condition self.old) (store_of A.condition self.new) }
-        // The store is open after it only where it was before, and the disk honest.
-        ensures clean { IsClean A.condition self.new → IsClean A.condition self.old }
-        ensures honest { IsHonest A.condition self.new → IsHonest A.condition self.old }
-        ensures config { self.new.config ≡ self.old.config }
-        ensures connections { self.new.connections ≡ self.old.connections }
-        ensures next { self.new.next ≡ self.old.next }
+        ensures rests { RestsOn A.condition self.old self.new }
     {
         self.store.is_open()
     }
@@ -244,20 +216,7 @@ impl<A: Archive> Hub<A> {
     /// Does a part of the work that a later request would have to wait for, and tells whether more is
     /// left (`Archive::work_ahead`). No connection has a part in it, so it is no event of a run.
     pub fn work_ahead(&mut self) -> bool
-        // The hub stands for the same records, and so does what a stop now leaves.
-        ensures stands { StandsOn A.condition self.old self.new }
-        ensures stops { StopsOn A.condition self.old self.new }
-        ensures kept { IsClean A.condition self.new → (s : State)
-            → StandsFor (store_of A.condition self.old) s
-            → StandsFor (store_of A.condition self.new) s }
-        ensures left { IsHonest A.condition self.new
-            → LeavesNoMore (store_of A.condition self.old) (store_of A.condition self.new) }
-        // The store is open after it only where it was before, and the disk honest.
-        ensures clean { IsClean A.condition self.new → IsClean A.condition self.old }
-        ensures honest { IsHonest A.condition self.new → IsHonest A.condition self.old }
-        ensures config { self.new.config ≡ self.old.config }
-        ensures connections { self.new.connections ≡ self.old.connections }
-        ensures next { self.new.next ≡ self.old.next }
+        ensures rests { RestsOn A.condition self.old self.new }
     {
         self.store.work_ahead()
     }
@@ -271,11 +230,8 @@ impl<A: Archive> Hub<A> {
             (with_held connection []) }
         ensures gone { intake_of self.new.connections.items connection ≡ None }
         // What a stop now leaves.
-        ensures rests { (w : World) → StandsAt A.condition self.old w
-            → Leaves (store_of A.condition self.new) (λ found. found ≡ w.state) }
-        ensures config { self.new.config ≡ self.old.config }
-        ensures store { self.new.store ≡ self.old.store }
-        ensures next { self.new.next ≡ self.old.next }
+        ensures rests { LeavesItsState A.condition self.old (store_of A.condition self.new) }
+        ensures kept { KeepsStore A.condition self.old self.new }
     {
         if let Some(i) = index_among(self.connections.as_slice(), connection.number()) {
             drop(self.connections.remove(i));
@@ -288,8 +244,7 @@ impl<A: Archive> Hub<A> {
         ensures stands { (w : World) → StandsAt A.condition self w
             → StandsFor (A.condition result) w.state }
         // What a stop now leaves is what the machine keeps, and stands for the records with a stop.
-        ensures rests { (w : World) → StandsAt A.condition self w
-            → Leaves (A.condition result) (λ found. found ≡ w.state) }
+        ensures rests { LeavesItsState A.condition self (A.condition result) }
         ensures stop { (first : State) (records : List Record)
             → StandsAfter A.condition self first records
             → Leaves (A.condition result)

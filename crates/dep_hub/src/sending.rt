@@ -2,7 +2,7 @@
 ghost use Rattle.std.specs.Prelude.{◌≡◌};
 ghost use Rattle.dep_types.specs.Writing.{HasRisen};
 ghost use Rattle.dep_hub.specs.Machine.{want_of_memory, store_fault};
-ghost use Rattle.dep_hub.specs.Sending.{SendsOver, SendsReady, SendsReply, outside, reply_to};
+ghost use Rattle.dep_hub.specs.Sending.{SendsOver, SendsReady, SendsReply, outside_of, reply_to};
 
 use crate::access_log::AccessLog;
 use crate::archive::Archive;
@@ -91,9 +91,8 @@ pub(crate) fn send_performed<A: Archive, O: Outlet, L: AccessLog>(
     log: &mut L,
 ) -> Answered
     ensures { SendsReady
-        (outside (O.taken out.old) (O.failures out.old) (A.condition store.old))
-        (outside (O.taken out.new) (O.failures out.new)
-        (A.condition store.new)) performed.now result }
+        (outside_of O.Outlet out.old (A.condition store.old))
+        (outside_of O.Outlet out.new (A.condition store.new)) performed.now result }
 {
     match send(out, log, performed.front.as_slice()) {
         Answered::Sent => match performed.stored {

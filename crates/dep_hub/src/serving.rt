@@ -4,8 +4,8 @@ ghost use Rattle.std.specs.Io.KnownBytes.{Appends};
 ghost use Rattle.dep_types.specs.Writing.{HasRisen};
 ghost use Rattle.dep_hub.specs.Machine.{SendsUpTo, want_of_memory};
 ghost use Rattle.dep_message.specs.Places.{Reading, shut_reading, left_to_read};
-ghost use Rattle.dep_hub.specs.Sending.{outside};
-ghost use Rattle.dep_hub.specs.Serving.{ServesOver, IsDeadIfShut, arrival_of, answer_after};
+ghost use Rattle.dep_hub.specs.Sending.{outside_of};
+ghost use Rattle.dep_hub.specs.Serving.{ServesOver, IsDeadIfShut, arrival_with, answer_after};
 ghost use Rattle.dep_hub.specs.Nexts.{AnswersNext, ended_as};
 
 use crate::access_log::{AccessLog, NoLog};
@@ -36,10 +36,9 @@ pub(crate) fn serve<A: Archive, O: Outlet>(
     out: &mut O,
 ) -> Arrived
     ensures served { ServesOver site.now
-        (arrival_of intake.old piece.now.bytes.now piece.now.moment)
-        (outside (O.taken out.old) (O.failures out.old) (A.condition store.old))
-        (outside (O.taken out.new) (O.failures out.new)
-        (A.condition store.new)) intake.new.place result }
+        (arrival_with intake.old piece.now)
+        (outside_of O.Outlet out.old (A.condition store.old))
+        (outside_of O.Outlet out.new (A.condition store.new)) intake.new.place result }
     ensures limit { intake.new.limit ≡ intake.old.limit }
     ensures dead { IsDeadIfShut intake.old → IsDeadIfShut intake.new }
     ensures there { result ≢ Arrived.NoSuch }
@@ -71,8 +70,8 @@ pub(crate) fn answer_next<A: Archive, O: Outlet, L: AccessLog>(
     log: &mut L,
 ) -> Next
     ensures answers { AnswersNext context.now.site.now intake.old context.now.moment
-        (outside (O.taken out.old) (O.failures out.old) (A.condition store.old))
-        (outside (O.taken out.new) (O.failures out.new) (A.condition store.new))
+        (outside_of O.Outlet out.old (A.condition store.old))
+        (outside_of O.Outlet out.new (A.condition store.new))
         intake.new.place result }
     ensures limit { intake.new.limit ≡ intake.old.limit }
     ensures dead { IsDeadIfShut intake.old → IsDeadIfShut intake.new }

@@ -1,17 +1,15 @@
 //! One step of the machine, and what is sent for it.
-ghost use Rattle.std.specs.Prelude.{◌≡◌, ◌⊎◌, ℕ, IfOk, IsTrue, OnErr};
+ghost use Rattle.std.specs.Prelude.{◌≡◌, ℕ, IfOk};
+ghost use Rattle.std.specs.Option.{option_copied};
 ghost use Rattle.dep_types.specs.State.{State};
 ghost use Rattle.dep_types.specs.declared.config.Config.{Config as Settings};
 ghost use Rattle.dep_message.specs.Stream.{Fault, Continue, Request};
-ghost use Rattle.std.specs.Option.{option_copied};
-ghost use Rattle.dep_router.specs.Targets.{target};
-ghost use Rattle.dep_answers.specs.Performing.{IsReply};
+ghost use Rattle.dep_answers.specs.Performing.{IsReady, IsReply};
 ghost use Rattle.dep_answers.specs.Replies.{refused_answer};
 ghost use Rattle.dep_answers.specs.Steps.{operation_step};
-ghost use Rattle.dep_types.specs.Conditions.{StandsFor, HasCleanDisk, Leaves};
-ghost use Rattle.dep_hub.specs.Performing.{Performs};
-ghost use Rattle.dep_hub.specs.Machine.{operation_of, routed_step};
-ghost use Rattle.dep_hub.specs.Sending.{outside};
+ghost use Rattle.dep_hub.specs.Archives.{TriesTo, MakesStep, Always};
+ghost use Rattle.dep_hub.specs.Machine.{operation_of, message_step};
+ghost use Rattle.dep_hub.specs.Sending.{outside_of};
 ghost use Rattle.dep_hub.specs.Serving.{Answers};
 
 use crate::access_log::AccessLog;
@@ -46,8 +44,8 @@ pub(crate) fn answer_message<A: Archive, O: Outlet, L: AccessLog>(
     log: &mut L,
 ) -> Answered
     ensures { Answers context.now.site.now
-        (outside (O.taken out.old) (O.failures out.old) (A.condition store.old))
-        (outside (O.taken out.new) (O.failures out.new) (A.condition store.new))
+        (outside_of O.Outlet out.old (A.condition store.old))
+        (outside_of O.Outlet out.new (A.condition store.new))
         (Request message) context.now.moment result }
 {
     let length = message.content.as_slice().len() as u64;
@@ -75,8 +73,8 @@ pub(crate) fn answer_continue<A: Archive, O: Outlet, L: AccessLog>(
     log: &mut L,
 ) -> Answered
     ensures { (config : Settings) (moment : ℕ) → Answers config
-        (outside (O.taken out.old) (O.failures out.old) (A.condition store.now))
-        (outside (O.taken out.new) (O.failures out.new) (A.condition store.now))
+        (outside_of O.Outlet out.old (A.condition store.now))
+        (outside_of O.Outlet out.new (A.condition store.now))
         Continue moment result }
 {
     send(out, log, b"HTTP/1.1 100 Continue\r\n\r\n")
@@ -91,8 +89,8 @@ pub(crate) fn answer_fault<A: Archive, O: Outlet, L: AccessLog>(
     log: &mut L,
 ) -> Answered
     ensures { Answers context.now.site.now
-        (outside (O.taken out.old) (O.failures out.old) (A.condition store.old))
-        (outside (O.taken out.new) (O.failures out.new) (A.condition store.new))
+        (outside_of O.Outlet out.old (A.condition store.old))
+        (outside_of O.Outlet out.new (A.condition store.new))
         (Fault fault.refusal fault.is_bare) context.now.moment result }
 {
     match store.tick(context.site.config(), context.moment) {
@@ -122,23 +120,9 @@ fn perform<A: Archive>(
     message: Message,
     clock: Moment,
 ) -> Result<Performed, StoreFault>
-    ensures ok { HasCleanDisk (A.condition store.new) → (s : State)
-        → StandsFor (A.condition store.old) s
-        → clock ≡ s.clock
-        → IfOk result (λ p. Performs
-        (routed_step site.now s message (target message.head.method message.head.path))
-        (A.condition store.new) p) }
-    ensures err { IsTrue (A.condition store.new).is_open → (s : State)
-        → StandsFor (A.condition store.old) s
-        → OnErr result (StandsFor (A.condition store.new) s) }
-    ensures honest { HasCleanDisk (A.condition store.new)
-        → HasCleanDisk (A.condition store.old) }
-    ensures open { IsTrue (A.condition store.new).is_open
-        → IsTrue (A.condition store.old).is_open }
-    ensures stop { HasCleanDisk (A.condition store.new) → (s : State)
-        → StandsFor (A.condition store.old) s
-        → Leaves (A.condition store.new) (λ found. (found ≡ s) ⊎ (found ≡
-        (routed_step site.now s message (target message.head.method message.head.path)).state)) }
+    ensures { TriesTo (A.condition store.old) (A.condition store.new) Always
+        (λ s p. clock ≡ s.clock → IsReady (message_step site.now s message) p)
+        (λ s. (message_step site.now s message).state) result }
 {
     let delivery = Delivery {
         clock,
@@ -185,21 +169,8 @@ fn operate<A: Archive>(
     message: Message,
     target: Target,
 ) -> Result<Performed, StoreFault>
-    ensures ok { HasCleanDisk (A.condition store.new) → (s : State)
-        → StandsFor (A.condition store.old) s
-        → IfOk result (λ p. Performs
-        (operation_step service.now s (operation_of message target)) (A.condition store.new) p) }
-    ensures err { IsTrue (A.condition store.new).is_open → (s : State)
-        → StandsFor (A.condition store.old) s
-        → OnErr result (StandsFor (A.condition store.new) s) }
-    ensures honest { HasCleanDisk (A.condition store.new)
-        → HasCleanDisk (A.condition store.old) }
-    ensures open { IsTrue (A.condition store.new).is_open
-        → IsTrue (A.condition store.old).is_open }
-    ensures stop { HasCleanDisk (A.condition store.new) → (s : State)
-        → StandsFor (A.condition store.old) s
-        → Leaves (A.condition store.new) (λ found. (found ≡ s) ⊎
-        (found ≡ (operation_step service.now s (operation_of message target)).state)) }
+    ensures { MakesStep (A.condition store.old) (A.condition store.new) Always
+        (λ s. operation_step service.now s (operation_of message target)) result }
 {
     let Message { head, content } = message;
     match operation_of(service.alloc(), &head, content, target) {

@@ -2,12 +2,12 @@
 
 ghost use Rattle.std.specs.Prelude.{◌≡◌, [], IfOk, IfErr, OnOk};
 ghost use Rattle.sqlite.specs.State.{HasCleanDisk};
-ghost use Rattle.dep_tables.specs.Clauses.{ReadsOnly, FailsWhole, FailsReading, FailsByRunning, FailsToReadNumbers, JustOne, RefusesNumbers, StaysWithin};
+ghost use Rattle.dep_tables.specs.Clauses.{FailsWhole, FailsByRunning, FailsToReadNumbers, JustOne, RefusesNumbers, ReadsWithin};
 ghost use Rattle.dep_tables.specs.Rows.{IsStateRow, IsStorableState, state_values};
 ghost use Rattle.dep_tables.specs.Texts.{read_state_text, write_state_text};
 ghost use Rattle.dep_row_maps.specs.Stored.{state_row};
 ghost use Rattle.dep_row_maps.specs.TablesAre.{with_counters};
-ghost use Rattle.dep_row_maps.specs.Clauses.{FromMaps, KeepsOurs, SeesState};
+ghost use Rattle.dep_row_maps.specs.Clauses.{FromMaps, SeesState, ChangesWithin};
 
 use dep_tables::{StateRow, Statements, read_state, write_state};
 use dep_types::StoreFault;
@@ -16,13 +16,10 @@ use dep_types::StoreFault;
 pub fn counters<T: Statements>(tx: &mut T) -> Result<StateRow, StoreFault>
     ensures map { FromMaps (T.state tx.old) (T.state tx.new)
         (λ s. IfOk result (λ row. row ≡ state_row s)) }
-    ensures same { ReadsOnly (T.state tx.old) (T.state tx.new) result }
-    ensures ours { KeepsOurs (T.state tx.old) (T.state tx.new) result }
     ensures cause { HasCleanDisk (T.state tx.new)
         → IfErr result (FailsToReadNumbers (JustOne IsStateRow) read_state_text []
         (T.state tx.old) (T.state tx.new)) }
-    ensures err { FailsReading (T.state tx.old) (T.state tx.new) result }
-    ensures stays { StaysWithin T.lenders T.state tx.old tx.new result }
+    ensures keeps { ReadsWithin T.lenders T.state tx.old tx.new result }
 {
     read_state(tx)
 }
@@ -32,13 +29,12 @@ pub fn set_counters<T: Statements>(tx: &mut T, row: &StateRow) -> Result<(), Sto
     ensures map { FromMaps (T.state tx.old) (T.state tx.new)
         (λ s. OnOk result
         (SeesState (T.state tx.new) (with_counters s row.now.clock row.now.next))) }
-    ensures ours { KeepsOurs (T.state tx.old) (T.state tx.new) result }
     ensures numbers { RefusesNumbers (T.state tx.old) (T.state tx.new) result
         (IsStorableState row.now) }
     ensures cause { FailsByRunning (T.state tx.old) (T.state tx.new) result
         (IsStorableState row.now) write_state_text (state_values row.now) }
     ensures err { FailsWhole (T.state tx.old) (T.state tx.new) result }
-    ensures stays { StaysWithin T.lenders T.state tx.old tx.new result }
+    ensures keeps { ChangesWithin T.lenders T.state tx.old tx.new result }
 {
     write_state(tx, row)
 }

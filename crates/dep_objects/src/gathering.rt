@@ -4,11 +4,11 @@ ghost use Rattle.std.specs.Prelude.{◌≡◌, ◌≢◌, ◌<◌, ◌^◌, [], 
 ghost use Rattle.std.specs.FinMap as map;
 ghost use Rattle.dep_types.specs.State.{Texts};
 ghost use Rattle.dep_types.specs.declared.store_fault.StoreFault.TheVariants.{Memory};
-ghost use Rattle.dep_tables.specs.Clauses.{ReadsOnly, FailsReading, StaysWithin};
+ghost use Rattle.dep_tables.specs.Clauses.{ReadsWithin};
 ghost use Rattle.dep_row_maps.specs.Stored.{added, listed, grouped};
 ghost use Rattle.dep_row_maps.specs.Laws.{pair_of};
 ghost use Rattle.dep_row_maps.specs.TablesAre.{metadata_at};
-ghost use Rattle.dep_row_maps.specs.Clauses.{FromMaps, KeepsOurs};
+ghost use Rattle.dep_row_maps.specs.Clauses.{FromMaps};
 ghost use Rattle.dep_objects.specs.Texts.{closed, FailsToGather, MayFollow};
 
 use dep_tables::{MetadataRow, Statements, metadata_of};
@@ -104,14 +104,11 @@ pub(crate) fn load_metadata<T: Statements>(
     ensures map { FromMaps (T.state tx.old) (T.state tx.new)
         (λ s. IfOk result (λ metadata.
         metadata ≡ grouped (listed (metadata_at s.objects object)))) }
-    ensures same { ReadsOnly (T.state tx.old) (T.state tx.new) result }
-    ensures ours { KeepsOurs (T.state tx.old) (T.state tx.new) result }
     ensures cause { FromMaps (T.state tx.old) (T.state tx.new)
         (λ s. object < 2 ^ 63
         → IfErr result
         (FailsToGather object (metadata_at s.objects object) (T.state tx.old) (T.state tx.new))) }
-    ensures err { FailsReading (T.state tx.old) (T.state tx.new) result }
-    ensures stays { StaysWithin T.lenders T.state tx.old tx.new result }
+    ensures keeps { ReadsWithin T.lenders T.state tx.old tx.new result }
 {
     gathered(alloc, metadata_of(tx, alloc, object)?)
 }

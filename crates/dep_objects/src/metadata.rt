@@ -9,7 +9,7 @@ ghost use Rattle.dep_tables.specs.Clauses.{StaysWithin};
 ghost use Rattle.dep_row_maps.specs.Owned.{placed, put_each};
 ghost use Rattle.dep_row_maps.specs.Stored.{is_of, text_row, text_values, texts_in};
 ghost use Rattle.dep_row_maps.specs.TablesAre.{with_object, with_metadata};
-ghost use Rattle.dep_row_maps.specs.Clauses.{FromMaps, Becomes, KeepsOurs, SeesState, FailsUncommitted, FailsReadingUncommitted};
+ghost use Rattle.dep_row_maps.specs.Clauses.{FromMaps, Becomes, SeesState, ChangesWithin};
 ghost use Rattle.dep_row_maps.specs.Causes.{FailsByOne, FailsHolding, FailsSince};
 ghost use Rattle.dep_objects.specs.Texts.{rows_beside, with_more, HavePlaces, HavePlacesIn, FailsToAppend};
 
@@ -58,7 +58,6 @@ fn put_texts<T: Statements>(
     ensures cause { FailsByOne T.state tx.old tx.new result
         ((object < 2 ^ 63) × (start + length entry.now.texts ≤ 2 ^ 63))
         (FailsHolding (entry.now.texts ≢ [])) }
-    ensures err { FailsUncommitted (T.state tx.old) (T.state tx.new) result }
     ensures stays { StaysWithin T.lenders T.state tx.old tx.new result }
 {
     let mut place = start;
@@ -98,7 +97,6 @@ fn put_entries<T: Statements>(
         ((object < 2 ^ 63)
         × All (λ e. length (texts_in have.now e.name) + length e.texts ≤ 2 ^ 63) entries.now)
         (FailsHolding (entries.now ≢ [])) }
-    ensures err { FailsUncommitted (T.state tx.old) (T.state tx.new) result }
     ensures stays { StaysWithin T.lenders T.state tx.old tx.new result }
 {
     'entries: for entry in entries {
@@ -119,12 +117,10 @@ pub fn set_metadata<T: Statements>(
         (λ s. (o : Object) → map.get s.objects object ≡ Some o
         → OnOk result (SeesState (T.state tx.new)
         (with_object s object (with_metadata o metadata.now)))) }
-    ensures ours { KeepsOurs (T.state tx.old) (T.state tx.new) result }
     ensures cause { FailsByOne T.state tx.old tx.new result
         ((object < 2 ^ 63) × HavePlaces map.empty (map.entries metadata.now))
         (FailsHolding (metadata.now ≢ map.empty)) }
-    ensures err { FailsUncommitted (T.state tx.old) (T.state tx.new) result }
-    ensures stays { StaysWithin T.lenders T.state tx.old tx.new result }
+    ensures keeps { ChangesWithin T.lenders T.state tx.old tx.new result }
 {
     delete_metadata(tx, object)?;
     put_entries(tx, alloc, object, &Metadata::new(alloc), metadata.entries())
@@ -141,13 +137,11 @@ pub fn append_metadata<T: Statements>(
     ensures map { FromMaps (T.state tx.old) (T.state tx.new)
         (λ s. (o : Object) → map.get s.objects object ≡ Some o
         → OnOk result (SeesState (T.state tx.new) (with_object s object (with_more o more.now)))) }
-    ensures ours { KeepsOurs (T.state tx.old) (T.state tx.new) result }
     ensures cause { FromMaps (T.state tx.old) (T.state tx.new)
         (λ s. object < 2 ^ 63
         → HavePlacesIn s object more.now
         → IfErr result (FailsSince T.state (FailsToAppend s object more.now) tx.old tx.new)) }
-    ensures err { FailsReadingUncommitted (T.state tx.old) (T.state tx.new) result }
-    ensures stays { StaysWithin T.lenders T.state tx.old tx.new result }
+    ensures keeps { ChangesWithin T.lenders T.state tx.old tx.new result }
 {
     let have = load_metadata(tx, alloc, object)?;
     put_entries(tx, alloc, object, &have, more.entries())

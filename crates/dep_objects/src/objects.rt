@@ -6,12 +6,12 @@ ghost use Rattle.sqlite.specs.declared.types.Value.TheVariants.{Int};
 ghost use Rattle.dep_types.specs.Rows.{object_row};
 ghost use Rattle.dep_types.specs.Sound.{IsSound};
 ghost use Rattle.dep_types.specs.State.{Object};
-ghost use Rattle.dep_tables.specs.Clauses.{AtMostOne, ReadsOnly, FailsReading, FailsByReadingNumbers, FailsByRunning, FailsWhole, RefusesNumbers, StaysWithin};
+ghost use Rattle.dep_tables.specs.Clauses.{AtMostOne, FailsByReadingNumbers, FailsByRunning, FailsWhole, RefusesNumbers, ReadsWithin};
 ghost use Rattle.dep_tables.specs.Rows.{IsNumberRow, IsObjectRow, IsStorableObject, object_values};
 ghost use Rattle.dep_tables.specs.Texts.{find_object_text, insert_object_text, next_object_text, write_object_text};
 ghost use Rattle.dep_row_maps.specs.Keyed.{next_entry};
 ghost use Rattle.dep_row_maps.specs.TablesAre.{metadata_at, files_at, with_object, without_object};
-ghost use Rattle.dep_row_maps.specs.Clauses.{FromMaps, KeepsOurs, SeesState, FailsUncommitted};
+ghost use Rattle.dep_row_maps.specs.Clauses.{FromMaps, SeesState, ChangesWithin};
 ghost use Rattle.dep_row_maps.specs.Causes.{FailsByOne, FailsByStatement, FailsHolding, FailsSince};
 ghost use Rattle.dep_objects.specs.Objects.{object_of, described_object, with_row};
 
@@ -39,14 +39,11 @@ pub fn load_object<T: Statements>(
     ensures map { FromMaps (T.state tx.old) (T.state tx.new)
         (λ s. IsSound s → IfOk result (λ found.
         found ≡ option_map (described_object object) (map.get s.objects object))) }
-    ensures same { ReadsOnly (T.state tx.old) (T.state tx.new) result }
-    ensures ours { KeepsOurs (T.state tx.old) (T.state tx.new) result }
     ensures cause { FromMaps (T.state tx.old) (T.state tx.new)
         (λ s. object < 2 ^ 63
         → IfErr result (FailsSince T.state
         (FailsHolding (metadata_at s.objects object ≢ map.empty)) tx.old tx.new)) }
-    ensures err { FailsReading (T.state tx.old) (T.state tx.new) result }
-    ensures stays { StaysWithin T.lenders T.state tx.old tx.new result }
+    ensures keeps { ReadsWithin T.lenders T.state tx.old tx.new result }
 {
     let Some(row) = dep_tables::find_object(tx, object)? else {
         return Ok(None);
@@ -61,13 +58,10 @@ pub fn find_object<T: Statements>(tx: &mut T, object: u64) -> Result<Option<Obje
     ensures map { FromMaps (T.state tx.old) (T.state tx.new)
         (λ s. IfOk result
         (λ found. found ≡ option_map (object_row object) (map.get s.objects object))) }
-    ensures same { ReadsOnly (T.state tx.old) (T.state tx.new) result }
-    ensures ours { KeepsOurs (T.state tx.old) (T.state tx.new) result }
     ensures numbers { RefusesNumbers (T.state tx.old) (T.state tx.new) result (object < 2 ^ 63) }
     ensures cause { FailsByReadingNumbers (T.state tx.old) (T.state tx.new) result
         (object < 2 ^ 63) find_object_text (Int (pos object) ∷ []) (AtMostOne IsObjectRow) }
-    ensures err { FailsReading (T.state tx.old) (T.state tx.new) result }
-    ensures stays { StaysWithin T.lenders T.state tx.old tx.new result }
+    ensures keeps { ReadsWithin T.lenders T.state tx.old tx.new result }
 {
     dep_tables::find_object(tx, object)
 }
@@ -76,13 +70,10 @@ pub fn find_object<T: Statements>(tx: &mut T, object: u64) -> Result<Option<Obje
 pub fn next_object<T: Statements>(tx: &mut T, after: u64) -> Result<Option<u64>, StoreFault>
     ensures map { FromMaps (T.state tx.old) (T.state tx.new)
         (λ s. IfOk result (λ found. found ≡ option_map (λ e. e.0) (next_entry s.objects after))) }
-    ensures same { ReadsOnly (T.state tx.old) (T.state tx.new) result }
-    ensures ours { KeepsOurs (T.state tx.old) (T.state tx.new) result }
     ensures numbers { RefusesNumbers (T.state tx.old) (T.state tx.new) result (after < 2 ^ 63) }
     ensures cause { FailsByReadingNumbers (T.state tx.old) (T.state tx.new) result
         (after < 2 ^ 63) next_object_text (Int (pos after) ∷ []) (AtMostOne IsNumberRow) }
-    ensures err { FailsReading (T.state tx.old) (T.state tx.new) result }
-    ensures stays { StaysWithin T.lenders T.state tx.old tx.new result }
+    ensures keeps { ReadsWithin T.lenders T.state tx.old tx.new result }
 {
     dep_tables::next_object(tx, after)
 }
@@ -95,13 +86,12 @@ pub fn add_object<T: Statements>(tx: &mut T, row: &ObjectRow) -> Result<(), Stor
         (with_object s row.now.object (object_of row.now map.empty map.empty)))) }
     ensures free { FromMaps (T.state tx.old) (T.state tx.new)
         (λ s. OnOk result (map.get s.objects row.now.object ≡ None)) }
-    ensures ours { KeepsOurs (T.state tx.old) (T.state tx.new) result }
     ensures numbers { RefusesNumbers (T.state tx.old) (T.state tx.new) result
         (IsStorableObject row.now) }
     ensures cause { FailsByRunning (T.state tx.old) (T.state tx.new) result
         (IsStorableObject row.now) insert_object_text (object_values row.now) }
     ensures err { FailsWhole (T.state tx.old) (T.state tx.new) result }
-    ensures stays { StaysWithin T.lenders T.state tx.old tx.new result }
+    ensures keeps { ChangesWithin T.lenders T.state tx.old tx.new result }
 {
     insert_object(tx, row)
 }
@@ -115,13 +105,12 @@ pub fn put_object<T: Statements>(tx: &mut T, row: &ObjectRow) -> Result<(), Stor
     ensures absent { FromMaps (T.state tx.old) (T.state tx.new)
         (λ s. map.get s.objects row.now.object ≡ None
         → OnOk result (SeesState (T.state tx.new) s)) }
-    ensures ours { KeepsOurs (T.state tx.old) (T.state tx.new) result }
     ensures numbers { RefusesNumbers (T.state tx.old) (T.state tx.new) result
         (IsStorableObject row.now) }
     ensures cause { FailsByRunning (T.state tx.old) (T.state tx.new) result
         (IsStorableObject row.now) write_object_text (object_values row.now) }
     ensures err { FailsWhole (T.state tx.old) (T.state tx.new) result }
-    ensures stays { StaysWithin T.lenders T.state tx.old tx.new result }
+    ensures keeps { ChangesWithin T.lenders T.state tx.old tx.new result }
 {
     dep_tables::write_object(tx, row)
 }
@@ -132,10 +121,8 @@ pub fn delete_object<T: Statements>(tx: &mut T, object: u64) -> Result<(), Store
     ensures map { FromMaps (T.state tx.old) (T.state tx.new)
         (λ s. files_at s.objects object ≡ map.empty
         → OnOk result (SeesState (T.state tx.new) (without_object s object))) }
-    ensures ours { KeepsOurs (T.state tx.old) (T.state tx.new) result }
     ensures cause { FailsByOne T.state tx.old tx.new result (object < 2 ^ 63) FailsByStatement }
-    ensures err { FailsUncommitted (T.state tx.old) (T.state tx.new) result }
-    ensures stays { StaysWithin T.lenders T.state tx.old tx.new result }
+    ensures keeps { ChangesWithin T.lenders T.state tx.old tx.new result }
 {
     delete_metadata(tx, object)?;
     dep_tables::delete_object(tx, object)

@@ -1,13 +1,13 @@
 -- Connections that are served one after another.
-use Rattle.std.proofs.Common.{◌≡◌, ℕ, ◌+◌, List, [], ◌∷◌, ◌++◌, length, refl, sym, subst, arith}
+use Rattle.std.proofs.Common.{◌≡◌, ℕ, ◌+◌, List, [], ◌∷◌, ◌++◌, refl, sym, subst, ◌∙◌, arith}
 use Rattle.std.proofs.lemmas.List.{append-nil, length-append, flat_map_more}
 use Rattle.std.proofs.lemmas.List.Elements.{All-nil, All-append, All-cons}
-use Rattle.std.specs.Prelude.{All, None}
+use Rattle.std.specs.Prelude.{None}
 use Rattle.std.specs.List.{FoldsTo}
 use Rattle.dep_types.specs.Conditions.{Condition}
 use Rattle.dep_types.specs.declared.inlet.LastRead.{LastRead}
 use Rattle.dep_types.specs.declared.inlet.LastRead.TheVariants.{NoneYet}
-use Rattle.dep_hub.specs.Standing.{StandsAfter, IsClean}
+use Rattle.dep_hub.specs.Standing.{StandsAfter, ServesAs, IsClean}
 use Rattle.dep_hub.specs.Turns.{Turn, records_of, ArePieces}
 use Rattle.dep_hub.specs.Conversation.{Wire, wire, session, Clocks, Converses, ConversesOver}
 use Rattle.dep_hub.specs.declared.connection.Served.{Served}
@@ -42,7 +42,7 @@ module _ {A : Type 0} (condition : A → Condition) {C : Type 0} (ticks : C → 
   }
 
   module _ (now later : C) (mid new : Hub A) (count : ℕ) (p : Progress now mid count) (back : IsClean condition new → IsClean condition mid) where
-    unserved_more : (before after : Wire) → ConversesOver condition ticks (session condition mid before now) (session condition new after later) Unserved → Progress later new (count + 1)
+    unserved_more : (before after : Wire) → ConversesOver condition ticks (session mid before now) (session new after later) Unserved → Progress later new (count + 1)
     unserved_more before after v = record {
       talks = p.talks;
       among = (p.among.0 + 1, let e = p.among.1 in omega arith);
@@ -54,7 +54,7 @@ module _ {A : Type 0} (condition : A → Condition) {C : Type 0} (ticks : C → 
       moments = subst (λ c. Clocks ticks clock (all_turns_of p.talks) c) (sym v.same_clock) p.moments;
     }
 
-    talk_more : (before after : Wire) (end : Served) → Converses condition ticks (session condition mid before now) (session condition new after later) end → Progress later new (count + 1)
+    talk_more : (before after : Wire) (end : Served) → Converses condition ticks (session mid before now) (session new after later) end → Progress later new (count + 1)
     talk_more before after end v =
         let talk : Conversation = record { number = v.number; turns = v.turns } in
         let long = length-append p.talks (talk ∷ []) in
@@ -72,7 +72,7 @@ module _ {A : Type 0} (condition : A → Condition) {C : Type 0} (ticks : C → 
               (folds_join (λ before (t : Turn) after. ticks before t.moment after) clock (all_turns_of p.talks) v.turns now later p.moments v.moments);
         }
 
-    more : (served : Served) (before after : Wire) → ConversesOver condition ticks (session condition mid before now) (session condition new after later) served → Progress later new (count + 1)
+    more : (served : Served) (before after : Wire) → ConversesOver condition ticks (session mid before now) (session new after later) served → Progress later new (count + 1)
     more Unserved before after v = unserved_more before after v
     more Ended before after v = talk_more before after Ended v
     more Closed before after v = talk_more before after Closed v
@@ -86,13 +86,13 @@ module _ {A : Type 0} (condition : A → Condition) {C : Type 0} (ticks : C → 
 -- a connection over a socket at which nothing was read, and to which no write has failed
 pub over_socket : {A : Type 0} (condition : A → Condition) {C : Type 0} (ticks : C → ℕ → C → Type 0) (clock now : C) (old new : Hub A) (end : Served)
     (reads failures : ℕ) (last : LastRead) (after : Wire) → reads ≡ 0 → last ≡ NoneYet → failures ≡ 0
-    → ConversesOver condition ticks (session condition old (wire None reads last None failures) clock) (session condition new after now) end
+    → ConversesOver condition ticks (session old (wire None reads last None failures) clock) (session new after now) end
     → ServesOne condition ticks clock now old new end
 over_socket condition ticks clock now old new end reads failures last after r l f converses = record {
   after = after;
-  converses = subst (λ n. ConversesOver condition ticks (session condition old (wire None 0 NoneYet None n) clock) (session condition new after now) end) f
-      (subst (λ x. ConversesOver condition ticks (session condition old (wire None 0 x None failures) clock) (session condition new after now) end) l
-      (subst (λ n. ConversesOver condition ticks (session condition old (wire None n last None failures) clock) (session condition new after now) end) r converses));
+  converses = subst (λ n. ConversesOver condition ticks (session old (wire None 0 NoneYet None n) clock) (session new after now) end) f
+      (subst (λ x. ConversesOver condition ticks (session old (wire None 0 x None failures) clock) (session new after now) end) l
+      (subst (λ n. ConversesOver condition ticks (session old (wire None n last None failures) clock) (session new after now) end) r converses));
 }
 
 -- a connection that is let go before anything was read of it
@@ -109,3 +109,11 @@ same_served condition old mid new talks same m = subst (λ hub. ServesThese cond
 
 pub so_many : (talks : List Conversation) (k count : ℕ) → k ≡ count → AreAmong talks k → AreAmong talks count
 so_many talks k count same m = subst (λ n. AreAmong talks n) same m
+
+-- it serves so over two calls
+pub serves_then : {A : Type 0} (condition : A → Condition) (old mid new : Hub A) → ServesAs condition old mid → ServesAs condition mid new → ServesAs condition old new
+serves_then condition old mid new one two = record {
+  config = two.config ∙ one.config;
+  clean = λ h. one.clean (two.clean h);
+  honest = λ h. one.honest (two.honest h);
+}

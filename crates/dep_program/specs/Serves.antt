@@ -43,8 +43,8 @@ module _ {A : Type 0} (condition : A → Condition) where
   pub record ServesOne {C : Type 0} (ticks : C → ℕ → C → Type 0) (clock now : C)
       (old new : Hub A) (served : Served) : Type 0 where
     pub after : Wire
-    pub converses : ConversesOver condition ticks (session condition old socket_wire clock)
-        (session condition new after now) served
+    pub converses : ConversesOver condition ticks (session old socket_wire clock)
+        (session new after now) served
 
   -- For all records that it stood for, the hub stands for them with those of the connections behind
   -- them, one connection after another.

@@ -1,6 +1,6 @@
 //! Connections over sockets, one after another.
 ghost use Rattle.std.specs.Prelude.{◌≡◌, IfOk, OnErr};
-ghost use Rattle.dep_hub.specs.Standing.{IsClean, IsHonest};
+ghost use Rattle.dep_hub.specs.Standing.{ServesAs};
 ghost use Rattle.dep_program.specs.Serves.{Serves, ServesOne};
 
 use crate::gathered::Gathered;
@@ -22,10 +22,8 @@ pub fn serve_on<A: Archive, C: FnMut() -> Moment>(
     mut clock: C,
 ) -> Outcome
     requires { C.IsAlwaysCallable clock }
-    ensures config { hub.new.config ≡ hub.old.config }
+    ensures goes { ServesAs A.condition hub.old hub.new }
     ensures serves { Serves A.condition C.step clock hub.old hub.new count result }
-    ensures clean { IsClean A.condition hub.new → IsClean A.condition hub.old }
-    ensures honest { IsHonest A.condition hub.new → IsHonest A.condition hub.old }
 {
     for _ in 0..count {
         let Ok(_) = serve_next(alloc, listener, hub, &mut clock) else {
@@ -44,11 +42,9 @@ fn serve_next<A: Archive, C: FnMut() -> Moment>(
 ) -> io::Result<Served>
     requires { C.IsAlwaysCallable clock.old }
     ensures call { C.IsAlwaysCallable clock.new }
-    ensures config { hub.new.config ≡ hub.old.config }
+    ensures goes { ServesAs A.condition hub.old hub.new }
     ensures one { IfOk result
         (λ served. ServesOne A.condition C.step clock.old clock.new hub.old hub.new served) }
-    ensures clean { IsClean A.condition hub.new → IsClean A.condition hub.old }
-    ensures honest { IsHonest A.condition hub.new → IsHonest A.condition hub.old }
     ensures none { OnErr result (hub.new ≡ hub.old) }
     ensures asked { OnErr result (clock.new ≡ clock.old) }
 {

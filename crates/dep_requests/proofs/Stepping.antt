@@ -44,7 +44,7 @@ use Rattle.dep_answers.specs.declared.subject.Shown.TheVariants as shown
 use Rattle.dep_answers.specs.declared.subject.Subject.{Subject}
 use Rattle.dep_tables.specs.Clauses.{ReadsOnly, StaysWithin}
 use Rattle.dep_tables.specs.Tables.{tables_in}
-use Rattle.dep_tables.proofs.Results.{if_ok}
+use Rattle.dep_tables.proofs.Results.{if_ok, if_failed}
 use Rattle.dep_row_maps.specs.TablesAre.{TablesAre}
 use Rattle.dep_row_maps.specs.Clauses.{SeesState}
 use Rattle.dep_row_maps.proofs.Causes.{survives_itself}
@@ -68,6 +68,7 @@ stays_put lenders state tx r = record {
   survives = survives_itself (state tx);
   inside = λ clean inside. if_ok r inside;
   kept = λ clean inside. record { was_open = λ is_open. is_open; committed = λ is_open. refl };
+  fails = λ clean inside is_open. if_failed r (refl, inl inside);
 }
 
 -- the same tables are of the same state
@@ -79,6 +80,11 @@ pub only_reads : (config : Config) (s : State) (op : Operation) (r : Ruling) →
 only_reads config s op (Refuse r) is nothing = tt
 only_reads config s op (Do d) is (inl refused) = absurd (refused is.0)
 only_reads config s op (Do d) is (inr show) = is.1 ∙ show
+
+-- so it is just of these
+pub reads_alike : (config : Config) (s : State) (op : Operation) (r : Ruling) → IsRuling config s op r → OnlyReads r → ChangesNothing config s op
+reads_alike config s op (Refuse r) is only = inl (λ none. let both = sym is ∙ none in cc both)
+reads_alike config s op (Do d) is only = inr (sym is.1 ∙ only)
 
 -- what reads behind a call that left the transaction alone
 pub reads_alone : {T A E : Type 0} (state : T → db.State) (old mid new : T) (r : Result A E) → mid ≡ old → (IsTrue (state mid).is_open → ReadsOnly (state mid) (state new) r)

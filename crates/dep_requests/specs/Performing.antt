@@ -1,7 +1,21 @@
--- What is ruled of a request.
-use Rattle.std.specs.Prelude.{◌≡◌, ◌≢◌, ◌⊎◌, None}
+-- What is ruled of a request, and what comes of it.
+use Rattle.sqlite.specs.State as db
+use Rattle.std.specs.Prelude.{◌≡◌, ◌≢◌, ◌⊎◌, None, Result, IfOk}
 use Rattle.dep_types.specs.State.{State}
+use Rattle.dep_types.specs.Sound.{IsSound}
 use Rattle.dep_types.specs.declared.config.Config.{Config}
+use Rattle.dep_types.specs.declared.store_fault.StoreFault.{StoreFault}
+use Rattle.dep_fields.specs.Fit.{AreFit}
+use Rattle.dep_answers.specs.Performing.{IsReady}
+use Rattle.dep_answers.specs.Replies.{answer_to}
+use Rattle.dep_answers.specs.Steps.{operation_step}
+use Rattle.dep_answers.specs.Subjects.{shown_at, subject_of}
+use Rattle.dep_answers.specs.Answers.{Answer}
+use Rattle.dep_answers.specs.declared.performed.Performed.{Performed}
+use Rattle.dep_answers.specs.declared.subject.Shown.{Shown}
+use Rattle.dep_row_maps.specs.Clauses.{FromMaps, SeesState}
+use Rattle.dep_decisions.specs.Effects.{effect}
+use Rattle.dep_decisions.specs.declared.decision.Decision.{Decision}
 use Rattle.dep_decisions.specs.Decisions.{decision}
 use Rattle.dep_decisions.specs.Rules.{refusal}
 use Rattle.dep_decisions.specs.declared.decision.Decision.TheVariants.{Show}
@@ -11,6 +25,7 @@ use Rattle.dep_operations.specs.Views.{touched_by, true_view}
 use Rattle.dep_operations.specs.declared.ruling.Ruling.{Ruling}
 use Rattle.dep_operations.specs.declared.ruling.Ruling.TheVariants.{Do, Refuse}
 use Rattle.dep_views.specs.Seen.{touched_payload}
+use Rattle.dep_requests.specs.declared.performing.Done.{Done}
 use Rattle.dep_requests.specs.declared.performing.Ruled.{Ruled}
 
 -- the view tells the state truly, and so does the row of a payload file, and the ruling is right there
@@ -27,3 +42,38 @@ OnlyReads (Do d) = d ≡ Show
 -- so it is of a request that is refused, or asks for nothing but to be shown
 abbrev pub ChangesNothing : Config → State → Operation → Type 0
 ChangesNothing config s op = (refusal config s op ≢ None) ⊎ (decision config op ≡ Show)
+
+-- what the reply to a request that was accepted shows of a state
+abbrev pub shown_by : State → Operation → Shown
+shown_by s op = shown_at s (subject_of s.next op.target.resource op.target.method)
+
+-- the answer that it gets there
+abbrev pub answered_at : Config → State → Operation → Answer
+answered_at config s op = answer_to config s op.target.resource op.target.method
+
+-- the tables are those of what it makes of the state, of which this is shown
+abbrev pub ShowsEffect : Config → State → Operation → db.State → Shown → Type 0
+ShowsEffect config s op new shown =
+    SeesState new (effect config s op) × (shown ≡ shown_by (effect config s op) op)
+
+-- what was decided is carried out, and shown, where it was ruled rightly
+abbrev pub IsCarriedOut : (old new : db.State) → Operation → Ruled → Decision
+    → Result Shown StoreFault → Type 0
+IsCarriedOut old new op ruled decision result = FromMaps old new (λ s. (config : Config)
+    → IsSound s → AreFit op.fields → Rules config s op ruled → IsRuling config s op (Do decision)
+    → IfOk result (ShowsEffect config s op new))
+
+-- this is ready as the reply of the step, and the tables are those of the state that it leaves
+abbrev pub IsStepped : Config → State → Operation → db.State → Performed → Type 0
+IsStepped config s op new performed = IsReady (operation_step config s op) performed
+    × SeesState new (operation_step config s op).state
+
+-- so it is of what is done
+abbrev pub IsDone : Config → State → Operation → db.State → Done → Type 0
+IsDone config s op new done = IsStepped config s op new done.performed
+
+-- what was ruled rightly is followed
+abbrev pub Follows : (old new : db.State) → Config → Operation → Ruled → Result Performed StoreFault
+    → Type 0
+Follows old new config op ruled result = FromMaps old new (λ s. IsSound s → AreFit op.fields
+    → Rules config s op ruled → IfOk result (IsStepped config s op new))

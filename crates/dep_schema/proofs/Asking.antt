@@ -1,14 +1,15 @@
 -- What a query inside a transaction keeps, whatever its text is.
-use Rattle.std.proofs.Common.{◌≡◌, ◌⊎◌, ℕ, List, Result, Err, OnOk, ap, ◌∙◌}
+use Rattle.std.proofs.Common.{◌≡◌, ◌⊎◌, ℕ, List, Result, Err, OnOk, inl, ap, ◌∙◌}
 use Rattle.std.specs.Borrow.{GName, MutBor}
 use Rattle.sqlite_trees.specs.declared.store.Store.{Ghosts}
 use Rattle.sqlite.specs.Order.{Row}
 use Rattle.sqlite.specs.declared.error.Error.{Error}
 use Rattle.sqlite.specs.Held.{Held, state}
 use Rattle.sqlite.specs.State.{HasCleanDisk, Survives, IsUnchanged, Shown, FailsToQuery, IsTooLate}
-use Rattle.dep_statements.proofs.Asked.{shown_keeps, shown_mode, asks_keep}
+use Rattle.dep_statements.proofs.Asked.{shown_keeps, shown_mode, asks_keep, asks_leave}
 use Rattle.dep_tables.specs.Clauses.{StaysWithin}
-use Rattle.dep_tables.proofs.Results.{if_ok, ok_then}
+use Rattle.dep_tables.proofs.Chains.{left_whole}
+use Rattle.dep_tables.proofs.Results.{if_ok, if_failed, ok_then}
 use Rattle.dep_schema.specs.Standing.{StaysOn}
 use Rattle.dep_schema.specs.declared.lending.Lent.{Lent}
 
@@ -21,6 +22,9 @@ module _ {S : Type 0} (g : Ghosts S) (old new : MutBor (Held S)) (same_reference
       survives = survives;
       inside = λ clean inside. if_ok r (shown_mode sql params (state g old.now) (state g new.now) rows (shown clean) ∙ inside);
       kept = λ clean inside. shown_keeps sql params (state g old.now) (state g new.now) inside rows (shown clean);
+      fails = λ clean inside is_open.
+          if_failed r
+          ((shown_keeps sql params (state g old.now) (state g new.now) inside rows (shown clean)).committed is_open, inl (shown_mode sql params (state g old.now) (state g new.now) rows (shown clean) ∙ inside));
     }
 
     -- it has failed
@@ -32,6 +36,7 @@ module _ {S : Type 0} (g : Ghosts S) (old new : MutBor (Held S)) (same_reference
       survives = survives;
       inside = λ clean inside. tt;
       kept = λ clean inside. asks_keep sql params (state g old.now) (state g new.now) inside e (failed clean);
+      fails = λ clean inside is_open. left_whole (state g old.now) (state g new.now) inside is_open (asks_leave sql params (state g old.now) (state g new.now) e (failed clean));
     }
 
     -- it has failed, which may be told as an answer where it has changed nothing
@@ -43,6 +48,7 @@ module _ {S : Type 0} (g : Ghosts S) (old new : MutBor (Held S)) (same_reference
       survives = survives;
       inside = λ clean inside. ok_then r (same clean) (λ it. it.0.mode ∙ inside);
       kept = λ clean inside. asks_keep sql params (state g old.now) (state g new.now) inside e (failed clean);
+      fails = λ clean inside is_open. if_failed r (left_whole (state g old.now) (state g new.now) inside is_open (asks_leave sql params (state g old.now) (state g new.now) e (failed clean)));
     }
 
 -- the same of a transaction that is lent
@@ -57,6 +63,7 @@ module _ {S : Type 0} (g : Ghosts S) {old new : Lent S} {A E : Type 0} {r : Resu
     survives = stays.survives;
     inside = stays.inside;
     kept = stays.kept;
+    fails = stays.fails;
   }
 
   pub stays_on : LentStays g old new r → StaysOn g old.tx.now.conn new.tx.now.conn r
@@ -65,4 +72,5 @@ module _ {S : Type 0} (g : Ghosts S) {old new : Lent S} {A E : Type 0} {r : Resu
     survives = stays.survives;
     inside = stays.inside;
     kept = stays.kept;
+    fails = stays.fails;
   }

@@ -1,5 +1,5 @@
 -- How the texts that make the tables are understood where there are tables of others.
-use Rattle.std.proofs.Common.{◌≡◌, ℕ, Bool, true, false, ◌+◌, ◌<◌, ◌≤◌, zero, suc, List, [], ◌∷◌, length, map, take, get_or, IsTrue, inl, arith, if◌then◌else◌, Option, None, Some, Ok, Err, codes, refl, sym, ap, subst, ◌∙◌}
+use Rattle.std.proofs.Common.{◌≡◌, ℕ, Bool, true, false, ◌+◌, ◌<◌, ◌≤◌, zero, suc, List, [], ◌∷◌, length, map, take, get_or, IsTrue, arith, if◌then◌else◌, Option, None, Some, Ok, Err, codes, refl, sym, ap, subst, ◌∙◌}
 use Rattle.std.proofs.lemmas.List.{take_more, get_or-map, length-map}
 use Rattle.std.specs.Option.{option_or}
 use Rattle.std.specs.List.{AllByRecursion}
@@ -21,7 +21,7 @@ use Rattle.sqlite_resolve.specs.Lowering.{Checked, and_then}
 use Rattle.sqlite_resolve.specs.Compile.{compiled, first, is_attached, with_command, table_defined_by}
 use Rattle.dep_statements.specs.Adding.{Adds, AddsAll}
 use Rattle.dep_statements.proofs.Adding.{IsMaking, adds, adds_append}
-use Rattle.dep_tables.proofs.Chains.{Stays, clean_before, stays_then, stays_ok}
+use Rattle.dep_tables.proofs.Chains.{Stays, clean_before, stays_put, stays_then, stays_ok}
 use Rattle.dep_tables.specs.Clauses.{StaysWithin, FailsToRun}
 use Rattle.dep_types.specs.declared.store_fault.StoreFault.{StoreFault}
 use Rattle.dep_schema.specs.OpenFaults.{FailsToCreate}
@@ -169,19 +169,7 @@ module _ {T L : Type 0} (lenders : T → L) (state : T → State) (texts : List 
   none_made old are = record {
     texts_are = are;
     adds = λ clean inside. refl;
-    stays = record {
-      same_reference = refl;
-      survives = record {
-        clean = omega arith;
-        shield = λ shielded. shielded;
-        counts = omega arith;
-        limit = refl;
-        closes = λ clean is_open. inl is_open;
-        crash = λ clean db left. inl left;
-      };
-      inside = λ clean inside. inside;
-      kept = λ clean inside. record { was_open = λ is_open. is_open; committed = λ is_open. refl };
-    };
+    stays = stays_put lenders state old (Ok tt);
   }
 
   module _ (n : ℕ) (old new : T) where

@@ -16,10 +16,12 @@ use Rattle.dep_tables.specs.Tables.{Tables, tables_in, tables_of, AreOf, HasTabl
 use Rattle.dep_tables.specs.Clauses.{CommitsNothing, StaysInside}
 use Rattle.dep_schema.specs.Standing.{Holds, HoldsOf, Stands, StandsOf, EndsTransaction}
 use Rattle.dep_schema.specs.declared.lending.Lent.{Lent}
+use Rattle.sqlite.proofs.Callers.{survives_begin}
+use Rattle.sqlite.proofs.StateLemmas.{survives_then}
 use Rattle.dep_schema.proofs.Asking.{LentStays}
 use Rattle.dep_schema.proofs.Transactions.{begins_open, stands_left}
 use Rattle.dep_schema.specs.States.{TablesStandFor, StandsFor, Leaves}
-use Rattle.dep_schema.specs.Transactions.{TransactsTo, Transacts, OnlyTells, OverStates, IsBackAt}
+use Rattle.dep_schema.specs.Transactions.{TransactsTo, Transacts, OnlyTells, IsBackAt, IsGivenBack}
 
 -- what a crash leaves while nothing is left to be settled
 abbrev pub IsSettled : db.State → Type 0
@@ -121,6 +123,11 @@ module _ {S : Type 0} (g : Ghosts S) (old inside new : Held S) where
       let was = kept.was_open (ended.was_open is_open) in
       let committed = kept.committed (ended.was_open is_open) in
       (was, back.0 ∙ committed ∙ sym (between was), back.1 ∙ committed, ended.autocommit))
+
+  -- and nothing was committed
+  pub none_by_rollback : Works → Survives (state g inside) (state g new) (λ _. ⊥) → (last : Held S) → new ≡ last → Survives (state g old) (state g last) (λ _. ⊥)
+  none_by_rollback it survives last same = subst (λ (h : Held S). Survives (state g old) (state g h) (λ _. ⊥)) same (survives_begin g old (state g new) _
+      (survives_then (state g (record old { in_transaction = true })) (state g inside) (state g new) _ _ _ (λ clean trees none. none) (λ clean trees none. none) it.survives survives))
 
   -- so it began over an open store
   pub began_open : Works → (HasCleanDisk (state g new) → Commits (state g inside) (state g new)) → Survives (state g inside) (state g new) (λ trees. trees ≡ (state g inside).now.trees)
@@ -298,6 +305,35 @@ after_back old mid new result Makes settled shut back survives opened it = recor
         let it = back is_open in
         stands_left old mid t stands is_open it.3 (it.1 ∙ stands.committed) it.2
 
+-- all was given back, and the store is open
+pub tables_back : {its : Schema} (old new : db.State) (t : Tables) → IsBackAt old new → IsTrue new.is_open → StandsOf its old t → StandsOf its new t
+tables_back old new t back is_open stands =
+    let it = back is_open in
+    stands_left old new t stands is_open it.3 (it.1 ∙ stands.committed) it.2
+
+-- it failed, and all was given back
+pub fails_back : {its : Schema} {A E : Type 0} (old new : db.State) (r : Result A E) (Makes : Tables → A → Tables → Type 0) → IsErr r → (IsTrue old.is_open → IsSettled old)
+    → IsBackAt old new → Survives old new (λ _. ⊥) → TransactsTo its its old new r Makes
+fails_back old new (Ok answer) Makes failed settled back survives = cc failed
+fails_back old new (Err e) Makes failed settled back survives = record {
+  ok = λ clean t stands. tt;
+  err = λ is_open t stands. tables_back old new t back is_open stands;
+  honest = λ clean. omega (arith, clean, survives.clean);
+  was_open = λ is_open. (back is_open).0;
+  stop = λ clean t stands trees h. inl (left_still old new t (settled stands.is_open) stands survives clean trees h);
+}
+
+-- it was given back, and makes the tables that were there
+pub given_back : {A E : Type 0} (old new : db.State) (answer : A) (Makes : Tables → A → Tables → Type 0) → (IsTrue old.is_open → IsSettled old) → IsGivenBack old new
+    → (HasCleanDisk new → (t : Tables) → Stands old t → Makes t answer t) → Transacts {E = E} old new (Ok answer) Makes
+given_back old new answer Makes settled it made = record {
+  ok = λ clean t stands. (t, tables_back old new t it.back (it.opened clean) stands, made clean t stands);
+  err = λ is_open t stands. tt;
+  honest = λ clean. omega (arith, clean, it.survives.clean);
+  was_open = λ is_open. (it.back is_open).0;
+  stop = λ clean t stands trees h. inl (left_still old new t (settled stands.is_open) stands it.survives clean trees h);
+}
+
 -- what it stands for now, it stood for then
 pub stood_before : (old new : db.State) → IsBackAt old new → old.in_transaction ≡ false → (s : State) → StandsFor new s → StandsFor old s
 stood_before old new back settled s stands =
@@ -319,6 +355,17 @@ back_then old mid new one two is_open =
     let later = two is_open in
     let first = one later.0 in
     (first.0, later.1 ∙ first.1, later.2 ∙ first.2, later.3)
+
+pub none_then : (old mid new : db.State) → Survives old mid (λ _. ⊥) → Survives mid new (λ _. ⊥) → Survives old new (λ _. ⊥)
+none_then old mid new = survives_then old mid new _ _ _ (λ clean trees none. none) (λ clean trees none. none)
+
+-- all was given back before it was
+pub given_back_then : (old mid new : db.State) → IsBackAt old mid → Survives old mid (λ _. ⊥) → IsGivenBack mid new → IsGivenBack old new
+given_back_then old mid new back survives it = record {
+  opened = it.opened;
+  back = back_then old mid new back it.back;
+  survives = none_then old mid new survives it.survives;
+}
 
 -- nothing was done, or it was given back
 pub back_by_statement : (old new : db.State) → (IsTrue old.is_open → old.now ≡ old.committed) → old.in_transaction ≡ false
@@ -360,20 +407,6 @@ module _ {A E : Type 0} (old new : db.State) (result : Result A E) (told : Table
     | inl earlier ↦ earlier
     | inr (answer, after, holds, made) ↦ subst (Holds trees) made.1 holds
   ]
-
-  -- of a state that the tables stood for
-  pub ok_tells_state : (P : State → A → Type 0) → ((t : Tables) (answer : A) (s : State) → told t answer → TablesStandFor t s → P s answer)
-      → Transacts old new result (OnlyTells told) → HasCleanDisk new → (s : State) → StandsFor old s
-      → IfOk result (λ answer. P s answer × StandsFor new s)
-  ok_tells_state P means it clean s stands = each result (ok_tells it clean stands.tables stands.stands)
-    where
-      each : (r : Result A E) → IfOk r (λ answer. told stands.tables answer × Stands new stands.tables) → IfOk r (λ answer. P s answer × StandsFor new s)
-      each (Ok answer) h = (means stands.tables answer s h.0 stands.means, record { tables = stands.tables; stands = h.1; means = stands.means })
-      each (Err e) h = tt
-
-  pub stop_tells_state : Transacts old new result (OnlyTells told) → HasCleanDisk new → (s : State) → StandsFor old s → Leaves new (λ left. left ≡ s)
-  stop_tells_state it clean s stands trees h =
-      (s, inl (stands.tables, left_tells it clean stands.tables stands.stands trees h, stands.means), refl)
 
 -- ---- one part of what an Ok says
 

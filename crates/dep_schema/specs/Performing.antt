@@ -1,11 +1,46 @@
 -- What a request comes to over the tables.
+use Rattle.std.specs.Prelude.{◌≡◌, ◌↔◌, false, Result, IfOk, OnOk}
 use Rattle.sqlite.specs.State as db
-use Rattle.dep_answers.specs.Steps.{Stepped}
+use Rattle.dep_types.specs.State.{State}
+use Rattle.dep_types.specs.declared.config.Config.{Config}
+use Rattle.dep_types.specs.declared.store_fault.StoreFault.{StoreFault}
+use Rattle.dep_fields.specs.Fit.{AreFit}
+use Rattle.dep_decisions.specs.declared.operation.Operation.{Operation}
+use Rattle.dep_tables.specs.Tables.{Tables}
+use Rattle.dep_staging.specs.HashedAhead.{AreRunning}
+use Rattle.dep_staging.specs.declared.running.RunningHashes.{RunningHashes}
+use Rattle.dep_requests.specs.Performing.{ChangesNothing}
+use Rattle.dep_requests.specs.declared.performing.Done.{Done}
+use Rattle.dep_answers.specs.Steps.{operation_step}
 use Rattle.dep_answers.specs.Performing.{IsReady}
-use Rattle.dep_answers.specs.declared.performed.Performed.{Performed}
 use Rattle.dep_schema.specs.States.{StandsFor}
+use Rattle.dep_schema.specs.Transactions.{OverStatesWhere, IsGivenBack}
 
--- the tables stand for the state that the step leaves, and what is ready is its reply
-pub record Performs (stepped : Stepped) (new : db.State) (p : Performed) : Type 0 where
-  pub state : StandsFor new stepped.state
-  pub ready : IsReady stepped p
+-- the reply of the step is ready
+abbrev pub IsAnswered : Config → Operation → State → Done → Type 0
+IsAnswered config op s done = IsReady (operation_step config s op) done.performed
+
+-- what a request makes of the tables: those of the step's state, for each state that they stood for and of which what was
+-- hashed ahead tells truly
+abbrev pub StepsOver : Config → Operation → RunningHashes → Tables → Done → Tables → Type 0
+StepsOver config op running before done after = AreFit op.fields
+    → OverStatesWhere (λ s. AreRunning s running) (IsAnswered config op)
+    (λ s. (operation_step config s op).state) before done after
+
+module _ (old new : db.State) (result : Result Done StoreFault) where
+  -- it tells that nothing was changed just where it is refused, or only asks to be shown
+  abbrev pub TellsChanges : Config → Operation → RunningHashes → Type 0
+  TellsChanges config op running = db.HasCleanDisk new → (s : State) → StandsFor old s
+      → AreRunning s running
+      → IfOk result (λ done. done.has_changes ≡ false ↔ ChangesNothing config s op)
+
+  -- where nothing was changed the transaction was given back
+  abbrev pub IsBackUnchanged : Type 0
+  IsBackUnchanged = IfOk result (λ done. done.has_changes ≡ false → IsGivenBack old new)
+
+-- what is refused, and what only shows, commits nothing and leaves the database as it was
+abbrev pub IsKeptUnchanged : {A : Type 0} → (old new : db.State) → Result A StoreFault
+    → Config → Operation → RunningHashes → Type 0
+IsKeptUnchanged old new result config op running = db.HasCleanDisk new → (s : State)
+    → StandsFor old s → AreRunning s running → ChangesNothing config s op
+    → OnOk result (IsGivenBack old new)

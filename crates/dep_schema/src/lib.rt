@@ -8,10 +8,12 @@ mod lending;
 mod making;
 mod opening;
 mod performing;
+mod probing;
 mod upgrading;
 
 pub use crashes::{began_open, settled};
 pub use lending::Lent;
 pub use opening::{OpenFault, Schema, open};
 pub use performing::perform_request;
+pub use probing::{check_open, probe};
 pub use upgrading::upgrade;

@@ -1,19 +1,14 @@
 //! The tables of a new store, and their first rows, beside what is there.
 
-ghost use Rattle.std.specs.Prelude.{◌≡◌, ℕ, [], IsTrue, OnOk, IfErr};
+ghost use Rattle.std.specs.Prelude.{ℕ, [], IsTrue, OnOk, IfErr};
 ghost use Rattle.sqlite.specs.State.{HasCleanDisk, ExecutesInside};
-ghost use Rattle.sqlite.specs.Schema.{Schema};
-ghost use Rattle.sqlite.specs.Effect.{Database};
-ghost use Rattle.sqlite_catalog.specs.Change.{created, next_tree};
-ghost use Rattle.dep_statements.specs.Adding.{AddsAll, Puts};
-ghost use Rattle.dep_tables.specs.Schema.{our_tables, format_table};
-ghost use Rattle.dep_tables.specs.Rows.{stored_format, stored_state};
+ghost use Rattle.dep_statements.specs.Adding.{AddsAll};
+ghost use Rattle.dep_tables.specs.Schema.{our_tables};
 ghost use Rattle.dep_tables.specs.Clauses.{StaysWithin, FailsToRun};
-ghost use Rattle.dep_schema.specs.Beside.{AreFree, with_ours};
 ghost use Rattle.dep_schema.specs.OpenFaults.{FailsToCreate, FailsToAddRows, FailsToMake};
 ghost use Rattle.dep_schema.specs.Texts.{add_format_text, add_state_text};
-ghost use Rattle.dep_tables.specs.Versions.{our_version};
-ghost use Rattle.dep_schema.specs.Standing.{Turns, Sees, GainsOurs, no_schema, first_tables, first_state};
+ghost use Rattle.dep_schema.specs.Standing.{Turns, GainsOurs};
+ghost use Rattle.dep_schema.specs.Making.{FillsOurs, MakesFirst, PutsFormat, PutsState, PutsFirstRows};
 
 use crate::indexing::create_indexes;
 use dep_tables::Statements;
@@ -49,12 +44,7 @@ const TABLES: [&str; 10] = [
 
 /// Version 2.
 fn add_format<T: Statements>(tx: &mut T) -> Result<(), StoreFault>
-    ensures beside { HasCleanDisk (T.state tx.new)
-        → IsTrue (T.state tx.old).in_transaction
-        → (others : Schema) → AreFree others
-        → (T.state tx.old).now.schema ≡ with_ours others
-        → OnOk result (Puts (next_tree others) (stored_format our_version)
-        (T.state tx.old).now (T.state tx.new).now) }
+    ensures beside { FillsOurs (T.state tx.old) (T.state tx.new) result PutsFormat }
     ensures ran { HasCleanDisk (T.state tx.new) → IsTrue (T.state tx.old).in_transaction
         → OnOk result ((count : ℕ) × ExecutesInside 0 add_format_text [] (T.state tx.old) (T.state tx.new)
         (Ok count)) }
@@ -67,12 +57,7 @@ fn add_format<T: Statements>(tx: &mut T) -> Result<(), StoreFault>
 
 /// The clock at 0, and each counter at 1.
 fn add_state<T: Statements>(tx: &mut T) -> Result<(), StoreFault>
-    ensures beside { HasCleanDisk (T.state tx.new)
-        → IsTrue (T.state tx.old).in_transaction
-        → (others : Schema) → AreFree others
-        → (T.state tx.old).now.schema ≡ with_ours others
-        → OnOk result (Puts (next_tree (created others format_table)) (stored_state first_state)
-        (T.state tx.old).now (T.state tx.new).now) }
+    ensures beside { FillsOurs (T.state tx.old) (T.state tx.new) result PutsState }
     ensures cause { HasCleanDisk (T.state tx.new) → IsTrue (T.state tx.old).in_transaction
         → IfErr result (FailsToRun add_state_text [] (T.state tx.old) (T.state tx.new)) }
     ensures stays { StaysWithin T.lenders T.state tx.old tx.new result }
@@ -98,14 +83,7 @@ fn create_tables<T: Statements>(tx: &mut T) -> Result<(), StoreFault>
 
 /// The rows of a new store.
 fn add_rows<T: Statements>(tx: &mut T) -> Result<(), StoreFault>
-    ensures beside { HasCleanDisk (T.state tx.new)
-        → IsTrue (T.state tx.old).in_transaction
-        → (others : Schema) → AreFree others
-        → (T.state tx.old).now.schema ≡ with_ours others
-        → OnOk result ((next : Database)
-        × Puts (next_tree others) (stored_format our_version) (T.state tx.old).now next
-        × Puts (next_tree (created others format_table)) (stored_state first_state) next
-        (T.state tx.new).now) }
+    ensures beside { FillsOurs (T.state tx.old) (T.state tx.new) result PutsFirstRows }
     ensures cause { HasCleanDisk (T.state tx.new) → IsTrue (T.state tx.old).in_transaction
         → IfErr result (FailsToAddRows T.state tx.old tx.new) }
     ensures stays { StaysWithin T.lenders T.state tx.old tx.new result }
@@ -116,10 +94,7 @@ fn add_rows<T: Statements>(tx: &mut T) -> Result<(), StoreFault>
 
 /// The tables of a new store and their indexes, where their names are free.
 pub(crate) fn make_tables<T: Statements>(tx: &mut T) -> Result<(), StoreFault>
-    ensures ok { HasCleanDisk (T.state tx.new)
-        → IsTrue (T.state tx.old).in_transaction
-        → (T.state tx.old).now.schema ≡ no_schema
-        → OnOk result (Sees (T.state tx.new) first_tables) }
+    ensures ok { MakesFirst (T.state tx.old) (T.state tx.new) result }
     ensures gains { Turns (T.state tx.old) (T.state tx.new) result GainsOurs }
     ensures cause { HasCleanDisk (T.state tx.new) → IsTrue (T.state tx.old).in_transaction
         → IfErr result (FailsToMake T.state tx.old tx.new) }

@@ -1,17 +1,17 @@
 //! Opening a database of the store.
 
-ghost use Rattle.std.specs.Prelude.{◌≡◌, ◌≢◌, ◌⊎◌, ℕ, false, ◌↔◌, pos, Some, None, IsTrue, IfSome, IfOk, IfErr, OnOk, OnErr, MatchOption, MatchResult, Err};
+ghost use Rattle.std.specs.Prelude.{◌≡◌, false, ◌↔◌, pos, Some, None, IsTrue, IfSome, IfOk, IfErr, OnOk, OnErr, MatchResult, Err};
 ghost use Rattle.sqlite.specs.declared.types.Value.TheVariants.{Int};
 ghost use Rattle.sqlite.specs.Order.{column};
 ghost use Rattle.sqlite.specs.State.{HasCleanDisk, IsUnchanged, Survives};
 ghost use Rattle.sqlite.specs.Held.{state};
-ghost use Rattle.dep_tables.specs.Tables.{Tables, tables_of, IsOf, IsKnownSchema, IsKnown};
-ghost use Rattle.dep_tables.specs.Versions.{our_version, older_version, IsKnownVersion, HasVersion};
-ghost use Rattle.sqlite.specs.Schema.{Schema as Listed};
-ghost use Rattle.dep_schema.specs.Standing.{no_schema, HasKnownVersion, HoldsOf, HoldsNone, Sees, Stands, StandsOf, IsOpenable, CommitsBySchema, CommitsOpen, IsBack, IsStill, HasOtherVersion, GainsOurs, StandsBeside, StaysOn, first_tables};
-ghost use Rattle.dep_statements.specs.Adding.{HasCounters};
+ghost use Rattle.dep_tables.specs.Tables.{IsKnown};
+ghost use Rattle.dep_tables.specs.Versions.{our_version, older_version, IsKnownVersion};
+ghost use Rattle.dep_schema.specs.Standing.{no_schema, Stands, IsOpenable, CommitsBySchema, IsBack, IsStill, HasOtherVersion, StaysOn, first_tables};
 ghost use Rattle.dep_schema.specs.Beside.{LacksFormat, AreFree};
-ghost use Rattle.dep_schema.specs.OpenFaults.{open_fault_number, told_by, AreVersion, ShowsVersion, ShowsNone, FailsToFind, ShowsOrMakes, FailsToFindOrMake, begun, FailsToOpen, RefusesKnown};
+ghost use Rattle.dep_schema.specs.Making.{FindsNone, FindsKnown, FindsShown, MakesFirst, AddsFirst, LeavesKnown, FindsOrMakes};
+ghost use Rattle.dep_schema.specs.Opening.{StandsKnown, StandsMade, StandsFresh, StandsFound, StandsAdded, WasOpen, SurvivesOpen, OpensBy, RefusesBy};
+ghost use Rattle.dep_schema.specs.OpenFaults.{open_fault_number, told_by, AreVersion, ShowsOrMakes, begun, FailsToOpen, RefusesKnown};
 
 use crate::lending::Lent;
 use crate::making::make_tables;
@@ -91,7 +91,8 @@ impl<S: Alter> Schema<S> {
 
 /// Whether the row is of id 1 and this version.
 fn is_known(row: &Row, version: i64) -> bool
-    ensures { IsTrue result ↔ ((column row.now 0 ≡ Int (pos 1)) × (column row.now 1 ≡ Int version)) }
+    ensures { IsTrue
+        result ↔ ((column row.now 0 ≡ Int (pos 1)) × (column row.now 1 ≡ Int version)) }
 {
     matches!(row.get_ref(0), Ok(ValueRef::Int(1)))
         && match row.get_ref(1) {
@@ -123,27 +124,18 @@ fn told_by(error: Error) -> Result<Option<u64>, OpenFault>
 
 /// The version that the table `format` tells, if there is one. It has to tell version 1 or 2.
 fn find_format<S: Alter>(tx: &mut Transaction<'_, S>) -> Result<Option<u64>, OpenFault>
-    ensures empty { HasCleanDisk (state S.Store tx.new.conn.now)
-        → (state S.Store tx.old.conn.now).now.schema ≡ no_schema
-        → MatchResult result (λ found. found ≡ None) (λ fault. fault ≢ OpenFault.UnknownVersion) }
-    ensures ours { HasCleanDisk (state S.Store tx.new.conn.now) → IsKnown (state S.Store tx.old.conn.now)
-        → MatchResult result
-        (λ found. (version : ℕ) × (found ≡ Some version)
-        × HasVersion version (tables_of (state S.Store tx.old.conn.now)))
-        (λ fault. fault ≡ OpenFault.UnknownVersion
-        → HasKnownVersion (tables_of (state S.Store tx.old.conn.now)) → ⊥) }
+    ensures empty { FindsNone (state S.Store tx.old.conn.now) (state S.Store tx.new.conn.now) result
+        (λ schema. schema ≡ no_schema) }
+    ensures ours { FindsKnown (state S.Store tx.old.conn.now) (state S.Store tx.new.conn.now)
+        result }
     ensures known { IfOk result (λ found. IfSome found IsKnownVersion) }
-    ensures lacking { HasCleanDisk (state S.Store tx.new.conn.now)
-        → LacksFormat (state S.Store tx.old.conn.now).now.schema
-        → MatchResult result (λ found. found ≡ None) (λ fault. fault ≢ OpenFault.UnknownVersion) }
+    ensures lacking { FindsNone (state S.Store tx.old.conn.now) (state S.Store tx.new.conn.now)
+        result LacksFormat }
     // Whatever tables there are, it only reads.
     ensures same { HasCleanDisk (state S.Store tx.new.conn.now)
         → OnOk result (IsUnchanged (state S.Store tx.old.conn.now) (state S.Store tx.new.conn.now)) }
-    ensures told { HasCleanDisk (state S.Store tx.new.conn.now) → MatchResult result
-        (λ found. MatchOption found
-        (ShowsNone (state S.Store tx.old.conn.now) (state S.Store tx.new.conn.now))
-        (ShowsVersion (state S.Store tx.old.conn.now) (state S.Store tx.new.conn.now)))
-        (FailsToFind (state S.Store tx.old.conn.now) (state S.Store tx.new.conn.now)) }
+    ensures told { FindsShown (state S.Store tx.old.conn.now) (state S.Store tx.new.conn.now)
+        result }
     ensures stays { StaysOn S.Store tx.old.conn tx.new.conn result }
 {
     match tx.query_all("SELECT id, version FROM format", &[]) {
@@ -162,28 +154,19 @@ fn find_format<S: Alter>(tx: &mut Transaction<'_, S>) -> Result<Option<u64>, Ope
 
 /// Makes the tables where there are none. It answers the version.
 fn find_or_make<S: Alter>(tx: &mut Transaction<'_, S>) -> Result<u64, OpenFault>
-    ensures empty { HasCleanDisk (state S.Store tx.new.conn.now)
-        → IsTrue (state S.Store tx.old.conn.now).in_transaction
-        → (state S.Store tx.old.conn.now).now.schema ≡ no_schema
-        → OnOk result (Sees (state S.Store tx.new.conn.now) first_tables) }
-    ensures ours { HasCleanDisk (state S.Store tx.new.conn.now) → IsKnown (state S.Store tx.old.conn.now)
-        → IfOk result (λ version. HasVersion version (tables_of (state S.Store tx.old.conn.now))
-        × ((state S.Store tx.new.conn.now).now ≡ (state S.Store tx.old.conn.now).now)) }
+    ensures empty { MakesFirst (state S.Store tx.old.conn.now) (state S.Store tx.new.conn.now)
+        result }
+    ensures ours { LeavesKnown (state S.Store tx.old.conn.now) (state S.Store tx.new.conn.now)
+        result }
     ensures version { HasCleanDisk (state S.Store tx.new.conn.now)
         → result ≡ Err OpenFault.UnknownVersion
         → HasOtherVersion (state S.Store tx.old.conn.now) }
-    ensures gains { HasCleanDisk (state S.Store tx.new.conn.now)
-        → IsTrue (state S.Store tx.old.conn.now).in_transaction
-        → LacksFormat (state S.Store tx.old.conn.now).now.schema
-        → OnOk result
-        (GainsOurs (state S.Store tx.old.conn.now).now (state S.Store tx.new.conn.now).now) }
+    ensures gains { AddsFirst (state S.Store tx.old.conn.now) (state S.Store tx.new.conn.now)
+        result }
     ensures lacking { HasCleanDisk (state S.Store tx.new.conn.now)
         → result ≡ Err OpenFault.UnknownVersion
         → LacksFormat (state S.Store tx.old.conn.now).now.schema → ⊥ }
-    ensures told { HasCleanDisk (state S.Store tx.new.conn.now)
-        → IsTrue (state S.Store tx.old.conn.now).in_transaction
-        → MatchResult result (ShowsOrMakes S.Store tx.old.conn.now)
-        (FailsToFindOrMake S.Store tx.old.conn.now tx.new.conn.now) }
+    ensures told { FindsOrMakes S.Store tx.old.conn.now tx.new.conn.now result }
     ensures made { HasCleanDisk (state S.Store tx.new.conn.now)
         → LacksFormat (state S.Store tx.old.conn.now).now.schema
         → IfOk result (λ version. version ≡ our_version) }
@@ -208,10 +191,8 @@ fn prepare<S: Alter>(connection: &mut Connection<S>) -> Result<u64, OpenFault>
     ensures fresh { HasCleanDisk (state S.Store connection.new)
         → (state S.Store connection.old).now.schema ≡ no_schema
         → OnOk result (Stands (state S.Store connection.new) first_tables) }
-    ensures found { HasCleanDisk (state S.Store connection.new) → (its : Listed)
-        → IsKnownSchema its → IsOf its (state S.Store connection.old)
-        → IfOk result (λ version. HasVersion version (tables_of (state S.Store connection.old))
-        × StandsOf its (state S.Store connection.new) (tables_of (state S.Store connection.old))) }
+    ensures found { StandsKnown (state S.Store connection.old) (state S.Store connection.new)
+        result }
     ensures made { HasCleanDisk (state S.Store connection.new)
         → LacksFormat (state S.Store connection.old).now.schema
         → IfOk result (λ version. version ≡ our_version) }
@@ -235,10 +216,8 @@ fn prepare<S: Alter>(connection: &mut Connection<S>) -> Result<u64, OpenFault>
     ensures free { HasCleanDisk (state S.Store connection.new)
         → LacksFormat (state S.Store connection.old).now.schema
         → OnOk result (AreFree (state S.Store connection.old).now.schema) }
-    ensures beside { HasCleanDisk (state S.Store connection.new)
-        → LacksFormat (state S.Store connection.old).now.schema
-        → HasCounters (state S.Store connection.old).now.schema
-        → OnOk result (StandsBeside (state S.Store connection.old) (state S.Store connection.new)) }
+    ensures beside { StandsMade (state S.Store connection.old) (state S.Store connection.new)
+        result }
     ensures left { HasCleanDisk (state S.Store connection.new)
         → IsTrue (state S.Store connection.new).is_open
         → OnErr result (IsBack (state S.Store connection.old) (state S.Store connection.new)) }
@@ -265,13 +244,10 @@ pub fn open<S: Alter>(
     mut connection: Connection<S>,
 ) -> Result<Schema<S>, (OpenFault, Connection<S>)>
     requires settled { (state S.Store connection).in_transaction ≡ false }
-    ensures fresh { IfOk result (λ schema. HasCleanDisk (state S.Store schema.connection)
-        → HoldsNone (state S.Store connection).now.trees
-        → Stands (state S.Store schema.connection) first_tables × (schema.found ≡ our_version)) }
-    ensures found { IfOk result (λ schema. HasCleanDisk (state S.Store schema.connection)
-        → (its : Listed) → IsKnownSchema its
-        → (tables : Tables) → HoldsOf its (state S.Store connection).now.trees tables
-        → HasVersion schema.found tables × StandsOf its (state S.Store schema.connection) tables) }
+    ensures fresh { IfOk result
+        (λ schema. StandsFresh S.Store connection schema.connection schema.found) }
+    ensures found { IfOk result
+        (λ schema. StandsFound S.Store connection schema.connection schema.found) }
     // A database without a table `format`, such as an empty one, has version 2 then.
     ensures made { IfOk result (λ schema. HasCleanDisk (state S.Store schema.connection)
         → LacksFormat (state S.Store connection).now.schema → schema.found ≡ our_version) }
@@ -283,17 +259,13 @@ pub fn open<S: Alter>(
     ensures free { IfOk result (λ schema. HasCleanDisk (state S.Store schema.connection)
         → LacksFormat (state S.Store connection).now.schema
         → AreFree (state S.Store connection).now.schema) }
-    ensures beside { IfOk result (λ schema. HasCleanDisk (state S.Store schema.connection)
-        → LacksFormat (state S.Store connection).now.schema
-        → HasCounters (state S.Store connection).now.schema
-        → StandsBeside (state S.Store connection) (state S.Store schema.connection)) }
+    ensures beside { IfOk result (λ schema. StandsAdded S.Store connection schema.connection) }
     ensures version { IfErr result (λ e. HasCleanDisk (state S.Store e.1)
         → e.0 ≡ OpenFault.UnknownVersion → IsOpenable (state S.Store connection) → ⊥) }
     // A fault has a cause, and an Ok has one: a database is opened only by a version that is known or for want of `format`.
     ensures told { MatchResult result
-        (λ schema. HasCleanDisk (state S.Store schema.connection)
-        → ShowsOrMakes S.Store (begun connection) schema.found)
-        (λ e. HasCleanDisk (state S.Store e.1) → FailsToOpen S.Store connection e.1 e.0) }
+        (λ schema. OpensBy S.Store connection schema.connection schema.found)
+        (λ e. RefusesBy S.Store connection e.1 e.0) }
     // The tables of one of our versions with none that is known are refused by that fault, unless SQLite gave out.
     ensures ours { IfErr result (λ e. HasCleanDisk (state S.Store e.1)
         → IsKnown (state S.Store connection)
@@ -301,18 +273,13 @@ pub fn open<S: Alter>(
     ensures left { IfErr result (λ e. HasCleanDisk (state S.Store e.1)
         → IsTrue (state S.Store e.1).is_open → IsBack (state S.Store connection) (state S.Store e.1)) }
     // No open opens a store that was shut.
-    ensures opened { MatchResult result
-        (λ schema. IsTrue (state S.Store schema.connection).is_open
-        → IsTrue (state S.Store connection).is_open)
-        (λ e. IsTrue (state S.Store e.1).is_open → IsTrue (state S.Store connection).is_open) }
+    ensures opened { MatchResult result (λ schema. WasOpen S.Store connection schema.connection)
+        (λ e. WasOpen S.Store connection e.1) }
     ensures mode { MatchResult result
         (λ schema. (state S.Store schema.connection).in_transaction ≡ false)
         (λ e. (state S.Store e.1).in_transaction ≡ false) }
-    ensures crash { MatchResult result
-        (λ schema. Survives (state S.Store connection) (state S.Store schema.connection)
-        (CommitsOpen (state S.Store connection)))
-        (λ e. Survives (state S.Store connection) (state S.Store e.1)
-        (CommitsOpen (state S.Store connection))) }
+    ensures crash { MatchResult result (λ schema. SurvivesOpen S.Store connection schema.connection)
+        (λ e. SurvivesOpen S.Store connection e.1) }
 {
     let _schema = connection.schema();
     match prepare(&mut connection) {

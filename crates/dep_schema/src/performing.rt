@@ -2,37 +2,37 @@
 
 ghost use Rattle.std.specs.Prelude.{◌≡◌, false};
 ghost use Rattle.sqlite.specs.Held.{state};
-ghost use Rattle.dep_fields.specs.Fit.{AreFit};
-ghost use Rattle.dep_answers.specs.Performing.{IsReady};
-ghost use Rattle.dep_answers.specs.Steps.{operation_step};
-ghost use Rattle.dep_staging.specs.HashedAhead.{AreRunning};
-ghost use Rattle.dep_schema.specs.Transactions.{Transacts, OverStatesWhere};
+ghost use Rattle.dep_schema.specs.Performing.{StepsOver, TellsChanges, IsBackUnchanged};
+ghost use Rattle.dep_schema.specs.Transactions.{Transacts};
 
 use crate::lending::Lent;
-use dep_answers::{Performed, Service};
+use crate::probing::check_open;
+use dep_answers::Service;
 use dep_decisions::Operation;
-use dep_requests::answer;
+use dep_requests::{Done, answer};
 use dep_staging::RunningHashes;
 use dep_tables::fault_of;
 use dep_types::StoreFault;
 use sqlite::{Alter, Connection};
 use std::alloc::Global;
 
-/// Does what a request asks for. The reply is made before the commit. A fault of the store, also of the commit, and want
-/// of memory leave the tables as they were.
+/// Does what a request asks for. The reply is made before the commit. Where nothing was changed the transaction is given back.
+/// A fault of the store, also of the commit, and want of memory leave the tables as they were.
 pub fn perform_request<S: Alter>(
     connection: &mut Connection<S>,
     alloc: Global,
     running: &RunningHashes,
     service: &Service,
     operation: &Operation<'_>,
-) -> Result<Performed, StoreFault>
+) -> Result<Done, StoreFault>
     requires settled { (state S.Store connection.old).in_transaction ≡ false }
     ensures transacts { Transacts (state S.Store connection.old) (state S.Store connection.new) result
-        (λ t p after. AreFit operation.now.fields → OverStatesWhere (λ s. AreRunning s running.now)
-        (λ s p. IsReady (operation_step service.now s operation.now) p)
-        (λ s. (operation_step service.now s operation.now).state) t p after) }
+        (StepsOver service.now operation.now running.now) }
+    ensures changes { TellsChanges (state S.Store connection.old) (state S.Store connection.new) result
+        service.now operation.now running.now }
+    ensures back { IsBackUnchanged (state S.Store connection.old) (state S.Store connection.new) result }
 {
+    let _between = connection.is_autocommit();
     let mut tx = connection.transaction();
     let performed = answer(
         &mut Lent { tx: &mut tx },
@@ -41,8 +41,13 @@ pub fn perform_request<S: Alter>(
         service,
         operation,
     )?;
-    match tx.commit() {
-        Ok(()) => Ok(performed),
-        Err(error) => Err(fault_of(error)),
+    if performed.has_changes {
+        return match tx.commit() {
+            Ok(()) => Ok(performed),
+            Err(error) => Err(fault_of(error)),
+        };
     }
+    tx.rollback();
+    check_open(connection)?;
+    Ok(performed)
 }

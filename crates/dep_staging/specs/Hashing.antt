@@ -1,9 +1,19 @@
 -- Segments of uploads, as their rows and their bytes.
-use Rattle.std.specs.Prelude.{◌≡◌, ℕ, List, length, Some}
+use Rattle.std.specs.Prelude.{◌≡◌, ◌<◌, ◌^◌, ◌++◌, ℕ, List, length, Some}
 use Rattle.std.specs.FinMap as map
 use Rattle.dep_types.specs.State.{State, Upload}
 use Rattle.dep_tables.specs.declared.segments.SegmentRow.{SegmentRow}
+use Rattle.dep_types.specs.Uploads.{assembled}
+use Rattle.dep_fixity.specs.Fixity.{digests_of}
+use Rattle.dep_fixity.specs.declared.hasher.Digests.{Digests}
+use Rattle.dep_row_maps.specs.Laws.{HasSegmentsWithin}
+use Rattle.dep_row_maps.specs.Stored.{blocks_of}
 use Rattle.dep_row_maps.specs.TablesAre.{segments_at, joined}
+use Rattle.dep_staging.specs.Causes.{AreStorableKeys}
+use Rattle.dep_staging.specs.Found.{IsLiveAs}
+use Rattle.dep_staging.specs.HashedAhead.{AreRunning, first_blocks}
+use Rattle.dep_staging.specs.declared.loading.StagedUpload.{StagedUpload}
+use Rattle.dep_staging.specs.declared.running.RunningHashes.{RunningHashes}
 
 -- the row is that of a segment with these bytes
 pub record IsSegmentOf (s : State) (row : SegmentRow) (bytes : List ℕ) : Type 0 where
@@ -13,3 +23,22 @@ pub record IsSegmentOf (s : State) (row : SegmentRow) (bytes : List ℕ) : Type 
 -- what was received of an upload, by the numbers of its segments
 abbrev pub received_bytes : Upload → List ℕ
 received_bytes it = joined it.segments
+
+-- where the segment has a block at this place, and its numbers are SQL's, this is so
+abbrev pub ForBlockOf : State → SegmentRow → (place : ℕ) → Type 0 → Type 0
+ForBlockOf s row place holds = (bytes : List ℕ) → IsSegmentOf s row bytes
+    → place < length (blocks_of bytes) → AreStorableKeys row → place < 2 ^ 63 → holds
+
+-- where these are its bytes, and its numbers are SQL's, this is so
+abbrev pub ForSegmentOf : State → SegmentRow → Type 0 → Type 0
+ForSegmentOf s row holds = (bytes : List ℕ) → IsSegmentOf s row bytes → AreStorableKeys row → holds
+
+-- where this is so of a message and the first blocks of the segment, that is of the message and all of it
+abbrev pub HashesRest : State → SegmentRow → (first : ℕ) → (was is : List ℕ → Type 0) → Type 0
+HashesRest s row first was is = (bytes message : List ℕ) → IsSegmentOf s row bytes
+    → was (message ++ first_blocks first bytes) → is (message ++ bytes)
+
+-- the digests of all the bytes of the upload, if it is there
+abbrev pub AreDigestsOf : State → StagedUpload → RunningHashes → Digests → Type 0
+AreDigestsOf s staged running digests = (u : ℕ) (it : Upload) → IsLiveAs s u staged it
+    → HasSegmentsWithin it → AreRunning s running → digests ≡ digests_of (assembled it)

@@ -1,19 +1,15 @@
 //! A file made of an upload.
 
-ghost use Rattle.std.specs.Prelude.{◌≡◌, ◌≤◌, ◌<◌, ◌^◌, ℕ, List, Some, None, OnOk, IsTrue};
+ghost use Rattle.std.specs.Prelude.{◌≡◌, ◌<◌, ◌^◌, ℕ, Some, None, OnOk};
 ghost use Rattle.std.specs.FinMap as finmap;
-ghost use Rattle.dep_types.specs.State.{Object, File, Upload, file_at};
-ghost use Rattle.dep_types.specs.Rows.{upload_row, file_row};
-ghost use Rattle.dep_types.specs.Uploads.{assembled, is_complete};
-ghost use Rattle.dep_tables.specs.Tables.{tables_of};
+ghost use Rattle.dep_types.specs.State.{File, Upload, file_at};
 ghost use Rattle.dep_tables.specs.Clauses.{StaysWithin};
 ghost use Rattle.dep_tables.specs.Edits.{with_blocks_moved};
 ghost use Rattle.dep_tables.specs.Rows.{IsStorableFile, IsStorableUpload, columns_of_upload};
 ghost use Rattle.dep_tables.specs.declared.owner.BlockOwner.TheVariants as owner;
-ghost use Rattle.dep_row_maps.specs.TablesAre.{TablesAre};
-ghost use Rattle.dep_row_maps.specs.Clauses.{Becomes, FromMaps, KeepsOurs, FailsUncommitted};
+ghost use Rattle.dep_row_maps.specs.Clauses.{Becomes, FromMaps, ChangesWithin, SeesState};
 ghost use Rattle.dep_row_maps.specs.Causes.{FailsByOne, FailsByStatement};
-ghost use Rattle.dep_staging.specs.Assembling.{HasItsSegments, deposited};
+ghost use Rattle.dep_staging.specs.Changing.{Assembles};
 
 use dep_tables::{
     BlockKey, BlockOwner, Statements, delete_segments, delete_sha512, delete_upload, first_block,
@@ -27,7 +23,6 @@ fn move_content<T: Statements>(tx: &mut T, upload: u64, file: u64) -> Result<(),
         (with_blocks_moved (owner.Upload upload) (owner.File file)) }
     ensures cause { FailsByOne T.state tx.old tx.new result
         ((upload < 2 ^ 63) × (file < 2 ^ 63)) FailsByStatement }
-    ensures err { FailsUncommitted (T.state tx.old) (T.state tx.new) result }
     ensures stays { StaysWithin T.lenders T.state tx.old tx.new result }
 {
     'runs: for passed in 0..u64::MAX {
@@ -54,21 +49,14 @@ pub fn assemble<T: Statements>(
     row: &FileRow,
 ) -> Result<(), StoreFault>
     ensures map { FromMaps (T.state tx.old) (T.state tx.new)
-        (λ s. (o : Object) (it : Upload) (file : File)
-        → finmap.get s.objects row.now.object ≡ Some o
-        → finmap.get s.uploads upload.now.upload ≡ Some it → HasItsSegments it
-        → upload.now ≡ upload_row upload.now.upload it
-        → row.now ≡ file_row row.now.object row.now.file file → file.content ≡ assembled it
-        → OnOk result (TablesAre (tables_of (T.state tx.new))
-        (deposited s row.now.object o row.now.file file upload.now.upload))) }
+        (λ s. Assembles s upload.now
+        (λ next. OnOk result (SeesState (T.state tx.new) next)) row.now) }
     ensures free { FromMaps (T.state tx.old) (T.state tx.new)
         (λ s. OnOk result ((n : ℕ) → file_at s n row.now.file ≡ None)) }
-    ensures ours { KeepsOurs (T.state tx.old) (T.state tx.new) result }
     ensures cause { FailsByOne T.state tx.old tx.new result
         (IsStorableUpload (columns_of_upload upload.now) × IsStorableFile row.now)
         FailsByStatement }
-    ensures err { FailsUncommitted (T.state tx.old) (T.state tx.new) result }
-    ensures stays { StaysWithin T.lenders T.state tx.old tx.new result }
+    ensures keeps { ChangesWithin T.lenders T.state tx.old tx.new result }
 {
     move_content(tx, upload.upload, row.file)?;
     delete_sha512(tx, BlockOwner::Upload(upload.upload))?;

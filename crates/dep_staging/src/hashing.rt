@@ -1,23 +1,18 @@
 //! The digests of what the segments of an upload make, taken one block at a time, and ahead.
 
-ghost use Rattle.std.specs.Prelude.{◌≡◌, ◌<◌, ◌^◌, ◌++◌, ℕ, List, [], length, OnOk, OnErr, IfErr, IsTrue, slice_index_or};
-ghost use Rattle.sqlite.specs.State.{HasCleanDisk};
-ghost use Rattle.dep_types.specs.State.{State, Upload};
+ghost use Rattle.std.specs.Prelude.{◌≡◌, ◌<◌, ℕ, List, [], OnOk, IfErr, IsTrue, slice_index_or};
+ghost use Rattle.dep_types.specs.State.{Upload};
 ghost use Rattle.dep_types.specs.Sound.{IsSound};
-ghost use Rattle.dep_types.specs.Uploads.{assembled};
-ghost use Rattle.dep_fixity.specs.Fixity.{Holds, digests_of};
-ghost use Rattle.dep_tables.specs.Tables.{tables_of, IsOurs};
-ghost use Rattle.dep_tables.specs.Clauses.{ReadsOnly, FailsReading, StaysWithin};
+ghost use Rattle.dep_fixity.specs.Fixity.{Holds};
+ghost use Rattle.dep_tables.specs.Clauses.{ReadsWithin, MayReadWithin};
 ghost use Rattle.dep_row_maps.specs.Stored.{blocks_of};
-ghost use Rattle.dep_row_maps.specs.Laws.{HasSegmentsWithin};
-ghost use Rattle.dep_row_maps.specs.TablesAre.{TablesAre};
-ghost use Rattle.dep_row_maps.specs.Clauses.{FromMaps};
+ghost use Rattle.dep_row_maps.specs.Clauses.{FromMaps, OverMaps, OverOpenMaps};
 ghost use Rattle.dep_row_maps.specs.Causes.{FailsSince};
 ghost use Rattle.dep_files.specs.Reading.{Tells};
-ghost use Rattle.dep_staging.specs.Causes.{AreStorableKeys, FailsToHash, FailsToReadBlock, HasStorableSegments};
+ghost use Rattle.dep_staging.specs.Causes.{FailsToHash, HasStorableSegments, FailsToReadIts};
 ghost use Rattle.dep_staging.specs.Found.{IsLiveAs};
-ghost use Rattle.dep_staging.specs.Hashing.{IsSegmentOf};
-ghost use Rattle.dep_staging.specs.HashedAhead.{AreRunning, IsRunning, first_blocks};
+ghost use Rattle.dep_staging.specs.Hashing.{IsSegmentOf, ForBlockOf, ForSegmentOf, HashesRest, AreDigestsOf};
+ghost use Rattle.dep_staging.specs.HashedAhead.{AreRunning, IsRunning};
 
 use crate::blocks::stored_block;
 use crate::loading::StagedUpload;
@@ -39,16 +34,9 @@ fn segment_block<T: Statements>(
     ensures map { Tells (T.state tx.old) (T.state tx.new) result
         (λ s found. (bytes : List ℕ) → IsSegmentOf s segment.now bytes
         → found.items ≡ slice_index_or (blocks_of bytes) place []) }
-    ensures same { ReadsOnly (T.state tx.old) (T.state tx.new) result }
-    ensures cause { HasCleanDisk (T.state tx.new)
-        → IsOurs (T.state tx.old)
-        → (s : State) → TablesAre (tables_of (T.state tx.old)) s
-        → (bytes : List ℕ) → IsSegmentOf s segment.now bytes → place < length (blocks_of bytes)
-        → AreStorableKeys segment.now → place < 2 ^ 63
-        → IfErr result (FailsToReadBlock segment.now.upload segment.now.number
-        (T.state tx.old) (T.state tx.new)) }
-    ensures err { FailsReading (T.state tx.old) (T.state tx.new) result }
-    ensures stays { StaysWithin T.lenders T.state tx.old tx.new result }
+    ensures cause { OverMaps (T.state tx.old) (T.state tx.new) (λ s. ForBlockOf s segment.now place
+        (IfErr result (FailsToReadIts segment.now (T.state tx.old) (T.state tx.new)))) }
+    ensures keeps { ReadsWithin T.lenders T.state tx.old tx.new result }
 {
     match stored_block(tx, segment.upload, segment.number, place)? {
         Some(bytes) => Ok(bytes),
@@ -63,23 +51,13 @@ fn hash_segment<T: Statements>(
     first: u64,
     hasher: &mut Hasher,
 ) -> Result<(), StoreFault>
-    ensures map { HasCleanDisk (T.state tx.new) → IsOurs (T.state tx.old)
-        → IsTrue (T.state tx.old).is_open
-        → (s : State) → TablesAre (tables_of (T.state tx.old)) s
-        → (bytes message : List ℕ) → IsSegmentOf s segment.now bytes
-        → Holds hasher.old (message ++ first_blocks first bytes)
-        → OnOk result (Holds hasher.new (message ++ bytes)) }
-    ensures same { IsTrue (T.state tx.old).is_open
-        → ReadsOnly (T.state tx.old) (T.state tx.new) result }
-    ensures cause { HasCleanDisk (T.state tx.new)
-        → IsOurs (T.state tx.old)
-        → IsTrue (T.state tx.old).is_open
-        → (s : State) → TablesAre (tables_of (T.state tx.old)) s
-        → (bytes : List ℕ) → IsSegmentOf s segment.now bytes → AreStorableKeys segment.now
-        → IfErr result (FailsSince T.state
-        (FailsToReadBlock segment.now.upload segment.now.number) tx.old tx.new) }
-    ensures err { FailsReading (T.state tx.old) (T.state tx.new) result }
-    ensures stays { StaysWithin T.lenders T.state tx.old tx.new result }
+    ensures map { OverOpenMaps (T.state tx.old) (T.state tx.new)
+        (λ s. HashesRest s segment.now first (Holds hasher.old)
+        (λ message. OnOk result (Holds hasher.new message))) }
+    ensures cause { OverOpenMaps (T.state tx.old) (T.state tx.new)
+        (λ s. ForSegmentOf s segment.now
+        (IfErr result (FailsSince T.state (FailsToReadIts segment.now) tx.old tx.new))) }
+    ensures keeps { MayReadWithin T.lenders T.state tx.old tx.new result }
 {
     for place in first..segment.size.div_ceil(BLOCK_SIZE as u64) {
         let block = segment_block(tx, segment, place)?;
@@ -97,18 +75,11 @@ pub fn hash_upload<T: Statements>(
     running: &RunningHashes,
 ) -> Result<Digests, StoreFault>
     ensures map { IsTrue (T.state tx.old).is_open → Tells (T.state tx.old) (T.state tx.new) result
-        (λ s digests. (u : ℕ) (it : Upload) → IsLiveAs s u staged.now it → HasSegmentsWithin it
-        → AreRunning s running.now → digests ≡ digests_of (assembled it)) }
-    ensures same { IsTrue (T.state tx.old).is_open
-        → ReadsOnly (T.state tx.old) (T.state tx.new) result }
-    ensures cause { HasCleanDisk (T.state tx.new)
-        → IsOurs (T.state tx.old)
-        → IsTrue (T.state tx.old).is_open
-        → (s : State) → TablesAre (tables_of (T.state tx.old)) s
-        → (u : ℕ) (it : Upload) → IsLiveAs s u staged.now it → HasStorableSegments u it
-        → IfErr result (FailsSince T.state (FailsToHash u) tx.old tx.new) }
-    ensures err { FailsReading (T.state tx.old) (T.state tx.new) result }
-    ensures stays { StaysWithin T.lenders T.state tx.old tx.new result }
+        (λ s. AreDigestsOf s staged.now running.now) }
+    ensures cause { OverOpenMaps (T.state tx.old) (T.state tx.new)
+        (λ s. (u : ℕ) (it : Upload) → IsLiveAs s u staged.now it → HasStorableSegments u it
+        → IfErr result (FailsSince T.state (FailsToHash u) tx.old tx.new)) }
+    ensures keeps { MayReadWithin T.lenders T.state tx.old tx.new result }
 {
     let RunningHash {
         upload: _,
@@ -129,11 +100,9 @@ pub fn hash_upload<T: Statements>(
 
 // Hashes one more block of an upload, and tells whether there was one that was not hashed.
 fn hash_block<T: Statements>(tx: &mut T, run: &mut RunningHash) -> Result<bool, StoreFault>
-    ensures map { HasCleanDisk (T.state tx.new) → IsOurs (T.state tx.old)
-        → (s : State) → TablesAre (tables_of (T.state tx.old)) s → IsSound s
-        → IsRunning s run.old → IsRunning s run.new }
-    ensures same { ReadsOnly (T.state tx.old) (T.state tx.new) result }
-    ensures stays { StaysWithin T.lenders T.state tx.old tx.new result }
+    ensures map { OverMaps (T.state tx.old) (T.state tx.new)
+        (λ s. IsSound s → IsRunning s run.old → IsRunning s run.new) }
+    ensures keeps { ReadsWithin T.lenders T.state tx.old tx.new result }
 {
     let number = run.segments.saturating_add(1);
     match stored_block(tx, run.upload, number, run.blocks)? {
@@ -150,12 +119,9 @@ fn hash_block<T: Statements>(tx: &mut T, run: &mut RunningHash) -> Result<bool, 
 
 // Hashes a few blocks of an upload.
 fn hash_blocks<T: Statements>(tx: &mut T, run: &mut RunningHash) -> Result<(), StoreFault>
-    ensures map { IsTrue (T.state tx.old).is_open → HasCleanDisk (T.state tx.new)
-        → IsOurs (T.state tx.old) → (s : State) → TablesAre (tables_of (T.state tx.old)) s
-        → IsSound s → IsRunning s run.old → IsRunning s run.new }
-    ensures same { IsTrue (T.state tx.old).is_open
-        → ReadsOnly (T.state tx.old) (T.state tx.new) result }
-    ensures stays { StaysWithin T.lenders T.state tx.old tx.new result }
+    ensures map { IsTrue (T.state tx.old).is_open → OverMaps (T.state tx.old) (T.state tx.new)
+        (λ s. IsSound s → IsRunning s run.old → IsRunning s run.new) }
+    ensures keeps { MayReadWithin T.lenders T.state tx.old tx.new result }
 {
     for _ in 0..BLOCKS_AHEAD {
         if !hash_block(tx, run)? {
@@ -174,9 +140,7 @@ pub fn hash_ahead<T: Statements>(
 ) -> Result<bool, StoreFault>
     ensures map { IsTrue (T.state tx.old).is_open → FromMaps (T.state tx.old) (T.state tx.new)
         (λ s. IsSound s → AreRunning s running.old → AreRunning s running.new) }
-    ensures same { IsTrue (T.state tx.old).is_open
-        → ReadsOnly (T.state tx.old) (T.state tx.new) result }
-    ensures stays { StaysWithin T.lenders T.state tx.old tx.new result }
+    ensures keeps { MayReadWithin T.lenders T.state tx.old tx.new result }
 {
     let Some(mut run) = running.take_due() else {
         return Ok(false);

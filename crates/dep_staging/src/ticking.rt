@@ -5,15 +5,16 @@ ghost use Rattle.std.specs.FinMap as finmap;
 ghost use Rattle.dep_types.specs.Sound.{IsSound};
 ghost use Rattle.dep_types.specs.State as machine;
 ghost use Rattle.dep_tables.specs.Tables.{tables_of};
-ghost use Rattle.dep_tables.specs.Clauses.{FailsByRunning, FailsWhole, StaysWithin};
+ghost use Rattle.dep_tables.specs.Clauses.{FailsByRunning, FailsWhole};
 ghost use Rattle.dep_tables.specs.Rows.{IsStorableState, state_values};
 ghost use Rattle.dep_tables.specs.Texts.{write_state_text};
 ghost use Rattle.dep_row_maps.specs.Stored.{state_row};
 ghost use Rattle.dep_row_maps.specs.TablesAre.{TablesAre, with_counters};
-ghost use Rattle.dep_row_maps.specs.Clauses.{FromMaps, KeepsOurs, FailsUncommitted, FailsReadingUncommitted};
+ghost use Rattle.dep_row_maps.specs.Clauses.{FromMaps, ChangesWithin};
 ghost use Rattle.dep_staging.specs.Expiring.{timed_out, expired_all};
 ghost use Rattle.dep_row_maps.specs.Causes.{FailsByOne, FailsSince};
 ghost use Rattle.dep_staging.specs.Causes.{FailsToExpire, FailsToExpireAll, FailsToTick, HasStorableNumbers};
+ghost use Rattle.dep_staging.specs.Changing.{IsTicked};
 
 use crate::uploads::drop_upload;
 use dep_tables::{StateRow, Statements, insert_timed_out, left_before, read_state, write_state};
@@ -22,11 +23,9 @@ use dep_types::{Config, GREATEST_MOMENT, StoreFault};
 fn expire<T: Statements>(tx: &mut T, upload: u64) -> Result<(), StoreFault>
     ensures map { FromMaps (T.state tx.old) (T.state tx.new)
         (λ s. OnOk result (TablesAre (tables_of (T.state tx.new)) (timed_out upload s))) }
-    ensures ours { KeepsOurs (T.state tx.old) (T.state tx.new) result }
     ensures cause { FailsByOne T.state tx.old tx.new result
         (upload < 2 ^ 63) (FailsToExpire upload) }
-    ensures err { FailsUncommitted (T.state tx.old) (T.state tx.new) result }
-    ensures stays { StaysWithin T.lenders T.state tx.old tx.new result }
+    ensures keeps { ChangesWithin T.lenders T.state tx.old tx.new result }
 {
     drop_upload(tx, upload)?;
     insert_timed_out(tx, upload)
@@ -37,13 +36,11 @@ fn expire_idle<T: Statements>(tx: &mut T, config: &Config, clock: u64) -> Result
     ensures map { FromMaps (T.state tx.old) (T.state tx.new)
         (λ s. OnOk result (TablesAre (tables_of (T.state tx.new))
         (expired_all config.now clock s))) }
-    ensures ours { KeepsOurs (T.state tx.old) (T.state tx.new) result }
     ensures cause { FromMaps (T.state tx.old) (T.state tx.new)
         (λ s. clock < 2 ^ 63 → HasStorableNumbers s.uploads
         → IfErr result (FailsSince T.state (FailsToExpireAll config.now clock s.uploads)
         tx.old tx.new)) }
-    ensures err { FailsReadingUncommitted (T.state tx.old) (T.state tx.new) result }
-    ensures stays { StaysWithin T.lenders T.state tx.old tx.new result }
+    ensures keeps { ChangesWithin T.lenders T.state tx.old tx.new result }
 {
     let moment = clock.saturating_sub(config.staging_max_idle);
     'uploads: for passed in 0..u64::MAX {
@@ -60,12 +57,11 @@ fn set_clock<T: Statements>(tx: &mut T, row: &StateRow, clock: u64) -> Result<()
     ensures map { FromMaps (T.state tx.old) (T.state tx.new)
         (λ s. row.now ≡ state_row s
         → OnOk result (TablesAre (tables_of (T.state tx.new)) (with_counters s clock s.next))) }
-    ensures ours { KeepsOurs (T.state tx.old) (T.state tx.new) result }
     ensures cause { FailsByRunning (T.state tx.old) (T.state tx.new) result
         (IsStorableState (record row.now { clock = clock }))
         write_state_text (state_values (record row.now { clock = clock })) }
     ensures err { FailsWhole (T.state tx.old) (T.state tx.new) result }
-    ensures stays { StaysWithin T.lenders T.state tx.old tx.new result }
+    ensures keeps { ChangesWithin T.lenders T.state tx.old tx.new result }
 {
     if clock == row.clock {
         return Ok(());
@@ -85,14 +81,11 @@ fn set_clock<T: Statements>(tx: &mut T, row: &StateRow, clock: u64) -> Result<()
 pub fn tick<T: Statements>(tx: &mut T, config: &Config, moment: u64) -> Result<u64, StoreFault>
     ensures map { FromMaps (T.state tx.old) (T.state tx.new)
         (λ s. finmap.get s.uploads 0 ≡ None
-        → IfOk result (λ clock. (clock ≡ (machine.tick config.now s moment).clock)
-        × TablesAre (tables_of (T.state tx.new)) (machine.tick config.now s moment))) }
-    ensures ours { KeepsOurs (T.state tx.old) (T.state tx.new) result }
+        → IfOk result (IsTicked config.now s moment (T.state tx.new))) }
     ensures cause { FromMaps (T.state tx.old) (T.state tx.new)
         (λ s. IsSound s
         → IfErr result (FailsSince T.state (FailsToTick config.now s moment) tx.old tx.new)) }
-    ensures err { FailsReadingUncommitted (T.state tx.old) (T.state tx.new) result }
-    ensures stays { StaysWithin T.lenders T.state tx.old tx.new result }
+    ensures keeps { ChangesWithin T.lenders T.state tx.old tx.new result }
 {
     let row = read_state(tx)?;
     let clock = row.clock.max(moment.min(GREATEST_MOMENT));

@@ -3,14 +3,14 @@
 ghost use Rattle.std.specs.Prelude.{◌≡◌, ◌<◌, ◌^◌, None, OnOk};
 ghost use Rattle.std.specs.FinMap as finmap;
 ghost use Rattle.dep_types.specs.State.{Upload};
-ghost use Rattle.dep_types.specs.Rows.{upload_row};
 ghost use Rattle.dep_tables.specs.Tables.{tables_of};
-ghost use Rattle.dep_tables.specs.Clauses.{StaysWithin, RefusesNumbers};
+ghost use Rattle.dep_tables.specs.Clauses.{RefusesNumbers};
 ghost use Rattle.dep_tables.specs.Rows.{IsStorableUpload, columns_of_upload};
-ghost use Rattle.dep_row_maps.specs.TablesAre.{TablesAre, with_upload};
-ghost use Rattle.dep_row_maps.specs.Clauses.{FromMaps, KeepsOurs, FailsUncommitted};
+ghost use Rattle.dep_row_maps.specs.TablesAre.{TablesAre};
+ghost use Rattle.dep_row_maps.specs.Clauses.{FromMaps, ChangesWithin, SeesState};
 ghost use Rattle.dep_row_maps.specs.Causes.{FailsByOne};
 ghost use Rattle.dep_staging.specs.Causes.{FailsToDrop, FailsToOpen};
+ghost use Rattle.dep_staging.specs.Changing.{Opens};
 
 use dep_files::delete_blocks;
 use dep_tables::{
@@ -23,16 +23,13 @@ use dep_types::{StoreFault, UploadRow};
 /// fault of the store where its number is taken, and where a number is 2^63 or more.
 pub fn open_upload<T: Statements>(tx: &mut T, row: &UploadRow) -> Result<(), StoreFault>
     ensures map { FromMaps (T.state tx.old) (T.state tx.new)
-        (λ s. (it : Upload) → row.now ≡ upload_row row.now.upload it → it.segments ≡ finmap.empty
-        → OnOk result ((finmap.get s.uploads row.now.upload ≡ None)
-        × TablesAre (tables_of (T.state tx.new)) (with_upload s row.now.upload it))) }
-    ensures ours { KeepsOurs (T.state tx.old) (T.state tx.new) result }
+        (λ s. Opens s row.now (λ next.
+        OnOk result ((finmap.get s.uploads row.now.upload ≡ None) × SeesState (T.state tx.new) next))) }
     ensures numbers { RefusesNumbers (T.state tx.old) (T.state tx.new) result
         (IsStorableUpload (columns_of_upload row.now)) }
     ensures cause { FailsByOne T.state tx.old tx.new result
         (IsStorableUpload (columns_of_upload row.now)) (FailsToOpen row.now) }
-    ensures err { FailsUncommitted (T.state tx.old) (T.state tx.new) result }
-    ensures stays { StaysWithin T.lenders T.state tx.old tx.new result }
+    ensures keeps { ChangesWithin T.lenders T.state tx.old tx.new result }
 {
     insert_upload(tx, &UploadColumns::of_row(row))?;
     match &row.sha512 {
@@ -47,11 +44,9 @@ pub fn drop_upload<T: Statements>(tx: &mut T, upload: u64) -> Result<(), StoreFa
     ensures map { FromMaps (T.state tx.old) (T.state tx.new)
         (λ s. OnOk result (TablesAre (tables_of (T.state tx.new))
         (record s { uploads = finmap.remove s.uploads upload }))) }
-    ensures ours { KeepsOurs (T.state tx.old) (T.state tx.new) result }
     ensures numbers { RefusesNumbers (T.state tx.old) (T.state tx.new) result (upload < 2 ^ 63) }
     ensures cause { FailsByOne T.state tx.old tx.new result (upload < 2 ^ 63) (FailsToDrop upload) }
-    ensures err { FailsUncommitted (T.state tx.old) (T.state tx.new) result }
-    ensures stays { StaysWithin T.lenders T.state tx.old tx.new result }
+    ensures keeps { ChangesWithin T.lenders T.state tx.old tx.new result }
 {
     delete_blocks(tx, BlockOwner::Upload(upload))?;
     delete_sha512(tx, BlockOwner::Upload(upload))?;

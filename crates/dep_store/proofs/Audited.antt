@@ -1,5 +1,5 @@
 -- What an audit of an object makes of the tables that were read.
-use Rattle.std.proofs.Common.{ℕ, List, inl, Result, Ok, Err, IfOk, OnOk, subst}
+use Rattle.std.proofs.Common.{ℕ, List, inl, Result, Ok, Err, IfOk, OnOk, IsErr, subst}
 use Rattle.sqlite.specs.State as db
 use Rattle.sqlite.specs.State.{IsUnchanged}
 use Rattle.dep_tables.specs.declared.sha256s.FileSha256.{FileSha256}
@@ -19,3 +19,8 @@ audited_of mid new t object rows (Ok audit) stands are still audited = (
   tables_kept mid new t stands still.0.is_open (λ _. inl still),
 )
 audited_of mid new t object rows (Err e) stands are still audited = tt
+
+-- it failed, so nothing has to be told
+pub none_told : {A E : Type 0} (r : Result A E) (P : A → Type 0) → IsErr r → IfOk r P
+none_told (Ok answer) P failed = cc failed
+none_told (Err fault) P failed = tt

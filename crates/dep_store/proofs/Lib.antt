@@ -6,3 +6,4 @@ pub mod WalkLemmas
 pub mod TellLemmas
 pub mod LineLemmas
 pub mod ShutLemmas
+pub mod Tries

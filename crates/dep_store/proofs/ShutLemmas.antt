@@ -1,5 +1,5 @@
 -- A store that a fault shut: what fails on it, and what stands again once a statement was given back.
-use Rattle.std.proofs.Common.{◌≡◌, ◌∙◌, ℕ, List, [], Result, Ok, Err, OnOk, IsErr, MatchResult, codes, refl, IsTrue, inl, inr, sym, ap, subst, arith, length, le_of_eq}
+use Rattle.std.proofs.Common.{◌≡◌, ◌∙◌, ℕ, List, [], Result, Ok, Err, OnOk, IsErr, MatchResult, codes, refl, IsTrue, inl, inr, sym, ap, subst, length, le_of_eq}
 use Rattle.sqlite.specs.State as db
 use Rattle.sqlite.specs.State.{HasCleanDisk, Survives, IsNotRun, store_error}
 use Rattle.sqlite.specs.declared.error.ErrorCode.TheVariants as code
@@ -8,13 +8,10 @@ use Rattle.sqlite.specs.declared.error.Error.TheVariants.{SqliteFailure}
 use Rattle.sqlite_trees.specs.declared.error.StoreError.{StoreError}
 use Rattle.sqlite_trees.specs.declared.error.StoreError.TheVariants.{OutOfMemory, Io, Corrupt, Full, Broken, Unstorable}
 use Rattle.dep_types.specs.State.{State}
-use Rattle.dep_tables.specs.Tables.{Tables}
 use Rattle.sqlite.specs.Schema.{Schema}
-use Rattle.dep_schema.specs.Standing.{StandsOf}
 use Rattle.dep_schema.specs.States.{StandsFor}
-use Rattle.dep_schema.specs.Transactions.{TransactsTo, IsBackAt}
-use Rattle.dep_schema.proofs.Transactions.{stands_left}
-use Rattle.dep_schema.proofs.Transacting.{IsSettled, left_still}
+use Rattle.dep_schema.specs.Transactions.{IsBackAt}
+use Rattle.dep_schema.proofs.Transacting.{tables_back}
 use Rattle.dep_store.specs.Shut.{LeavesNoMore, FailsIfShut}
 use Rattle.sqlite.specs.Listing.{understood}
 use Rattle.sqlite_tied.specs.Compute.{everything}
@@ -42,26 +39,9 @@ pub was_open_then : {A E : Type 0} (old new : db.State) (r : Result A E) → (Ha
 was_open_then old new r was = record { opened = λ clean. on_any r _ (was clean); left = λ clean shut trees h. absurd (shut (was clean)) }
 
 -- all was given back, and the store is open
-pub tables_back : {its : Schema} (old new : db.State) (t : Tables) → IsBackAt old new → IsTrue new.is_open → StandsOf its old t → StandsOf its new t
-tables_back old new t back is_open stands =
-    let it = back is_open in
-    stands_left old new t stands is_open it.3 (it.1 ∙ stands.committed) it.2
-
 pub state_back : (old new : db.State) (s : State) → IsBackAt old new → IsTrue new.is_open → StandsFor old s → StandsFor new s
 state_back old new s back is_open stands =
     record { tables = stands.tables; stands = tables_back old new stands.tables back is_open stands.stands; means = stands.means }
-
--- it failed, and all was given back
-pub fails_back : {its : Schema} {A E : Type 0} (old new : db.State) (r : Result A E) (Makes : Tables → A → Tables → Type 0) → IsErr r → (IsTrue old.is_open → IsSettled old)
-    → IsBackAt old new → Survives old new (λ _. ⊥) → TransactsTo its its old new r Makes
-fails_back old new (Ok answer) Makes failed settled back survives = cc failed
-fails_back old new (Err e) Makes failed settled back survives = record {
-  ok = λ clean t stands. tt;
-  err = λ is_open t stands. tables_back old new t back is_open stands;
-  honest = λ clean. omega (arith, clean, survives.clean);
-  was_open = λ is_open. (back is_open).0;
-  stop = λ clean t stands trees h. inl (left_still old new t (settled stands.is_open) stands survives clean trees h);
-}
 
 by_cause : (old new : db.State) (cause : StoreError) → SqliteFailure code.Closed ≡ store_error cause → db.HasCause old new ⊥ cause → IsTrue old.is_open → ⊥
 by_cause old new OutOfMemory e has is_open = cc e

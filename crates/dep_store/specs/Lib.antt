@@ -1,6 +1,7 @@
 pub mod Auditing
 pub mod Remembering
 pub mod Shut
+pub mod Staying
 pub mod Archive
 pub mod Exports
 pub mod Audits

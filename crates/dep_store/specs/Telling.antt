@@ -1,9 +1,12 @@
--- Words of private functions: what was told so far.
-use Rattle.std.specs.Prelude.{◌≡◌, ◌⊎◌, ℕ, List, [], ◌++◌, length, filter, Result, Ok, Err}
+-- What was told so far, and how far it was written.
+use Rattle.std.specs.Prelude.{◌≡◌, ◌≢◌, ◌⊎◌, ℕ, List, [], ◌++◌, length, filter, Option, Result, Ok, Err, OnOk}
+use Rattle.std.specs.Io.KnownBytes.{Appends}
+use Rattle.sqlite.specs.State as db
 use Rattle.sqlite.specs.Order.{Row}
 use Rattle.dep_statements.specs.Rows.{is_after}
 use Rattle.dep_tables.specs.Tables.{Tables}
 use Rattle.dep_types.specs.Sinks.{IsFront}
+use Rattle.dep_schema.specs.Standing.{Stands}
 use Rattle.dep_types.specs.Writing.{HasRisen}
 use Rattle.dep_store.specs.Auditing.{IsObjectAudited}
 use Rattle.dep_store.specs.Audits.{Audited, AreAudits, object_rows, damaged_lines, lines_of, checked_in, damaged_in, IsBegun}
@@ -23,6 +26,18 @@ abbrev pub outcome_of_fault : AuditFault → Outcome
 outcome_of_fault Store = StoreFault
 outcome_of_fault Writer = TransferFault
 
+-- a text was written so far as the answer tells
+abbrev pub Writes : {X : Type 0} → (taken takes : Option (List ℕ)) → (whole : List ℕ)
+    → Result X AuditFault → Type 0
+Writes taken takes whole result =
+    (written : List ℕ) × Appends taken takes written × IsWritten whole written result
+
+-- this was written of each tables that the store has, whether they stand for a state or not
+abbrev pub WritesOf : (old new : db.State) → (taken takes : Option (List ℕ))
+    → (Tables → (written : List ℕ) → Type 0) → Type 0
+WritesOf old new taken takes told = (written : List ℕ) × Appends taken takes written
+    × (db.HasCleanDisk new → (t : Tables) → Stands old t → told t written)
+
 -- a fault of the writer comes only where its count of failures rose
 abbrev pub HasCause : {X : Type 0} → Result X AuditFault → (failures failures_after : ℕ) → Type 0
 HasCause result failures failures_after = result ≡ Err Writer → HasRisen failures failures_after
@@ -30,6 +45,18 @@ HasCause result failures failures_after = result ≡ Err Writer → HasRisen fai
 -- a fault of the store leaves the writer's count of failures
 abbrev pub IsQuiet : {X : Type 0} → Result X AuditFault → (failures failures_after : ℕ) → Type 0
 IsQuiet result failures failures_after = result ≡ Err Store → failures_after ≡ failures
+
+-- the writer failed where that is told, and nowhere else
+pub record BlamesWriter {X : Type 0} (failures failures_after : ℕ) (result : Result X AuditFault)
+    : Type 0 where
+  pub count : OnOk result (failures_after ≡ failures)
+  pub quiet : IsQuiet result failures failures_after
+  pub cause : HasCause result failures failures_after
+
+-- the same by what the program says: the transfer failed
+pub record BlamesTransfer (failures failures_after : ℕ) (outcome : Outcome) : Type 0 where
+  pub count : outcome ≢ TransferFault → failures_after ≡ failures
+  pub cause : outcome ≡ TransferFault → HasRisen failures failures_after
 
 -- how many files an audit checked, and how many are damaged
 pub record IsTallyOf (a : Audited) (tally : Tally) : Type 0 where

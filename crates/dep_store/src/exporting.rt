@@ -1,11 +1,11 @@
 //! The export of an object's bag.
-ghost use Rattle.std.specs.Prelude.{◌≡◌, ◌≢◌, ℕ, List};
+ghost use Rattle.std.specs.Prelude.{◌≡◌, ℕ, List};
 ghost use Rattle.std.specs.Io.KnownBytes.{Appends, Keeps};
 ghost use Rattle.dep_types.specs.State.{State};
-ghost use Rattle.dep_types.specs.Writing.{HasRisen};
 ghost use Rattle.dep_types.specs.Conditions.{StandsFor, HasCleanDisk};
 ghost use Rattle.dep_bag.specs.Source.{StandsStill};
 ghost use Rattle.dep_store.specs.Exports.{Exports};
+ghost use Rattle.dep_store.specs.Telling.{BlamesTransfer};
 
 use dep_bag::{BagSource, ExportFault, export};
 use dep_program::Outcome;
@@ -25,9 +25,7 @@ pub fn export_object<S: BagSource, K: BagSink>(
         → (s : State) → StandsFor (S.condition source.old) s
         → Exports s object given result) }
     ensures absent { result ≡ Outcome.NoSuchObject → Keeps (K.taken sink.old) (K.taken sink.new) }
-    ensures count { result ≢ Outcome.TransferFault → K.failures sink.new ≡ K.failures sink.old }
-    ensures cause { result ≡ Outcome.TransferFault →
-        HasRisen (K.failures sink.old) (K.failures sink.new) }
+    ensures blames { BlamesTransfer (K.failures sink.old) (K.failures sink.new) result }
     ensures kept { result ≡ Outcome.Done → HasCleanDisk (S.condition source.new)
         → (s : State) → StandsFor (S.condition source.old) s → StandsFor (S.condition source.new) s }
     ensures still { StandsStill (S.condition source.old) (S.condition source.new) }

@@ -1,12 +1,10 @@
 //! Segments, hashed before an object is made of them.
 
-ghost use Rattle.std.specs.Prelude.{◌≡◌, false, IsTrue};
+ghost use Rattle.std.specs.Prelude.{◌≡◌, false};
 ghost use Rattle.sqlite.specs.State.{Survives};
 ghost use Rattle.sqlite.specs.Held.{state};
-ghost use Rattle.dep_types.specs.State.{State};
-ghost use Rattle.dep_staging.specs.HashedAhead.{AreRunning};
-ghost use Rattle.dep_schema.specs.States.{StandsFor};
 ghost use Rattle.dep_schema.specs.Transactions.{IsBackAt};
+ghost use Rattle.dep_store.specs.Staying.{KeepsRunning};
 
 use dep_schema::Lent;
 use dep_staging::{RunningHashes, hash_ahead};
@@ -19,9 +17,8 @@ pub(crate) fn hash_running<S: Alter>(
     running: &mut RunningHashes,
 ) -> Result<bool, StoreFault>
     requires settled { (state S.Store connection.old).in_transaction ≡ false }
-    ensures running { IsTrue (state S.Store connection.new).is_open
-        → (s : State) → StandsFor (state S.Store connection.old) s
-        → AreRunning s running.old → AreRunning s running.new }
+    ensures running { KeepsRunning (state S.Store connection.old) (state S.Store connection.new)
+        running.old running.new }
     ensures back { IsBackAt (state S.Store connection.old) (state S.Store connection.new) }
     ensures mode { (state S.Store connection.new).in_transaction ≡ false }
     ensures survives { Survives (state S.Store connection.old) (state S.Store connection.new) (λ _. ⊥) }

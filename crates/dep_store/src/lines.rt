@@ -1,8 +1,7 @@
 //! The lines of an audit.
-ghost use Rattle.std.specs.Prelude.{◌≡◌, ℕ, List, OnOk, IfOk, flat_map, string_bytes};
-ghost use Rattle.std.specs.Io.KnownBytes.{Appends};
+ghost use Rattle.std.specs.Prelude.{◌≡◌, IfOk, flat_map, string_bytes};
 ghost use Rattle.dep_store.specs.Audits.{damaged_line, count_line};
-ghost use Rattle.dep_store.specs.Telling.{IsWritten, IsQuiet, HasCause};
+ghost use Rattle.dep_store.specs.Telling.{Writes, BlamesWriter};
 
 use crate::audit_fault::AuditFault;
 use crate::tally::Tally;
@@ -17,11 +16,9 @@ pub(crate) fn tell_damaged<W: Outlet>(
     files: &[u64],
     out: &mut W,
 ) -> Result<(), AuditFault>
-    ensures writes { (written : List ℕ) × Appends (W.taken out.old) (W.taken out.new) written
-        × IsWritten (flat_map (damaged_line object) files.now) written result }
-    ensures count { OnOk result (W.failures out.new ≡ W.failures out.old) }
-    ensures quiet { IsQuiet result (W.failures out.old) (W.failures out.new) }
-    ensures cause { HasCause result (W.failures out.old) (W.failures out.new) }
+    ensures writes { Writes (W.taken out.old) (W.taken out.new)
+        (flat_map (damaged_line object) files.now) result }
+    ensures blames { BlamesWriter (W.failures out.old) (W.failures out.new) result }
 {
     'files: for file in files {
         tell_file(alloc, object, *file, out)?;
@@ -35,11 +32,9 @@ fn tell_file<W: Outlet>(
     file: u64,
     out: &mut W,
 ) -> Result<(), AuditFault>
-    ensures writes { (written : List ℕ) × Appends (W.taken out.old) (W.taken out.new) written
-        × IsWritten (damaged_line object file) written result }
-    ensures count { OnOk result (W.failures out.new ≡ W.failures out.old) }
-    ensures quiet { IsQuiet result (W.failures out.old) (W.failures out.new) }
-    ensures cause { HasCause result (W.failures out.old) (W.failures out.new) }
+    ensures writes { Writes (W.taken out.old) (W.taken out.new)
+        (damaged_line object file) result }
+    ensures blames { BlamesWriter (W.failures out.old) (W.failures out.new) result }
 {
     let line = file_line(alloc, object, file)?;
     tell(line.as_str(), out)
@@ -63,11 +58,9 @@ pub(crate) fn tell_count<W: Outlet>(
     tally: Tally,
     out: &mut W,
 ) -> Result<(), AuditFault>
-    ensures writes { (written : List ℕ) × Appends (W.taken out.old) (W.taken out.new) written
-        × IsWritten (count_line tally.checked tally.damaged) written result }
-    ensures count { OnOk result (W.failures out.new ≡ W.failures out.old) }
-    ensures quiet { IsQuiet result (W.failures out.old) (W.failures out.new) }
-    ensures cause { HasCause result (W.failures out.old) (W.failures out.new) }
+    ensures writes { Writes (W.taken out.old) (W.taken out.new)
+        (count_line tally.checked tally.damaged) result }
+    ensures blames { BlamesWriter (W.failures out.old) (W.failures out.new) result }
 {
     let line = last_line(alloc, tally)?;
     tell(line.as_str(), out)
@@ -86,11 +79,9 @@ fn last_line(alloc: Global, tally: Tally) -> Result<String, AllocError>
 }
 
 fn tell<W: Outlet>(line: &str, out: &mut W) -> Result<(), AuditFault>
-    ensures writes { (written : List ℕ) × Appends (W.taken out.old) (W.taken out.new) written
-        × IsWritten line.now written result }
-    ensures count { OnOk result (W.failures out.new ≡ W.failures out.old) }
-    ensures quiet { IsQuiet result (W.failures out.old) (W.failures out.new) }
-    ensures cause { HasCause result (W.failures out.old) (W.failures out.new) }
+    ensures writes { Writes (W.taken out.old) (W.taken out.new)
+        line.now result }
+    ensures blames { BlamesWriter (W.failures out.old) (W.failures out.new) result }
 {
     out.write(line.as_bytes())?;
     Ok(())

@@ -1,11 +1,10 @@
 //! What is read of the archive, in a transaction of its own.
 
-ghost use Rattle.std.specs.Prelude.{◌≡◌, false, IsTrue, OnOk, option_map};
+ghost use Rattle.std.specs.Prelude.{◌≡◌, false, IsTrue, OnOk};
 ghost use Rattle.sqlite.specs.State.{HasCleanDisk};
-ghost use Rattle.std.specs.FinMap as finmap;
 ghost use Rattle.sqlite.specs.Held.{state};
 ghost use Rattle.dep_types.specs.State.{State};
-ghost use Rattle.dep_types.specs.Rows.{object_view};
+ghost use Rattle.dep_bag.specs.Source.{view_at};
 ghost use Rattle.dep_tables.specs.Edits.{AreSha256sOf, IsObjectAfter};
 ghost use Rattle.dep_schema.specs.States.{TablesStandFor};
 ghost use Rattle.dep_schema.specs.Transactions.{Transacts, OnlyTells};
@@ -25,8 +24,7 @@ pub(crate) fn view_object<S: Alter>(
 ) -> Result<Option<ObjectView>, StoreFault>
     requires settled { (state S.Store connection.old).in_transaction ≡ false }
     ensures transacts { Transacts (state S.Store connection.old) (state S.Store connection.new) result
-        (OnlyTells (λ t found. (s : State) → TablesStandFor t s
-        → found ≡ option_map (object_view object) (finmap.get s.objects object))) }
+        (OnlyTells (λ t found. (s : State) → TablesStandFor t s → found ≡ view_at s object)) }
 {
     let mut tx = connection.transaction();
     let found = load_object_view(&mut Lent { tx: &mut tx }, alloc, object)?;

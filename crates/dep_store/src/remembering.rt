@@ -15,7 +15,7 @@ ghost use Rattle.dep_store.specs.Shut.{FailsToTell};
 ghost use Rattle.dep_schema.specs.Transactions.{IsBackAt};
 
 use dep_objects::counters;
-use dep_schema::Lent;
+use dep_schema::{Lent, check_open, probe};
 use dep_tables::{Statements, fault_of, left_before};
 use dep_types::{Config, Counters, StoreFault};
 use sqlite::{Alter, Connection, Error, ErrorCode};
@@ -37,6 +37,13 @@ impl Remembered {
     {
         moment <= self.clock && config.staging_max_idle == self.max_idle
     }
+}
+
+/// What is remembered still behind a request: all of it, unless something was changed.
+pub(crate) fn still_known(remembered: Option<Remembered>, has_changes: bool) -> Option<Remembered>
+    ensures { (m : Remembered) → result ≡ Some m → (remembered ≡ Some m) × (has_changes ≡ false) }
+{
+    if has_changes { None } else { remembered }
 }
 
 /// Whether some upload was left alone for longer than this.
@@ -122,26 +129,9 @@ pub(crate) fn tell_open<S: Alter>(connection: &mut Connection<S>) -> Result<bool
     ensures mode { (state S.Store connection.new).in_transaction ≡ false }
     ensures survives { Survives (state S.Store connection.old) (state S.Store connection.new) (λ _. ⊥) }
 {
-    let _between = connection.is_autocommit();
-    if let Err(error) = connection.prepare("SELECT 1") {
-        return told_by(error);
-    }
-    Ok(true)
-}
-
-/// Fails where the store was shut.
-pub(crate) fn check_open<S: Alter>(connection: &mut Connection<S>) -> Result<(), StoreFault>
-    requires settled { (state S.Store connection.old).in_transaction ≡ false }
-    ensures opened { HasCleanDisk (state S.Store connection.new)
-        → OnOk result (IsTrue (state S.Store connection.new).is_open) }
-    ensures back { IsBackAt (state S.Store connection.old) (state S.Store connection.new) }
-    ensures mode { (state S.Store connection.new).in_transaction ≡ false }
-    ensures survives { Survives (state S.Store connection.old) (state S.Store connection.new) (λ _. ⊥) }
-{
-    if tell_open(connection)? {
-        Ok(())
-    } else {
-        Err(StoreFault::Store)
+    match probe(connection) {
+        Ok(()) => Ok(true),
+        Err(error) => told_by(error),
     }
 }
 

@@ -1,42 +1,39 @@
 //! The store.
 
-ghost use Rattle.std.specs.Prelude.{◌≡◌, ◌≢◌, ◌⊎◌, ℕ, List, IsTrue, OnOk, IfOk, IfErr, OnErr, MatchResult, option_map, Err, false};
-ghost use Rattle.std.specs.FinMap as finmap;
-ghost use Rattle.std.specs.Io.KnownBytes.{Appends};
+ghost use Rattle.std.specs.Prelude.{◌≡◌, IsTrue, OnOk, IfOk, IfErr, MatchResult, option_map, false};
 ghost use Rattle.sqlite.specs.State.{HasCleanDisk};
 ghost use Rattle.sqlite.specs.Held.{state};
-ghost use Rattle.dep_types.specs.State.{State, tick, empty_state};
-ghost use Rattle.dep_types.specs.Rows.{object_view};
-ghost use Rattle.dep_types.specs.Writing.{HasRisen};
+ghost use Rattle.dep_types.specs.State.{State, empty_state};
 ghost use Rattle.dep_fields.specs.Fit.{AreFit};
+ghost use Rattle.dep_bag.specs.Source.{view_at};
 ghost use Rattle.dep_answers.specs.Steps.{operation_step};
 ghost use Rattle.dep_row_maps.specs.Keyed.{next_entry};
-ghost use Rattle.dep_types.specs.Streams.{IsStreamed};
-ghost use Rattle.sqlite.specs.Tree.{Trees};
 ghost use Rattle.dep_tables.specs.Tables.{Tables};
 ghost use Rattle.dep_tables.specs.Edits.{IsObjectAfter};
 ghost use Rattle.dep_tables.specs.Versions.{our_version, HasVersion};
+ghost use Rattle.dep_staging.specs.HashedAhead.{AreRunning};
 ghost use Rattle.dep_schema.specs.Standing.{Holds, HoldsOlder, HoldsNone, IsOpenable, Stands};
-ghost use Rattle.dep_store.specs.Auditing.{IsObjectAudited};
 ghost use Rattle.dep_schema.specs.States.{StandsFor, IsLeftAs, Leaves};
-ghost use Rattle.dep_schema.specs.Performing.{Performs};
+ghost use Rattle.dep_schema.specs.Performing.{IsKeptUnchanged};
 ghost use Rattle.dep_upgrading.specs.Causes.{FailsToOpenTables, FindsOrUpgrades};
 ghost use Rattle.dep_upgrading.specs.Migrating.{Keeps, OpenLeaves, OpensOlder, Stood};
 ghost use Rattle.dep_hub.specs.Shut.{TellsOpen};
-ghost use Rattle.dep_staging.specs.HashedAhead.{AreRunning};
+ghost use Rattle.dep_hub.specs.Archives.{Ticks, MakesStep, Streams, Tells, KeepsState, KeepsAll, CountsFailures};
 ghost use Rattle.dep_store.specs.Archive.{condition_of};
-ghost use Rattle.dep_store.specs.Shut.{LeavesNoMore, FailsToTell};
+ghost use Rattle.dep_store.specs.Auditing.{IsObjectAudited};
+ghost use Rattle.dep_store.specs.Shut.{FailsIfShut, FailsToTell};
+ghost use Rattle.dep_store.specs.Staying.{TablesStay, TellsTables, LeavesOnly, KeepsRunning};
 
 use crate::auditing::audit_object;
 use crate::hashing::hash_running;
 use crate::reading::{find_next, view_object};
-use crate::remembering::{Remembered, check_open, tell_open};
-use crate::showing::{recalled, serve, show_service};
+use crate::remembering::{Remembered, still_known, tell_open};
+use crate::showing::{perform_if_open, recalled, show_service};
 use crate::ticking::advance;
 use dep_answers::{Performed, Service};
 use dep_decisions::Operation;
 use dep_moment::Moment;
-use dep_schema::OpenFault;
+use dep_schema::{OpenFault, check_open};
 use dep_staging::RunningHashes;
 use dep_streams::{Audit, Watch, stream_content};
 use dep_types::{Config, ObjectView, Outlet, StoreFault, StreamFault};
@@ -44,6 +41,7 @@ use dep_upgrading::open_tables;
 use sqlite::{Alter, Connection};
 use std::alloc::Global;
 use std::marker::Model;
+use std::mem;
 
 /// The archive in the tables of a database. Contracts see it as the connection to them.
 #[derive(Drop)]
@@ -136,23 +134,10 @@ impl<S: Alter> Store<S> {
     /// Moves the clock to the moment, and never back, and ends the uploads that were left idle. It
     /// answers the clock.
     pub fn tick(&mut self, config: &Config, moment: Moment) -> Result<Moment, StoreFault>
-        ensures ok { HasCleanDisk (state S.Store self.new)
-            → (s : State) → StandsFor (state S.Store self.old) s
-            → IfOk result (λ clock. (clock ≡ (tick config.now s moment).clock)
-            × StandsFor (state S.Store self.new) (tick config.now s moment)) }
-        ensures err { IsTrue (state S.Store self.new).is_open
-            → (s : State) → StandsFor (state S.Store self.old) s
-            → OnErr result (StandsFor (state S.Store self.new) s) }
-        ensures honest { HasCleanDisk (state S.Store self.new) → HasCleanDisk (state S.Store self.old) }
-        ensures open { IsTrue (state S.Store self.new).is_open
-            → IsTrue (state S.Store self.old).is_open }
-        ensures stop { HasCleanDisk (state S.Store self.new)
-            → (s : State) → StandsFor (state S.Store self.old) s
-            → Leaves (state S.Store self.new) (λ left. (left ≡ s) ⊎ (left ≡ tick config.now s moment)) }
+        ensures does { Ticks (condition_of S.Store self.old) (condition_of S.Store self.new)
+            config.now moment result }
         // On a store that was shut it fails, and a crash leaves what it could leave before.
-        ensures opened { HasCleanDisk (state S.Store self.new)
-            → OnOk result (IsTrue (state S.Store self.old).is_open) }
-        ensures shut { LeavesNoMore (state S.Store self.old) (state S.Store self.new) }
+        ensures shut { FailsIfShut (state S.Store self.old) (state S.Store self.new) result }
     {
         if !self.connection.is_autocommit() {
             return Err(StoreFault::Store);
@@ -174,24 +159,14 @@ impl<S: Alter> Store<S> {
         service: &Service,
         operation: &Operation<'_>,
     ) -> Result<Performed, StoreFault>
-        ensures ok { HasCleanDisk (state S.Store self.new) → AreFit operation.now.fields
-            → (s : State) → StandsFor (state S.Store self.old) s → AreRunning s running.now
-            → IfOk result
-            (Performs (operation_step service.now s operation.now) (state S.Store self.new)) }
-        ensures err { IsTrue (state S.Store self.new).is_open
-            → (s : State) → StandsFor (state S.Store self.old) s
-            → OnErr result (StandsFor (state S.Store self.new) s) }
-        ensures honest { HasCleanDisk (state S.Store self.new) → HasCleanDisk (state S.Store self.old) }
-        ensures open { IsTrue (state S.Store self.new).is_open
-            → IsTrue (state S.Store self.old).is_open }
-        ensures stop { HasCleanDisk (state S.Store self.new) → AreFit operation.now.fields
-            → (s : State) → StandsFor (state S.Store self.old) s → AreRunning s running.now
-            → Leaves (state S.Store self.new)
-            (λ left. (left ≡ s) ⊎ (left ≡ (operation_step service.now s operation.now).state)) }
+        ensures does { MakesStep (condition_of S.Store self.old) (condition_of S.Store self.new)
+            (λ s. AreFit operation.now.fields × AreRunning s running.now)
+            (λ s. operation_step service.now s operation.now) result }
+        // What is refused, and what only shows, commits nothing and leaves the database as it was.
+        ensures unchanged { IsKeptUnchanged (state S.Store self.old) (state S.Store self.new) result
+            service.now operation.now running.now }
         // On a store that was shut it fails, and a crash leaves what it could leave before.
-        ensures opened { HasCleanDisk (state S.Store self.new)
-            → OnOk result (IsTrue (state S.Store self.old).is_open) }
-        ensures shut { LeavesNoMore (state S.Store self.old) (state S.Store self.new) }
+        ensures shut { FailsIfShut (state S.Store self.old) (state S.Store self.new) result }
     {
         if !self.connection.is_autocommit() {
             return Err(StoreFault::Store);
@@ -199,31 +174,25 @@ impl<S: Alter> Store<S> {
         if let Some(it) = recalled(&self.remembered, operation) {
             return show_service(self.alloc, service, operation, &it);
         }
-        self.remembered = None;
-        serve(
+        let remembered = mem::replace(&mut self.remembered, None);
+        let done = perform_if_open(
             &mut self.connection,
             self.alloc,
             running,
             service,
             operation,
-        )
+        )?;
+        self.remembered = still_known(remembered, done.has_changes);
+        Ok(done.performed)
     }
 
     /// Hashes a few blocks of an upload to which a segment came, and tells whether more may be left. It
     /// changes nothing that is kept.
     pub fn hash_ahead(&mut self, running: &mut RunningHashes) -> Result<bool, StoreFault>
-        ensures running { IsTrue (state S.Store self.new).is_open
-            → (s : State) → StandsFor (state S.Store self.old) s
-            → AreRunning s running.old → AreRunning s running.new }
-        ensures kept { IsTrue (state S.Store self.new).is_open
-            → (s : State) → StandsFor (state S.Store self.old) s
-            → StandsFor (state S.Store self.new) s }
-        ensures honest { HasCleanDisk (state S.Store self.new) → HasCleanDisk (state S.Store self.old) }
-        ensures open { IsTrue (state S.Store self.new).is_open
-            → IsTrue (state S.Store self.old).is_open }
-        ensures left { HasCleanDisk (state S.Store self.new)
-            → (trees : Trees) → (state S.Store self.new).may_leave trees
-            → (state S.Store self.old).may_leave trees }
+        ensures running { KeepsRunning (state S.Store self.old) (state S.Store self.new)
+            running.old running.new }
+        ensures rests { KeepsAll (condition_of S.Store self.old) (condition_of S.Store self.new) }
+        ensures left { LeavesOnly (state S.Store self.old) (state S.Store self.new) }
     {
         if !self.connection.is_autocommit() {
             return Err(StoreFault::Store);
@@ -234,30 +203,13 @@ impl<S: Alter> Store<S> {
 
     /// Sends the content of the file of this number, one block at a time.
     pub fn stream<O: Outlet>(&mut self, file: u64, out: &mut O) -> Result<(), StreamFault>
-        ensures streams { (sent : List ℕ) × Appends (O.taken out.old) (O.taken out.new) sent
-            × (HasCleanDisk (state S.Store self.new)
-            → (s : State) → StandsFor (state S.Store self.old) s
-            → IsStreamed s file sent result) }
-        ensures ok { HasCleanDisk (state S.Store self.new)
-            → (s : State) → StandsFor (state S.Store self.old) s
-            → OnOk result (StandsFor (state S.Store self.new) s) }
-        ensures err { IsTrue (state S.Store self.new).is_open
-            → (s : State) → StandsFor (state S.Store self.old) s
-            → OnErr result (StandsFor (state S.Store self.new) s) }
-        ensures honest { HasCleanDisk (state S.Store self.new) → HasCleanDisk (state S.Store self.old) }
-        ensures open { IsTrue (state S.Store self.new).is_open
-            → IsTrue (state S.Store self.old).is_open }
-        ensures stop { HasCleanDisk (state S.Store self.new)
-            → (s : State) → StandsFor (state S.Store self.old) s
-            → Leaves (state S.Store self.new) (λ left. left ≡ s) }
+        ensures streams { Streams (condition_of S.Store self.old) (condition_of S.Store self.new)
+            (O.taken out.old) (O.taken out.new) file result }
+        ensures does { KeepsState (condition_of S.Store self.old) (condition_of S.Store self.new)
+            result }
         // On a store that was shut it fails, and a crash leaves what it could leave before.
-        ensures opened { HasCleanDisk (state S.Store self.new)
-            → OnOk result (IsTrue (state S.Store self.old).is_open) }
-        ensures shut { LeavesNoMore (state S.Store self.old) (state S.Store self.new) }
-        ensures kept { OnOk result (O.failures out.new ≡ O.failures out.old) }
-        ensures cause { result ≡ Err StreamFault.Writer
-            → HasRisen (O.failures out.old) (O.failures out.new) }
-        ensures others { result ≢ Err StreamFault.Writer → O.failures out.new ≡ O.failures out.old }
+        ensures shut { FailsIfShut (state S.Store self.old) (state S.Store self.new) result }
+        ensures count { CountsFailures (O.failures out.old) (O.failures out.new) result }
     {
         if !self.connection.is_autocommit() {
             return Err(StreamFault::Store);
@@ -272,23 +224,9 @@ impl<S: Alter> Store<S> {
 
     /// The object of this number, if there is one, with its metadata and its files.
     pub fn view(&mut self, object: u64) -> Result<Option<ObjectView>, StoreFault>
-        ensures ok { HasCleanDisk (state S.Store self.new)
-            → (s : State) → StandsFor (state S.Store self.old) s
-            → IfOk result (λ found.
-            (found ≡ option_map (object_view object) (finmap.get s.objects object))
-            × StandsFor (state S.Store self.new) s) }
-        ensures err { IsTrue (state S.Store self.new).is_open
-            → (s : State) → StandsFor (state S.Store self.old) s
-            → OnErr result (StandsFor (state S.Store self.new) s) }
-        ensures honest { HasCleanDisk (state S.Store self.new) → HasCleanDisk (state S.Store self.old) }
-        ensures open { IsTrue (state S.Store self.new).is_open
-            → IsTrue (state S.Store self.old).is_open }
-        ensures stop { HasCleanDisk (state S.Store self.new)
-            → (s : State) → StandsFor (state S.Store self.old) s
-            → Leaves (state S.Store self.new) (λ left. left ≡ s) }
-        // Whatever its tables are, they stay.
-        ensures still { IsTrue (state S.Store self.new).is_open
-            → (t : Tables) → Stands (state S.Store self.old) t → Stands (state S.Store self.new) t }
+        ensures does { Tells (condition_of S.Store self.old) (condition_of S.Store self.new)
+            (λ s found. found ≡ view_at s object) result }
+        ensures still { TablesStay (state S.Store self.old) (state S.Store self.new) }
     {
         if !self.connection.is_autocommit() {
             return Err(StoreFault::Store);
@@ -299,27 +237,13 @@ impl<S: Alter> Store<S> {
 
     /// The least number of an object above this one.
     pub fn next_object(&mut self, after: u64) -> Result<Option<u64>, StoreFault>
-        ensures ok { HasCleanDisk (state S.Store self.new)
-            → (s : State) → StandsFor (state S.Store self.old) s
-            → IfOk result (λ found. (found ≡ option_map (λ e. e.0) (next_entry s.objects after))
-            × StandsFor (state S.Store self.new) s) }
-        ensures err { IsTrue (state S.Store self.new).is_open
-            → (s : State) → StandsFor (state S.Store self.old) s
-            → OnErr result (StandsFor (state S.Store self.new) s) }
-        ensures honest { HasCleanDisk (state S.Store self.new) → HasCleanDisk (state S.Store self.old) }
-        ensures open { IsTrue (state S.Store self.new).is_open
-            → IsTrue (state S.Store self.old).is_open }
-        ensures stop { HasCleanDisk (state S.Store self.new)
-            → (s : State) → StandsFor (state S.Store self.old) s
-            → Leaves (state S.Store self.new) (λ left. left ≡ s) }
+        ensures does { Tells (condition_of S.Store self.old) (condition_of S.Store self.new)
+            (λ s found. found ≡ option_map (λ e. e.0) (next_entry s.objects after)) result }
         // So it is of tables that stand for no state: the least row above this number is told.
-        ensures rows { HasCleanDisk (state S.Store self.new)
-            → (t : Tables) → Stands (state S.Store self.old) t
-            → IfOk result (λ found. IsObjectAfter after t found × Stands (state S.Store self.new) t) }
+        ensures rows { TellsTables (state S.Store self.old) (state S.Store self.new)
+            (IsObjectAfter after) result }
         ensures opened { HasCleanDisk (state S.Store self.new)
             → OnOk result (IsTrue (state S.Store self.old).is_open) }
-        ensures still { IsTrue (state S.Store self.new).is_open
-            → (t : Tables) → Stands (state S.Store self.old) t → Stands (state S.Store self.new) t }
     {
         if !self.connection.is_autocommit() {
             return Err(StoreFault::Store);
@@ -332,18 +256,8 @@ impl<S: Alter> Store<S> {
     /// the rows stand for no state. Each block is read once, and one is held at a time: the
     /// watch is told of it.
     pub fn audit<W: Watch>(&mut self, object: u64, watch: &mut W) -> Result<Audit, StoreFault>
-        ensures ok { HasCleanDisk (state S.Store self.new)
-            → (t : Tables) → Stands (state S.Store self.old) t
-            → IfOk result (λ audit.
-            IsObjectAudited t object audit × Stands (state S.Store self.new) t) }
-        ensures still { IsTrue (state S.Store self.new).is_open
-            → (t : Tables) → Stands (state S.Store self.old) t → Stands (state S.Store self.new) t }
-        ensures honest { HasCleanDisk (state S.Store self.new) → HasCleanDisk (state S.Store self.old) }
-        ensures open { IsTrue (state S.Store self.new).is_open
-            → IsTrue (state S.Store self.old).is_open }
-        ensures stop { HasCleanDisk (state S.Store self.new)
-            → (t : Tables) → Stands (state S.Store self.old) t
-            → (trees : Trees) → (state S.Store self.new).may_leave trees → Holds trees t }
+        ensures { TellsTables (state S.Store self.old) (state S.Store self.new)
+            (λ t audit. IsObjectAudited t object audit) result }
     {
         if !self.connection.is_autocommit() {
             return Err(StoreFault::Store);
@@ -359,15 +273,8 @@ impl<S: Alter> Store<S> {
         // That it isn't told has a cause, of which want of memory can be seen by nobody.
         ensures cause { HasCleanDisk (state S.Store self.new)
             → IfErr result (FailsToTell (state S.Store self.old) (state S.Store self.new)) }
-        ensures kept { IsTrue (state S.Store self.new).is_open
-            → (s : State) → StandsFor (state S.Store self.old) s
-            → StandsFor (state S.Store self.new) s }
-        ensures honest { HasCleanDisk (state S.Store self.new) → HasCleanDisk (state S.Store self.old) }
-        ensures open { IsTrue (state S.Store self.new).is_open
-            → IsTrue (state S.Store self.old).is_open }
-        ensures left { HasCleanDisk (state S.Store self.new)
-            → (trees : Trees) → (state S.Store self.new).may_leave trees
-            → (state S.Store self.old).may_leave trees }
+        ensures rests { KeepsAll (condition_of S.Store self.old) (condition_of S.Store self.new) }
+        ensures left { LeavesOnly (state S.Store self.old) (state S.Store self.new) }
     {
         match self.remembered {
             Some(_) => Ok(true),

@@ -1,15 +1,12 @@
 //! The audit of all files of a store.
-ghost use Rattle.std.specs.Prelude.{◌≡◌, ◌≢◌, ℕ, List, IsTrue, OnOk};
-ghost use Rattle.std.specs.Io.KnownBytes.{Appends};
+ghost use Rattle.std.specs.Prelude.{◌≡◌, OnOk};
 ghost use Rattle.sqlite.specs.State.{HasCleanDisk};
 ghost use Rattle.sqlite.specs.Held.{state};
-ghost use Rattle.dep_types.specs.Writing.{HasRisen};
 ghost use Rattle.dep_tables.specs.Tables.{Tables};
 ghost use Rattle.dep_schema.specs.Standing.{Stands};
-ghost use Rattle.dep_types.specs.State.{State};
-ghost use Rattle.dep_schema.specs.States.{StandsFor, Leaves};
 ghost use Rattle.dep_store.specs.Audits.{Audits};
-ghost use Rattle.dep_store.specs.Telling.{TellsObject, TellsObjects, IsQuiet, HasCause, outcome_of_fault};
+ghost use Rattle.dep_store.specs.Staying.{KeepsTables};
+ghost use Rattle.dep_store.specs.Telling.{TellsObject, TellsObjects, WritesOf, BlamesWriter, BlamesTransfer, outcome_of_fault};
 
 use crate::audit_fault::AuditFault;
 use crate::lines::{tell_count, tell_damaged};
@@ -30,19 +27,10 @@ pub fn audit_all<S: Alter, W: Outlet, P: Watch>(
     out: &mut W,
     watch: &mut P,
 ) -> Outcome
-    ensures writes { (written : List ℕ) × Appends (W.taken out.old) (W.taken out.new) written
-        × (HasCleanDisk (state S.Store store.new) → (t : Tables)
-        → Stands (state S.Store store.old) t → Audits t written result) }
-    ensures still { IsTrue (state S.Store store.new).is_open → (t : Tables)
-        → Stands (state S.Store store.old) t → Stands (state S.Store store.new) t }
-    ensures honest { HasCleanDisk (state S.Store store.new) → HasCleanDisk (state S.Store store.old) }
-    ensures stop { HasCleanDisk (state S.Store store.new)
-        → (s : State) → StandsFor (state S.Store store.old) s
-        → Leaves (state S.Store store.new) (λ left. left ≡ s) }
-    ensures count { result ≢ Outcome.TransferFault →
-        W.failures out.new ≡ W.failures out.old }
-    ensures cause { result ≡ Outcome.TransferFault →
-        HasRisen (W.failures out.old) (W.failures out.new) }
+    ensures writes { WritesOf (state S.Store store.old) (state S.Store store.new)
+        (W.taken out.old) (W.taken out.new) (λ t written. Audits t written result) }
+    ensures stays { KeepsTables (state S.Store store.old) (state S.Store store.new) }
+    ensures blames { BlamesTransfer (W.failures out.old) (W.failures out.new) result }
 {
     let tally = match tell_objects(alloc, store, out, watch) {
         Ok(tally) => tally,
@@ -71,19 +59,10 @@ fn tell_objects<S: Alter, W: Outlet, P: Watch>(
     out: &mut W,
     watch: &mut P,
 ) -> Result<Tally, AuditFault>
-    ensures writes { (written : List ℕ) × Appends (W.taken out.old) (W.taken out.new) written
-        × (HasCleanDisk (state S.Store store.new) → (t : Tables)
-        → Stands (state S.Store store.old) t → TellsObjects t written result) }
-    ensures still { IsTrue (state S.Store store.new).is_open → (t : Tables)
-        → Stands (state S.Store store.old) t → Stands (state S.Store store.new) t }
-    ensures open { IsTrue (state S.Store store.new).is_open → IsTrue (state S.Store store.old).is_open }
-    ensures honest { HasCleanDisk (state S.Store store.new) → HasCleanDisk (state S.Store store.old) }
-    ensures stop { HasCleanDisk (state S.Store store.new)
-        → (s : State) → StandsFor (state S.Store store.old) s
-        → Leaves (state S.Store store.new) (λ left. left ≡ s) }
-    ensures count { OnOk result (W.failures out.new ≡ W.failures out.old) }
-    ensures quiet { IsQuiet result (W.failures out.old) (W.failures out.new) }
-    ensures cause { HasCause result (W.failures out.old) (W.failures out.new) }
+    ensures writes { WritesOf (state S.Store store.old) (state S.Store store.new)
+        (W.taken out.old) (W.taken out.new) (λ t written. TellsObjects t written result) }
+    ensures stays { KeepsTables (state S.Store store.old) (state S.Store store.new) }
+    ensures blames { BlamesWriter (W.failures out.old) (W.failures out.new) result }
 {
     let mut tally = Tally {
         checked: 0,
@@ -109,21 +88,12 @@ fn tell_object<S: Alter, W: Outlet, P: Watch>(
     out: &mut W,
     watch: &mut P,
 ) -> Result<Tally, AuditFault>
-    ensures writes { (written : List ℕ) × Appends (W.taken out.old) (W.taken out.new) written
-        × (HasCleanDisk (state S.Store store.new) → (t : Tables)
-        → Stands (state S.Store store.old) t → TellsObject t object written result) }
+    ensures writes { WritesOf (state S.Store store.old) (state S.Store store.new)
+        (W.taken out.old) (W.taken out.new) (λ t written. TellsObject t object written result) }
     ensures kept { HasCleanDisk (state S.Store store.new) → (t : Tables)
         → Stands (state S.Store store.old) t → OnOk result (Stands (state S.Store store.new) t) }
-    ensures still { IsTrue (state S.Store store.new).is_open → (t : Tables)
-        → Stands (state S.Store store.old) t → Stands (state S.Store store.new) t }
-    ensures open { IsTrue (state S.Store store.new).is_open → IsTrue (state S.Store store.old).is_open }
-    ensures honest { HasCleanDisk (state S.Store store.new) → HasCleanDisk (state S.Store store.old) }
-    ensures stop { HasCleanDisk (state S.Store store.new)
-        → (s : State) → StandsFor (state S.Store store.old) s
-        → Leaves (state S.Store store.new) (λ left. left ≡ s) }
-    ensures count { OnOk result (W.failures out.new ≡ W.failures out.old) }
-    ensures quiet { IsQuiet result (W.failures out.old) (W.failures out.new) }
-    ensures cause { HasCause result (W.failures out.old) (W.failures out.new) }
+    ensures stays { KeepsTables (state S.Store store.old) (state S.Store store.new) }
+    ensures blames { BlamesWriter (W.failures out.old) (W.failures out.new) result }
 {
     let audit = store.audit(object, watch)?;
     tell_damaged(alloc, object, audit.damaged.as_slice(), out)?;

@@ -17,6 +17,11 @@ pub if_failed : {A E P : Type 0} (r : Result A E) → P → OnErr r P
 if_failed (Ok x) p = tt
 if_failed (Err e) p = p
 
+-- what holds of one failure holds of another, which may stand for an Ok
+pub failed_as : {A E B F P Q : Type 0} (r : Result A E) (s : Result B F) → OnOk r P → OnErr r Q → (P → Q) → OnErr s Q
+failed_as (Ok x) s p q f = if_failed s (f p)
+failed_as (Err e) s p q f = if_failed s q
+
 pub if_err : {A E : Type 0} {P Q : E → Type 0} (r : Result A E) → IfErr r P → ((e : E) → P e → Q e) → IfErr r Q
 if_err (Ok x) p f = tt
 if_err (Err e) p f = f e p

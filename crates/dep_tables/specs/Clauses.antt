@@ -68,6 +68,24 @@ module _ {T L A E : Type 0} (lenders : T → L) (state : T → State) (old new :
     pub survives : CommitsNothing (state old) (state new)
     pub inside : GoesOn (state old) (state new) result
     pub kept : StaysInside (state old) (state new)
+    pub fails : FailsInside (state old) (state new) result
+
+  -- what one that runs a single statement keeps
+  pub record RunsWithin : Type 0 where
+    pub stays : StaysWithin
+    pub err : FailsWhole (state old) (state new) result
+
+  -- what one keeps that only reads
+  pub record ReadsWithin : Type 0 where
+    pub stays : StaysWithin
+    pub same : ReadsOnly (state old) (state new) result
+    pub err : FailsReading (state old) (state new) result
+
+  -- what one keeps that only reads, if anything
+  pub record MayReadWithin : Type 0 where
+    pub stays : StaysWithin
+    pub same : IsTrue (state old).is_open → ReadsOnly (state old) (state new) result
+    pub err : FailsReading (state old) (state new) result
 
 -- the statement of this text was run, and its error is told by this fault
 abbrev pub FailsToRun : List ℕ → Row → State → State → StoreFault → Type 0
@@ -119,6 +137,15 @@ ShowsColumns sql params old new width values =
 -- the text is a query with no RETURNING and no clock
 abbrev pub IsPlainIn : State → List ℕ → Type 0
 IsPlainIn s sql = IsPlain (understood s.now.schema sql)
+
+module _ {T L A E : Type 0} (lenders : T → L) (state : T → State) (sql : List ℕ) (old new : T)
+    (result : Result A E) where
+  -- what a call keeps that asks a query, which only reads where it is a plain one
+  pub record AsksWithin : Type 0 where
+    pub stays : StaysWithin lenders state old new result
+    pub same : HasCleanDisk (state new) → IsPlainIn (state old) sql
+        → OnOk result (IsUnchanged (state old) (state new))
+    pub err : IsPlainIn (state old) sql → FailsWhole (state old) (state new) result
 
 module _ {A : Type 0} (old new : State) (result : Result A StoreFault) where
   -- Where a number is none of SQL's, that is a fault of the store, and nothing is done.

@@ -6,7 +6,7 @@ ghost use Rattle.sqlite.specs.declared.types.Value.TheVariants.{Int, Blob};
 ghost use Rattle.sqlite.specs.Values.{bound};
 ghost use Rattle.dep_tables.specs.Rows.{IsStorableOwner, owner_values, IsStorableKey, key_values, block_values, move_values, move_run_values, place_values, IsBytesRow, IsPlaceRow};
 ghost use Rattle.dep_tables.specs.Edits.{with_new_block, without_blocks_of, without_run, with_blocks_moved, with_run_moved, LacksBlock, AreBytesAt, IsFirstBlock, IsBlockAfter};
-ghost use Rattle.dep_tables.specs.Clauses.{AtMostOne, Changes, Shows, Reads, ReadsOnly, FailsWhole, FailsInside, FailsReading, RefusesNumbers, FailsByRunning, FailsByReading, FailsByReadingNumbers, StaysWithin};
+ghost use Rattle.dep_tables.specs.Clauses.{AtMostOne, Changes, Shows, Reads, RefusesNumbers, FailsByRunning, FailsByReading, FailsByReadingNumbers, RunsWithin, ReadsWithin};
 ghost use Rattle.dep_tables.specs.Texts.{insert_block_text, delete_blocks_text, delete_run_text, move_blocks_text, move_run_text, read_block_text, first_block_text, next_block_text};
 
 use crate::calls::Statements;
@@ -41,8 +41,7 @@ pub fn insert_block<T: Statements>(
         (IsStorableKey key.now) }
     ensures cause { FailsByRunning (T.state tx.old) (T.state tx.new) result
         (IsStorableKey key.now) insert_block_text (block_values key.now bytes.now) }
-    ensures err { FailsWhole (T.state tx.old) (T.state tx.new) result }
-    ensures stays { StaysWithin T.lenders T.state tx.old tx.new result }
+    ensures keeps { RunsWithin T.lenders T.state tx.old tx.new result }
 {
     if !is_storable_key(key) {
         return Err(StoreFault::Store);
@@ -60,8 +59,7 @@ pub fn delete_blocks<T: Statements>(tx: &mut T, owner: BlockOwner) -> Result<(),
         (IsStorableOwner owner) }
     ensures cause { FailsByRunning (T.state tx.old) (T.state tx.new) result
         (IsStorableOwner owner) delete_blocks_text (owner_values owner) }
-    ensures err { FailsWhole (T.state tx.old) (T.state tx.new) result }
-    ensures stays { StaysWithin T.lenders T.state tx.old tx.new result }
+    ensures keeps { RunsWithin T.lenders T.state tx.old tx.new result }
 {
     if !is_storable_owner(owner) {
         return Err(StoreFault::Store);
@@ -79,8 +77,7 @@ pub fn delete_run<T: Statements>(tx: &mut T, end: &BlockKey) -> Result<(), Store
         (IsStorableKey end.now) }
     ensures cause { FailsByRunning (T.state tx.old) (T.state tx.new) result
         (IsStorableKey end.now) delete_run_text (key_values end.now) }
-    ensures err { FailsWhole (T.state tx.old) (T.state tx.new) result }
-    ensures stays { StaysWithin T.lenders T.state tx.old tx.new result }
+    ensures keeps { RunsWithin T.lenders T.state tx.old tx.new result }
 {
     if !is_storable_key(end) {
         return Err(StoreFault::Store);
@@ -112,8 +109,7 @@ pub fn move_blocks<T: Statements>(
         (IsStorableOwner owner × IsStorableOwner to) }
     ensures cause { FailsByRunning (T.state tx.old) (T.state tx.new) result
         (IsStorableOwner owner × IsStorableOwner to) move_blocks_text (move_values owner to) }
-    ensures err { FailsWhole (T.state tx.old) (T.state tx.new) result }
-    ensures stays { StaysWithin T.lenders T.state tx.old tx.new result }
+    ensures keeps { RunsWithin T.lenders T.state tx.old tx.new result }
 {
     if !is_storable_owner(owner) || !is_storable_owner(to) {
         return Err(StoreFault::Store);
@@ -141,8 +137,7 @@ pub fn move_run<T: Statements>(tx: &mut T, end: &BlockKey, to: BlockOwner) -> Re
         (IsStorableKey end.now × IsStorableOwner to) }
     ensures cause { FailsByRunning (T.state tx.old) (T.state tx.new) result
         (IsStorableKey end.now × IsStorableOwner to) move_run_text (move_run_values end.now to) }
-    ensures err { FailsWhole (T.state tx.old) (T.state tx.new) result }
-    ensures stays { StaysWithin T.lenders T.state tx.old tx.new result }
+    ensures keeps { RunsWithin T.lenders T.state tx.old tx.new result }
 {
     if !is_storable_key(end) || !is_storable_owner(to) {
         return Err(StoreFault::Store);
@@ -203,13 +198,11 @@ pub fn read_block<T: Statements>(tx: &mut T, key: &BlockKey) -> Result<Option<Ve
     ensures ok { Reads (T.state tx.old) (T.state tx.new) result
         (λ t found. AreBytesAt key.now t
         (option_to_list (option_map (λ bytes. Blob bytes.items) found))) }
-    ensures same { ReadsOnly (T.state tx.old) (T.state tx.new) result }
     ensures numbers { RefusesNumbers (T.state tx.old) (T.state tx.new) result
         (IsStorableKey key.now) }
     ensures cause { FailsByReading (T.state tx.old) (T.state tx.new) result
         (IsStorableKey key.now) read_block_text (key_values key.now) (AtMostOne IsBytesRow) }
-    ensures err { FailsReading (T.state tx.old) (T.state tx.new) result }
-    ensures stays { StaysWithin T.lenders T.state tx.old tx.new result }
+    ensures keeps { ReadsWithin T.lenders T.state tx.old tx.new result }
 {
     if !is_storable_key(key) {
         return Err(StoreFault::Store);
@@ -227,13 +220,11 @@ pub fn first_block<T: Statements>(
     owner: BlockOwner,
 ) -> Result<Option<BlockPlace>, StoreFault>
     ensures ok { Reads (T.state tx.old) (T.state tx.new) result (IsFirstBlock owner) }
-    ensures same { ReadsOnly (T.state tx.old) (T.state tx.new) result }
     ensures numbers { RefusesNumbers (T.state tx.old) (T.state tx.new) result
         (IsStorableOwner owner) }
     ensures cause { FailsByReadingNumbers (T.state tx.old) (T.state tx.new) result
         (IsStorableOwner owner) first_block_text (owner_values owner) (AtMostOne IsPlaceRow) }
-    ensures err { FailsInside (T.state tx.old) (T.state tx.new) result }
-    ensures stays { StaysWithin T.lenders T.state tx.old tx.new result }
+    ensures keeps { ReadsWithin T.lenders T.state tx.old tx.new result }
 {
     if !is_storable_owner(owner) {
         return Err(StoreFault::Store);
@@ -251,13 +242,11 @@ pub fn next_block<T: Statements>(
     after: &BlockKey,
 ) -> Result<Option<BlockPlace>, StoreFault>
     ensures ok { Reads (T.state tx.old) (T.state tx.new) result (IsBlockAfter after.now) }
-    ensures same { ReadsOnly (T.state tx.old) (T.state tx.new) result }
     ensures numbers { RefusesNumbers (T.state tx.old) (T.state tx.new) result
         (IsStorableKey after.now) }
     ensures cause { FailsByReadingNumbers (T.state tx.old) (T.state tx.new) result
         (IsStorableKey after.now) next_block_text (key_values after.now) (AtMostOne IsPlaceRow) }
-    ensures err { FailsReading (T.state tx.old) (T.state tx.new) result }
-    ensures stays { StaysWithin T.lenders T.state tx.old tx.new result }
+    ensures keeps { ReadsWithin T.lenders T.state tx.old tx.new result }
 {
     if !is_storable_key(after) {
         return Err(StoreFault::Store);

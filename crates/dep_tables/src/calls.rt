@@ -4,7 +4,7 @@ ghost use Rattle.std.specs.Prelude.{ℕ, IsTrue, IfOk, IfErr, OnOk, Ok};
 ghost use Rattle.std.specs.Borrow.{GName};
 ghost use Rattle.sqlite.specs.State.{State, HasCleanDisk, ExecutesInside, Shown};
 ghost use Rattle.sqlite.specs.Values.{bound};
-ghost use Rattle.dep_tables.specs.Clauses.{FailsToRun, FailsToAsk, FailsWhole, StaysWithin};
+ghost use Rattle.dep_tables.specs.Clauses.{FailsToRun, FailsToAsk, RunsWithin};
 
 use dep_types::StoreFault;
 use sqlite::Row;
@@ -27,8 +27,7 @@ pub trait Statements {
         ensures cause { HasCleanDisk (state self.new)
             → IsTrue (state self.old).in_transaction
             → IfErr result (FailsToRun sql.now (bound params.now) (state self.old) (state self.new)) }
-        ensures err { FailsWhole (state self.old) (state self.new) result }
-        ensures stays { StaysWithin lenders state self.old self.new result };
+        ensures keeps { RunsWithin lenders state self.old self.new result };
 
     /// Runs a query, and answers its rows.
     fn ask(&mut self, sql: &str, params: &[ValueRef<'_>]) -> Result<Vec<Row>, StoreFault>
@@ -37,6 +36,5 @@ pub trait Statements {
             (state self.old) (state self.new) rows.items) }
         ensures cause { HasCleanDisk (state self.new)
             → IfErr result (FailsToAsk sql.now (bound params.now) (state self.old) (state self.new)) }
-        ensures err { FailsWhole (state self.old) (state self.new) result }
-        ensures stays { StaysWithin lenders state self.old self.new result };
+        ensures keeps { RunsWithin lenders state self.old self.new result };
 }

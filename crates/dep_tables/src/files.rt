@@ -5,7 +5,7 @@ ghost use Rattle.sqlite.specs.declared.types.Value.TheVariants.{Int};
 ghost use Rattle.sqlite.specs.Values.{bound};
 ghost use Rattle.dep_tables.specs.Rows.{IsStorableFile, file_row_values, IsFileRow};
 ghost use Rattle.dep_tables.specs.Edits.{with_new_file_row, without_file_row, without_file_rows, LacksFileRow, IsFileRowAt, AreFileRowsOf};
-ghost use Rattle.dep_tables.specs.Clauses.{AtMostOne, Changes, Shows, Reads, ReadsOnly, FailsWhole, FailsReading, RefusesNumbers, FailsByRunning, FailsByReading, StaysWithin};
+ghost use Rattle.dep_tables.specs.Clauses.{AtMostOne, Changes, Shows, Reads, RefusesNumbers, FailsByRunning, FailsByReading, RunsWithin, ReadsWithin};
 ghost use Rattle.dep_tables.specs.Texts.{insert_file_text, delete_file_text, delete_files_text, find_file_text, files_of_text};
 
 use crate::calls::Statements;
@@ -54,8 +54,7 @@ pub fn insert_file<T: Statements>(tx: &mut T, row: &FileRow) -> Result<(), Store
         (IsStorableFile row.now) }
     ensures cause { FailsByRunning (T.state tx.old) (T.state tx.new) result
         (IsStorableFile row.now) insert_file_text (file_row_values row.now) }
-    ensures err { FailsWhole (T.state tx.old) (T.state tx.new) result }
-    ensures stays { StaysWithin T.lenders T.state tx.old tx.new result }
+    ensures keeps { RunsWithin T.lenders T.state tx.old tx.new result }
 {
     if !is_storable_file(row) {
         return Err(StoreFault::Store);
@@ -72,8 +71,7 @@ pub fn delete_file<T: Statements>(tx: &mut T, file: u64) -> Result<(), StoreFaul
     ensures numbers { RefusesNumbers (T.state tx.old) (T.state tx.new) result (file < 2 ^ 63) }
     ensures cause { FailsByRunning (T.state tx.old) (T.state tx.new) result
         (file < 2 ^ 63) delete_file_text (Int (pos file) ∷ []) }
-    ensures err { FailsWhole (T.state tx.old) (T.state tx.new) result }
-    ensures stays { StaysWithin T.lenders T.state tx.old tx.new result }
+    ensures keeps { RunsWithin T.lenders T.state tx.old tx.new result }
 {
     if file >= LIMIT {
         return Err(StoreFault::Store);
@@ -87,8 +85,7 @@ pub fn delete_files<T: Statements>(tx: &mut T, object: u64) -> Result<(), StoreF
     ensures numbers { RefusesNumbers (T.state tx.old) (T.state tx.new) result (object < 2 ^ 63) }
     ensures cause { FailsByRunning (T.state tx.old) (T.state tx.new) result
         (object < 2 ^ 63) delete_files_text (Int (pos object) ∷ []) }
-    ensures err { FailsWhole (T.state tx.old) (T.state tx.new) result }
-    ensures stays { StaysWithin T.lenders T.state tx.old tx.new result }
+    ensures keeps { RunsWithin T.lenders T.state tx.old tx.new result }
 {
     if object >= LIMIT {
         return Err(StoreFault::Store);
@@ -135,12 +132,10 @@ impl FromRow for FileRow {
 /// The row of this key, with the SHA-512 of the file. It is a fault of the store where the row is not one that `insert_file` writes, where the file has no SHA-512, and for a number of 2^63 or more.
 pub fn find_file<T: Statements>(tx: &mut T, file: u64) -> Result<Option<FileRow>, StoreFault>
     ensures ok { Reads (T.state tx.old) (T.state tx.new) result (IsFileRowAt file) }
-    ensures same { ReadsOnly (T.state tx.old) (T.state tx.new) result }
     ensures numbers { RefusesNumbers (T.state tx.old) (T.state tx.new) result (file < 2 ^ 63) }
     ensures cause { FailsByReading (T.state tx.old) (T.state tx.new) result
         (file < 2 ^ 63) find_file_text (Int (pos file) ∷ []) (AtMostOne IsFileRow) }
-    ensures err { FailsReading (T.state tx.old) (T.state tx.new) result }
-    ensures stays { StaysWithin T.lenders T.state tx.old tx.new result }
+    ensures keeps { ReadsWithin T.lenders T.state tx.old tx.new result }
 {
     if file >= LIMIT {
         return Err(StoreFault::Store);
@@ -160,12 +155,10 @@ pub fn files_of<T: Statements>(
 ) -> Result<Vec<FileRow>, StoreFault>
     ensures ok { Reads (T.state tx.old) (T.state tx.new) result
         (λ t found. AreFileRowsOf object t found.items) }
-    ensures same { ReadsOnly (T.state tx.old) (T.state tx.new) result }
     ensures numbers { RefusesNumbers (T.state tx.old) (T.state tx.new) result (object < 2 ^ 63) }
     ensures cause { FailsByReading (T.state tx.old) (T.state tx.new) result
         (object < 2 ^ 63) files_of_text (Int (pos object) ∷ []) (All IsFileRow) }
-    ensures err { FailsReading (T.state tx.old) (T.state tx.new) result }
-    ensures stays { StaysWithin T.lenders T.state tx.old tx.new result }
+    ensures keeps { ReadsWithin T.lenders T.state tx.old tx.new result }
 {
     if object >= LIMIT {
         return Err(StoreFault::Store);

@@ -3,7 +3,7 @@
 ghost use Rattle.std.specs.Prelude.{IsTrue, IfErr, []};
 ghost use Rattle.sqlite.specs.State.{HasCleanDisk};
 ghost use Rattle.dep_tables.specs.Edits.{with_our_version};
-ghost use Rattle.dep_tables.specs.Clauses.{Changes, FailsWhole, FailsToRun, StaysWithin};
+ghost use Rattle.dep_tables.specs.Clauses.{Changes, FailsToRun, RunsWithin};
 ghost use Rattle.dep_tables.specs.Texts.{write_version_text};
 
 use crate::calls::Statements;
@@ -14,8 +14,7 @@ pub fn write_version<T: Statements>(tx: &mut T) -> Result<(), StoreFault>
     ensures ok { Changes (T.state tx.old) (T.state tx.new) result with_our_version }
     ensures cause { HasCleanDisk (T.state tx.new) → IsTrue (T.state tx.old).in_transaction
         → IfErr result (FailsToRun write_version_text [] (T.state tx.old) (T.state tx.new)) }
-    ensures err { FailsWhole (T.state tx.old) (T.state tx.new) result }
-    ensures stays { StaysWithin T.lenders T.state tx.old tx.new result }
+    ensures keeps { RunsWithin T.lenders T.state tx.old tx.new result }
 {
     tx.run("UPDATE format SET version = 2 WHERE id = 1", &[])
 }

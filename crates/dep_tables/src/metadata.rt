@@ -5,7 +5,7 @@ ghost use Rattle.sqlite.specs.declared.types.Value.TheVariants.{Int};
 ghost use Rattle.sqlite.specs.Values.{bound};
 ghost use Rattle.dep_tables.specs.Rows.{IsStorableMetadata, metadata_values, IsMetadataRow};
 ghost use Rattle.dep_tables.specs.Edits.{with_new_metadata_row, without_metadata_rows, LacksMetadataRow, AreMetadataRowsOf};
-ghost use Rattle.dep_tables.specs.Clauses.{Changes, Shows, Reads, ReadsOnly, FailsWhole, FailsReading, RefusesNumbers, FailsByRunning, FailsByReading, StaysWithin};
+ghost use Rattle.dep_tables.specs.Clauses.{Changes, Shows, Reads, RefusesNumbers, FailsByRunning, FailsByReading, RunsWithin, ReadsWithin};
 ghost use Rattle.dep_tables.specs.Texts.{insert_metadata_text, delete_metadata_text, metadata_of_text};
 
 use crate::calls::Statements;
@@ -57,8 +57,7 @@ pub fn insert_metadata<T: Statements>(tx: &mut T, row: &MetadataRow) -> Result<(
         (IsStorableMetadata row.now) }
     ensures cause { FailsByRunning (T.state tx.old) (T.state tx.new) result
         (IsStorableMetadata row.now) insert_metadata_text (metadata_values row.now) }
-    ensures err { FailsWhole (T.state tx.old) (T.state tx.new) result }
-    ensures stays { StaysWithin T.lenders T.state tx.old tx.new result }
+    ensures keeps { RunsWithin T.lenders T.state tx.old tx.new result }
 {
     if !is_storable_metadata(row) {
         return Err(StoreFault::Store);
@@ -75,8 +74,7 @@ pub fn delete_metadata<T: Statements>(tx: &mut T, object: u64) -> Result<(), Sto
     ensures numbers { RefusesNumbers (T.state tx.old) (T.state tx.new) result (object < 2 ^ 63) }
     ensures cause { FailsByRunning (T.state tx.old) (T.state tx.new) result
         (object < 2 ^ 63) delete_metadata_text (Int (pos object) ∷ []) }
-    ensures err { FailsWhole (T.state tx.old) (T.state tx.new) result }
-    ensures stays { StaysWithin T.lenders T.state tx.old tx.new result }
+    ensures keeps { RunsWithin T.lenders T.state tx.old tx.new result }
 {
     if object >= LIMIT {
         return Err(StoreFault::Store);
@@ -118,12 +116,10 @@ pub fn metadata_of<T: Statements>(
 ) -> Result<Vec<MetadataRow>, StoreFault>
     ensures ok { Reads (T.state tx.old) (T.state tx.new) result
         (λ t found. AreMetadataRowsOf object t found.items) }
-    ensures same { ReadsOnly (T.state tx.old) (T.state tx.new) result }
     ensures numbers { RefusesNumbers (T.state tx.old) (T.state tx.new) result (object < 2 ^ 63) }
     ensures cause { FailsByReading (T.state tx.old) (T.state tx.new) result
         (object < 2 ^ 63) metadata_of_text (Int (pos object) ∷ []) (All IsMetadataRow) }
-    ensures err { FailsReading (T.state tx.old) (T.state tx.new) result }
-    ensures stays { StaysWithin T.lenders T.state tx.old tx.new result }
+    ensures keeps { ReadsWithin T.lenders T.state tx.old tx.new result }
 {
     if object >= LIMIT {
         return Err(StoreFault::Store);

@@ -5,7 +5,7 @@ ghost use Rattle.sqlite.specs.declared.types.Value.TheVariants.{Int};
 ghost use Rattle.sqlite.specs.Values.{bound};
 ghost use Rattle.dep_tables.specs.Rows.{IsStorableObject, object_values, IsNumberRow, IsObjectRow};
 ghost use Rattle.dep_tables.specs.Edits.{with_new_object_row, with_object_row, without_object_row, LacksObjectRow, IsObjectRowAt, IsObjectAfter};
-ghost use Rattle.dep_tables.specs.Clauses.{AtMostOne, Changes, Shows, Reads, ReadsOnly, FailsWhole, FailsReading, RefusesNumbers, FailsByRunning, FailsByReadingNumbers, StaysWithin};
+ghost use Rattle.dep_tables.specs.Clauses.{AtMostOne, Changes, Shows, Reads, RefusesNumbers, FailsByRunning, FailsByReadingNumbers, RunsWithin, ReadsWithin};
 ghost use Rattle.dep_tables.specs.Texts.{insert_object_text, write_object_text, delete_object_text, find_object_text, next_object_text};
 
 use crate::calls::Statements;
@@ -48,8 +48,7 @@ pub fn insert_object<T: Statements>(tx: &mut T, row: &ObjectRow) -> Result<(), S
         (IsStorableObject row.now) }
     ensures cause { FailsByRunning (T.state tx.old) (T.state tx.new) result
         (IsStorableObject row.now) insert_object_text (object_values row.now) }
-    ensures err { FailsWhole (T.state tx.old) (T.state tx.new) result }
-    ensures stays { StaysWithin T.lenders T.state tx.old tx.new result }
+    ensures keeps { RunsWithin T.lenders T.state tx.old tx.new result }
 {
     if !is_storable_object(row) {
         return Err(StoreFault::Store);
@@ -67,8 +66,7 @@ pub fn write_object<T: Statements>(tx: &mut T, row: &ObjectRow) -> Result<(), St
         (IsStorableObject row.now) }
     ensures cause { FailsByRunning (T.state tx.old) (T.state tx.new) result
         (IsStorableObject row.now) write_object_text (object_values row.now) }
-    ensures err { FailsWhole (T.state tx.old) (T.state tx.new) result }
-    ensures stays { StaysWithin T.lenders T.state tx.old tx.new result }
+    ensures keeps { RunsWithin T.lenders T.state tx.old tx.new result }
 {
     if !is_storable_object(row) {
         return Err(StoreFault::Store);
@@ -85,8 +83,7 @@ pub fn delete_object<T: Statements>(tx: &mut T, object: u64) -> Result<(), Store
     ensures numbers { RefusesNumbers (T.state tx.old) (T.state tx.new) result (object < 2 ^ 63) }
     ensures cause { FailsByRunning (T.state tx.old) (T.state tx.new) result
         (object < 2 ^ 63) delete_object_text (Int (pos object) ∷ []) }
-    ensures err { FailsWhole (T.state tx.old) (T.state tx.new) result }
-    ensures stays { StaysWithin T.lenders T.state tx.old tx.new result }
+    ensures keeps { RunsWithin T.lenders T.state tx.old tx.new result }
 {
     if object >= LIMIT {
         return Err(StoreFault::Store);
@@ -124,12 +121,10 @@ impl FromRow for ObjectRow {
 /// The row of this key. It is a fault of the store where the row is not one that `insert_object` writes, and for a number of 2^63 or more.
 pub fn find_object<T: Statements>(tx: &mut T, object: u64) -> Result<Option<ObjectRow>, StoreFault>
     ensures ok { Reads (T.state tx.old) (T.state tx.new) result (IsObjectRowAt object) }
-    ensures same { ReadsOnly (T.state tx.old) (T.state tx.new) result }
     ensures numbers { RefusesNumbers (T.state tx.old) (T.state tx.new) result (object < 2 ^ 63) }
     ensures cause { FailsByReadingNumbers (T.state tx.old) (T.state tx.new) result
         (object < 2 ^ 63) find_object_text (Int (pos object) ∷ []) (AtMostOne IsObjectRow) }
-    ensures err { FailsReading (T.state tx.old) (T.state tx.new) result }
-    ensures stays { StaysWithin T.lenders T.state tx.old tx.new result }
+    ensures keeps { ReadsWithin T.lenders T.state tx.old tx.new result }
 {
     if object >= LIMIT {
         return Err(StoreFault::Store);
@@ -144,12 +139,10 @@ pub fn find_object<T: Statements>(tx: &mut T, object: u64) -> Result<Option<Obje
 /// The least object above this one. A number of 2^63 or more is a fault of the store.
 pub fn next_object<T: Statements>(tx: &mut T, after: u64) -> Result<Option<u64>, StoreFault>
     ensures ok { Reads (T.state tx.old) (T.state tx.new) result (IsObjectAfter after) }
-    ensures same { ReadsOnly (T.state tx.old) (T.state tx.new) result }
     ensures numbers { RefusesNumbers (T.state tx.old) (T.state tx.new) result (after < 2 ^ 63) }
     ensures cause { FailsByReadingNumbers (T.state tx.old) (T.state tx.new) result
         (after < 2 ^ 63) next_object_text (Int (pos after) ∷ []) (AtMostOne IsNumberRow) }
-    ensures err { FailsReading (T.state tx.old) (T.state tx.new) result }
-    ensures stays { StaysWithin T.lenders T.state tx.old tx.new result }
+    ensures keeps { ReadsWithin T.lenders T.state tx.old tx.new result }
 {
     if after >= LIMIT {
         return Err(StoreFault::Store);

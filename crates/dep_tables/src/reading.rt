@@ -1,17 +1,17 @@
 //! What is read from the rows that a query shows.
 
-ghost use Rattle.std.specs.Prelude.{◌≡◌, ⊤, ℕ, List, ◌∷◌, [], pos, All, IfOk, IfErr, OnOk, map};
+ghost use Rattle.std.specs.Prelude.{◌≡◌, ⊤, ℕ, List, ◌∷◌, [], pos, All, IfOk, IfErr, map};
 ghost use Rattle.std.specs.Option.{option_to_list};
 ghost use Rattle.sqlite.specs.Order.{Row as Values};
 ghost use Rattle.sqlite.specs.declared.types.Value.TheVariants.{Int};
-ghost use Rattle.sqlite.specs.State.{HasCleanDisk, IsUnchanged};
+ghost use Rattle.sqlite.specs.State.{HasCleanDisk};
 ghost use Rattle.sqlite.specs.Values.{bound};
 ghost use Rattle.dep_statements.specs.Rows.{columns_from};
 ghost use Rattle.dep_types.specs.declared.store_fault.StoreFault.TheVariants.{Memory};
 ghost use Rattle.dep_tables.specs.declared.columns.ColumnKind.{ColumnKind};
 ghost use Rattle.dep_tables.specs.Faults.{fault_for};
 ghost use Rattle.dep_tables.specs.Rows.{HasKinds, number_kinds};
-ghost use Rattle.dep_tables.specs.Clauses.{AtMostOne, IsFaultAt, FailsWithRows, FailsToRead, FailsWhole, FailsInside, ShowsColumns, IsPlainIn, StaysWithin};
+ghost use Rattle.dep_tables.specs.Clauses.{AtMostOne, IsFaultAt, FailsWithRows, FailsToRead, ShowsColumns, AsksWithin};
 
 use crate::calls::Statements;
 use crate::columns::ColumnKind::{self, Number};
@@ -117,13 +117,7 @@ pub(crate) fn ask_one<T: Statements, R: FromRow>(
     ensures cause { HasCleanDisk (T.state tx.new)
         → IfErr result (FailsWithRows R.copies (AtMostOne (HasKinds R.columns))
         sql.now (bound params.now) (T.state tx.old) (T.state tx.new)) }
-    ensures same { HasCleanDisk (T.state tx.new)
-        → IsPlainIn (T.state tx.old) sql.now
-        → OnOk result (IsUnchanged (T.state tx.old) (T.state tx.new)) }
-    ensures err { IsPlainIn (T.state tx.old) sql.now
-        → FailsWhole (T.state tx.old) (T.state tx.new) result }
-    ensures within { FailsInside (T.state tx.old) (T.state tx.new) result }
-    ensures stays { StaysWithin T.lenders T.state tx.old tx.new result }
+    ensures keeps { AsksWithin T.lenders T.state sql.now tx.old tx.new result }
 {
     let rows = tx.ask(sql, params)?;
     at_most_one(rows.as_slice())
@@ -142,12 +136,7 @@ pub(crate) fn ask_all<T: Statements, R: FromRow + Drop>(
     ensures cause { HasCleanDisk (T.state tx.new)
         → IfErr result (FailsToRead (All (HasKinds R.columns)) sql.now (bound params.now)
         (T.state tx.old) (T.state tx.new)) }
-    ensures same { HasCleanDisk (T.state tx.new)
-        → IsPlainIn (T.state tx.old) sql.now
-        → OnOk result (IsUnchanged (T.state tx.old) (T.state tx.new)) }
-    ensures err { IsPlainIn (T.state tx.old) sql.now
-        → FailsWhole (T.state tx.old) (T.state tx.new) result }
-    ensures stays { StaysWithin T.lenders T.state tx.old tx.new result }
+    ensures keeps { AsksWithin T.lenders T.state sql.now tx.old tx.new result }
 {
     let rows = tx.ask(sql, params)?;
     all(alloc, rows.as_slice())

@@ -5,7 +5,7 @@ ghost use Rattle.sqlite.specs.declared.types.Value.TheVariants.{Int};
 ghost use Rattle.sqlite.specs.Values.{bound};
 ghost use Rattle.dep_tables.specs.Rows.{IsStorableSegment, segment_values, IsSegmentRow};
 ghost use Rattle.dep_tables.specs.Edits.{with_new_segment_row, without_segment_rows, LacksSegmentRow, AreSegmentRowsOf};
-ghost use Rattle.dep_tables.specs.Clauses.{Changes, Shows, Reads, ReadsOnly, FailsWhole, FailsReading, RefusesNumbers, FailsByRunning, FailsByReading, StaysWithin};
+ghost use Rattle.dep_tables.specs.Clauses.{Changes, Shows, Reads, RefusesNumbers, FailsByRunning, FailsByReading, RunsWithin, ReadsWithin};
 ghost use Rattle.dep_tables.specs.Texts.{insert_segment_text, delete_segments_text, segments_of_text};
 
 use crate::calls::Statements;
@@ -53,8 +53,7 @@ pub fn insert_segment<T: Statements>(tx: &mut T, row: &SegmentRow) -> Result<(),
         (IsStorableSegment row.now) }
     ensures cause { FailsByRunning (T.state tx.old) (T.state tx.new) result
         (IsStorableSegment row.now) insert_segment_text (segment_values row.now) }
-    ensures err { FailsWhole (T.state tx.old) (T.state tx.new) result }
-    ensures stays { StaysWithin T.lenders T.state tx.old tx.new result }
+    ensures keeps { RunsWithin T.lenders T.state tx.old tx.new result }
 {
     if !is_storable_segment(row) {
         return Err(StoreFault::Store);
@@ -71,8 +70,7 @@ pub fn delete_segments<T: Statements>(tx: &mut T, upload: u64) -> Result<(), Sto
     ensures numbers { RefusesNumbers (T.state tx.old) (T.state tx.new) result (upload < 2 ^ 63) }
     ensures cause { FailsByRunning (T.state tx.old) (T.state tx.new) result
         (upload < 2 ^ 63) delete_segments_text (Int (pos upload) ∷ []) }
-    ensures err { FailsWhole (T.state tx.old) (T.state tx.new) result }
-    ensures stays { StaysWithin T.lenders T.state tx.old tx.new result }
+    ensures keeps { RunsWithin T.lenders T.state tx.old tx.new result }
 {
     if upload >= LIMIT {
         return Err(StoreFault::Store);
@@ -112,12 +110,10 @@ pub fn segments_of<T: Statements>(
 ) -> Result<Vec<SegmentRow>, StoreFault>
     ensures ok { Reads (T.state tx.old) (T.state tx.new) result
         (λ t found. AreSegmentRowsOf upload t found.items) }
-    ensures same { ReadsOnly (T.state tx.old) (T.state tx.new) result }
     ensures numbers { RefusesNumbers (T.state tx.old) (T.state tx.new) result (upload < 2 ^ 63) }
     ensures cause { FailsByReading (T.state tx.old) (T.state tx.new) result
         (upload < 2 ^ 63) segments_of_text (Int (pos upload) ∷ []) (All IsSegmentRow) }
-    ensures err { FailsReading (T.state tx.old) (T.state tx.new) result }
-    ensures stays { StaysWithin T.lenders T.state tx.old tx.new result }
+    ensures keeps { ReadsWithin T.lenders T.state tx.old tx.new result }
 {
     if upload >= LIMIT {
         return Err(StoreFault::Store);

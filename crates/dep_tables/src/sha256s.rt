@@ -4,7 +4,7 @@ ghost use Rattle.std.specs.Prelude.{All, ◌<◌, ◌^◌, ◌∷◌, [], pos};
 ghost use Rattle.sqlite.specs.declared.types.Value.TheVariants.{Int};
 ghost use Rattle.dep_tables.specs.Rows.{IsSha256Row};
 ghost use Rattle.dep_tables.specs.Edits.{AreSha256sOf};
-ghost use Rattle.dep_tables.specs.Clauses.{Reads, ReadsOnly, FailsReading, RefusesNumbers, FailsByReading, StaysWithin};
+ghost use Rattle.dep_tables.specs.Clauses.{Reads, RefusesNumbers, FailsByReading, ReadsWithin};
 ghost use Rattle.dep_tables.specs.Texts.{sha256s_of_text};
 
 use crate::calls::Statements;
@@ -56,12 +56,10 @@ pub fn sha256s_of<T: Statements>(
 ) -> Result<Vec<FileSha256>, StoreFault>
     ensures ok { Reads (T.state tx.old) (T.state tx.new) result
         (λ t found. AreSha256sOf object t found.items) }
-    ensures same { ReadsOnly (T.state tx.old) (T.state tx.new) result }
     ensures numbers { RefusesNumbers (T.state tx.old) (T.state tx.new) result (object < 2 ^ 63) }
     ensures cause { FailsByReading (T.state tx.old) (T.state tx.new) result
         (object < 2 ^ 63) sha256s_of_text (Int (pos object) ∷ []) (All IsSha256Row) }
-    ensures err { FailsReading (T.state tx.old) (T.state tx.new) result }
-    ensures stays { StaysWithin T.lenders T.state tx.old tx.new result }
+    ensures keeps { ReadsWithin T.lenders T.state tx.old tx.new result }
 {
     if object >= LIMIT {
         return Err(StoreFault::Store);

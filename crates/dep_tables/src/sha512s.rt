@@ -6,7 +6,7 @@ ghost use Rattle.sqlite.specs.declared.types.Value.TheVariants.{Blob};
 ghost use Rattle.sqlite.specs.Values.{bound};
 ghost use Rattle.dep_tables.specs.Rows.{IsStorableOwner, owner_values, sha512_values, IsSha512Row};
 ghost use Rattle.dep_tables.specs.Edits.{with_new_sha512, without_sha512, LacksSha512, IsSha512Of};
-ghost use Rattle.dep_tables.specs.Clauses.{AtMostOne, Changes, Shows, Reads, ReadsOnly, FailsWhole, FailsReading, RefusesNumbers, FailsByRunning, FailsByReadingNumbers, StaysWithin};
+ghost use Rattle.dep_tables.specs.Clauses.{AtMostOne, Changes, Shows, Reads, RefusesNumbers, FailsByRunning, FailsByReadingNumbers, RunsWithin, ReadsWithin};
 ghost use Rattle.dep_tables.specs.Texts.{insert_sha512_text, delete_sha512_text, find_sha512_text};
 
 use crate::calls::Statements;
@@ -48,8 +48,7 @@ pub fn insert_sha512<T: Statements>(
         (IsStorableOwner owner) }
     ensures cause { FailsByRunning (T.state tx.old) (T.state tx.new) result
         (IsStorableOwner owner) insert_sha512_text (sha512_values owner value.now) }
-    ensures err { FailsWhole (T.state tx.old) (T.state tx.new) result }
-    ensures stays { StaysWithin T.lenders T.state tx.old tx.new result }
+    ensures keeps { RunsWithin T.lenders T.state tx.old tx.new result }
 {
     if !is_storable_owner(owner) {
         return Err(StoreFault::Store);
@@ -67,8 +66,7 @@ pub fn delete_sha512<T: Statements>(tx: &mut T, owner: BlockOwner) -> Result<(),
         (IsStorableOwner owner) }
     ensures cause { FailsByRunning (T.state tx.old) (T.state tx.new) result
         (IsStorableOwner owner) delete_sha512_text (owner_values owner) }
-    ensures err { FailsWhole (T.state tx.old) (T.state tx.new) result }
-    ensures stays { StaysWithin T.lenders T.state tx.old tx.new result }
+    ensures keeps { RunsWithin T.lenders T.state tx.old tx.new result }
 {
     if !is_storable_owner(owner) {
         return Err(StoreFault::Store);
@@ -108,13 +106,11 @@ pub fn find_sha512<T: Statements>(
 ) -> Result<Option<[u8; 64]>, StoreFault>
     ensures ok { Reads (T.state tx.old) (T.state tx.new) result
         (λ t found. IsSha512Of owner t (option_to_list (option_map (λ value. Blob value) found))) }
-    ensures same { ReadsOnly (T.state tx.old) (T.state tx.new) result }
     ensures numbers { RefusesNumbers (T.state tx.old) (T.state tx.new) result
         (IsStorableOwner owner) }
     ensures cause { FailsByReadingNumbers (T.state tx.old) (T.state tx.new) result
         (IsStorableOwner owner) find_sha512_text (owner_values owner) (AtMostOne IsSha512Row) }
-    ensures err { FailsReading (T.state tx.old) (T.state tx.new) result }
-    ensures stays { StaysWithin T.lenders T.state tx.old tx.new result }
+    ensures keeps { ReadsWithin T.lenders T.state tx.old tx.new result }
 {
     if !is_storable_owner(owner) {
         return Err(StoreFault::Store);

@@ -6,7 +6,7 @@ ghost use Rattle.sqlite.specs.State.{HasCleanDisk};
 ghost use Rattle.sqlite.specs.Values.{bound};
 ghost use Rattle.dep_tables.specs.Rows.{IsStorableState, IsStateRow, state_values};
 ghost use Rattle.dep_tables.specs.Edits.{with_state_row, HasStateRow};
-ghost use Rattle.dep_tables.specs.Clauses.{Changes, Reads, ReadsOnly, FailsWhole, FailsReading, RefusesNumbers, FailsByRunning, FailsToReadNumbers, JustOne, StaysWithin};
+ghost use Rattle.dep_tables.specs.Clauses.{Changes, Reads, RefusesNumbers, FailsByRunning, FailsToReadNumbers, JustOne, RunsWithin, ReadsWithin};
 ghost use Rattle.dep_tables.specs.Texts.{write_state_text, read_state_text};
 
 use crate::calls::Statements;
@@ -56,8 +56,7 @@ pub fn write_state<T: Statements>(tx: &mut T, row: &StateRow) -> Result<(), Stor
         (IsStorableState row.now) }
     ensures cause { FailsByRunning (T.state tx.old) (T.state tx.new) result
         (IsStorableState row.now) write_state_text (state_values row.now) }
-    ensures err { FailsWhole (T.state tx.old) (T.state tx.new) result }
-    ensures stays { StaysWithin T.lenders T.state tx.old tx.new result }
+    ensures keeps { RunsWithin T.lenders T.state tx.old tx.new result }
 {
     if !is_storable_state(row) {
         return Err(StoreFault::Store);
@@ -99,12 +98,10 @@ impl FromRow for StateRow {
 /// Reads the row. It is a fault of the store where there is none, or where it is not one that `write_state` writes.
 pub fn read_state<T: Statements>(tx: &mut T) -> Result<StateRow, StoreFault>
     ensures ok { Reads (T.state tx.old) (T.state tx.new) result HasStateRow }
-    ensures same { ReadsOnly (T.state tx.old) (T.state tx.new) result }
     ensures cause { HasCleanDisk (T.state tx.new)
         → IfErr result (FailsToReadNumbers (JustOne IsStateRow) read_state_text []
         (T.state tx.old) (T.state tx.new)) }
-    ensures err { FailsReading (T.state tx.old) (T.state tx.new) result }
-    ensures stays { StaysWithin T.lenders T.state tx.old tx.new result }
+    ensures keeps { ReadsWithin T.lenders T.state tx.old tx.new result }
 {
     let found = ask_one(
         tx,

@@ -4,7 +4,7 @@ ghost use Rattle.std.specs.Prelude.{◌≡◌, pos, is_some, ◌<◌, ◌^◌, �
 ghost use Rattle.sqlite.specs.declared.types.Value.TheVariants.{Int};
 ghost use Rattle.dep_tables.specs.Rows.{IsNumberRow};
 ghost use Rattle.dep_tables.specs.Edits.{with_timed_out, LacksTimedOut, has_timed_out};
-ghost use Rattle.dep_tables.specs.Clauses.{AtMostOne, Changes, Shows, Reads, ReadsOnly, FailsWhole, FailsReading, RefusesNumbers, FailsByRunning, FailsByReadingNumbers, StaysWithin};
+ghost use Rattle.dep_tables.specs.Clauses.{AtMostOne, Changes, Shows, Reads, RefusesNumbers, FailsByRunning, FailsByReadingNumbers, RunsWithin, ReadsWithin};
 ghost use Rattle.dep_tables.specs.Texts.{insert_timed_out_text, find_timed_out_text};
 
 use crate::calls::Statements;
@@ -19,8 +19,7 @@ pub fn insert_timed_out<T: Statements>(tx: &mut T, upload: u64) -> Result<(), St
     ensures numbers { RefusesNumbers (T.state tx.old) (T.state tx.new) result (upload < 2 ^ 63) }
     ensures cause { FailsByRunning (T.state tx.old) (T.state tx.new) result
         (upload < 2 ^ 63) insert_timed_out_text (Int (pos upload) ∷ []) }
-    ensures err { FailsWhole (T.state tx.old) (T.state tx.new) result }
-    ensures stays { StaysWithin T.lenders T.state tx.old tx.new result }
+    ensures keeps { RunsWithin T.lenders T.state tx.old tx.new result }
 {
     if upload >= LIMIT {
         return Err(StoreFault::Store);
@@ -34,12 +33,10 @@ pub fn insert_timed_out<T: Statements>(tx: &mut T, upload: u64) -> Result<(), St
 fn find_number<T: Statements>(tx: &mut T, upload: u64) -> Result<Option<u64>, StoreFault>
     ensures ok { Reads (T.state tx.old) (T.state tx.new) result
         (λ t found. is_some found ≡ has_timed_out upload t) }
-    ensures same { ReadsOnly (T.state tx.old) (T.state tx.new) result }
     ensures numbers { RefusesNumbers (T.state tx.old) (T.state tx.new) result (upload < 2 ^ 63) }
     ensures cause { FailsByReadingNumbers (T.state tx.old) (T.state tx.new) result
         (upload < 2 ^ 63) find_timed_out_text (Int (pos upload) ∷ []) (AtMostOne IsNumberRow) }
-    ensures err { FailsReading (T.state tx.old) (T.state tx.new) result }
-    ensures stays { StaysWithin T.lenders T.state tx.old tx.new result }
+    ensures keeps { ReadsWithin T.lenders T.state tx.old tx.new result }
 {
     if upload >= LIMIT {
         return Err(StoreFault::Store);
@@ -55,12 +52,10 @@ fn find_number<T: Statements>(tx: &mut T, upload: u64) -> Result<Option<u64>, St
 pub fn find_timed_out<T: Statements>(tx: &mut T, upload: u64) -> Result<bool, StoreFault>
     ensures ok { Reads (T.state tx.old) (T.state tx.new) result
         (λ t found. found ≡ has_timed_out upload t) }
-    ensures same { ReadsOnly (T.state tx.old) (T.state tx.new) result }
     ensures numbers { RefusesNumbers (T.state tx.old) (T.state tx.new) result (upload < 2 ^ 63) }
     ensures cause { FailsByReadingNumbers (T.state tx.old) (T.state tx.new) result
         (upload < 2 ^ 63) find_timed_out_text (Int (pos upload) ∷ []) (AtMostOne IsNumberRow) }
-    ensures err { FailsReading (T.state tx.old) (T.state tx.new) result }
-    ensures stays { StaysWithin T.lenders T.state tx.old tx.new result }
+    ensures keeps { ReadsWithin T.lenders T.state tx.old tx.new result }
 {
     let found = find_number(tx, upload)?;
     Ok(found.is_some())

@@ -5,7 +5,7 @@ ghost use Rattle.sqlite.specs.declared.types.Value.TheVariants.{Int};
 ghost use Rattle.sqlite.specs.Values.{bound};
 ghost use Rattle.dep_tables.specs.Rows.{IsStorableUpload, columns_of_upload, upload_values, IsUploadRow, IsLeftRow};
 ghost use Rattle.dep_tables.specs.Edits.{with_new_upload_row, with_upload_row, without_upload_row, LacksUploadRow, IsUploadRowAt, IsLeftBefore};
-ghost use Rattle.dep_tables.specs.Clauses.{AtMostOne, Changes, Shows, Reads, ReadsOnly, FailsWhole, FailsReading, RefusesNumbers, FailsByRunning, FailsByReadingNumbers, StaysWithin};
+ghost use Rattle.dep_tables.specs.Clauses.{AtMostOne, Changes, Shows, Reads, RefusesNumbers, FailsByRunning, FailsByReadingNumbers, RunsWithin, ReadsWithin};
 ghost use Rattle.dep_tables.specs.Texts.{insert_upload_text, write_upload_text, delete_upload_text, find_upload_text, left_before_text};
 
 use crate::calls::Statements;
@@ -91,8 +91,7 @@ pub fn insert_upload<T: Statements>(tx: &mut T, row: &UploadColumns) -> Result<(
         (IsStorableUpload row.now) }
     ensures cause { FailsByRunning (T.state tx.old) (T.state tx.new) result
         (IsStorableUpload row.now) insert_upload_text (upload_values row.now) }
-    ensures err { FailsWhole (T.state tx.old) (T.state tx.new) result }
-    ensures stays { StaysWithin T.lenders T.state tx.old tx.new result }
+    ensures keeps { RunsWithin T.lenders T.state tx.old tx.new result }
 {
     if !is_storable_upload(row) {
         return Err(StoreFault::Store);
@@ -110,8 +109,7 @@ pub fn write_upload<T: Statements>(tx: &mut T, row: &UploadColumns) -> Result<()
         (IsStorableUpload row.now) }
     ensures cause { FailsByRunning (T.state tx.old) (T.state tx.new) result
         (IsStorableUpload row.now) write_upload_text (upload_values row.now) }
-    ensures err { FailsWhole (T.state tx.old) (T.state tx.new) result }
-    ensures stays { StaysWithin T.lenders T.state tx.old tx.new result }
+    ensures keeps { RunsWithin T.lenders T.state tx.old tx.new result }
 {
     if !is_storable_upload(row) {
         return Err(StoreFault::Store);
@@ -128,8 +126,7 @@ pub fn delete_upload<T: Statements>(tx: &mut T, upload: u64) -> Result<(), Store
     ensures numbers { RefusesNumbers (T.state tx.old) (T.state tx.new) result (upload < 2 ^ 63) }
     ensures cause { FailsByRunning (T.state tx.old) (T.state tx.new) result
         (upload < 2 ^ 63) delete_upload_text (Int (pos upload) ∷ []) }
-    ensures err { FailsWhole (T.state tx.old) (T.state tx.new) result }
-    ensures stays { StaysWithin T.lenders T.state tx.old tx.new result }
+    ensures keeps { RunsWithin T.lenders T.state tx.old tx.new result }
 {
     if upload >= LIMIT {
         return Err(StoreFault::Store);
@@ -170,12 +167,10 @@ pub fn find_upload<T: Statements>(
     upload: u64,
 ) -> Result<Option<UploadColumns>, StoreFault>
     ensures ok { Reads (T.state tx.old) (T.state tx.new) result (IsUploadRowAt upload) }
-    ensures same { ReadsOnly (T.state tx.old) (T.state tx.new) result }
     ensures numbers { RefusesNumbers (T.state tx.old) (T.state tx.new) result (upload < 2 ^ 63) }
     ensures cause { FailsByReadingNumbers (T.state tx.old) (T.state tx.new) result
         (upload < 2 ^ 63) find_upload_text (Int (pos upload) ∷ []) (AtMostOne IsUploadRow) }
-    ensures err { FailsReading (T.state tx.old) (T.state tx.new) result }
-    ensures stays { StaysWithin T.lenders T.state tx.old tx.new result }
+    ensures keeps { ReadsWithin T.lenders T.state tx.old tx.new result }
 {
     if upload >= LIMIT {
         return Err(StoreFault::Store);
@@ -213,12 +208,10 @@ impl FromRow for LeftUpload {
 /// Of the uploads that were last written to before this moment (in seconds of Unix time), the one that was left the longest, and the least number of several; none where there is none. It is a fault of the store where the row is not one of two numbers, and for a moment of 2^63 or more.
 pub fn left_before<T: Statements>(tx: &mut T, moment: u64) -> Result<Option<LeftUpload>, StoreFault>
     ensures ok { Reads (T.state tx.old) (T.state tx.new) result (IsLeftBefore moment) }
-    ensures same { ReadsOnly (T.state tx.old) (T.state tx.new) result }
     ensures numbers { RefusesNumbers (T.state tx.old) (T.state tx.new) result (moment < 2 ^ 63) }
     ensures cause { FailsByReadingNumbers (T.state tx.old) (T.state tx.new) result
         (moment < 2 ^ 63) left_before_text (Int (pos moment) ∷ []) (AtMostOne IsLeftRow) }
-    ensures err { FailsReading (T.state tx.old) (T.state tx.new) result }
-    ensures stays { StaysWithin T.lenders T.state tx.old tx.new result }
+    ensures keeps { ReadsWithin T.lenders T.state tx.old tx.new result }
 {
     if moment >= LIMIT {
         return Err(StoreFault::Store);

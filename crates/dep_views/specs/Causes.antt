@@ -2,10 +2,16 @@
 use Rattle.std.specs.Prelude.{◌≡◌, ◌≢◌, ◌≤◌, ⊤, ℕ, List, [], ◌∷◌, Some, All, IfSome}
 use Rattle.std.specs.FinMap as finmap
 use Rattle.dep_types.specs.Limits.{IsStorable}
+use Rattle.sqlite.specs.State as db
+use Rattle.dep_types.specs.Sound.{IsSound}
 use Rattle.dep_types.specs.State.{State, Upload as Staged}
+use Rattle.dep_types.specs.declared.store_fault.StoreFault.{StoreFault}
 use Rattle.dep_answers.specs.declared.subject.Subject.{Subject}
 use Rattle.dep_answers.specs.declared.subject.Subject.TheVariants.{Nothing, Object, ObjectRow, Metadata, File, Upload}
+use Rattle.dep_row_maps.specs.Causes.{FailsHolding}
 use Rattle.dep_row_maps.specs.TablesAre.{metadata_at}
+use Rattle.dep_staging.specs.HashedAhead.{AreRunning}
+use Rattle.dep_staging.specs.declared.running.RunningHashes.{RunningHashes}
 use Rattle.dep_operations.specs.declared.view.SegmentId.{SegmentId}
 use Rattle.dep_operations.specs.declared.view.Touched.{Touched}
 
@@ -46,3 +52,12 @@ ShowsList s (Object n) = metadata_at s.objects n ≢ finmap.empty
 ShowsList s (Metadata n) = metadata_at s.objects n ≢ finmap.empty
 ShowsList s (Upload u) = HasSegments s u
 ShowsList s subject = ⊥
+
+-- a statement fails, or memory is wanting for a list of what was looked up, where there is something
+abbrev pub FailsToList : {A : Type 0} → List A → db.State → db.State → StoreFault → Type 0
+FailsToList looked_up = FailsHolding (looked_up ≢ [])
+
+-- of a sound state and numbers that a table can hold this is so
+abbrev pub ForStorable : State → RunningHashes → Touched → Type 0 → Type 0
+ForStorable s running t holds =
+    IsSound s → AreRunning s running → AreStorable t → IsStorableSegment s t → holds

@@ -5,8 +5,8 @@ ghost use Rattle.std.specs.FinMap as finmap;
 ghost use Rattle.dep_types.specs.Limits.{IsStorable};
 ghost use Rattle.dep_types.specs.Sound.{IsSound};
 ghost use Rattle.dep_types.specs.Rows.{object_view};
-ghost use Rattle.dep_tables.specs.Clauses.{ReadsOnly, FailsReading, StaysWithin};
-ghost use Rattle.dep_row_maps.specs.Clauses.{FromMaps, KeepsOurs};
+ghost use Rattle.dep_tables.specs.Clauses.{ReadsWithin};
+ghost use Rattle.dep_row_maps.specs.Clauses.{FromMaps};
 ghost use Rattle.dep_row_maps.specs.Causes.{FailsHolding, FailsSince};
 ghost use Rattle.dep_row_maps.specs.TablesAre.{metadata_at};
 
@@ -26,14 +26,11 @@ pub fn load_object_view<T: Statements>(
     ensures map { FromMaps (T.state tx.old) (T.state tx.new)
         (λ s. IsSound s → IfOk result (λ found.
         found ≡ option_map (object_view object) (finmap.get s.objects object))) }
-    ensures same { ReadsOnly (T.state tx.old) (T.state tx.new) result }
-    ensures ours { KeepsOurs (T.state tx.old) (T.state tx.new) result }
     ensures cause { FromMaps (T.state tx.old) (T.state tx.new)
         (λ s. IsStorable object
         → IfErr result (FailsSince T.state
         (FailsHolding (metadata_at s.objects object ≢ finmap.empty)) tx.old tx.new)) }
-    ensures err { FailsReading (T.state tx.old) (T.state tx.new) result }
-    ensures stays { StaysWithin T.lenders T.state tx.old tx.new result }
+    ensures keeps { ReadsWithin T.lenders T.state tx.old tx.new result }
 {
     let Some(described) = load_object(tx, alloc, object)? else {
         return Ok(None);

@@ -1,15 +1,16 @@
 //! A segment that is sent, beside what was received before.
 
-ghost use Rattle.std.specs.Prelude.{◌≡◌, ◌≤◌, ℕ, Bool, false, List, [], ◌∷◌, map, is_some, None, Some, IfOk, IfErr, IsTrue};
+ghost use Rattle.std.specs.Prelude.{◌≡◌, ◌≤◌, ℕ, Bool, false, List, [], ◌∷◌, map, None, Some, IfOk, IfErr, IsTrue};
 ghost use Rattle.std.specs.FinMap as finmap;
 ghost use Rattle.dep_types.specs.State.{State, Upload};
 ghost use Rattle.dep_types.specs.Sound.{IsSound};
 ghost use Rattle.dep_operations.specs.Views.{touched_repeat, upload_state, upload_view};
-ghost use Rattle.dep_tables.specs.Clauses.{ReadsOnly, FailsReading, StaysWithin};
+ghost use Rattle.dep_tables.specs.Clauses.{MayReadWithin};
 ghost use Rattle.dep_row_maps.specs.TablesAre.{segments_at};
 ghost use Rattle.dep_row_maps.specs.Clauses.{FromMaps};
 ghost use Rattle.dep_row_maps.specs.Causes.{FailsByStatement, FailsSince};
 ghost use Rattle.dep_views.specs.Causes.{IsStorableSegment};
+ghost use Rattle.dep_views.specs.Seen.{AreViewsOf};
 
 use dep_fixity::HashedOctets;
 use dep_operations::{SegmentId, Touched, UploadState, UploadView};
@@ -58,17 +59,12 @@ pub(crate) fn load_repeat<T: Statements>(
     views: &[UploadView],
 ) -> Result<Option<bool>, StoreFault>
     ensures map { FromMaps (T.state tx.old) (T.state tx.new)
-        (λ s. IsSound s
-        → views.now ≡ map (upload_view (is_some touched.now.references) s) touched.now.uploads
+        (λ s. IsSound s → AreViewsOf s touched.now views.now
         → IfOk result (λ repeats. repeats ≡ touched_repeat s content.now touched.now)) }
-    ensures same { IsTrue (T.state tx.old).is_open
-        → ReadsOnly (T.state tx.old) (T.state tx.new) result }
     ensures cause { FromMaps (T.state tx.old) (T.state tx.new)
-        (λ s. views.now ≡ map (upload_view (is_some touched.now.references) s) touched.now.uploads
-        → IsStorableSegment s touched.now
+        (λ s. AreViewsOf s touched.now views.now → IsStorableSegment s touched.now
         → IfErr result (FailsSince T.state FailsByStatement tx.old tx.new)) }
-    ensures err { FailsReading (T.state tx.old) (T.state tx.new) result }
-    ensures stays { StaysWithin T.lenders T.state tx.old tx.new result }
+    ensures keeps { MayReadWithin T.lenders T.state tx.old tx.new result }
 {
     let Some(id) = touched.segment else {
         return Ok(None);

@@ -8,7 +8,7 @@ ghost use Rattle.dep_types.specs.Sound.{IsSound};
 ghost use Rattle.dep_answers.specs.Subjects.{shown_at};
 ghost use Rattle.dep_answers.specs.declared.subject.Subject.TheVariants as subject;
 ghost use Rattle.dep_tables.specs.Tables.{IsOurs};
-ghost use Rattle.dep_tables.specs.Clauses.{ReadsOnly, RefusesNumbers, FailsReading, StaysWithin};
+ghost use Rattle.dep_tables.specs.Clauses.{RefusesNumbers, ReadsWithin, MayReadWithin};
 ghost use Rattle.dep_row_maps.specs.Clauses.{FromMaps, KeepsOurs};
 ghost use Rattle.dep_row_maps.specs.TablesAre.{metadata_at};
 ghost use Rattle.dep_row_maps.specs.Causes.{FailsByOne, FailsByStatement, FailsHolding, FailsSince};
@@ -27,13 +27,11 @@ use std::alloc::Global;
 fn show_object<T: Statements>(tx: &mut T, alloc: Global, object: u64) -> Result<Shown, StoreFault>
     ensures map { FromMaps (T.state tx.old) (T.state tx.new)
         (λ s. IsSound s → IfOk result (λ shown. shown ≡ shown_at s (subject.Object object))) }
-    ensures same { ReadsOnly (T.state tx.old) (T.state tx.new) result }
     ensures cause { FromMaps (T.state tx.old) (T.state tx.new)
         (λ s. IsStorable object
         → IfErr result (FailsSince T.state
         (FailsHolding (metadata_at s.objects object ≢ finmap.empty)) tx.old tx.new)) }
-    ensures err { FailsReading (T.state tx.old) (T.state tx.new) result }
-    ensures stays { StaysWithin T.lenders T.state tx.old tx.new result }
+    ensures keeps { ReadsWithin T.lenders T.state tx.old tx.new result }
 {
     match load_object_view(tx, alloc, object)? {
         Some(view) => Ok(Shown::Object(view)),
@@ -44,11 +42,9 @@ fn show_object<T: Statements>(tx: &mut T, alloc: Global, object: u64) -> Result<
 fn show_row<T: Statements>(tx: &mut T, object: u64) -> Result<Shown, StoreFault>
     ensures map { FromMaps (T.state tx.old) (T.state tx.new)
         (λ s. IfOk result (λ shown. shown ≡ shown_at s (subject.ObjectRow object))) }
-    ensures same { ReadsOnly (T.state tx.old) (T.state tx.new) result }
     ensures numbers { RefusesNumbers (T.state tx.old) (T.state tx.new) result (IsStorable object) }
     ensures cause { FailsByOne T.state tx.old tx.new result (IsStorable object) FailsByStatement }
-    ensures err { FailsReading (T.state tx.old) (T.state tx.new) result }
-    ensures stays { StaysWithin T.lenders T.state tx.old tx.new result }
+    ensures keeps { ReadsWithin T.lenders T.state tx.old tx.new result }
 {
     match find_object(tx, object)? {
         Some(row) => Ok(Shown::ObjectRow(row)),
@@ -59,13 +55,11 @@ fn show_row<T: Statements>(tx: &mut T, object: u64) -> Result<Shown, StoreFault>
 fn show_metadata<T: Statements>(tx: &mut T, alloc: Global, object: u64) -> Result<Shown, StoreFault>
     ensures map { FromMaps (T.state tx.old) (T.state tx.new)
         (λ s. IsSound s → IfOk result (λ shown. shown ≡ shown_at s (subject.Metadata object))) }
-    ensures same { ReadsOnly (T.state tx.old) (T.state tx.new) result }
     ensures cause { FromMaps (T.state tx.old) (T.state tx.new)
         (λ s. IsStorable object
         → IfErr result (FailsSince T.state
         (FailsHolding (metadata_at s.objects object ≢ finmap.empty)) tx.old tx.new)) }
-    ensures err { FailsReading (T.state tx.old) (T.state tx.new) result }
-    ensures stays { StaysWithin T.lenders T.state tx.old tx.new result }
+    ensures keeps { ReadsWithin T.lenders T.state tx.old tx.new result }
 {
     match load_object(tx, alloc, object)? {
         Some(described) => Ok(Shown::Metadata {
@@ -79,11 +73,9 @@ fn show_metadata<T: Statements>(tx: &mut T, alloc: Global, object: u64) -> Resul
 fn show_file<T: Statements>(tx: &mut T, id: FileId) -> Result<Shown, StoreFault>
     ensures map { FromMaps (T.state tx.old) (T.state tx.new)
         (λ s. IfOk result (λ shown. shown ≡ shown_at s (subject.File id))) }
-    ensures same { ReadsOnly (T.state tx.old) (T.state tx.new) result }
     ensures numbers { RefusesNumbers (T.state tx.old) (T.state tx.new) result (IsStorable id.file) }
     ensures cause { FailsByOne T.state tx.old tx.new result (IsStorable id.file) FailsByStatement }
-    ensures err { FailsReading (T.state tx.old) (T.state tx.new) result }
-    ensures stays { StaysWithin T.lenders T.state tx.old tx.new result }
+    ensures keeps { ReadsWithin T.lenders T.state tx.old tx.new result }
 {
     match find_file(tx, id.object, id.file)? {
         Some(row) => Ok(Shown::File(row)),
@@ -94,13 +86,11 @@ fn show_file<T: Statements>(tx: &mut T, id: FileId) -> Result<Shown, StoreFault>
 fn show_upload<T: Statements>(tx: &mut T, alloc: Global, upload: u64) -> Result<Shown, StoreFault>
     ensures map { FromMaps (T.state tx.old) (T.state tx.new)
         (λ s. IfOk result (λ shown. shown ≡ shown_at s (subject.Upload upload))) }
-    ensures same { ReadsOnly (T.state tx.old) (T.state tx.new) result }
     ensures numbers { RefusesNumbers (T.state tx.old) (T.state tx.new) result (IsStorable upload) }
     ensures cause { FromMaps (T.state tx.old) (T.state tx.new)
         (λ s. IsStorable upload
         → IfErr result (FailsSince T.state (FailsHolding (HasSegments s upload)) tx.old tx.new)) }
-    ensures err { FailsReading (T.state tx.old) (T.state tx.new) result }
-    ensures stays { StaysWithin T.lenders T.state tx.old tx.new result }
+    ensures keeps { ReadsWithin T.lenders T.state tx.old tx.new result }
 {
     match load_upload(tx, alloc, upload)? {
         FoundUpload::Live(staged) => Ok(Shown::Upload {
@@ -121,8 +111,6 @@ pub fn load_shown<T: Statements>(
 ) -> Result<Shown, StoreFault>
     ensures map { FromMaps (T.state tx.old) (T.state tx.new)
         (λ s. IsSound s → IfOk result (λ shown. shown ≡ shown_at s subject.now)) }
-    ensures same { IsTrue (T.state tx.old).is_open
-        → ReadsOnly (T.state tx.old) (T.state tx.new) result }
     ensures still { HasCleanDisk (T.state tx.new)
         → IsOurs (T.state tx.old)
         → OnOk result ((T.state tx.new).now ≡ (T.state tx.old).now) }
@@ -131,8 +119,7 @@ pub fn load_shown<T: Statements>(
         (λ s. IsStorableSubject subject.now
         → IfErr result (FailsSince T.state (FailsHolding (ShowsList s subject.now))
         tx.old tx.new)) }
-    ensures err { FailsReading (T.state tx.old) (T.state tx.new) result }
-    ensures stays { StaysWithin T.lenders T.state tx.old tx.new result }
+    ensures keeps { MayReadWithin T.lenders T.state tx.old tx.new result }
 {
     match *subject {
         Subject::Nothing => Ok(Shown::Nothing),

@@ -7,7 +7,7 @@ ghost use Rattle.dep_types.specs.BagPaths.{tag_paths};
 ghost use Rattle.dep_bag.specs.Parts.{row_path};
 ghost use Rattle.dep_types.specs.Sound.{IsSound};
 ghost use Rattle.dep_operations.specs.Views.{touched_file, touched_object};
-ghost use Rattle.dep_tables.specs.Clauses.{ReadsOnly, FailsReading, StaysWithin};
+ghost use Rattle.dep_tables.specs.Clauses.{MayReadWithin};
 ghost use Rattle.dep_row_maps.specs.Clauses.{FromMaps};
 ghost use Rattle.dep_row_maps.specs.Causes.{FailsByOne, FailsByStatement, FailsSince};
 ghost use Rattle.dep_views.specs.Causes.{AreStorable};
@@ -28,12 +28,9 @@ pub(crate) fn find_touched_object<T: Statements>(
 ) -> Result<Option<ObjectRow>, StoreFault>
     ensures map { FromMaps (T.state tx.old) (T.state tx.new)
         (λ s. IfOk result (λ found. found ≡ touched_object s touched.now)) }
-    ensures same { IsTrue (T.state tx.old).is_open
-        → ReadsOnly (T.state tx.old) (T.state tx.new) result }
     ensures cause { FailsByOne T.state tx.old tx.new result
         (AreStorable touched.now) FailsByStatement }
-    ensures err { FailsReading (T.state tx.old) (T.state tx.new) result }
-    ensures stays { StaysWithin T.lenders T.state tx.old tx.new result }
+    ensures keeps { MayReadWithin T.lenders T.state tx.old tx.new result }
 {
     match touched.object {
         Some(object) => find_object(tx, object),
@@ -48,12 +45,9 @@ pub(crate) fn find_touched_file<T: Statements>(
 ) -> Result<Option<FileRow>, StoreFault>
     ensures map { FromMaps (T.state tx.old) (T.state tx.new)
         (λ s. IfOk result (λ found. found ≡ touched_file s touched.now)) }
-    ensures same { IsTrue (T.state tx.old).is_open
-        → ReadsOnly (T.state tx.old) (T.state tx.new) result }
     ensures cause { FailsByOne T.state tx.old tx.new result
         (AreStorable touched.now) FailsByStatement }
-    ensures err { FailsReading (T.state tx.old) (T.state tx.new) result }
-    ensures stays { StaysWithin T.lenders T.state tx.old tx.new result }
+    ensures keeps { MayReadWithin T.lenders T.state tx.old tx.new result }
 {
     match (touched.object, touched.file) {
         (Some(object), Some(file)) => find_file(tx, object, file),
@@ -69,11 +63,8 @@ fn find_file_at_path<T: Statements>(
 ) -> Result<Option<FileRow>, StoreFault>
     ensures map { FromMaps (T.state tx.old) (T.state tx.new)
         (λ s. IfOk result (λ found. found ≡ file_at_path s object path.now)) }
-    ensures same { IsTrue (T.state tx.old).is_open
-        → ReadsOnly (T.state tx.old) (T.state tx.new) result }
     ensures cause { FailsByOne T.state tx.old tx.new result ⊤ FailsByStatement }
-    ensures err { FailsReading (T.state tx.old) (T.state tx.new) result }
-    ensures stays { StaysWithin T.lenders T.state tx.old tx.new result }
+    ensures keeps { MayReadWithin T.lenders T.state tx.old tx.new result }
 {
     match file_number(path) {
         Some(file) => find_file(tx, object, file),
@@ -111,11 +102,8 @@ pub(crate) fn find_touched_path<T: Statements>(
     ensures map { FromMaps (T.state tx.old) (T.state tx.new)
         (λ s. IsSound s → option_copied object.entry ≡ touched_object s touched.now
         → IfOk result (λ seen. seen ≡ path_seen s touched.now)) }
-    ensures same { IsTrue (T.state tx.old).is_open
-        → ReadsOnly (T.state tx.old) (T.state tx.new) result }
     ensures cause { FailsByOne T.state tx.old tx.new result ⊤ FailsByStatement }
-    ensures err { FailsReading (T.state tx.old) (T.state tx.new) result }
-    ensures stays { StaysWithin T.lenders T.state tx.old tx.new result }
+    ensures keeps { MayReadWithin T.lenders T.state tx.old tx.new result }
 {
     match (object, &touched.path) {
         (Some(object), Some(path)) => {

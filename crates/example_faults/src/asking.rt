@@ -3,21 +3,21 @@
 use crate::hub::{arrives, connected};
 use crate::script::Request;
 use dep_hub::{Archive, Arrived, Hub};
-use example_text::{Cut, Page, Pieces, Reply, Trouble, differing};
+use example_text::{Page, Pieces, Reply, Trouble, differing};
 use std::alloc::Global;
 
-/// What is sent for these bytes, and what that came to.
+/// Asks these bytes. What is sent for them is all that the page has then.
 pub fn asked<A: Archive + Drop>(
-    alloc: Global,
     hub: &mut Hub<A>,
     pieces: Pieces<'_>,
     moment: u64,
-) -> Result<(Page, Arrived), Trouble> {
-    let mut page = Page::new(alloc, usize::MAX, usize::MAX)?;
+    page: &mut Page,
+) -> Result<Arrived, Trouble> {
+    page.clear();
     let connection = connected(hub)?;
-    let came = arrives(hub, connection, pieces, moment, &mut page);
+    let came = arrives(hub, connection, pieces, moment, page);
     hub.close(connection);
-    Ok((page, came))
+    Ok(came)
 }
 
 /// How a request is answered.
@@ -25,10 +25,10 @@ pub fn replied<A: Archive + Drop>(
     alloc: Global,
     hub: &mut Hub<A>,
     request: &Request,
+    page: &mut Page,
 ) -> Result<Reply, Trouble> {
     let exchange = &request.exchange;
-    let pieces = exchange.cut.pieces(exchange.stream.as_slice());
-    let (page, came) = asked(alloc, hub, pieces, exchange.moment)?;
+    let came = asked(hub, exchange.pieces(), exchange.moment, page)?;
     judged(alloc, request, page.bytes()?, came)
 }
 
@@ -37,7 +37,7 @@ fn judged(alloc: Global, request: &Request, sent: &[u8], came: Arrived) -> Resul
     let want = request.exchange.want.as_slice();
     let reply = Reply::of(want, sent);
     let is_right = match (reply, came) {
-        (Reply::Other, _) => return Err(differing(alloc, want, sent)?),
+        (Reply::Other, _) => return Err(differing(alloc, want, sent)),
         (Reply::AsWritten, Arrived::Open) => !request.closes,
         (Reply::AsWritten, Arrived::Closed) => request.closes,
         (Reply::Fixed, Arrived::Closed) => true,
@@ -56,24 +56,10 @@ pub fn is_answered<A: Archive + Drop>(
     alloc: Global,
     hub: &mut Hub<A>,
     request: &Request,
+    page: &mut Page,
 ) -> Result<(), Trouble> {
-    match replied(alloc, hub, request)? {
+    match replied(alloc, hub, request, page)? {
         Reply::AsWritten => Ok(()),
         _ => Err(Trouble::Line("a request is given up where no call of a file fails")),
     }
-}
-
-/// What is looked at, at a moment.
-pub fn looked<A: Archive + Drop>(
-    alloc: Global,
-    hub: &mut Hub<A>,
-    looks: &[Vec<u8>],
-    moment: u64,
-) -> Result<Vec<Vec<u8>>, Trouble> {
-    let mut picture = Vec::new(alloc);
-    for look in looks {
-        let (page, _) = asked(alloc, hub, Cut::Whole.pieces(look.as_slice()), moment)?;
-        picture.push(page.bytes()?.to_vec(alloc)?)?;
-    }
-    Ok(picture)
 }

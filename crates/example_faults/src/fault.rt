@@ -4,7 +4,7 @@ use example_text::Trouble;
 use std::fmt;
 
 /// What happens at a call of a file, which fails as all later ones do.
-#[derive(Clone, Copy, PartialEq, Eq)]
+#[derive(Clone, Copy)]
 pub enum Fault {
     /// The process goes on, and the next one finds the files as they are.
     Fails,
@@ -12,17 +12,17 @@ pub enum Fault {
     Stops,
 }
 
-impl fmt::Display for Fault {
-    fn fmt<W: fmt::Write>(&self, f: &mut fmt::Formatter<W>) -> fmt::Result {
-        f.write_str(match self {
+impl Fault {
+    fn name(self) -> &'static str {
+        match self {
             Fault::Fails => "fails",
             Fault::Stops => "stops",
-        })
+        }
     }
 }
 
 /// A file of an archive.
-#[derive(Clone, Copy, PartialEq, Eq)]
+#[derive(Clone, Copy)]
 pub enum FaultyFile {
     Log,
     Database,
@@ -37,13 +37,27 @@ impl FaultyFile {
             _ => Err(Trouble::Line("no file of an archive has that name")),
         }
     }
-}
 
-impl fmt::Display for FaultyFile {
-    fn fmt<W: fmt::Write>(&self, f: &mut fmt::Formatter<W>) -> fmt::Result {
-        f.write_str(match self {
+    fn name(self) -> &'static str {
+        match self {
             FaultyFile::Log => "log",
             FaultyFile::Database => "database",
-        })
+        }
+    }
+}
+
+/// What happens to which file.
+#[derive(Clone, Copy)]
+pub struct FileFault {
+    pub fault: Fault,
+    pub file: FaultyFile,
+    /// So many of the file's calls go through before.
+    pub calls: u64,
+}
+
+impl fmt::Display for FileFault {
+    fn fmt<W: fmt::Write>(&self, f: &mut fmt::Formatter<W>) -> fmt::Result {
+        let (fault, file, calls) = (self.fault.name(), self.file.name(), self.calls);
+        write!(f, "{fault} {file} after {calls} calls")
     }
 }

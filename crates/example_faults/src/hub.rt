@@ -18,6 +18,14 @@ pub fn hub_over<A: Archive + Drop>(
     }
 }
 
+/// Why there is no hub.
+pub fn trouble_of(fault: HubFault) -> Trouble {
+    match fault {
+        HubFault::Memory => Trouble::Memory,
+        HubFault::Config => Trouble::Line("the configuration is refused"),
+    }
+}
+
 /// A new connection.
 pub fn connected<A: Archive + Drop>(hub: &mut Hub<A>) -> Result<ConnId, Trouble> {
     match hub.connect() {

@@ -12,7 +12,7 @@ mod script;
 
 pub use fault::{Fault, FaultyFile};
 pub use files::FaultyFiles;
-pub use hub::{arrives, connected, hub_over, word_of};
+pub use hub::{arrives, connected, hub_over, trouble_of, word_of};
 pub use play::FaultPlay;
 pub use rounds::play_faults;
 pub use script::Script;

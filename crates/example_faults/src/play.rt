@@ -1,18 +1,18 @@
 //! A script that is played over an archive, part by part.
 
-use crate::asking::{asked, is_answered, looked, replied};
-use crate::hub::hub_over;
-use crate::script::Script;
-use dep_hub::{Archive, Hub, HubFault};
-use example_text::{Cut, Reply, Settings, Trouble, differing};
-use std::alloc::Global;
+use crate::asking::{asked, is_answered, replied};
+use crate::hub::{hub_over, trouble_of};
+use crate::script::{Request, Script};
+use dep_hub::{Archive, Hub};
+use example_text::{Cut, Page, Reply, Settings, Trouble, differing, parting};
+use std::alloc::{AllocError, Global};
 use std::mem;
 
 /// The moment at which the archive is looked at: before all others, so that looking moves no clock.
 const LOOKING: u64 = 0;
 
 /// What is played.
-#[derive(Clone, Copy, PartialEq, Eq)]
+#[derive(Clone, Copy)]
 pub enum Part {
     /// All requests, each of which is answered as it is written. What is looked at is recorded.
     Record,
@@ -47,6 +47,9 @@ pub struct FaultPlay<'a> {
     /// What is looked at before the first request, and then for each request behind its passing of time alone, and
     /// behind all of it.
     pictures: Vec<Vec<Vec<u8>>>,
+    /// What was looked at last.
+    seen: Vec<Vec<u8>>,
+    page: Page,
     /// So many requests are done.
     done: usize,
     /// The one behind these was given up.
@@ -56,17 +59,23 @@ pub struct FaultPlay<'a> {
 
 impl<'a> FaultPlay<'a> {
     /// Nothing of the script is played or recorded.
-    pub fn new(alloc: Global, script: &'a Script, settings: &'a Settings) -> FaultPlay<'a> {
-        FaultPlay {
+    pub fn new(
+        alloc: Global,
+        script: &'a Script,
+        settings: &'a Settings,
+    ) -> Result<FaultPlay<'a>, AllocError> {
+        Ok(FaultPlay {
             alloc,
             script,
             settings,
             part: Part::Record,
             pictures: Vec::new(alloc),
+            seen: Vec::new(alloc),
+            page: Page::new(alloc)?,
             done: 0,
             has_work: false,
             end: End::Unopened,
-        }
+        })
     }
 
     /// Where its memory comes from.
@@ -78,13 +87,20 @@ impl<'a> FaultPlay<'a> {
     pub fn begin(&mut self, part: Part) {
         self.part = part;
         self.ends(End::Unopened);
-        if part != Part::Resume {
-            self.done = 0;
-            self.has_work = false;
+        match part {
+            Part::Resume => {}
+            Part::Record => {
+                self.rewinds();
+                self.pictures.clear();
+            }
+            Part::UpToFault | Part::ThroughFault => self.rewinds(),
         }
-        if part == Part::Record {
-            self.pictures.clear();
-        }
+    }
+
+    // No request is done.
+    fn rewinds(&mut self) {
+        self.done = 0;
+        self.has_work = false;
     }
 
     /// Plays the part over this archive.
@@ -118,136 +134,178 @@ impl<'a> FaultPlay<'a> {
     // It tells whether each request was answered as it is written.
     fn plays_on<A: Archive + Drop>(&mut self, hub: &mut Hub<A>) -> Result<bool, Trouble> {
         match self.part {
-            Part::Record => self.records(hub)?,
-            Part::UpToFault => return self.goes_on(hub),
-            Part::ThroughFault => {
-                let is_whole = self.goes_on(hub)?;
-                // The request that was given up comes once more.
-                let _ = is_whole || self.goes_on(hub)?;
-                self.looks_on(hub)?;
-                return Ok(is_whole);
-            }
-            Part::Resume => self.resumes(hub)?,
+            Part::Record => self.records(hub),
+            Part::UpToFault => self.goes_on(hub),
+            Part::ThroughFault => self.goes_through(hub),
+            Part::Resume => self.resumes(hub),
+        }
+    }
+
+    fn records<A: Archive + Drop>(&mut self, hub: &mut Hub<A>) -> Result<bool, Trouble> {
+        self.adds_picture(hub, LOOKING)?;
+        let script = self.script;
+        for request in &script.requests {
+            self.records_one(hub, request)?;
         }
         Ok(true)
     }
 
-    fn records<A: Archive + Drop>(&mut self, hub: &mut Hub<A>) -> Result<(), Trouble> {
-        let looks = self.script.looks.as_slice();
-        self.pictures
-            .push(looked(self.alloc, hub, looks, LOOKING)?)?;
-        for request in &self.script.requests {
-            let ticked = looked(self.alloc, hub, looks, request.exchange.moment)?;
-            is_answered(self.alloc, hub, request)?;
-            let after = looked(self.alloc, hub, looks, LOOKING)?;
-            if ticked == after && !request.may_change_nothing() {
-                return Err(Trouble::Line("a request changes nothing that is looked at"));
-            }
-            self.pictures.push(ticked)?;
-            self.pictures.push(after)?;
+    fn records_one<A: Archive + Drop>(
+        &mut self,
+        hub: &mut Hub<A>,
+        request: &Request,
+    ) -> Result<(), Trouble> {
+        self.adds_picture(hub, request.exchange.moment)?;
+        is_answered(self.alloc, hub, request, &mut self.page)?;
+        self.adds_picture(hub, LOOKING)?;
+        if self.has_changed() || request.may_change_nothing() {
+            return Ok(());
+        }
+        Err(Trouble::Line("a request changes nothing that is looked at"))
+    }
+
+    fn adds_picture<A: Archive + Drop>(
+        &mut self,
+        hub: &mut Hub<A>,
+        moment: u64,
+    ) -> Result<(), Trouble> {
+        self.looks(hub, moment)?;
+        let picture = mem::replace(&mut self.seen, Vec::new(self.alloc));
+        self.pictures.push(picture).map_err(Trouble::from)
+    }
+
+    // Looks at all that is looked at.
+    fn looks<A: Archive + Drop>(&mut self, hub: &mut Hub<A>, moment: u64) -> Result<(), Trouble> {
+        self.seen.clear();
+        let script = self.script;
+        for look in &script.looks {
+            let pieces = Cut::Whole.pieces(look.as_slice());
+            let _came = asked(hub, pieces, moment, &mut self.page)?;
+            self.seen.push(self.page.copied(self.alloc)?)?;
         }
         Ok(())
+    }
+
+    // Whether the last two pictures differ.
+    fn has_changed(&self) -> bool {
+        match self.pictures.as_slice() {
+            [.., before, after] => before != after,
+            _ => true,
+        }
     }
 
     // The requests that are not done yet, up to the first that isn't answered as it is written. It tells whether there
     // is none.
     fn goes_on<A: Archive + Drop>(&mut self, hub: &mut Hub<A>) -> Result<bool, Trouble> {
-        for request in self.script.requests.iter().skip(self.done) {
-            let reply = replied(self.alloc, hub, request)?;
-            self.has_work = reply == Reply::Fixed;
-            // A reply is cut behind its request's step.
-            if reply != Reply::Fixed {
-                self.done = self.done.saturating_add(1);
-            }
-            if reply != Reply::AsWritten {
+        let script = self.script;
+        for request in script.left(self.done) {
+            let reply = replied(self.alloc, hub, request, &mut self.page)?;
+            self.counts(reply);
+            if !matches!(reply, Reply::AsWritten) {
                 return Ok(false);
             }
         }
         Ok(true)
     }
 
-    // What is looked at is as before the request in work, or behind its passing of time alone; or it is not answered.
-    fn looks_on<A: Archive + Drop>(&self, hub: &mut Hub<A>) -> Result<(), Trouble> {
+    // One more request is done, unless it was given up. A reply is cut behind its request's step.
+    fn counts(&mut self, reply: Reply) {
+        self.has_work = matches!(reply, Reply::Fixed);
+        if !self.has_work {
+            self.done = self.done.saturating_add(1);
+        }
+    }
+
+    fn goes_through<A: Archive + Drop>(&mut self, hub: &mut Hub<A>) -> Result<bool, Trouble> {
+        let is_whole = self.goes_on(hub)?;
+        if !is_whole {
+            // The request that was given up comes once more.
+            let _is_whole = self.goes_on(hub)?;
+        }
+        self.looks(hub, LOOKING)?;
+        if self.may_be_seen() {
+            return Ok(is_whole);
+        }
+        Err(Trouble::Line("a store whose file fails shows another state"))
+    }
+
+    // Whether what is looked at is as before the request in work, or behind its passing of time alone; or it is not
+    // answered.
+    fn may_be_seen(&self) -> bool {
         let place = self.done.saturating_mul(2);
-        for (i, look) in self.script.looks.iter().enumerate() {
-            let pieces = Cut::Whole.pieces(look.as_slice());
-            let (page, _) = asked(self.alloc, hub, pieces, LOOKING)?;
-            let sent = page.bytes()?;
-            let is_right = self.may_show(place, i, sent)
-                || self.has_work && self.may_show(place.saturating_add(1), i, sent);
+        for (i, sent) in self.seen.iter().enumerate() {
+            let is_right = self.may_show(place, i, sent.as_slice())
+                || self.has_work && self.may_show(place.saturating_add(1), i, sent.as_slice());
             if !is_right {
-                return Err(Trouble::Line("a store whose file fails shows another state"));
+                return false;
             }
         }
-        Ok(())
+        true
     }
 
     // Whether this may be sent for what is looked at as it is recorded at this place.
     fn may_show(&self, place: usize, look: usize, sent: &[u8]) -> bool {
         match self.pictures.get(place) {
             Some(picture) => match picture.get(look) {
-                Some(want) => Reply::of(want.as_slice(), sent) != Reply::Other,
+                Some(want) => !matches!(Reply::of(want.as_slice(), sent), Reply::Other),
                 None => false,
             },
             None => false,
         }
     }
 
-    fn resumes<A: Archive + Drop>(&mut self, hub: &mut Hub<A>) -> Result<(), Trouble> {
-        let looks = self.script.looks.as_slice();
-        let found = looked(self.alloc, hub, looks, LOOKING)?;
-        self.done = self.place_of(found.as_slice())?;
-        for request in self.script.requests.iter().skip(self.done) {
-            is_answered(self.alloc, hub, request)?;
+    fn resumes<A: Archive + Drop>(&mut self, hub: &mut Hub<A>) -> Result<bool, Trouble> {
+        self.finds_place(hub)?;
+        let script = self.script;
+        for request in script.left(self.done) {
+            is_answered(self.alloc, hub, request, &mut self.page)?;
         }
-        self.done = self.script.requests.len();
+        self.done = script.requests.len();
         self.has_work = false;
-        let found = looked(self.alloc, hub, looks, LOOKING)?;
-        let _ = self.place_of(found.as_slice())?;
-        Ok(())
+        self.finds_place(hub)?;
+        Ok(true)
     }
 
-    // So many requests are done where this is what is looked at.
-    fn place_of(&self, found: &[Vec<u8>]) -> Result<usize, Trouble> {
+    // Looks how many requests are done.
+    fn finds_place<A: Archive + Drop>(&mut self, hub: &mut Hub<A>) -> Result<(), Trouble> {
+        self.looks(hub, LOOKING)?;
         let place = self.done.saturating_mul(2);
-        if self.is_pictured(place, found) {
-            return Ok(self.done);
+        if self.is_seen(place) || self.has_work && self.is_seen(place.saturating_add(1)) {
+            return Ok(());
         }
-        if self.has_work && self.is_pictured(place.saturating_add(1), found) {
-            return Ok(self.done);
+        if self.has_work && self.is_seen(place.saturating_add(2)) {
+            self.done = self.done.saturating_add(1);
+            return Ok(());
         }
-        if self.has_work && self.is_pictured(place.saturating_add(2), found) {
-            return Ok(self.done.saturating_add(1));
-        }
-        Err(self.neither(place, found)?)
+        Err(self.neither(place))
     }
 
-    fn is_pictured(&self, place: usize, found: &[Vec<u8>]) -> bool {
+    // Whether what is looked at is as it is recorded at this place.
+    fn is_seen(&self, place: usize) -> bool {
         match self.pictures.get(place) {
-            Some(picture) => picture.as_slice() == found,
+            Some(picture) => picture.as_slice() == self.seen.as_slice(),
             None => false,
         }
     }
 
     // What is looked at is neither as recorded at this place nor as the request in work leaves it.
-    fn neither(&self, place: usize, found: &[Vec<u8>]) -> Result<Trouble, Trouble> {
-        if let Some(picture) = self.pictures.get(place) {
-            for (want, sent) in picture.iter().zip(found.iter()) {
-                if want != sent {
-                    let why = differing(self.alloc, want.as_slice(), sent.as_slice())?;
-                    return Ok(Trouble::Other(format!(in self.alloc;
-                        "opened again, what is looked at is neither as before the request in work nor as after it: {why}"
-                    )?));
-                }
-            }
+    fn neither(&self, place: usize) -> Trouble {
+        match self.pictures.get(place) {
+            Some(picture) => seen_otherwise(self.alloc, picture.as_slice(), self.seen.as_slice()),
+            None => Trouble::Line("nothing is recorded there"),
         }
-        Ok(Trouble::Line("nothing is recorded there"))
     }
 }
 
-fn trouble_of(fault: HubFault) -> Trouble {
-    match fault {
-        HubFault::Memory => Trouble::Memory,
-        HubFault::Config => Trouble::Line("the configuration is refused"),
+fn seen_otherwise(alloc: Global, picture: &[Vec<u8>], seen: &[Vec<u8>]) -> Trouble {
+    let look = parting(picture, seen);
+    match (picture.get(look), seen.get(look)) {
+        (Some(want), Some(sent)) => {
+            let why = differing(alloc, want.as_slice(), sent.as_slice());
+            Trouble::told(format!(in alloc;
+                "opened again, what is looked at is neither as before the request in work nor as after it: {why}"
+            ))
+        }
+        _ => Trouble::Line("nothing is recorded there"),
     }
 }

@@ -1,6 +1,6 @@
 //! A script is played with a fault at each call of a file.
 
-use crate::fault::{Fault, FaultyFile};
+use crate::fault::{Fault, FaultyFile, FileFault};
 use crate::files::FaultyFiles;
 use crate::play::{End, FaultPlay, Part};
 use crate::script::Script;
@@ -20,10 +20,20 @@ pub fn play_faults<F: FaultyFiles>(
     settings: &Settings,
 ) -> Result<(), Trouble> {
     script.is_whole()?;
-    let files = F::made(alloc, script.statements.as_str())?;
-    let mut play = FaultPlay::new(alloc, script, settings);
-    let played = all_faults(&files, script, &mut play);
+    let mut play = FaultPlay::new(alloc, script, settings)?;
+    let played = play_over::<F>(alloc, script, &mut play);
     drop(play);
+    played
+}
+
+fn play_over<F: FaultyFiles>(
+    alloc: Global,
+    script: &Script,
+    play: &mut FaultPlay<'_>,
+) -> Result<(), Trouble> {
+    let files = F::made(alloc, script.statements.as_str())?;
+    let played = all_faults(&files, script, play);
+    drop(files);
     played
 }
 
@@ -33,11 +43,7 @@ fn all_faults<F: FaultyFiles>(
     play: &mut FaultPlay<'_>,
 ) -> Result<(), Trouble> {
     if let Err(why) = recorded(files, play) {
-        return Err(if recorded(files, play).is_ok() {
-            Trouble::Memory
-        } else {
-            why
-        });
+        return Err(once_more(recorded(files, play), why));
     }
     for (fault, file) in &script.faults {
         at_each_call(files, play, *fault, *file)?;
@@ -45,20 +51,39 @@ fn all_faults<F: FaultyFiles>(
     Ok(())
 }
 
+// Why it went wrong, and not once more.
+fn once_more(played: Result<(), Trouble>, why: Trouble) -> Trouble {
+    match played {
+        Ok(()) => Trouble::Memory,
+        Err(_) => why,
+    }
+}
+
 fn recorded<F: FaultyFiles>(files: &F, play: &mut FaultPlay<'_>) -> Result<(), Trouble> {
     let alloc = play.alloc();
     let copy = files.copied(alloc, FaultyFile::Log, u64::MAX)?;
-    play.begin(Part::Record);
-    drop(copy.played(alloc, play));
-    is_done(play)
+    plays_whole(copy, play, Part::Record)
 }
 
-fn is_done(play: &mut FaultPlay<'_>) -> Result<(), Trouble> {
+// Plays a part in which no call fails.
+fn plays_whole<F: FaultyFiles>(
+    files: F,
+    play: &mut FaultPlay<'_>,
+    part: Part,
+) -> Result<(), Trouble> {
+    play.begin(part);
+    drop(files.played(play.alloc(), play));
+    has_ended(play, false)
+}
+
+// The requests came to their end, or to a call of a file that failed.
+fn has_ended(play: &mut FaultPlay<'_>, may_fail: bool) -> Result<(), Trouble> {
     match play.end() {
+        End::Wrong(why) => Err(why),
         End::Done => Ok(()),
+        End::Unopened | End::Stopped if may_fail => Ok(()),
         End::Unopened => Err(UNOPENED),
         End::Stopped => Err(GIVEN_UP),
-        End::Wrong(why) => Err(why),
     }
 }
 
@@ -69,55 +94,55 @@ fn at_each_call<F: FaultyFiles>(
     file: FaultyFile,
 ) -> Result<(), Trouble> {
     for calls in 0..u64::MAX {
-        match round(files, play, fault, file, calls) {
-            Ok(true) => {}
-            Ok(false) if calls == 0 => return Err(Trouble::Line("no call is made of that file")),
-            Ok(false) => return Ok(()),
-            Err(why) => {
-                if round(files, play, fault, file, calls).is_ok() {
-                    return Err(Trouble::Memory);
-                }
-                return Err(Trouble::Other(format!(in play.alloc();
-                    "{fault} {file} after {calls} calls: {why}"
-                )?));
-            }
+        let at = FileFault { fault, file, calls };
+        if !round(files, play, at)? {
+            return Ok(());
         }
     }
     Ok(())
 }
 
-// Plays over a copy of the files up to the fault after so many calls, and on from what it left. It tells whether all these
-// calls were made.
+// It tells whether all calls before the fault were made.
 fn round<F: FaultyFiles>(
     files: &F,
     play: &mut FaultPlay<'_>,
-    fault: Fault,
-    file: FaultyFile,
-    calls: u64,
+    at: FileFault,
+) -> Result<bool, Trouble> {
+    match plays_round(files, play, at) {
+        Ok(false) if at.calls == 0 => Err(Trouble::Line("no call is made of that file")),
+        Ok(is_spent) => Ok(is_spent),
+        Err(why) => Err(match plays_round(files, play, at) {
+            Ok(_) => Trouble::Memory,
+            Err(_) => Trouble::told(format!(in play.alloc(); "{at}: {why}")),
+        }),
+    }
+}
+
+// Plays over a copy of the files up to the fault, and on from what it left. It tells whether all calls before the fault
+// were made.
+fn plays_round<F: FaultyFiles>(
+    files: &F,
+    play: &mut FaultPlay<'_>,
+    at: FileFault,
 ) -> Result<bool, Trouble> {
     let alloc = play.alloc();
-    let copy = files.copied(alloc, file, calls)?;
-    play.begin(match fault {
+    let copy = files.copied(alloc, at.file, at.calls)?;
+    play.begin(match at.fault {
         Fault::Fails => Part::ThroughFault,
         Fault::Stops => Part::UpToFault,
     });
     let mut spent = copy.played(alloc, play);
     let is_spent = spent.is_spent();
-    let left = spent.left(alloc, fault)?;
-    has_stopped(play, is_spent)?;
-    play.begin(Part::Resume);
-    drop(left.played(alloc, play));
-    is_done(play)?;
+    let left = spent.left(alloc, at.fault)?;
+    resumes(left, play, is_spent)?;
     Ok(is_spent)
 }
 
-// The requests came to their end, or to a call of a file that failed.
-fn has_stopped(play: &mut FaultPlay<'_>, is_spent: bool) -> Result<(), Trouble> {
-    match play.end() {
-        End::Wrong(why) => Err(why),
-        End::Done => Ok(()),
-        End::Unopened | End::Stopped if is_spent => Ok(()),
-        End::Unopened => Err(UNOPENED),
-        End::Stopped => Err(GIVEN_UP),
-    }
+fn resumes<F: FaultyFiles>(
+    left: F,
+    play: &mut FaultPlay<'_>,
+    is_spent: bool,
+) -> Result<(), Trouble> {
+    has_ended(play, is_spent)?;
+    plays_whole(left, play, Part::Resume)
 }

@@ -35,6 +35,7 @@ pub struct Script {
 }
 
 impl Script {
+    /// One that asks nothing, over new files. `is_whole` refuses it.
     pub fn new(alloc: Global) -> Script {
         Script {
             statements: String::new(alloc),
@@ -42,6 +43,11 @@ impl Script {
             looks: Vec::new(alloc),
             faults: Vec::new(alloc),
         }
+    }
+
+    /// The requests behind so many.
+    pub fn left(&self, done: usize) -> &[Request] {
+        self.requests.as_slice().get(done..).unwrap_or(&[])
     }
 
     /// Whether something happens to a file.
@@ -87,17 +93,22 @@ impl Script {
 
     /// Adds an exchange that ends in this word.
     pub fn add(&mut self, exchange: Exchange, answer: &str) -> Result<(), Trouble> {
-        let stream = exchange.stream.as_slice();
-        let comes_again = self
-            .requests
-            .iter()
-            .any(|it| it.exchange.stream.as_slice() == stream);
-        self.requests.push(Request {
+        let request = Request {
+            comes_again: self.asks(exchange.stream.as_slice()),
+            closes: matches!(answer, "closed"),
             exchange,
-            closes: answer == "closed",
-            comes_again,
-        })?;
-        Ok(())
+        };
+        self.requests.push(request).map_err(Trouble::from)
+    }
+
+    // Whether a request has these bytes.
+    fn asks(&self, stream: &[u8]) -> bool {
+        for request in &self.requests {
+            if request.exchange.stream.as_slice() == stream {
+                return true;
+            }
+        }
+        false
     }
 
     /// There has to be something that is asked, and something that is looked at.

@@ -28,8 +28,8 @@ pub trait ExampleArchive: Archive + Drop {
     /// The tables, on which no archive opens: that comes to the fault of this name.
     fn unopened(alloc: Global, tables: Self::Tables, fault: &str) -> Result<Self::Tables, Trouble>;
 
-    /// The tables, which these statements of SQL have changed.
-    fn changed(tables: Self::Tables, statements: &str) -> Result<Self::Tables, Trouble>;
+    /// These statements of SQL change the tables.
+    fn change(tables: &mut Self::Tables, statements: &str) -> Result<(), Trouble>;
 
     /// Makes a call of it, and tells in a word what that came to.
     fn answers(

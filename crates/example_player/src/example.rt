@@ -2,222 +2,148 @@
 
 use crate::archive::ExampleArchive;
 use crate::play::Play;
-use crate::verdict::Verdict;
 use example_text::{Cut, Trouble, Words};
 use std::alloc::Global;
 use std::fmt;
 
-/// An example: its lines, the title first, and the number of that line in the file.
-#[derive(Clone, Copy)]
-pub struct Example<'a> {
-    lines: &'a str,
-    number: usize,
-    /// The row that is played, of those that it has.
-    row: &'a str,
-}
-
-/// What is wrong in an example: where, in which row, how the bytes were cut, and why.
+/// An example, and what of it is played.
 #[derive(Drop)]
-pub struct Wrong<'a> {
-    example: Example<'a>,
-    line: usize,
+pub struct Example<'a> {
+    alloc: Global,
+    words: &'a mut Words,
+    /// Its lines, the title first.
+    lines: &'a str,
+    /// The number of its first line in the file.
+    number: usize,
+    /// The row, of those that it has.
+    row: &'a str,
     cut: Cut,
-    why: Trouble,
+    /// The line, counted from the first.
+    line: usize,
 }
 
-impl Wrong<'_> {
-    pub fn verdict(&self) -> Verdict {
-        match &self.why {
-            Trouble::Memory => Verdict::Unknown,
-            _ => Verdict::Otherwise,
-        }
-    }
-}
-
-impl fmt::Display for Wrong<'_> {
+// It tells where the play stands: in which line, in which row, and how the bytes are cut.
+impl fmt::Display for Example<'_> {
     fn fmt<W: fmt::Write>(&self, f: &mut fmt::Formatter<W>) -> fmt::Result {
-        let title = self.example.title();
-        let row = self.example.row;
-        let (line, cut, why) = (self.line, self.cut, &self.why);
-        write!(f, "{line}: \"{title}\"")?;
-        if !row.is_empty() {
-            write!(f, ", row {row}")?;
-        }
-        write!(f, ", {cut}: {why}")
+        let line = self.number.saturating_add(self.line);
+        let (title, row, cut) = (self.title(), self.row, self.cut);
+        let what = if row.is_empty() { "" } else { ", row " };
+        write!(f, "{line}: \"{title}\"{what}{row}, {cut}")
     }
 }
 
 impl<'a> Example<'a> {
-    pub fn new(lines: &'a str, number: usize) -> Example<'a> {
+    /// These lines, of which the first has this number in the file. Nothing is played yet.
+    pub fn new(alloc: Global, words: &'a mut Words, lines: &'a str, number: usize) -> Example<'a> {
         Example {
+            alloc,
+            words,
             lines,
             number,
             row: "",
+            cut: Cut::Whole,
+            line: 0,
         }
     }
 
-    /// Takes the texts that stand above the first example.
-    pub fn sets_out<A: ExampleArchive>(
-        self,
-        alloc: Global,
-        words: &mut Words,
-    ) -> Result<(), Wrong<'a>> {
-        let _ = self.each_line::<A>(alloc, words, Cut::Whole, 0)?;
-        Ok(())
-    }
-
-    /// Plays it for each of its rows, in each of its ways. Its texts end with it.
-    pub fn plays<A: ExampleArchive>(
-        self,
-        alloc: Global,
-        words: &mut Words,
-    ) -> Result<(), Wrong<'a>> {
-        let rows = self
-            .lines
-            .lines()
-            .skip(1)
-            .filter(|line| line.starts_with('-'));
-        match (self.value_of("each"), rows.count()) {
-            (None, 0) => self.in_all_ways::<A>(alloc, words),
-            (Some(names), 1..) => self.for_each_row::<A>(alloc, words, names),
-            _ => Err(self.wrong(0, Cut::Whole, Trouble::Line("rows stand below `each`"))),
+    /// Plays it for each of its rows, in each of its ways. Its texts end with it. What stands at the head of the file
+    /// is no example, and its texts stay.
+    pub fn plays<A: ExampleArchive>(&mut self) -> Result<(), Trouble> {
+        if self.number == 1 {
+            let _longest = self.each_line::<A>(0)?;
+            return Ok(());
+        }
+        match (self.value_behind("\neach "), self.lines.contains("\n-")) {
+            (None, false) => self.in_all_ways::<A>(),
+            (Some(names), true) => self.for_each_row::<A>(names),
+            _ => Err(Trouble::Line("rows stand below `each`")),
         }
     }
 
-    fn for_each_row<A: ExampleArchive>(
-        self,
-        alloc: Global,
-        words: &mut Words,
-        names: &str,
-    ) -> Result<(), Wrong<'a>> {
+    fn for_each_row<A: ExampleArchive>(&mut self, names: &str) -> Result<(), Trouble> {
         for (i, line) in self.lines.lines().enumerate() {
             if let Some(row) = line.strip_prefix("-") {
-                let example = Example {
-                    row: row.trim_ascii(),
-                    ..self
-                };
-                let kept = words.count();
-                let played = match add_cells(alloc, words, names, row) {
-                    Ok(()) => example.in_all_ways::<A>(alloc, words),
-                    Err(why) => Err(example.wrong(i, Cut::Whole, why)),
-                };
-                words.forget(kept);
+                self.line = i;
+                self.row = row.trim_ascii();
+                let kept = self.words.count();
+                let played = self.for_row::<A>(names);
+                self.words.forget(kept);
                 played?;
             }
         }
         Ok(())
     }
 
-    fn in_all_ways<A: ExampleArchive>(
-        self,
-        alloc: Global,
-        words: &mut Words,
-    ) -> Result<(), Wrong<'a>> {
-        let ways = self.value_of("pieces").unwrap_or("whole");
+    fn for_row<A: ExampleArchive>(&mut self, names: &str) -> Result<(), Trouble> {
+        add_cells(self.alloc, self.words, names, self.row)?;
+        self.in_all_ways::<A>()
+    }
+
+    fn in_all_ways<A: ExampleArchive>(&mut self) -> Result<(), Trouble> {
+        let ways = self.value_behind("\npieces ").unwrap_or("whole");
         for way in ways.split(' ') {
-            self.in_way::<A>(alloc, words, way)?;
+            self.line = 0;
+            self.cut = Cut::Whole;
+            self.in_way::<A>(way)?;
         }
+        self.cut = Cut::Whole;
         Ok(())
     }
 
-    fn in_way<A: ExampleArchive>(
-        self,
-        alloc: Global,
-        words: &mut Words,
-        way: &str,
-    ) -> Result<(), Wrong<'a>> {
-        let mut cut = match Cut::first(way) {
-            Some(cut) => cut,
-            None => {
-                let why = Trouble::Line("no way to cut has that name");
-                return Err(self.wrong(0, Cut::Whole, why));
-            }
-        };
+    fn in_way<A: ExampleArchive>(&mut self, way: &str) -> Result<(), Trouble> {
+        let mut next = Cut::first(way);
+        if next.is_none() {
+            return Err(Trouble::Line("no way to cut has that name"));
+        }
         for _ in 0..u64::MAX {
-            let longest = self.played::<A>(alloc, words, cut)?;
-            match cut.following(longest) {
-                Some(next) => cut = next,
-                None => break,
-            }
+            let Some(cut) = next else {
+                break;
+            };
+            self.cut = cut;
+            next = cut.following(self.played::<A>()?);
         }
         Ok(())
     }
 
     // Plays it on an archive of its own. It tells the longest stream of an exchange. Its texts end with it.
-    fn played<A: ExampleArchive>(
-        self,
-        alloc: Global,
-        words: &mut Words,
-        cut: Cut,
-    ) -> Result<usize, Wrong<'a>> {
-        let kept = words.count();
-        let played = self.each_line::<A>(alloc, words, cut, 1);
-        words.forget(kept);
+    fn played<A: ExampleArchive>(&mut self) -> Result<usize, Trouble> {
+        let kept = self.words.count();
+        let played = self.each_line::<A>(1);
+        self.words.forget(kept);
         played
     }
 
-    fn each_line<A: ExampleArchive>(
-        self,
-        alloc: Global,
-        words: &mut Words,
-        cut: Cut,
-        skipped: usize,
-    ) -> Result<usize, Wrong<'a>> {
-        match Play::<A>::new(alloc, cut) {
-            Ok(mut play) => {
-                let played = self.all_lines(words, &mut play, cut, skipped);
-                drop(play);
-                played
-            }
-            Err(why) => Err(self.wrong(0, cut, why)),
-        }
+    // Plays the lines from the first of these on.
+    fn each_line<A: ExampleArchive>(&mut self, first: usize) -> Result<usize, Trouble> {
+        self.line = 0;
+        let mut play = Play::<A>::new(self.alloc, self.cut)?;
+        let played = self.all_lines(&mut play, first);
+        drop(play);
+        played
     }
 
     fn all_lines<A: ExampleArchive>(
-        self,
-        words: &mut Words,
+        &mut self,
         play: &mut Play<A>,
-        cut: Cut,
-        skipped: usize,
-    ) -> Result<usize, Wrong<'a>> {
-        let mut last = 0usize;
+        first: usize,
+    ) -> Result<usize, Trouble> {
         for (i, line) in self.lines.lines().enumerate() {
-            if i >= skipped {
-                if let Err(why) = play.line(words, line) {
-                    return Err(self.wrong(i, cut, why));
-                }
+            self.line = i;
+            if i >= first {
+                play.line(self.words, line)?;
             }
-            last = i;
         }
-        match play.finish() {
-            Ok(longest) => Ok(longest),
-            Err(why) => Err(self.wrong(last, cut, why)),
-        }
+        play.finish()
     }
 
-    fn title(self) -> &'a str {
+    fn title(&self) -> &'a str {
         self.lines.lines().next().unwrap_or("")
     }
 
-    // What stands behind a word, in the first line that begins with it.
-    fn value_of(self, word: &str) -> Option<&'a str> {
-        for line in self.lines.lines().skip(1) {
-            if let Some((first, value)) = line.split_once(' ') {
-                if first == word {
-                    return Some(value);
-                }
-            }
-        }
-        None
-    }
-
-    fn wrong(self, place: usize, cut: Cut, why: Trouble) -> Wrong<'a> {
-        Wrong {
-            example: self,
-            line: self.number.saturating_add(place),
-            cut,
-            why,
-        }
+    // What stands behind this line break and word, where they stand first.
+    fn value_behind(&self, word: &str) -> Option<&'a str> {
+        let (_front, rest) = self.lines.split_once(word)?;
+        rest.split('\n').next()
     }
 }
 

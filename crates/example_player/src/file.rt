@@ -1,9 +1,9 @@
 //! The examples of a file.
 
 use crate::archive::ExampleArchive;
-use crate::example::{Example, Wrong};
+use crate::example::Example;
 use crate::verdict::Verdict;
-use example_text::Words;
+use example_text::{Trouble, Words};
 use std::alloc::Global;
 use std::io;
 
@@ -20,42 +20,49 @@ pub fn play_file<A: ExampleArchive>(
     let mut verdict = Verdict::AsWritten;
     let mut line = 1usize;
     let mut right = 0usize;
-    for (i, lines) in text.split("\n# ").enumerate() {
-        let example = Example::new(lines, line);
-        let played = if i == 0 {
-            example.sets_out::<A>(alloc, words)
-        } else {
-            example.plays::<A>(alloc, words)
-        };
-        match came_of(rt, name, played)? {
+    for lines in text.split("\n# ") {
+        let is_front = line == 1;
+        let mut example = Example::new(alloc, words, lines, line);
+        let played = example.plays::<A>();
+        match came_of(rt, name, &example, played)? {
             Verdict::AsWritten => right = right.saturating_add(1),
-            other => {
-                verdict = verdict.and(other);
-                if i == 0 {
-                    return Ok(verdict);
-                }
-            }
+            other if is_front => return Ok(other),
+            other => verdict = verdict.and(other),
         }
-        line = line.saturating_add(lines.split('\n').count());
+        line = line.saturating_add(count_lines(lines));
     }
     let examples = right.saturating_sub(1);
     println!(rt; "{name}: {examples} examples")?;
     Ok(verdict)
 }
 
+fn count_lines(text: &str) -> usize {
+    text.split('\n').count()
+}
+
 // Prints what is wrong in an example, and tells what came of it.
-fn came_of(rt: &impl Print, name: &str, played: Result<(), Wrong<'_>>) -> io::Result<Verdict> {
+fn came_of(
+    rt: &impl Print,
+    name: &str,
+    example: &Example<'_>,
+    played: Result<(), Trouble>,
+) -> io::Result<Verdict> {
     match played {
         Ok(()) => Ok(Verdict::AsWritten),
-        Err(wrong) => {
-            let told = tell_wrong(rt, name, &wrong);
-            drop(wrong);
+        Err(why) => {
+            let told = tell_wrong(rt, name, example, &why);
+            drop(why);
             told
         }
     }
 }
 
-fn tell_wrong(rt: &impl Print, name: &str, wrong: &Wrong<'_>) -> io::Result<Verdict> {
-    println!(rt; "{name}:{wrong}")?;
-    Ok(wrong.verdict())
+fn tell_wrong(
+    rt: &impl Print,
+    name: &str,
+    example: &Example<'_>,
+    why: &Trouble,
+) -> io::Result<Verdict> {
+    println!(rt; "{name}:{example}: {why}")?;
+    Ok(Verdict::of_trouble(why))
 }

@@ -13,7 +13,7 @@ pub fn takes(
     page: &mut Page,
 ) -> Result<&'static str, Trouble> {
     let mut came = Arrived::Open;
-    for piece in exchange.cut.pieces(exchange.stream.as_slice()) {
+    for piece in exchange.pieces() {
         feed(intake, piece)?;
         came = steps(intake, page)?;
     }
@@ -30,21 +30,29 @@ pub fn is_one_request(alloc: Global, max_upload: u64, stream: &[u8]) -> Result<b
 
 fn begins_with_one(intake: &mut Intake, stream: &[u8]) -> Result<bool, AllocError> {
     feed(intake, stream)?;
-    Ok(gives_message(intake)? && needs_more(intake)?)
+    Ok(matches!(
+        (next_kind(intake)?, next_kind(intake)?),
+        (Kind::Message, Kind::NeedMore)
+    ))
 }
 
-fn gives_message(intake: &mut Intake) -> Result<bool, AllocError> {
-    let step = next(intake)?;
-    let is_message = matches!(&step, Step::Message(_));
-    drop(step);
-    Ok(is_message)
+/// What a step is.
+#[derive(Clone, Copy)]
+enum Kind {
+    Message,
+    NeedMore,
+    Other,
 }
 
-fn needs_more(intake: &mut Intake) -> Result<bool, AllocError> {
+fn next_kind(intake: &mut Intake) -> Result<Kind, AllocError> {
     let step = next(intake)?;
-    let is_end = matches!(&step, Step::NeedMore);
+    let kind = match &step {
+        Step::Message(_) => Kind::Message,
+        Step::NeedMore => Kind::NeedMore,
+        _ => Kind::Other,
+    };
     drop(step);
-    Ok(is_end)
+    Ok(kind)
 }
 
 // A call that fails changes nothing, so it may be made again.

@@ -3,13 +3,11 @@
 use crate::archive::ExampleArchive;
 use crate::intake::is_one_request;
 use crate::side::Side;
-use dep_message::Intake;
 use example_faults::{Fault, Script, play_faults};
 use example_text::{
-    ArchiveCall, Cut, Exchange, Settings, Trouble, Words, blank, fill, first_word, number,
+    ArchiveCall, Cut, Exchange, Page, Settings, Trouble, Words, blank, fill, first_word, number,
 };
-use std::alloc::{AllocError, Global};
-use std::mem;
+use std::alloc::Global;
 
 /// The words that say what an exchange comes to.
 const ANSWERS: [&str; 15] = [
@@ -30,6 +28,9 @@ const ANSWERS: [&str; 15] = [
     "store-fault",
 ];
 
+/// The kinds of what has numbers in an archive.
+const KINDS: [&str; 4] = ["object", "file", "upload", "change"];
+
 /// An example that is played, its bytes cut in one way.
 #[derive(Drop)]
 pub struct Play<A: ExampleArchive> {
@@ -37,19 +38,22 @@ pub struct Play<A: ExampleArchive> {
     settings: Settings,
     side: Side<A>,
     exchange: Exchange,
-    cut: Cut,
+    page: Page,
     script: Script,
     longest: usize,
 }
 
 impl<A: ExampleArchive> Play<A> {
+    /// Before its first line: the archive is made once it is needed. It fails for want of memory alone.
     pub fn new(alloc: Global, cut: Cut) -> Result<Play<A>, Trouble> {
+        let page = Page::new(alloc)?;
+        let settings = Settings::new(alloc)?;
         Ok(Play {
             alloc,
-            settings: Settings::new(alloc)?,
+            settings,
             side: Side::New,
             exchange: Exchange::new(alloc, cut),
-            cut,
+            page,
             script: Script::new(alloc),
             longest: 0,
         })
@@ -62,7 +66,7 @@ impl<A: ExampleArchive> Play<A> {
             "" | "//" | "pieces" | "each" | "-" => Ok(()),
             ">" | "<" => self.exchange.line(self.alloc, words, word, rest),
             "let" | "text" | "|" => names(self.alloc, words, word, rest),
-            _ if is_answer(word) => self.ends(word, rest),
+            _ if ANSWERS.contains(&word) => self.ends(word, rest),
             _ => self.filled(words, word, rest),
         }
     }
@@ -109,15 +113,12 @@ impl<A: ExampleArchive> Play<A> {
                 "where a file fails or stops an exchange ends open or closed",
             ));
         }
-        let mut next = Exchange::new(self.alloc, self.cut);
-        next.moment = self.exchange.moment;
-        let exchange = mem::replace(&mut self.exchange, next);
-        self.script.add(exchange, answer)
+        self.script.add(self.exchange.take(self.alloc), answer)
     }
 
     fn is_as_written(&mut self, answer: &str) -> Result<(), Trouble> {
         match self.comes(answer) {
-            Err(Trouble::Memory) if self.may_come_again()? => Err(self.again(answer)),
+            Err(Trouble::Memory) if self.may_come_again() => Err(self.again(answer)),
             came => came,
         }
     }
@@ -136,30 +137,31 @@ impl<A: ExampleArchive> Play<A> {
     }
 
     fn comes(&mut self, answer: &str) -> Result<(), Trouble> {
-        let mut page = self.exchange.page(self.alloc)?;
-        let came = self
-            .side
-            .plays(self.alloc, &self.exchange, answer, &mut page)?;
-        self.exchange
-            .has_come(self.alloc, page.bytes()?, came, answer)
+        let (exchange, page) = (&self.exchange, &mut self.page);
+        exchange.turn(page);
+        let came = self.side.plays(self.alloc, exchange, answer, page)?;
+        exchange.has_come(self.alloc, page.bytes()?, came, answer)
     }
 
     // Whether the exchange is one request to a hub, and neither its reader nor its writer fails.
-    fn may_come_again(&self) -> Result<bool, AllocError> {
-        if !self.exchange.is_plain() || !self.side.has_hub() {
-            return Ok(false);
-        }
-        let stream = self.exchange.stream.as_slice();
-        is_one_request(self.alloc, self.settings.max_upload(), stream)
+    fn may_come_again(&self) -> bool {
+        self.exchange.is_plain()
+            && self.side.has_hub()
+            && is_one_request(
+                self.alloc,
+                self.settings.max_upload(),
+                self.exchange.stream.as_slice(),
+            )
+            .unwrap_or(false)
     }
 
     fn sets(&mut self, word: &str, rest: &str) -> Result<(), Trouble> {
+        if !self.script.has_faults() && self.exchange.set(word, rest)? {
+            return Ok(());
+        }
+        self.exchange.is_answered()?;
         match word {
-            "at" => {
-                self.exchange.is_answered()?;
-                self.exchange.moment = number(rest)?;
-                Ok(())
-            }
+            "at" => self.moves_to(rest),
             "fails" => self.script.add_faults(Fault::Fails, rest),
             "stops" => self.script.add_faults(Fault::Stops, rest),
             "looks" => self.script.add_looks(self.alloc, rest),
@@ -168,56 +170,58 @@ impl<A: ExampleArchive> Play<A> {
             _ if self.script.has_faults() => {
                 Err(Trouble::Line("no such line stands where a file fails or stops"))
             }
-            "reader-fails" | "reads" | "writer-takes" | "writer-fails-after" => {
-                self.exchange.set(word, rest)
-            }
             _ => self.between(word, rest),
         }
     }
 
+    fn moves_to(&mut self, moment: &str) -> Result<(), Trouble> {
+        self.exchange.moment = number(moment)?;
+        Ok(())
+    }
+
     // The statements that make the tables of the archive, before it is opened first.
     fn fills(&mut self, statements: &str) -> Result<(), Trouble> {
-        self.exchange.is_answered()?;
         self.side.fill(self.alloc, statements)?;
-        self.script.fill(self.alloc, statements)?;
-        Ok(())
+        self.script
+            .fill(self.alloc, statements)
+            .map_err(Trouble::from)
     }
 
     // A part of the configuration: where a file fails or stops it holds from the first exchange on.
     fn configures(&mut self, rest: &str) -> Result<(), Trouble> {
-        self.exchange.is_answered()?;
         self.script.is_unbegun()?;
         self.settings.configure(self.alloc, rest)
     }
 
-    // A line that stands between two exchanges.
+    // A line that stands between two exchanges, where no file fails.
     fn between(&mut self, word: &str, rest: &str) -> Result<(), Trouble> {
-        self.exchange.is_answered()?;
         match word {
             "next" => self.number_next(rest),
             "sql" => self.side.change(self.alloc, rest),
             "unopened" => self.side.fail_to_open(self.alloc, rest),
             "connection" | "close" | "crowd" => self.commands(word, rest),
-            "export" | "audit" => self.calls(word, rest),
+            "export" => self.calls(ArchiveCall::export(rest)),
+            "audit" => self.calls(ArchiveCall::audit(rest)),
             _ => self.turns(word, rest),
         }
     }
 
+    // Another side, or the same anew.
+    fn turns(&mut self, word: &str, rest: &str) -> Result<(), Trouble> {
+        blank(rest)?;
+        self.side.turn(self.alloc, &self.settings, word)
+    }
+
     // An exchange begins that is a call of the archive.
-    fn calls(&mut self, word: &str, rest: &str) -> Result<(), Trouble> {
-        self.side.leave(self.alloc)?;
-        self.exchange.call = Some(ArchiveCall::named(word, rest)?);
+    fn calls(&mut self, call: Result<ArchiveCall, Trouble>) -> Result<(), Trouble> {
+        self.exchange.call = Some(call?);
         self.exchange.begin();
-        Ok(())
+        self.side.leave(self.alloc)
     }
 
     // The archive gives this number of a kind next, by a line `KIND NUMBER`.
     fn number_next(&mut self, rest: &str) -> Result<(), Trouble> {
-        let (kind, value) = first_word(rest);
-        if !matches!(kind, "object" | "file" | "upload" | "change") {
-            return Err(Trouble::Line("no kind of numbers has that name"));
-        }
-        let statement = numbering(self.alloc, kind, number(value)?)?;
+        let statement = numbering(self.alloc, rest)?;
         let changed = self.side.change(self.alloc, statement.as_str());
         drop(statement);
         changed
@@ -229,50 +233,29 @@ impl<A: ExampleArchive> Play<A> {
         let server = self.side.server(self.alloc, &self.settings)?;
         server.commanded(word, number)
     }
-
-    // It goes on with another side.
-    fn turns(&mut self, word: &str, rest: &str) -> Result<(), Trouble> {
-        blank(rest)?;
-        match word {
-            "full" => self.side.server(self.alloc, &self.settings)?.is_full(),
-            "restart" => self.side.leave(self.alloc),
-            "reopen" => self.side.reopen(self.alloc),
-            "refused" => self.side.refuse(self.alloc, &self.settings),
-            "shut" => self.side.shut(),
-            "intake" => {
-                let intake = Intake::new(self.alloc, self.settings.max_upload());
-                self.side.change_to(Side::Intake(intake));
-                Ok(())
-            }
-            _ => Err(Trouble::Line("no line of an example begins so")),
-        }
-    }
 }
 
-// Whether the word says what an exchange comes to.
-fn is_answer(word: &str) -> bool {
-    for answer in ANSWERS {
-        if answer == word {
-            return true;
-        }
+// The statement by which the archive gives the number of a line `KIND NUMBER` next.
+fn numbering(alloc: Global, line: &str) -> Result<String, Trouble> {
+    let (kind, value) = first_word(line);
+    if !KINDS.contains(&kind) {
+        return Err(Trouble::Line("no kind of numbers has that name"));
     }
-    false
-}
-
-// The statement by which the archive gives this number of a kind next.
-fn numbering(alloc: Global, kind: &str, number: u64) -> Result<String, AllocError> {
-    format!(in alloc; "UPDATE state SET next_{kind} = {number}")
+    let number = number(value)?;
+    format!(in alloc; "UPDATE state SET next_{kind} = {number}").map_err(Trouble::from)
 }
 
 fn names(alloc: Global, words: &mut Words, word: &str, rest: &str) -> Result<(), Trouble> {
-    match (word, rest.strip_suffix('\\')) {
-        ("text", _) => words.add(alloc, rest, "")?,
-        ("|", Some(front)) => words.extend(front, "")?,
-        ("|", None) => words.extend(rest, "\\r\\n")?,
-        _ => {
+    let added = match word {
+        "let" => {
             let (name, text) = first_word(rest);
-            words.add(alloc, name, text)?;
+            words.add(alloc, name, text)
         }
-    }
-    Ok(())
+        "text" => words.add(alloc, rest, ""),
+        _ => match rest.strip_suffix('\\') {
+            Some(front) => words.extend(front, ""),
+            None => words.extend(rest, "\\r\\n"),
+        },
+    };
+    added.map_err(Trouble::from)
 }

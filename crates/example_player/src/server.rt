@@ -3,7 +3,7 @@
 use dep_hub::{Archive, ConnId, ConnectFault, Hub, HubFault, Served, serve_connection};
 use dep_moment::Moment;
 use dep_types::{ReaderInlet, Through};
-use example_faults::{arrives, connected, hub_over, word_of};
+use example_faults::{arrives, connected, hub_over, trouble_of, word_of};
 use example_text::{Exchange, Page, Settings, Source, Trouble};
 use std::alloc::Global;
 
@@ -12,27 +12,28 @@ use std::alloc::Global;
 pub struct Server<A> {
     hub: Hub<A>,
     connections: Vec<ConnId>,
-    current: ConnId,
+    /// The number of the one at which it goes on.
+    current: u64,
 }
 
 impl<A: Archive + Drop> Server<A> {
     /// Over this archive, with connection 1.
     pub fn open(alloc: Global, settings: &Settings, store: A) -> Result<Server<A>, Trouble> {
-        let mut hub = opened(alloc, settings, store)?;
-        match first(alloc, &mut hub) {
-            Ok((connections, current)) => Ok(Server {
-                hub,
-                connections,
-                current,
-            }),
+        let mut server = Server {
+            hub: opened(alloc, settings, store)?,
+            connections: Vec::new(alloc),
+            current: 0,
+        };
+        match server.turn_to_new() {
+            Ok(()) => Ok(server),
             Err(why) => {
-                drop(hub);
+                drop(server);
                 Err(why)
             }
         }
     }
 
-    /// Does what a line asks of the connections.
+    /// Goes on at a connection, closes one, or opens a crowd of them.
     pub fn commanded(&mut self, word: &str, number: u64) -> Result<(), Trouble> {
         match word {
             "connection" => self.turn(number),
@@ -41,32 +42,37 @@ impl<A: Archive + Drop> Server<A> {
                 self.hub.close(connection);
                 Ok(())
             }
-            "crowd" => self.crowd(number),
-            _ => Err(Trouble::Line("no line of an example begins so")),
+            _ => self.crowd(number),
         }
     }
 
     // Goes on at a connection, which is opened where it is the next one.
     fn turn(&mut self, number: u64) -> Result<(), Trouble> {
-        if number.checked_sub(1) == Some(self.connections.len() as u64) {
-            let connection = connected(&mut self.hub)?;
-            self.connections.extend_from_slice(&[connection])?;
+        if number == self.next_number() {
+            return self.turn_to_new();
         }
-        self.current = self.numbered(number)?;
+        let _there = self.numbered(number)?;
+        self.current = number;
         Ok(())
     }
 
     /// Goes on at a new connection.
     pub fn turn_to_new(&mut self) -> Result<(), Trouble> {
-        let next = (self.connections.len() as u64).saturating_add(1);
-        self.turn(next)
+        let number = self.next_number();
+        self.connections.push(connected(&mut self.hub)?)?;
+        self.current = number;
+        Ok(())
+    }
+
+    fn next_number(&self) -> u64 {
+        (self.connections.len() as u64).saturating_add(1)
     }
 
     fn numbered(&self, number: u64) -> Result<ConnId, Trouble> {
-        match self.connections.get((number as usize).wrapping_sub(1)) {
-            Some(connection) => Ok(*connection),
-            None => Err(Trouble::Line("no connection has that number")),
-        }
+        self.connections
+            .get((number as usize).wrapping_sub(1))
+            .copied()
+            .ok_or(Trouble::Line("no connection has that number"))
     }
 
     // Opens so many connections without a number.
@@ -101,8 +107,8 @@ impl<A: Archive + Drop> Server<A> {
     ) -> Result<&'static str, Trouble> {
         match answer {
             "open" | "closed" | "cut" | "gone" => {
-                let pieces = exchange.cut.pieces(exchange.stream.as_slice());
-                let came = arrives(&mut self.hub, self.current, pieces, exchange.moment, page);
+                let (connection, pieces) = (self.numbered(self.current)?, exchange.pieces());
+                let came = arrives(&mut self.hub, connection, pieces, exchange.moment, page);
                 Ok(word_of(came))
             }
             _ => self.serves(alloc, exchange, answer, page),
@@ -122,18 +128,23 @@ impl<A: Archive + Drop> Server<A> {
         let moment = Moment::new(exchange.moment);
         let served = serve_connection(alloc, &mut source, &mut out, &mut self.hub, &mut || moment);
         let reads = source.into_inner().reads();
-        let came = match served {
-            Served::Ended => "ended",
-            Served::Closed => "served",
-            Served::ReadFault => "read-fault",
-            Served::WriteFault => "write-fault",
-            Served::Unserved => "unserved",
-            Served::Bound => "bound",
-        };
+        let came = served_word(served);
         if came == answer {
             exchange.has_read(reads)?;
         }
         Ok(came)
+    }
+}
+
+// What serving a connection came to, in the word of the files.
+fn served_word(served: Served) -> &'static str {
+    match served {
+        Served::Ended => "ended",
+        Served::Closed => "served",
+        Served::ReadFault => "read-fault",
+        Served::WriteFault => "write-fault",
+        Served::Unserved => "unserved",
+        Served::Bound => "bound",
     }
 }
 
@@ -147,10 +158,7 @@ fn opened<A: Archive + Drop>(
         Ok(hub) => Ok(hub),
         Err((fault, store)) => {
             drop(store);
-            Err(match fault {
-                HubFault::Memory => Trouble::Memory,
-                HubFault::Config => Trouble::Line("the configuration is refused"),
-            })
+            Err(trouble_of(fault))
         }
     }
 }
@@ -172,13 +180,4 @@ pub fn refused<A: Archive + Drop>(
             Err(Trouble::Memory)
         }
     }
-}
-
-// The numbers of the connections, of which there is one, and that one.
-fn first<A: Archive + Drop>(
-    alloc: Global,
-    hub: &mut Hub<A>,
-) -> Result<(Vec<ConnId>, ConnId), Trouble> {
-    let current = connected(hub)?;
-    Ok(([current].to_vec(alloc)?, current))
 }

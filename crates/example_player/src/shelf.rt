@@ -14,6 +14,7 @@ pub struct Shelf<'a> {
 }
 
 impl<'a> Shelf<'a> {
+    /// A sink that writes behind what the page has. Where no call is told to fail, none fails.
     pub fn new(page: &'a mut Page, failing: Option<FailingCall>) -> Shelf<'a> {
         Shelf {
             page,

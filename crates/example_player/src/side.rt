@@ -52,11 +52,14 @@ impl<A: ExampleArchive> Side<A> {
 
     /// Opens a hub over the archive, where none is there yet.
     pub fn open(&mut self, alloc: Global, settings: &Settings) -> Result<(), Trouble> {
-        if let Side::New | Side::Closed(_) | Side::Archive(_) = self {
-            let store = self.take_store(alloc)?;
-            self.change_to(Side::Server(Server::open(alloc, settings, store)?));
+        match self {
+            Side::Server(_) | Side::Intake(_) => Ok(()),
+            _ => {
+                let store = self.take_store(alloc)?;
+                self.change_to(Side::Server(Server::open(alloc, settings, store)?));
+                Ok(())
+            }
         }
-        Ok(())
     }
 
     /// Whether there is a hub.
@@ -92,8 +95,8 @@ impl<A: ExampleArchive> Side<A> {
         Ok(())
     }
 
-    /// The archive is closed and opened again.
-    pub fn reopen(&mut self, alloc: Global) -> Result<(), Trouble> {
+    // The archive is closed and opened again.
+    fn reopen(&mut self, alloc: Global) -> Result<(), Trouble> {
         let tables = self.take_tables(alloc)?;
         self.change_to(Side::Archive(A::opened(alloc, tables)?));
         Ok(())
@@ -101,8 +104,17 @@ impl<A: ExampleArchive> Side<A> {
 
     /// A statement changes the tables of the archive, which stays closed until it is needed.
     pub fn change(&mut self, alloc: Global, statement: &str) -> Result<(), Trouble> {
+        self.close(alloc)?;
+        match self {
+            Side::Closed(tables) => A::change(tables, statement),
+            _ => Ok(()),
+        }
+    }
+
+    // The archive is closed.
+    fn close(&mut self, alloc: Global) -> Result<(), Trouble> {
         let tables = self.take_tables(alloc)?;
-        self.change_to(Side::Closed(A::changed(tables, statement)?));
+        self.change_to(Side::Closed(tables));
         Ok(())
     }
 
@@ -113,20 +125,35 @@ impl<A: ExampleArchive> Side<A> {
         Ok(())
     }
 
-    /// No hub takes the archive by this configuration.
-    pub fn refuse(&mut self, alloc: Global, settings: &Settings) -> Result<(), Trouble> {
+    // No hub takes the archive by this configuration.
+    fn refuse(&mut self, alloc: Global, settings: &Settings) -> Result<(), Trouble> {
         let store = self.take_store(alloc)?;
         self.change_to(Side::Archive(refused(alloc, settings, store)?));
         Ok(())
     }
 
-    /// It goes on with another.
-    pub fn change_to(&mut self, other: Side<A>) {
+    /// It goes on as a line of one word says.
+    pub fn turn(&mut self, alloc: Global, settings: &Settings, word: &str) -> Result<(), Trouble> {
+        match word {
+            "full" => self.server(alloc, settings)?.is_full(),
+            "restart" => self.leave(alloc),
+            "reopen" => self.reopen(alloc),
+            "refused" => self.refuse(alloc, settings),
+            "shut" => self.shut(),
+            "intake" => {
+                self.change_to(Side::Intake(Intake::new(alloc, settings.max_upload())));
+                Ok(())
+            }
+            _ => Err(Trouble::Line("no line of an example begins so")),
+        }
+    }
+
+    fn change_to(&mut self, other: Side<A>) {
         drop(mem::replace(self, other));
     }
 
-    /// Shuts the intake.
-    pub fn shut(&mut self) -> Result<(), Trouble> {
+    // Shuts the intake.
+    fn shut(&mut self) -> Result<(), Trouble> {
         match self {
             Side::Intake(intake) => {
                 intake.shut();

@@ -1,5 +1,6 @@
 //! What came of the files so far.
 
+use example_text::Trouble;
 use std::io;
 use std::io::ErrorKind;
 use std::process::ExitCode;
@@ -20,6 +21,14 @@ impl Verdict {
     pub fn of(error: &io::Error) -> Verdict {
         match error.kind() {
             ErrorKind::OutOfMemory => Verdict::Unknown,
+            _ => Verdict::Otherwise,
+        }
+    }
+
+    /// That of an example.
+    pub fn of_trouble(why: &Trouble) -> Verdict {
+        match why {
+            Trouble::Memory => Verdict::Unknown,
             _ => Verdict::Otherwise,
         }
     }

@@ -36,30 +36,29 @@ pub enum ArchiveCall {
 }
 
 impl ArchiveCall {
-    /// By the word of the files, and what stands behind it.
-    pub fn named(word: &str, rest: &str) -> Result<ArchiveCall, Trouble> {
-        if (word, rest) == ("audit", "all") {
-            return Ok(ArchiveCall::AuditAll);
-        }
-        let (object, failing) = first_word(rest);
-        let object = number(object)?;
-        match (word, failing) {
-            ("audit", "") => Ok(ArchiveCall::Audit(object)),
-            ("export", "") => Ok(ArchiveCall::Export {
-                object,
-                failing: None,
-            }),
-            ("export", _) => Ok(ArchiveCall::Export {
-                object,
-                failing: Some(failure(failing)?),
-            }),
-            _ => Err(Trouble::Line("there is a word too many")),
+    /// The export of an object, `3` or `3 begin fails 2`.
+    pub fn export(text: &str) -> Result<ArchiveCall, Trouble> {
+        let (object, failing) = first_word(text);
+        Ok(ArchiveCall::Export {
+            object: number(object)?,
+            failing: failure(failing)?,
+        })
+    }
+
+    /// The audit of an object, or of `all`.
+    pub fn audit(text: &str) -> Result<ArchiveCall, Trouble> {
+        match text {
+            "all" => Ok(ArchiveCall::AuditAll),
+            _ => Ok(ArchiveCall::Audit(number(text)?)),
         }
     }
 }
 
-// `begin fails 3`: the third of these calls.
-fn failure(text: &str) -> Result<FailingCall, Trouble> {
+// `begin fails 3`: the third of these calls. Nothing is no call.
+fn failure(text: &str) -> Result<Option<FailingCall>, Trouble> {
+    if text.is_empty() {
+        return Ok(None);
+    }
     let (name, count) = text.split_once(" fails ").unwrap_or((text, ""));
     let call = match name {
         "folder" => SinkCall::Folder,
@@ -68,8 +67,8 @@ fn failure(text: &str) -> Result<FailingCall, Trouble> {
         "finish" => SinkCall::Finish,
         _ => return Err(Trouble::Line("no call of a sink has that name")),
     };
-    Ok(FailingCall {
+    Ok(Some(FailingCall {
         call,
         before: number(count)?.saturating_sub(1),
-    })
+    }))
 }

@@ -32,55 +32,67 @@ pub fn fill(alloc: Global, words: &Words, text: &str) -> Result<String, AllocErr
 }
 
 fn fill_once(alloc: Global, words: &Words, text: &str) -> Result<String, AllocError> {
-    let mut filled = String::new(alloc);
-    for (i, part) in text.split('\\').enumerate() {
-        if i > 0 {
-            fill_part(words, part, &mut filled)?;
-        } else {
-            filled.push_str(part)?;
-        }
+    let mut parts = text.split('\\');
+    let mut filled = String::from_str(alloc, parts.next().unwrap_or(""))?;
+    for part in parts {
+        fill_part(alloc, words, part, &mut filled)?;
     }
     Ok(filled)
 }
 
-fn fill_part(words: &Words, part: &str, filled: &mut String) -> Result<(), AllocError> {
-    let Some((numbers, text, rest)) = named(words, part) else {
-        filled.push_str("\\")?;
-        return filled.push_str(part);
+fn fill_part(
+    alloc: Global,
+    words: &Words,
+    part: &str,
+    filled: &mut String,
+) -> Result<(), AllocError> {
+    let Some((inside, rest)) = part.strip_prefix('{').and_then(until_brace) else {
+        return keep_part(part, filled);
     };
-    for number in numbers.0..numbers.1 {
-        push_numbered(text, number, filled)?;
+    let (numbers, name) = numbered(inside);
+    match words.find(name) {
+        Some(text) => {
+            push_numbered(alloc, text, numbers, filled)?;
+            filled.push_str(rest)
+        }
+        None => keep_part(part, filled),
     }
-    filled.push_str(rest)
 }
 
-// The text, in which `#` in braces stands for the number.
-fn push_numbered(text: &str, number: usize, filled: &mut String) -> Result<(), AllocError> {
+// Up to the brace, and behind it.
+fn until_brace(text: &str) -> Option<(&str, &str)> {
+    text.split_once('}')
+}
+
+fn keep_part(part: &str, filled: &mut String) -> Result<(), AllocError> {
+    filled.push_str("\\")?;
+    filled.push_str(part)
+}
+
+// The text for each of these numbers, for which `#` in braces stands there.
+fn push_numbered(
+    alloc: Global,
+    text: &str,
+    numbers: (usize, usize),
+    filled: &mut String,
+) -> Result<(), AllocError> {
     let mut digits = Buffer::new();
-    for (i, part) in text.split("\\{#}").enumerate() {
-        if i > 0 {
-            filled.push_str(digits.format(number))?;
-        }
-        filled.push_str(part)?;
+    for number in numbers.0..numbers.1 {
+        let numbered = text.replace(alloc, "\\{#}", digits.format(number))?;
+        filled.push_str(numbered.as_str())?;
     }
     Ok(())
 }
 
-// The named text that a part begins with, for which numbers it is to stand there, and what follows it.
-fn named<'a>(words: &'a Words, part: &'a str) -> Option<((usize, usize), &'a str, &'a str)> {
-    let (inside, rest) = part.strip_prefix('{')?.split_once('}')?;
-    let (numbers, name) = numbered(inside).unwrap_or(((0, 1), inside));
-    Some((numbers, words.find(name)?, rest))
-}
-
-// `9 name` and `2 to 10 name` are the numbers from which on and up to which.
-fn numbered(inside: &str) -> Option<((usize, usize), &str)> {
-    let (first, what) = counted(inside)?;
-    let Some(more) = what.strip_prefix("to ") else {
-        return Some(((0, first), what));
-    };
-    let (last, what) = counted(more)?;
-    Some(((first, last.saturating_add(1)), what))
+// `9 name` and `2 to 10 name` are the numbers from which on and up to which. A name alone is there once.
+fn numbered(inside: &str) -> ((usize, usize), &str) {
+    match counted(inside) {
+        None => ((0, 1), inside),
+        Some((first, what)) => match what.strip_prefix("to ").and_then(counted) {
+            None => ((0, first), what),
+            Some((last, what)) => ((first, last.saturating_add(1)), what),
+        },
+    }
 }
 
 // A number, a blank, and what is to stand there so often.
@@ -93,34 +105,33 @@ fn counted(inside: &str) -> Option<(usize, &str)> {
 }
 
 fn unescape(text: &str, bytes: &mut Vec<u8>) -> Result<(), Trouble> {
-    for (i, part) in text.split('\\').enumerate() {
-        if i > 0 {
-            escape(part, bytes)?;
-        } else {
-            bytes.extend_from_slice(part.as_bytes())?;
-        }
+    let mut parts = text.split('\\');
+    bytes.extend_from_slice(parts.next().unwrap_or("").as_bytes())?;
+    for part in parts {
+        escape(part, bytes)?;
     }
     Ok(())
 }
 
 fn escape(part: &str, bytes: &mut Vec<u8>) -> Result<(), Trouble> {
-    let Some((sign, rest)) = part.split_at_checked(1) else {
-        return Err(Trouble::Line("a backslash before nothing"));
+    let (_sign, rest) = part.split_at_checked(1).unwrap_or(("", ""));
+    let byte = match part.as_bytes() {
+        [b'r', ..] => b'\r',
+        [b'n', ..] => b'\n',
+        [b't', ..] => b'\t',
+        [b'x', ..] => return hex(rest, bytes),
+        [b'{', ..] => return repeat(rest, bytes),
+        [] => return Err(Trouble::Line("a backslash before nothing")),
+        _ => return Err(Trouble::Line("an escape that is none")),
     };
-    match sign {
-        "r" => put(b"\r", rest, bytes),
-        "n" => put(b"\n", rest, bytes),
-        "t" => put(b"\t", rest, bytes),
-        "x" => hex(rest, bytes),
-        "{" => repeat(rest, bytes),
-        _ => Err(Trouble::Line("an escape that is none")),
-    }
+    put(byte, rest, bytes)
 }
 
-fn put(byte: &[u8], rest: &str, bytes: &mut Vec<u8>) -> Result<(), Trouble> {
-    bytes.extend_from_slice(byte)?;
-    bytes.extend_from_slice(rest.as_bytes())?;
-    Ok(())
+fn put(byte: u8, rest: &str, bytes: &mut Vec<u8>) -> Result<(), Trouble> {
+    bytes.push(byte)?;
+    bytes
+        .extend_from_slice(rest.as_bytes())
+        .map_err(Trouble::from)
 }
 
 fn hex(part: &str, bytes: &mut Vec<u8>) -> Result<(), Trouble> {
@@ -128,7 +139,7 @@ fn hex(part: &str, bytes: &mut Vec<u8>) -> Result<(), Trouble> {
         return Err(Trouble::Line("fewer than two digits"));
     };
     match u8::from_str_radix(digits, 16) {
-        Ok(byte) => put(&[byte], rest, bytes),
+        Ok(byte) => put(byte, rest, bytes),
         Err(_) => Err(Trouble::Line("no digits of a byte")),
     }
 }
@@ -144,5 +155,7 @@ fn repeat(part: &str, bytes: &mut Vec<u8>) -> Result<(), Trouble> {
     for _ in 0..count {
         bytes.extend_from_slice(letters.as_bytes())?;
     }
-    put(b"", rest, bytes)
+    bytes
+        .extend_from_slice(rest.as_bytes())
+        .map_err(Trouble::from)
 }

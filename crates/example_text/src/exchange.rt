@@ -1,14 +1,15 @@
 //! One exchange: what comes and when, what has to be sent for it, and how the reader and the writer behave.
 
 use crate::archive_call::ArchiveCall;
-use crate::cut::Cut;
+use crate::cut::{Cut, Pieces};
 use crate::escapes::expand;
 use crate::page::Page;
 use crate::reply::{WANT_OF_MEMORY, is_cut_in_content};
 use crate::settings::number;
 use crate::trouble::{Trouble, differing};
 use crate::words::Words;
-use std::alloc::{AllocError, Global};
+use std::alloc::Global;
+use std::mem;
 
 /// The moment of the published replies.
 const MOMENT: u64 = 1_523_836_800;
@@ -31,6 +32,7 @@ pub struct Exchange {
 }
 
 impl Exchange {
+    /// One of which no line was read: nothing comes, nothing has to be sent, and neither side fails.
     pub fn new(alloc: Global, cut: Cut) -> Exchange {
         Exchange {
             stream: Vec::new(alloc),
@@ -56,6 +58,18 @@ impl Exchange {
         self.at_once = usize::MAX;
         self.most = usize::MAX;
         self.is_begun = false;
+    }
+
+    /// The pieces in which it comes.
+    pub fn pieces(&self) -> Pieces<'_> {
+        self.cut.pieces(self.stream.as_slice())
+    }
+
+    /// Hands it out. The next exchange begins in its place, at the same moment.
+    pub fn take(&mut self, alloc: Global) -> Exchange {
+        let mut next = Exchange::new(alloc, self.cut);
+        next.moment = self.moment;
+        mem::replace(self, next)
     }
 
     /// Adds a line to what comes, or to what has to be sent for it.
@@ -86,21 +100,20 @@ impl Exchange {
         Ok(())
     }
 
-    /// Sets a part of it.
-    pub fn set(&mut self, name: &str, value: &str) -> Result<(), Trouble> {
-        self.begin();
-        if name == "reader-fails" {
-            self.reader_fails = true;
-            return blank(value);
-        }
-        let value = number(value)?;
+    /// Sets the part of it that has this name, if there is one.
+    pub fn set(&mut self, name: &str, value: &str) -> Result<bool, Trouble> {
         match name {
-            "reads" => self.reads = Some(value),
-            "writer-takes" => self.at_once = value as usize,
-            "writer-fails-after" => self.most = value as usize,
-            _ => return Err(Trouble::Line("no line of an example begins so")),
+            "reader-fails" => {
+                blank(value)?;
+                self.reader_fails = true;
+            }
+            "reads" => self.reads = Some(number(value)?),
+            "writer-takes" => self.at_once = number(value)? as usize,
+            "writer-fails-after" => self.most = number(value)? as usize,
+            _ => return Ok(false),
         }
-        Ok(())
+        self.begin();
+        Ok(true)
     }
 
     /// Whether neither its reader nor its writer fails, and it is no call of the archive.
@@ -108,9 +121,10 @@ impl Exchange {
         !self.reader_fails && self.most == usize::MAX && self.call.is_none()
     }
 
-    /// A page as the exchange's writer has it.
-    pub fn page(&self, alloc: Global) -> Result<Page, AllocError> {
-        Page::new(alloc, self.at_once, self.most)
+    /// The page goes on as the exchange's writer, which took nothing yet.
+    pub fn turn(&self, page: &mut Page) {
+        page.clear();
+        page.limit(self.at_once, self.most);
     }
 
     /// So many reads have to be made.
@@ -129,40 +143,39 @@ impl Exchange {
         came: &str,
         answer: &str,
     ) -> Result<(), Trouble> {
-        let want = self.want.as_slice();
-        if want == sent && came == answer {
-            return Ok(());
+        let is_sent = sent == self.want.as_slice();
+        if is_sent && came == answer {
+            Ok(())
+        } else if self.is_given_up(sent, came) {
+            Err(Trouble::Memory)
+        } else if is_sent {
+            Err(other_end(alloc, came, answer))
+        } else {
+            Err(differing(alloc, self.want.as_slice(), sent))
         }
-        if self.is_given_up(sent, came) {
-            return Err(Trouble::Memory);
-        }
-        if want != sent {
-            return Err(differing(alloc, want, sent)?);
-        }
-        Err(Trouble::Other(format!(in alloc;
-            "it is written to end as \"{answer}\", and came to \"{came}\""
-        )?))
     }
 
     // Whether the connection was given up for want of memory: behind whole replies the one that says so, or a reply
     // that is cut in its content though its writer would take more.
     fn is_given_up(&self, sent: &[u8], came: &str) -> bool {
+        let want = self.want.as_slice();
         match came {
             "unserved" => sent.is_empty(),
             "closed" | "served" => match sent.strip_suffix(WANT_OF_MEMORY) {
-                Some(front) => self.want.as_slice().starts_with(front),
+                Some(front) => want.starts_with(front),
                 None => false,
             },
-            "cut" => {
-                let is_short = sent.len() < self.most;
-                is_short && is_cut_in_content(self.want.as_slice(), sent) || self.is_cut_503(sent)
-            }
+            "cut" => self.is_cut_503(sent) || self.is_short(sent) && is_cut_in_content(want, sent),
             "write-fault" | "store-fault" => {
-                let is_short = sent.len() < self.most && self.want.as_slice().starts_with(sent);
-                is_short || self.is_cut_503(sent)
+                self.is_cut_503(sent) || self.is_short(sent) && want.starts_with(sent)
             }
             _ => false,
         }
+    }
+
+    // Whether its writer would take more.
+    fn is_short(&self, sent: &[u8]) -> bool {
+        sent.len() < self.most
     }
 
     // Whether the writer failed in the reply that says so.
@@ -171,14 +184,18 @@ impl Exchange {
     }
 }
 
+// It comes to something else than it should.
+fn other_end(alloc: Global, came: &str, answer: &str) -> Trouble {
+    Trouble::told(format!(in alloc; "it is written to end as \"{answer}\", and came to \"{came}\""))
+}
+
 // A line's bytes with CR and LF, or without where it ends in a backslash.
 fn line_to(alloc: Global, words: &Words, text: &str, bytes: &mut Vec<u8>) -> Result<(), Trouble> {
     match text.strip_suffix('\\') {
         Some(front) => expand(alloc, words, front, bytes),
         None => {
             expand(alloc, words, text, bytes)?;
-            bytes.extend_from_slice(b"\r\n")?;
-            Ok(())
+            bytes.extend_from_slice(b"\r\n").map_err(Trouble::from)
         }
     }
 }

@@ -21,5 +21,5 @@ pub use page::Page;
 pub use reply::Reply;
 pub use settings::{Settings, number};
 pub use source::Source;
-pub use trouble::{Trouble, differing};
+pub use trouble::{Trouble, differing, parting};
 pub use words::{Words, first_word};

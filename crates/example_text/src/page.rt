@@ -18,14 +18,26 @@ pub struct Page {
 }
 
 impl Page {
-    /// Its room is taken at once, so that a write of a short reply asks for no memory.
-    pub fn new(alloc: Global, at_once: usize, most: usize) -> Result<Page, AllocError> {
+    /// A page that takes all. Its room is taken at once, so that a write of a short reply asks for no memory.
+    pub fn new(alloc: Global) -> Result<Page, AllocError> {
         Ok(Page {
             bytes: Vec::with_capacity(alloc, ROOM)?,
-            at_once,
-            most,
+            at_once: usize::MAX,
+            most: usize::MAX,
             is_whole: true,
         })
+    }
+
+    /// From here on it takes at most so many bytes a write, and no byte once it has `most`.
+    pub fn limit(&mut self, at_once: usize, most: usize) {
+        self.at_once = at_once;
+        self.most = most;
+    }
+
+    /// What it took is forgotten.
+    pub fn clear(&mut self) {
+        self.bytes.clear();
+        self.is_whole = true;
     }
 
     /// What it took, unless there was no memory for all that was told, or for a write.
@@ -35,6 +47,11 @@ impl Page {
         } else {
             Err(AllocError)
         }
+    }
+
+    /// A copy of what it took.
+    pub fn copied(&self, alloc: Global) -> Result<Vec<u8>, AllocError> {
+        self.bytes()?.to_vec(alloc)
     }
 
     /// Adds a line of a name and a number.

@@ -14,6 +14,13 @@ pub enum Trouble {
     Other(String),
 }
 
+impl Trouble {
+    /// What a text tells, or the want of memory for it.
+    pub fn told(text: Result<String, AllocError>) -> Trouble {
+        text.map_or(Trouble::Memory, Trouble::Other)
+    }
+}
+
 impl From<AllocError> for Trouble {
     fn from(_error: AllocError) -> Trouble {
         Trouble::Memory
@@ -28,39 +35,56 @@ impl<T: Drop> From<AllocFailed<T>> for Trouble {
 
 impl fmt::Display for Trouble {
     fn fmt<W: fmt::Write>(&self, f: &mut fmt::Formatter<W>) -> fmt::Result {
-        match self {
-            Trouble::Memory => f.write_str("no memory"),
-            Trouble::Line(why) => f.write_str(why),
-            Trouble::Other(what) => f.write_str(what.as_str()),
-        }
+        f.write_str(match self {
+            Trouble::Memory => "no memory",
+            Trouble::Line(why) => why,
+            Trouble::Other(what) => what.as_str(),
+        })
     }
 }
 
 /// What is written and what was sent differ. It tells both from the first byte where they part.
-pub fn differing(alloc: Global, want: &[u8], sent: &[u8]) -> Result<Trouble, AllocError> {
-    let place = want
-        .iter()
-        .zip(sent.iter())
-        .take_while(|(left, right)| left == right)
-        .count();
-    let want = shown(alloc, want, place)?;
-    let sent = shown(alloc, sent, place)?;
-    let what = format!(in alloc;
+pub fn differing(alloc: Global, want: &[u8], sent: &[u8]) -> Trouble {
+    let place = parting(want, sent);
+    let (want, sent) = (Shown { bytes: want, place }, Shown { bytes: sent, place });
+    Trouble::told(format!(in alloc;
         "they part at byte {place}\n  written: {want}\n  sent:    {sent}"
-    )?;
-    Ok(Trouble::Other(what))
+    ))
 }
 
-// Some bytes from a place on, as the files spell them.
-fn shown(alloc: Global, bytes: &[u8], place: usize) -> Result<String, AllocError> {
-    let mut text = String::new(alloc);
-    for byte in bytes.iter().skip(place).take(80) {
-        match *byte {
-            b'\r' => text.push_str("\\r")?,
-            b'\n' => text.push_str("\\n")?,
-            b' '..=b'~' => text.push(char::from(*byte))?,
-            other => write!(&mut text, "\\x{other:02X}")?,
+/// The place of the first item in which they differ, or the end of the shorter one.
+pub fn parting<T: PartialEq>(want: &[T], sent: &[T]) -> usize {
+    let shorter = want.len().min(sent.len());
+    for i in 0..shorter {
+        if want[i] != sent[i] {
+            return i;
         }
     }
-    Ok(text)
+    shorter
+}
+
+/// Some bytes from a place on, as the files spell them.
+#[derive(Clone, Copy)]
+struct Shown<'a> {
+    bytes: &'a [u8],
+    place: usize,
+}
+
+impl fmt::Display for Shown<'_> {
+    fn fmt<W: fmt::Write>(&self, f: &mut fmt::Formatter<W>) -> fmt::Result {
+        let end = self.bytes.len().min(self.place.saturating_add(80));
+        for i in self.place..end {
+            show(self.bytes[i], f)?;
+        }
+        Ok(())
+    }
+}
+
+fn show<W: fmt::Write>(byte: u8, f: &mut fmt::Formatter<W>) -> fmt::Result {
+    match byte {
+        b'\r' => f.write_str("\\r"),
+        b'\n' => f.write_str("\\n"),
+        b' '..=b'~' => f.write_char(char::from(byte)),
+        other => write!(f, "\\x{other:02X}"),
+    }
 }

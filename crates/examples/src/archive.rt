@@ -67,7 +67,14 @@ impl ExampleArchive for MemoryArchive {
     }
 
     fn filled(alloc: Global, statements: &str) -> Result<Connection<MemStore>, Trouble> {
-        MemoryArchive::changed(Connection::open_in_memory(alloc)?, statements)
+        let mut connection = Connection::open_in_memory(alloc)?;
+        match execute(&mut connection, statements) {
+            Ok(()) => Ok(connection),
+            Err(why) => {
+                drop(connection);
+                Err(why)
+            }
+        }
     }
 
     fn closed(self) -> Connection<MemStore> {
@@ -104,17 +111,8 @@ impl ExampleArchive for MemoryArchive {
         }
     }
 
-    fn changed(
-        mut connection: Connection<MemStore>,
-        statements: &str,
-    ) -> Result<Connection<MemStore>, Trouble> {
-        match execute(&mut connection, statements) {
-            Ok(()) => Ok(connection),
-            Err(why) => {
-                drop(connection);
-                Err(why)
-            }
-        }
+    fn change(connection: &mut Connection<MemStore>, statements: &str) -> Result<(), Trouble> {
+        execute(connection, statements)
     }
 
     fn answers(

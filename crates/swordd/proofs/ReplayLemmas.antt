@@ -70,7 +70,7 @@ module _ {A : Type 0} (condition : A → Condition) {C : Type 0} (ticks : C → 
       let s = same clock f.0 t.moment p f.1 in
       all_more (λ (u : Turn). u.moment ≡ moment) t turns s.0 (all_at turns f.0 last s.1 f.2)
 
-  module _ (base : List ℕ) (before after : Session condition C) (first : StandsAfter condition before.hub empty_state [])
+  module _ (base : List ℕ) (before after : Session A C) (first : StandsAfter condition before.hub empty_state [])
       (honest : IsHonest condition after.hub) (given : before.hub.config ≡ program_config base) (told : tells before.clock) where
     replays : (end : Served) → Converses condition ticks before after end → IsReplayed base moment before.wire after.wire end
     replays end v =

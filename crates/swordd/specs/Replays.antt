@@ -1,13 +1,16 @@
 -- One connection, replayed over an archive that is empty at first.
-use Rattle.std.specs.Prelude.{◌≡◌, ◌⊎◌, ◌≤◌, ◌+◌, ℕ, Bool, true, List, All}
+use Rattle.std.specs.Prelude.{◌≡◌, ◌⊎◌, ◌≤◌, ◌+◌, ℕ, Bool, true, List, All, Option}
 use Rattle.dep_types.specs.State.{empty_state}
 use Rattle.dep_types.specs.Config.{IsChecked}
+use Rattle.dep_types.specs.declared.inlet.Inlet as inlet
 use Rattle.dep_hub.specs.Records.{World, first_world, Run}
 use Rattle.dep_hub.specs.Turns.{Turn, pieces_of, replies_of, records_of, ArePieces, with_opened, with_closed, Exchanges, EndsAs, most_reads, reads_made, reads_after, HasLastRead}
-use Rattle.dep_hub.specs.Conversation.{Wire, Transfers, Rests}
+use Rattle.dep_hub.specs.Conversation.{Wire, Transfers, Rests, wire}
 use Rattle.dep_hub.specs.declared.connection.Served.{Served}
 use Rattle.dep_hub.specs.declared.connection.Served.TheVariants.{Ended, Closed, Unserved, ReadFault, WriteFault, Bound}
+use Rattle.dep_program.specs.Gathering.{told}
 use Rattle.dep_program.specs.Setup.{program_config}
+use Rattle.dep_program.specs.declared.gathered.Gathered.{Gathered}
 use Rattle.dep_program.specs.declared.outcome.Outcome.{Outcome}
 use Rattle.dep_program.specs.declared.outcome.Outcome.TheVariants.{Done, Usage, StoreFault, TransferFault}
 
@@ -24,6 +27,16 @@ outcome_of Bound = TransferFault
 abbrev pub outcome_sent : (has_failed : Bool) → Outcome → Outcome
 outcome_sent true Done = TransferFault
 outcome_sent has_failed outcome = outcome
+
+-- the connection of this inlet, to an outlet that took these bytes and failed so often
+abbrev pub wire_over : {R : Type 0} → (g : inlet.Ghosts R) → R → (taken : Option (List ℕ)) → (failures : ℕ)
+    → Wire
+wire_over g reader taken failures = wire (g.unread reader) (g.reads reader) (g.last reader) taken failures
+
+-- the same, to an outlet that gathers what its writer has taken
+abbrev pub wire_gathered : {R W : Type 0} → (g : inlet.Ghosts R) → R
+    → (contents : W → Option (List ℕ)) → Gathered W → Wire
+wire_gathered g reader contents outlet = wire_over g reader (told contents outlet) outlet.failures
 
 -- One connection of the machine, from its opening over the empty archive to its close, each piece at
 -- the moment: what was read are its pieces, what was written is what the machine sends for them, and
@@ -59,3 +72,9 @@ pub data Replays (base : List ℕ) (moment : ℕ) (before after : Wire) : Outcom
       → Replays base moment before after Usage
   -- memory ran out before the first read
   not_begun : Rests before after → Replays base moment before after StoreFault
+
+-- one was replayed, and then the outlet was asked whether it gave up
+abbrev pub ReplaysSent : (base : List ℕ) (moment : ℕ) (before after : Wire) (has_failed : Bool)
+    → Outcome → Type 0
+ReplaysSent base moment before after has_failed result = (outcome : Outcome)
+    × Replays base moment before after outcome × (result ≡ outcome_sent has_failed outcome)

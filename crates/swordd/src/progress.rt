@@ -17,6 +17,7 @@ pub struct Progress<'a> {
 }
 
 impl<'a> Progress<'a> {
+    /// Nothing is counted yet. Whether it is shown is asked once, here.
     pub fn new(rt: &'a HostRuntime) -> Progress<'a> {
         Progress {
             rt,

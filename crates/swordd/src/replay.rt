@@ -3,13 +3,12 @@ ghost use Rattle.std.specs.Prelude.{◌≡◌, [], IfErr, IfOk};
 ghost use Rattle.std.specs.Io.KnownBytes.{Keeps};
 ghost use Rattle.sqlite.specs.Steps.{over_memory};
 ghost use Rattle.dep_types.specs.State.{empty_state};
-ghost use Rattle.dep_hub.specs.Conversation.{wire};
+ghost use Rattle.dep_archive.specs.Archive.{condition_of};
 ghost use Rattle.dep_hub.specs.Flushing.{IsFlushed};
 ghost use Rattle.dep_hub.specs.Standing.{StandsAfter};
 ghost use Rattle.dep_program.specs.Gathering.{told, held_in, given};
 ghost use Rattle.dep_program.specs.Setup.{program_config};
-ghost use Rattle.dep_archive.specs.Archive.{condition_of};
-ghost use Rattle.swordd.specs.Replays.{IsNotBegun, Replays, outcome_of, outcome_sent};
+ghost use Rattle.swordd.specs.Replays.{IsNotBegun, Replays, ReplaysSent, wire_over, wire_gathered, outcome_of, outcome_sent};
 
 use dep_archive::{HashingStore, open_hub};
 use dep_hub::{Flush, Hub, Served, serve_connection};
@@ -31,10 +30,8 @@ pub fn replay<R: Inlet, W: Flush>(
     writer: &mut W,
 ) -> Outcome
     ensures replays { Replays base.now moment
-        (wire (R.unread reader.old) (R.reads reader.old) (R.last reader.old)
-        (W.taken writer.old) (W.failures writer.old))
-        (wire (R.unread reader.new) (R.reads reader.new) (R.last reader.new)
-        (W.taken writer.new) (W.failures writer.new)) result }
+        (wire_over R.Inlet reader.old (W.taken writer.old) (W.failures writer.old))
+        (wire_over R.Inlet reader.new (W.taken writer.new) (W.failures writer.new)) result }
     ensures flushed { IsFlushed (W.held writer.old) (W.has_failed writer.old)
         → IsFlushed (W.held writer.new) (W.has_failed writer.new) }
 {
@@ -59,13 +56,10 @@ pub fn replay_gathered<R: Inlet, W: Write + Drop>(
     reader: &mut R,
     outlet: &mut Gathered<W>,
 ) -> Outcome
-    ensures replays { (outcome : Outcome)
-        × Replays base.now moment
-        (wire (R.unread reader.old) (R.reads reader.old) (R.last reader.old)
-        (told W.contents outlet.old) outlet.old.failures)
-        (wire (R.unread reader.new) (R.reads reader.new) (R.last reader.new)
-        (told W.contents outlet.new) outlet.new.failures) outcome
-        × (result ≡ outcome_sent outlet.new.has_failed outcome) }
+    ensures replays { ReplaysSent base.now moment
+        (wire_gathered R.Inlet reader.old W.contents outlet.old)
+        (wire_gathered R.Inlet reader.new W.contents outlet.new)
+        outlet.new.has_failed result }
     // The writer has all that was sent.
     ensures sent { result ≡ Outcome.Done → IsFlushed (held_in outlet.old) outlet.old.has_failed
         → Keeps (told W.contents outlet.new) (given W.contents outlet.new) }
@@ -80,11 +74,11 @@ fn new_hub(alloc: Global, base: &str) -> Result<Hub<HashingStore<MemStore>>, Out
     ensures stands { IfOk result (λ hub. StandsAfter (condition_of over_memory) hub empty_state []) }
     ensures refused { IfErr result (λ outcome. IsNotBegun base.now outcome) }
 {
-    let Ok(config) = configuration(alloc, base) else {
+    let Ok(connection) = Connection::open_in_memory(alloc) else {
         return Err(Outcome::StoreFault);
     };
-    let Ok(connection) = Connection::open_in_memory(alloc) else {
-        drop(config);
+    let Ok(config) = configuration(alloc, base) else {
+        drop(connection);
         return Err(Outcome::StoreFault);
     };
     match open_hub(alloc, config, connection, &mut Unwatched) {

@@ -33,16 +33,7 @@ use Rattle.dep_host.specs.Runs.{StandsBehind, Follows}
 use Rattle.dep_host.specs.Runs as runs
 use Rattle.dep_program.specs.declared.outcome.Outcome.{Outcome}
 use Rattle.swordd_host.specs.Outcomes.{outcome_at}
-use Rattle.swordd_host.specs.Hosted.{ServesFrom, EndsHub, served, shut, broken_off, not_begun, not_let_in, LedBy, IsHosted, HostsDatabase, hosts, not_checked, not_made, not_opened}
-
--- What a host did was done over this hub: for all records that it stood for, it stands for them with
--- those of the deeds behind them.
-record HostsHub {A : Type 0} (condition : A → Condition) (old new : Hub A) (deeds : List Deed) : Type 0 where
-  same_config : new.config ≡ old.config
-  honest : IsHonest condition new → IsHonest condition old
-  behind : IsClean condition new → (first : State) (records : List Record)
-      → StandsHoldingAfter condition old first records (λ n. [])
-      → StandsBehind condition new first records (λ n. []) deeds
+use Rattle.swordd_host.specs.Hosted.{ServesFrom, EndsHub, served, shut, broken_off, not_begun, not_let_in, WentOn, LedBy, IsHosted, HostsDatabase, hosts, not_checked, not_made, not_opened}
 
 module _ {A R K S : Type 0} (condition : A → Condition) (unread : R → Option (List ℕ)) (taken : K → Option (List ℕ)) (held : S → Option (List ℕ)) where
   same_honest : (old new : Hub A) → new.store ≡ old.store → IsHonest condition new → IsHonest condition old
@@ -50,22 +41,22 @@ module _ {A R K S : Type 0} (condition : A → Condition) (unread : R → Option
 
   honest_before : {p q : Position A R K S} {more : List Deed} → Step condition unread taken held p q more → IsHonest condition q.hub → IsHonest condition p.hub
   honest_before {p = p} {q = q} (refused r) honest = same_honest p.hub q.hub r.same_store honest
-  honest_before {p = p} {q = q} (asks r) honest = r.honest honest
+  honest_before {p = p} {q = q} (asks r) honest = r.hub.honest honest
   honest_before {p = p} {q = q} (comes r) honest = same_honest p.hub q.hub r.same_store honest
-  honest_before {p = p} {q = q} (rests t r) honest = t.honest honest
-  honest_before {p = p} {q = q} (offers t o) honest = t.honest honest
-  honest_before {p = p} {q = q} (refuses t r) honest = t.honest honest
-  honest_before {p = p} {q = q} (answers t a) honest = t.honest honest
+  honest_before {p = p} {q = q} (rests t r) honest = t.hub.honest honest
+  honest_before {p = p} {q = q} (offers t o) honest = t.hub.honest honest
+  honest_before {p = p} {q = q} (refuses t r) honest = t.hub.honest honest
+  honest_before {p = p} {q = q} (answers t a) honest = t.hub.honest honest
   honest_before {p = p} {q = q} (leaves r) honest = same_honest p.hub q.hub r.same_store honest
 
   same_config : {p q : Position A R K S} {more : List Deed} → Step condition unread taken held p q more → q.hub.config ≡ p.hub.config
   same_config (refused r) = r.same_config
-  same_config (asks r) = r.same_config
+  same_config (asks r) = r.hub.same_config
   same_config (comes r) = r.same_config
-  same_config (rests t r) = t.same_config
-  same_config (offers t o) = t.same_config
-  same_config (refuses t r) = t.same_config
-  same_config (answers t a) = t.same_config
+  same_config (rests t r) = t.hub.same_config
+  same_config (offers t o) = t.hub.same_config
+  same_config (refuses t r) = t.hub.same_config
+  same_config (answers t a) = t.hub.same_config
   same_config (leaves r) = r.same_config
 
   -- a disk that tells no lie told none before
@@ -82,34 +73,46 @@ module _ {A R K S : Type 0} (condition : A → Condition) (unread : R → Option
   MakesRuns = (p q : Position A R K S) (deeds : List Deed) (first : State) (records : List Record) (kept : ℕ → List ℕ) → Steps condition unread taken held p deeds q
       → StandsHoldingAfter condition p.hub first records kept → IsClean condition q.hub → StandsBehind condition q.hub first records kept deeds
 
-  hosted_hub : (p q : Position A R K S) (deeds : List Deed) → Steps condition unread taken held p deeds q → MakesRuns → HostsHub condition p.hub q.hub deeds
-  hosted_hub p q deeds steps makes = record {
-    same_config = config_first steps;
-    honest = honest_first steps;
-    behind = λ is_clean first records h. makes p q deeds first records (λ n. []) steps h is_clean;
-  }
+  -- a hub holds nothing where it stands
+  abbrev HoldsNothing : Type 0
+  HoldsNothing = (hub : Hub A) (w : World) → StandsAt condition hub w → StandsHolding condition hub w (λ n. [])
+
+  holding : HoldsNothing → (hub : Hub A) (first : State) (records : List Record) → StandsAfter condition hub first records → StandsHoldingAfter condition hub first records (λ n. [])
+  holding none hub first records it = record { world = it.world; run = it.run; at = none hub it.world it.at }
+
+  went_from : (old : Hub A) (store : A) {deeds : List Deed} → ServesFrom condition unread taken held old store deeds → MakesRuns → HoldsNothing → WentOn condition old store deeds
+  went_from old store {deeds = deeds} it makes none =
+      subst (λ (h : Hub A). WentOn condition h store deeds) it.over (record {
+        new = it.last.hub;
+        over = it.left;
+        same_config = config_first it.steps;
+        honest = honest_first it.steps;
+        behind = λ is_clean first records at. makes it.first it.last deeds first records (λ n. []) it.steps (holding none it.first.hub first records at) is_clean;
+      })
 
   -- nothing was done
-  still_hub : (hub : Hub A) → HostsHub condition hub hub []
-  still_hub hub = record {
+  went_nowhere : (old : Hub A) (store : A) → store ≡ old.store → HoldsNothing → WentOn condition old store []
+  went_nowhere old store same none = record {
+    new = old;
+    over = same;
     same_config = refl;
     honest = λ honest. honest;
-    behind = λ is_clean first records h. record {
+    behind = λ is_clean first records at. record {
       more = [];
       holds = λ n. [];
       follows = runs.begins;
-      stands = subst (λ (all : List Record). StandsHoldingAfter condition hub first all (λ n. [])) (sym (append-nil records)) h;
+      stands = subst (λ (all : List Record). StandsHoldingAfter condition old first all (λ n. [])) (sym (append-nil records)) (holding none old first records at);
     };
   }
 
   -- what was done, whatever it came to
-  done_over : {is_over is_cut : Bool} (old : Hub A) (store : A) {deeds : List Deed} {outcome : Outcome} → EndsHub condition unread taken held is_over is_cut old store deeds outcome
-      → MakesRuns → (new : Hub A) × (store ≡ new.store) × HostsHub condition old new deeds
-  done_over old store (served it over uncut) makes = (it.last.hub, it.left, subst (λ (h : Hub A). HostsHub condition h it.last.hub _) it.over (hosted_hub it.first it.last _ it.steps makes))
-  done_over old store (shut it closed) makes = (it.last.hub, it.left, subst (λ (h : Hub A). HostsHub condition h it.last.hub _) it.over (hosted_hub it.first it.last _ it.steps makes))
-  done_over old store (broken_off it) makes = (it.last.hub, it.left, subst (λ (h : Hub A). HostsHub condition h it.last.hub _) it.over (hosted_hub it.first it.last _ it.steps makes))
-  done_over old store (not_begun same) makes = (old, same, still_hub old)
-  done_over old store (not_let_in same) makes = (old, same, still_hub old)
+  pub went_on : {is_over is_cut : Bool} (old : Hub A) (store : A) {deeds : List Deed} {outcome : Outcome} → EndsHub condition unread taken held is_over is_cut old store deeds outcome
+      → MakesRuns → HoldsNothing → WentOn condition old store deeds
+  went_on old store (served it over uncut) makes none = went_from old store it makes none
+  went_on old store (shut it closed) makes none = went_from old store it makes none
+  went_on old store (broken_off it) makes none = went_from old store it makes none
+  went_on old store (not_begun same) makes none = went_nowhere old store same none
+  went_on old store (not_let_in same) makes none = went_nowhere old store same none
 
   -- what serving comes to, by why it ended
   ends_by : {is_over is_cut : Bool} (old : Hub A) (store : A) {deeds : List Deed} (why : Ended) (it : ServesFrom condition unread taken held old store deeds)
@@ -133,11 +136,7 @@ module _ {S : Type 0} (g : Ghosts S) (clean : (h : Held S) → IsTrue (state g h
     (fresh : IsHonest (condition_of g) opened → HoldsNone (state g given).now.trees → StandsAfter (condition_of g) opened empty_state [])
     (again : IsHonest (condition_of g) opened → (found : State) → IsLeftAs (state g given).now.trees found
     → (first : State) (records : List Record) → Run config first records (first_world found)
-    → StandsAfter (condition_of g) opened first records)
-    (holds : (w : World) → StandsAt (condition_of g) opened w → StandsHolding (condition_of g) opened w (λ n. [])) where
-  holding : (first : State) (records : List Record) → StandsAfter (condition_of g) opened first records → StandsHoldingAfter (condition_of g) opened first records (λ n. [])
-  holding first records it = record { world = it.world; run = it.run; at = holds it.world it.at }
-
+    → StandsAfter (condition_of g) opened first records) where
   led : (hub : Hub (HashingStore S)) → hub.config ≡ config → (first : State) (records : List Record) (deeds : List Deed)
       → StandsBehind (condition_of g) hub first records (λ n. []) deeds → LedBy config (state g hub.store.store) first records deeds
   led hub same first records deeds it =
@@ -154,23 +153,22 @@ module _ {S : Type 0} (g : Ghosts S) (clean : (h : Held S) → IsTrue (state g h
             (l.0, l.1, subst (λ (s : State). Run config first ((records ++ it.more) ++ stopped ∷ []) (first_world s)) (sym l.2) (stops run));
       }
 
-  hosted_by : (hub : Hub (HashingStore S)) (deeds : List Deed) → HostsHub (condition_of g) opened hub deeds → IsHosted config (state g given) (state g hub.store.store) deeds
-  hosted_by hub deeds it = record {
-    fresh = λ is_open none. led hub (it.same_config ∙ given_config) empty_state [] deeds
-        (it.behind is_open empty_state [] (holding empty_state [] (fresh (it.honest (clean hub.store.store is_open)) none)));
-    again = λ is_open found left first records run. led hub (it.same_config ∙ given_config) first records deeds
-        (it.behind is_open first records (holding first records (again (it.honest (clean hub.store.store is_open)) found left first records run)));
-  }
+  hosted_by : (store : HashingStore S) (deeds : List Deed) → WentOn (condition_of g) opened store deeds → IsHosted config (state g given) (state g store.store) deeds
+  hosted_by store deeds it =
+      subst (λ (a : HashingStore S). IsHosted config (state g given) (state g a.store) deeds) (sym it.over) (record {
+        fresh = λ is_open none. led it.new (it.same_config ∙ given_config) empty_state [] deeds
+            (it.behind is_open empty_state [] (fresh (it.honest (clean it.new.store.store is_open)) none));
+        again = λ is_open found left first records run. led it.new (it.same_config ∙ given_config) first records deeds
+            (it.behind is_open first records (again (it.honest (clean it.new.store.store is_open)) found left first records run));
+      })
 
   module _ {R K P : Type 0} (unread : R → Option (List ℕ)) (taken : K → Option (List ℕ)) (held : P → Option (List ℕ)) where
     -- what was done over the hub is done over its database
     pub over_hub : {is_over is_cut : Bool} (store : HashingStore S) (back : Held S) (deeds : List Deed) (outcome : Outcome) → back ≡ store.store
-        → EndsHub (condition_of g) unread taken held is_over is_cut opened store deeds outcome → MakesRuns (condition_of g) unread taken held
+        → EndsHub (condition_of g) unread taken held is_over is_cut opened store deeds outcome → WentOn (condition_of g) opened store deeds
         → HostsDatabase g unread taken held is_over is_cut config given back outcome
-    over_hub store back deeds outcome same it makes =
-        let done = done_over (condition_of g) unread taken held opened store it makes in
-        let its : back ≡ done.0.store.store = same ∙ ap (λ (a : HashingStore S). a.store) done.1 in
-        hosts opened store deeds it same (subst (λ (h : Held S). IsHosted config (state g given) (state g h) deeds) (sym its) (hosted_by done.0 deeds done.2))
+    over_hub store back deeds outcome same it went =
+        hosts opened store deeds it same (subst (λ (h : Held S). IsHosted config (state g given) (state g h) deeds) (sym same) (hosted_by store deeds went))
 
 -- nobody was served
 stays : (config : Config) (d : db.State) (s first : State) (records : List Record) → IsSettled d → StandsFor d s → Run config first records (first_world s) → LedBy config d first records []

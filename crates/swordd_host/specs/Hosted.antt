@@ -14,9 +14,10 @@ use Rattle.dep_archive.specs.Archive.{condition_of}
 use Rattle.dep_archive.specs.declared.archive.HashingStore.{HashingStore}
 use Rattle.dep_archive.specs.Starting.{OpeningLeaves}
 use Rattle.dep_hub.specs.Records.{World, Record, Run, first_world, stopped}
+use Rattle.dep_hub.specs.Standing.{StandsAfter, IsClean, IsHonest}
 use Rattle.dep_hub.specs.declared.hub.Hub.{Hub}
 use Rattle.dep_host.specs.Hosting.{Deed, Position, Steps, slot}
-use Rattle.dep_host.specs.Runs.{Follows}
+use Rattle.dep_host.specs.Runs.{Follows, StandsBehind}
 use Rattle.dep_program.specs.declared.outcome.Outcome.{Outcome}
 use Rattle.dep_program.specs.declared.outcome.Outcome.TheVariants.{Done, Usage, StoreFault, TransferFault}
 
@@ -47,6 +48,18 @@ module _ {A R K S : Type 0} (condition : A → Condition) (unread : R → Option
     not_begun : store ≡ old.store → EndsHub is_over is_cut old store [] StoreFault
     -- the door could not be opened
     not_let_in : store ≡ old.store → EndsHub is_over is_cut old store [] TransferFault
+
+-- What was done leads from where this hub stood to this store: behind all records that the hub stood
+-- for, a hub over the store stands for those of the deeds.
+pub record WentOn {A : Type 0} (condition : A → Condition) (old : Hub A) (store : A) (deeds : List Deed)
+    : Type 0 where
+  pub new : Hub A
+  pub over : store ≡ new.store
+  pub same_config : new.config ≡ old.config
+  pub honest : IsHonest condition new → IsHonest condition old
+  pub behind : IsClean condition new → (first : State) (records : List Record)
+      → StandsAfter condition old first records
+      → StandsBehind condition new first records (λ n. []) deeds
 
 -- The machine went on with the records of the deeds behind these, and the database stands for where
 -- it is. A stop leaves it so.

@@ -2,13 +2,13 @@
 ghost use Rattle.std.specs.Prelude.{◌≡◌, false, List};
 ghost use Rattle.sqlite.specs.Held.{state};
 ghost use Rattle.dep_host.specs.Hosting.{Deed};
-ghost use Rattle.swordd_host.specs.Hosted.{EndsHub, HostsDatabase};
+ghost use Rattle.swordd_host.specs.Hosted.{EndsHub, HostsDatabase, WentOn};
 ghost use Rattle.swordd_host.specs.Outcomes.{outcome_at};
 
 use crate::door::{Door, SocketDoor};
 use crate::host_log::StandardErrorLog;
 use crate::start::{microseconds_since, write_start};
-use dep_archive::{HashingStore, open_hub};
+use dep_archive::open_hub;
 use dep_configuration::{Configuration, Limits};
 use dep_host::laws::hosts_make_a_run;
 use dep_host::{Ended, Events, Host, serve};
@@ -103,8 +103,6 @@ fn serve_database<
     ensures hosts { HostsDatabase S.Store R.unread K.taken P.held (E.is_over door.new) (E.is_cut door.new)
         config connection result.1 result.0 }
 {
-    nothing_held::<HashingStore<S>>();
-    hosts_make_a_run::<HashingStore<S>, R, K, P>();
     match open_hub(rt.alloc(), config, connection, &mut Unwatched) {
         Ok(hub) => {
             let (outcome, archive) = serve_hub(rt, place, hub, door);
@@ -126,8 +124,10 @@ fn serve_hub<
     E: Events<R, K, P> + Door,
 >(rt: &HostRuntime, place: &Place, hub: Hub<A>, door: &mut E) -> (Outcome, A)
     ensures ends { (deeds : List Deed) × EndsHub A.condition R.unread K.taken P.held (E.is_over door.new)
-        (E.is_cut door.new) hub result.1 deeds result.0 }
+        (E.is_cut door.new) hub result.1 deeds result.0 × WentOn A.condition hub result.1 deeds }
 {
+    nothing_held::<A>();
+    hosts_make_a_run::<A, R, K, P>();
     let opened = microseconds_since(rt, place.begun);
     let mut host = match Host::new(rt.alloc(), hub, host_limits(&place.limits)) {
         Ok(host) => host,

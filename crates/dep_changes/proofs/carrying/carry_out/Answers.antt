@@ -1,11 +1,10 @@
 use Rattle.std.proofs.Common.{◌≡◌, ◌∙◌, true, false, refl, sym, ap}
 use Rattle.dep_types.specs.Numbers.{counters_after}
 use Rattle.dep_types.specs.declared.counters.Counters.{Counters}
-use Rattle.dep_tables.proofs.Chains.{clean_before, stays_then}
+use Rattle.dep_tables.proofs.Chains.{clean_before}
 use Rattle.dep_tables.specs.Tables.{tables_of}
 use Rattle.dep_tables.proofs.Results.{ok_then}
 use Rattle.dep_decisions.specs.Decisions.{numbers_for}
-use Rattle.dep_changes.proofs.Chains.{ours_then}
 use Rattle.dep_changes.specs.Changed.{with_maps}
 use Rattle.dep_changes.proofs.Carried.{numbers_told, told, carried, equal_counters, none_taken, same_counters}
 use Rattle.dep_row_maps.specs.Causes.{FailsHolding}
@@ -16,6 +15,7 @@ use Rattle.dep_changes.specs.declared.change.Change.{Change}
 use Rattle.dep_changes.specs.Causes.{TakesMemory}
 use Rattle.dep_changes.proofs.Fits.{change_fits, counters_fit}
 use Rattle.dep_changes.proofs.Opened.{decision_storable}
+use Rattle.dep_row_maps.proofs.Changing.{changes_then, changes_ok, changes_err}
 use Rattle.dep_changes.proofs.carrying.carry_out.Goals as goal
 
 pub returns-then-eq-clause-map : goal.returns-then-eq-clause-map
@@ -32,7 +32,7 @@ returns-then-eq-clause-map g c clean inside ours s are it =
 pub returns-clause-map : goal.returns-clause-map
 returns-clause-map g c clean inside ours s are it =
     let new = g.T.Statements.state c.set_counters.new.tx in
-    let before = clean_before c.set_counters.ensures.stays clean in
+    let before = clean_before c.set_counters.ensures.keeps.stays clean in
     let view = c.args.view.now in
     let d = c.args.decision.now in
     let content = c.args.content.now in
@@ -41,14 +41,11 @@ returns-clause-map g c clean inside ours s are it =
     let made = c.in_ok-change_maps.ensures.map before inside ours s are (numbers, told s view content d it) in
     let after : next ≡ counters_after s.next (numbers_for d) = c.after_taking-next.ensures ∙ ap (λ (was : Counters). counters_after was c.numbers_for.result) numbers.1 ∙ ap (counters_after s.next) c.numbers_for.ensures in
     ok_then c.set_counters.result
-    (c.set_counters.ensures.map clean (c.in_ok-change_maps.ensures.stays.inside before inside) (c.in_ok-change_maps.ensures.ours before inside ours) (with_maps s content d) made)
+    (c.set_counters.ensures.map clean (c.in_ok-change_maps.ensures.keeps.stays.inside before inside) (c.in_ok-change_maps.ensures.keeps.ours before inside ours) (with_maps s content d) made)
     (λ wrote. carried s content d (tables_of new) view.clock next numbers.0 after wrote)
 
-pub returns-clause-stays : goal.returns-clause-stays
-returns-clause-stays g c = stays_then c.in_ok-change_maps.ensures.stays c.set_counters.ensures.stays
-
-pub returns-clause-ours : goal.returns-clause-ours
-returns-clause-ours g c = ours_then c.in_ok-change_maps.ensures.stays c.set_counters.ensures.stays c.in_ok-change_maps.ensures.ours c.set_counters.ensures.ours
+pub returns-clause-keeps : goal.returns-clause-keeps
+returns-clause-keeps g c = changes_then c.in_ok-change_maps.ensures.keeps c.set_counters.ensures.keeps
 
 pub returns-in_err-change_maps-clause-untouched : goal.returns-in_err-change_maps-clause-untouched
 returns-in_err-change_maps-clause-untouched g c show = absurd (let never = (c.in_err-change_maps.ensures.untouched show).0 in cc)
@@ -82,9 +79,15 @@ returns-clause-cause g c clean inside ours s are it =
     let d = c.args.decision.now in
     let content = c.args.content.now in
     let by = it.accepted in
-    let before = clean_before c.set_counters.ensures.stays clean in
+    let before = clean_before c.set_counters.ensures.keeps.stays clean in
     let numbers = numbers_told s view content d by in
     let after : c.after_taking-next.result ≡ counters_after view.next (numbers_for d) = c.after_taking-next.ensures ∙ ap (counters_after view.next) c.numbers_for.ensures in
     let storable = counters_fit s by.sound view (numbers_for d) c.after_taking-next.result numbers c.requires after _ refl in
-    if_err_then c.set_counters.result (c.set_counters.ensures.cause storable clean (c.in_ok-change_maps.ensures.stays.inside before inside))
-    (λ fault failed. fails_then g.T.Statements.state c.args.tx.now c.change_maps.new.tx c.set_counters.new.tx c.in_ok-change_maps.ensures.stays.survives (FailsHolding (TakesMemory s d)) fault (statement (state_written _ failed)))
+    if_err_then c.set_counters.result (c.set_counters.ensures.cause storable clean (c.in_ok-change_maps.ensures.keeps.stays.inside before inside))
+    (λ fault failed. fails_then g.T.Statements.state c.args.tx.now c.change_maps.new.tx c.set_counters.new.tx c.in_ok-change_maps.ensures.keeps.stays.survives (FailsHolding (TakesMemory s d)) fault (statement (state_written _ failed)))
+
+pub returns-in_err-change_maps-clause-keeps : goal.returns-in_err-change_maps-clause-keeps
+returns-in_err-change_maps-clause-keeps g c = changes_err c.from_residual.ensures.0 c.in_err-change_maps.ensures.keeps.stays
+
+pub returns-then-eq-clause-keeps : goal.returns-then-eq-clause-keeps
+returns-then-eq-clause-keeps g c = changes_ok c.in_ok-change_maps.ensures.keeps

@@ -4,6 +4,7 @@ use Rattle.dep_decisions.specs.declared.decision.Deposit.TheVariants.{Files}
 use Rattle.dep_changes.specs.Clauses.{Appends, FailsAppending}
 use Rattle.dep_changes.proofs.Appended.{append_carried, append_fails}
 use Rattle.dep_changes.proofs.Causes.{never_absent}
+use Rattle.dep_row_maps.proofs.Changing.{changes_put}
 use Rattle.dep_changes.proofs.deposits.append.Goals as goal
 
 pub returns-in-Files-clause-map : goal.returns-in-Files-clause-map
@@ -29,3 +30,6 @@ pub returns-in-Metadata-clause-cause : goal.returns-in-Metadata-clause-cause
 returns-in-Metadata-clause-cause g c n =
     append_fails g.T.Statements.state c.args.tx.now c.append_texts.new.tx c.append_texts.result c.args.change.now c.args.deposit.now c.args.ingests c.in_ok-touched.field-0 c.ingested_by-row.result c.in_ok-touched.ensures.told c.ingested_by-row.ensures n
     (subst (FailsAppending g.T.Statements.state c.args.tx.now c.append_texts.new.tx c.append_texts.result c.args.change.now c.ingested_by-row.result) (sym c.in-Metadata.is) c.append_texts.ensures.cause)
+
+pub returns-in_err-touched-clause-keeps : goal.returns-in_err-touched-clause-keeps
+returns-in_err-touched-clause-keeps g c = changes_put g.T.Statements.lenders g.T.Statements.state c.args.tx.now _

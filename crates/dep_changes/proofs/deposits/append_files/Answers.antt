@@ -1,12 +1,11 @@
 use Rattle.std.proofs.Common.{refl}
 use Rattle.dep_types.specs.State.{State, Object}
-use Rattle.dep_tables.proofs.Chains.{clean_before, stays_then}
+use Rattle.dep_tables.proofs.Chains.{clean_before}
 use Rattle.dep_tables.specs.Tables.{tables_of}
 use Rattle.dep_tables.proofs.Results.{ok_then}
 use Rattle.dep_row_maps.specs.TablesAre.{with_object}
 use Rattle.dep_row_maps.proofs.Lens.{get_here}
 use Rattle.dep_decisions.specs.Effects.{with_files}
-use Rattle.dep_changes.proofs.Chains.{ours_then}
 use Rattle.dep_changes.proofs.Added.{new_files_again}
 use Rattle.dep_changes.proofs.Steps.{files_of_row, its_number, at_number, rewritten}
 use Rattle.std.proofs.Common.{◌≢◌, []}
@@ -15,6 +14,7 @@ use Rattle.dep_row_maps.specs.Causes.FailsHolding.{statement}
 use Rattle.dep_row_maps.specs.Causes.FailsByStatement.{object_written}
 use Rattle.dep_row_maps.proofs.Causes.{fails_first, if_err_is}
 use Rattle.dep_changes.proofs.Causes.{caused_later, files_fit}
+use Rattle.dep_row_maps.proofs.Changing.{changes_then, changes_err}
 use Rattle.dep_changes.proofs.deposits.append_files.Goals as goal
 
 pub returns-clause-map : goal.returns-clause-map
@@ -22,7 +22,7 @@ returns-clause-map g c it clean inside ours s are told =
     let view = c.args.change.now.view.now in
     let mid = g.T.Statements.state c.write_row.new.tx in
     let new = g.T.Statements.state c.put_new_files.new.tx in
-    let before = clean_before c.put_new_files.ensures.stays clean in
+    let before = clean_before c.put_new_files.ensures.keeps.stays clean in
     let numbers = told.0.0 in
     let row = told.1 in
     let n = c.args.row.object in
@@ -33,14 +33,11 @@ returns-clause-map g c it clean inside ours s are told =
     (c.in_ok-write_row.ensures.map mark before inside ours s are (rewritten s n row.was mark now is row.there row.metadata row.files)) in
     let one : State = with_object s n mark in
     ok_then c.put_new_files.result
-    (c.put_new_files.ensures.map mark clean (c.in_ok-write_row.ensures.stays.inside before inside) (c.in_ok-write_row.ensures.ours before inside ours) one put ((numbers, told.0.1), get_here s.objects n mark))
+    (c.put_new_files.ensures.map mark clean (c.in_ok-write_row.ensures.keeps.stays.inside before inside) (c.in_ok-write_row.ensures.keeps.ours before inside ours) one put ((numbers, told.0.1), get_here s.objects n mark))
     (λ added. new_files_again (tables_of new) s c.args.change.now.content.now n n mark mark c.args.files.now refl added)
 
-pub returns-clause-stays : goal.returns-clause-stays
-returns-clause-stays g c = stays_then c.in_ok-write_row.ensures.stays c.put_new_files.ensures.stays
-
-pub returns-clause-ours : goal.returns-clause-ours
-returns-clause-ours g c = ours_then c.in_ok-write_row.ensures.stays c.put_new_files.ensures.stays c.in_ok-write_row.ensures.ours c.put_new_files.ensures.ours
+pub returns-clause-keeps : goal.returns-clause-keeps
+returns-clause-keeps g c = changes_then c.in_ok-write_row.ensures.keeps c.put_new_files.ensures.keeps
 
 pub returns-in_err-write_row-clause-cause : goal.returns-in_err-write_row-clause-cause
 returns-in_err-write_row-clause-cause g c storable clean inside =
@@ -53,6 +50,9 @@ returns-in_err-write_row-clause-cause g c storable clean inside =
 pub returns-clause-cause : goal.returns-clause-cause
 returns-clause-cause g c storable clean inside =
     let held = c.args.files.now ≢ [] in
-    let before = clean_before c.put_new_files.ensures.stays clean in
-    caused_later g.T.Statements.state (FailsHolding held) (FailsHolding held) (λ at now fault it. it) c.put_new_files.result c.args.tx.now c.write_row.new.tx c.put_new_files.new.tx c.in_ok-write_row.ensures.stays.survives
-    (c.put_new_files.ensures.cause (storable.0, storable.1.object, storable.2) clean (c.in_ok-write_row.ensures.stays.inside before inside))
+    let before = clean_before c.put_new_files.ensures.keeps.stays clean in
+    caused_later g.T.Statements.state (FailsHolding held) (FailsHolding held) (λ at now fault it. it) c.put_new_files.result c.args.tx.now c.write_row.new.tx c.put_new_files.new.tx c.in_ok-write_row.ensures.keeps.stays.survives
+    (c.put_new_files.ensures.cause (storable.0, storable.1.object, storable.2) clean (c.in_ok-write_row.ensures.keeps.stays.inside before inside))
+
+pub returns-in_err-write_row-clause-keeps : goal.returns-in_err-write_row-clause-keeps
+returns-in_err-write_row-clause-keeps g c = changes_err c.from_residual.ensures.0 c.in_err-write_row.ensures.keeps.stays

@@ -1,12 +1,11 @@
 use Rattle.std.specs.FinMap as finmap
 use Rattle.dep_types.specs.State.{State, Object}
-use Rattle.dep_tables.proofs.Chains.{clean_before, stays_then}
+use Rattle.dep_tables.proofs.Chains.{clean_before}
 use Rattle.dep_tables.specs.Tables.{tables_of}
 use Rattle.dep_tables.proofs.Results.{ok_then}
 use Rattle.dep_row_maps.specs.TablesAre.{with_object}
 use Rattle.dep_row_maps.proofs.Lens.{get_here}
 use Rattle.dep_decisions.specs.Effects.{joined, with_texts}
-use Rattle.dep_changes.proofs.Chains.{ours_then}
 use Rattle.dep_changes.proofs.Steps.{texts_of_row, its_number, at_number, rewritten, written_again}
 use Rattle.std.proofs.Common.{◌≡◌, ◌≢◌, ◌⊎◌, subst, sym}
 use Rattle.dep_types.specs.State.{Texts}
@@ -18,6 +17,7 @@ use Rattle.dep_row_maps.proofs.Causes.{fails_first, holding_more, if_err_is}
 use Rattle.dep_objects.specs.Texts.{HavePlaces}
 use Rattle.dep_changes.proofs.Steps.{texts_of}
 use Rattle.dep_changes.proofs.Causes.{caused_later, texts_fit}
+use Rattle.dep_row_maps.proofs.Changing.{changes_then, changes_err}
 use Rattle.dep_changes.proofs.deposits.append_texts.Goals as goal
 
 pub returns-clause-map : goal.returns-clause-map
@@ -25,7 +25,7 @@ returns-clause-map g c it clean inside ours s are told =
     let view = c.args.change.now.view.now in
     let mid = g.T.Statements.state c.write_row.new.tx in
     let new = g.T.Statements.state c.append_metadata.new.tx in
-    let before = clean_before c.append_metadata.ensures.stays clean in
+    let before = clean_before c.append_metadata.ensures.keeps.stays clean in
     let numbers = told.0.0 in
     let row = told.1 in
     let n = c.args.row.object in
@@ -37,14 +37,11 @@ returns-clause-map g c it clean inside ours s are told =
     let one : State = with_object s n mark in
     let after : Object = with_texts s (joined (finmap.entries c.args.metadata.now) it.metadata) it in
     ok_then c.append_metadata.result
-    (c.append_metadata.ensures.map clean (c.in_ok-write_row.ensures.stays.inside before inside) (c.in_ok-write_row.ensures.ours before inside ours) one put mark (get_here s.objects n mark))
+    (c.append_metadata.ensures.map clean (c.in_ok-write_row.ensures.keeps.stays.inside before inside) (c.in_ok-write_row.ensures.keeps.ours before inside ours) one put mark (get_here s.objects n mark))
     (λ added. written_again (tables_of new) s n mark after added)
 
-pub returns-clause-stays : goal.returns-clause-stays
-returns-clause-stays g c = stays_then c.in_ok-write_row.ensures.stays c.append_metadata.ensures.stays
-
-pub returns-clause-ours : goal.returns-clause-ours
-returns-clause-ours g c = ours_then c.in_ok-write_row.ensures.stays c.append_metadata.ensures.stays c.in_ok-write_row.ensures.ours c.append_metadata.ensures.ours
+pub returns-clause-keeps : goal.returns-clause-keeps
+returns-clause-keeps g c = changes_then c.in_ok-write_row.ensures.keeps c.append_metadata.ensures.keeps
 
 pub returns-in_err-write_row-clause-cause : goal.returns-in_err-write_row-clause-cause
 returns-in_err-write_row-clause-cause g c it clean inside ours s are storable =
@@ -61,7 +58,7 @@ returns-clause-cause g c it clean inside ours s are storable =
     let row = storable.1 in
     let more = c.args.metadata.now in
     let mid = g.T.Statements.state c.write_row.new.tx in
-    let before = clean_before c.append_metadata.ensures.stays clean in
+    let before = clean_before c.append_metadata.ensures.keeps.stays clean in
     let n = c.args.row.object in
     let now = c.texts_changed.result in
     let mark : Object = with_texts s it.metadata it in
@@ -73,6 +70,9 @@ returns-clause-cause g c it clean inside ours s are storable =
     let few = (metadata_at one.objects n ≢ finmap.empty) ⊎ (more ≢ finmap.empty) in
     let held = (it.metadata ≢ finmap.empty) ⊎ (more ≢ finmap.empty) in
     let among : few → held = λ some. subst (λ (m : Texts). (m ≢ finmap.empty) ⊎ (more ≢ finmap.empty)) (sym have) some in
-    caused_later g.T.Statements.state (FailsHolding few) (FailsHolding held) (holding_more among) c.append_metadata.result c.args.tx.now c.write_row.new.tx c.append_metadata.new.tx c.in_ok-write_row.ensures.stays.survives
-    (c.append_metadata.ensures.cause clean (c.in_ok-write_row.ensures.stays.inside before inside) (c.in_ok-write_row.ensures.ours before inside ours) one put storable.2.1.object
+    caused_later g.T.Statements.state (FailsHolding few) (FailsHolding held) (holding_more among) c.append_metadata.result c.args.tx.now c.write_row.new.tx c.append_metadata.new.tx c.in_ok-write_row.ensures.keeps.stays.survives
+    (c.append_metadata.ensures.cause clean (c.in_ok-write_row.ensures.keeps.stays.inside before inside) (c.in_ok-write_row.ensures.keeps.ours before inside ours) one put storable.2.1.object
     (subst (λ (m : Texts). HavePlaces m (finmap.entries more)) have storable.2.2))
+
+pub returns-in_err-write_row-clause-keeps : goal.returns-in_err-write_row-clause-keeps
+returns-in_err-write_row-clause-keeps g c = changes_err c.from_residual.ensures.0 c.in_err-write_row.ensures.keeps.stays

@@ -1,13 +1,12 @@
 use Rattle.std.proofs.Common.{refl, ap, ◌∙◌}
 use Rattle.dep_types.specs.State.{State, Object}
 use Rattle.dep_types.specs.declared.counters.Counters.{Counters}
-use Rattle.dep_tables.proofs.Chains.{clean_before, stays_then}
+use Rattle.dep_tables.proofs.Chains.{clean_before}
 use Rattle.dep_tables.specs.Tables.{tables_of}
 use Rattle.dep_tables.proofs.Results.{ok_then}
 use Rattle.dep_row_maps.specs.TablesAre.{with_object}
 use Rattle.dep_row_maps.proofs.Lens.{get_here}
 use Rattle.dep_decisions.specs.Effects.{blank}
-use Rattle.dep_changes.proofs.Chains.{ours_then}
 use Rattle.dep_changes.proofs.Filled.{blank_added, blank_row_is, still_have, deposit_again}
 use Rattle.dep_changes.proofs.Steps.{its_number, its_own, at_number, there_at}
 use Rattle.dep_row_maps.specs.Causes.{FailsHolding}
@@ -16,6 +15,7 @@ use Rattle.dep_row_maps.specs.Causes.FailsByStatement.{object_added}
 use Rattle.dep_row_maps.proofs.Causes.{fails_first, if_err_is}
 use Rattle.dep_changes.specs.Causes.{HasCopies}
 use Rattle.dep_changes.proofs.Causes.{blank_fits, caused_later}
+use Rattle.dep_row_maps.proofs.Changing.{changes_then, changes_err}
 use Rattle.dep_changes.proofs.deposits.create.Goals as goal
 
 pub returns-clause-map : goal.returns-clause-map
@@ -25,7 +25,7 @@ returns-clause-map g c clean inside ours s are told =
     let content = c.args.change.now.content.now in
     let mid = g.T.Statements.state c.add_object.new.tx in
     let new = g.T.Statements.state c.fill.new.tx in
-    let before = clean_before c.fill.ensures.stays clean in
+    let before = clean_before c.fill.ensures.keeps.stays clean in
     let k = view.next.object in
     let n = s.next.object in
     let number = ap (λ (next : Counters). next.object) numbers.1 in
@@ -36,15 +36,12 @@ returns-clause-map g c clean inside ours s are told =
     let put = at_number (tables_of mid) s now.object n it to (blank_added (tables_of mid) s now it (its_own k it now is) refl refl (c.in_ok-add_object.ensures.map before inside ours s are)) in
     let one : State = with_object s n it in
     ok_then c.fill.result
-    (c.fill.ensures.map it clean (c.in_ok-add_object.ensures.stays.inside before inside) (c.in_ok-add_object.ensures.ours before inside ours) one put
+    (c.fill.ensures.map it clean (c.in_ok-add_object.ensures.keeps.stays.inside before inside) (c.in_ok-add_object.ensures.keeps.ours before inside ours) one put
     ((numbers, still_have one.objects s content view.uploads c.args.deposit.now told.1.1), there_at one.objects k n it number (get_here s.objects n it)))
     (λ done. deposit_again (tables_of new) s content k n it c.args.deposit.now c.args.ingests number done)
 
-pub returns-clause-stays : goal.returns-clause-stays
-returns-clause-stays g c = stays_then c.in_ok-add_object.ensures.stays c.fill.ensures.stays
-
-pub returns-clause-ours : goal.returns-clause-ours
-returns-clause-ours g c = ours_then c.in_ok-add_object.ensures.stays c.fill.ensures.stays c.in_ok-add_object.ensures.ours c.fill.ensures.ours
+pub returns-clause-keeps : goal.returns-clause-keeps
+returns-clause-keeps g c = changes_then c.in_ok-add_object.ensures.keeps c.fill.ensures.keeps
 
 pub returns-in_err-add_object-clause-cause : goal.returns-in_err-add_object-clause-cause
 returns-in_err-add_object-clause-cause g c s storable clean inside =
@@ -57,6 +54,9 @@ returns-in_err-add_object-clause-cause g c s storable clean inside =
 pub returns-clause-cause : goal.returns-clause-cause
 returns-clause-cause g c s storable clean inside =
     let held = HasCopies c.args.deposit.now in
-    let before = clean_before c.fill.ensures.stays clean in
-    caused_later g.T.Statements.state (FailsHolding held) (FailsHolding held) (λ at now fault it. it) c.fill.result c.args.tx.now c.add_object.new.tx c.fill.new.tx c.in_ok-add_object.ensures.stays.survives
-    (c.fill.ensures.cause (storable.0, storable.0.object, storable.1) clean (c.in_ok-add_object.ensures.stays.inside before inside))
+    let before = clean_before c.fill.ensures.keeps.stays clean in
+    caused_later g.T.Statements.state (FailsHolding held) (FailsHolding held) (λ at now fault it. it) c.fill.result c.args.tx.now c.add_object.new.tx c.fill.new.tx c.in_ok-add_object.ensures.keeps.stays.survives
+    (c.fill.ensures.cause (storable.0, storable.0.object, storable.1) clean (c.in_ok-add_object.ensures.keeps.stays.inside before inside))
+
+pub returns-in_err-add_object-clause-keeps : goal.returns-in_err-add_object-clause-keeps
+returns-in_err-add_object-clause-keeps g c = changes_err c.from_residual.ensures.0 c.in_err-add_object.ensures.keeps.stays

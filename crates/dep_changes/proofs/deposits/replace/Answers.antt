@@ -1,14 +1,13 @@
-use Rattle.std.proofs.Common.{◌||◌, Ok, refl}
+use Rattle.std.proofs.Common.{◌||◌, refl}
 use Rattle.std.specs.FinMap as finmap
 use Rattle.dep_types.specs.State.{State, Object}
-use Rattle.dep_tables.proofs.Chains.{clean_before, stays_err, stays_then}
+use Rattle.dep_tables.proofs.Chains.{clean_before, stays_then}
 use Rattle.dep_tables.specs.Tables.{tables_of}
 use Rattle.dep_tables.proofs.Results.{ok_then}
 use Rattle.dep_row_maps.specs.TablesAre.{with_object}
 use Rattle.dep_row_maps.proofs.Lens.{get_here}
 use Rattle.dep_decisions.specs.Effects.{blank, filled, ingested_by, uploads_in, without}
 use Rattle.dep_changes.proofs.Carried.{at_object}
-use Rattle.dep_changes.proofs.Chains.{ours_then}
 use Rattle.dep_changes.proofs.Filled.{ingested_row, blank_again, still_have, deposit_again}
 use Rattle.dep_changes.proofs.Steps.{row_is, its_number, at_number, rewritten, there_at, written_again}
 use Rattle.dep_row_maps.specs.Causes.{FailsByStatement, FailsHolding}
@@ -17,6 +16,7 @@ use Rattle.dep_row_maps.specs.Causes.FailsByStatement.{object_written}
 use Rattle.dep_row_maps.proofs.Causes.{fails_among, fails_later, fails_then, if_err_is}
 use Rattle.dep_changes.specs.Causes.{HasCopies}
 use Rattle.dep_changes.proofs.Causes.{by_statement, caused_later, blank_fits, found_fits, ingested_fits, never_absent}
+use Rattle.dep_row_maps.proofs.Changing.{changes_err, changes_then, changes_put}
 use Rattle.dep_changes.proofs.deposits.replace.Goals as goal
 
 pub returns-clause-map : goal.returns-clause-map
@@ -30,13 +30,13 @@ returns-clause-map g c n clean inside ours s are told =
     let two = g.T.Statements.state c.clear_metadata.new.tx in
     let three = g.T.Statements.state c.write_row.new.tx in
     let new = g.T.Statements.state c.fill.new.tx in
-    let clean_three = clean_before c.fill.ensures.stays clean in
-    let clean_two = clean_before c.write_row.ensures.stays clean_three in
-    let clean_one = clean_before c.clear_metadata.ensures.stays clean_two in
-    let inside_one = c.in_ok-delete_files.ensures.stays.inside clean_one inside in
-    let ours_one = c.in_ok-delete_files.ensures.ours clean_one inside ours in
-    let inside_two = c.in_ok-clear_metadata.ensures.stays.inside clean_two inside_one in
-    let ours_two = c.in_ok-clear_metadata.ensures.ours clean_two inside_one ours_one in
+    let clean_three = clean_before c.fill.ensures.keeps.stays clean in
+    let clean_two = clean_before c.write_row.ensures.keeps.stays clean_three in
+    let clean_one = clean_before c.clear_metadata.ensures.keeps.stays clean_two in
+    let inside_one = c.in_ok-delete_files.ensures.keeps.stays.inside clean_one inside in
+    let ours_one = c.in_ok-delete_files.ensures.keeps.ours clean_one inside ours in
+    let inside_two = c.in_ok-clear_metadata.ensures.keeps.stays.inside clean_two inside_one in
+    let ours_two = c.in_ok-clear_metadata.ensures.keeps.ours clean_two inside_one ours_one in
     let row = c.ingested_by-row.result in
     let ingested = o.ingested || c.args.ingests in
     let it : Object = ingested_by c.args.ingests o in
@@ -57,26 +57,18 @@ returns-clause-map g c n clean inside ours s are told =
     let third : State = with_object s n clear in
     at_object s (without s.uploads (uploads_in c.args.deposit.now)) new c.fill.result n o (λ (x : Object). filled s content c.args.deposit.now (x.ingested || c.args.ingests)) object.1
     (ok_then c.fill.result
-    (c.fill.ensures.map clear clean (c.in_ok-write_row.ensures.stays.inside clean_three inside_two) (c.in_ok-write_row.ensures.ours clean_three inside_two ours_two) third put
+    (c.fill.ensures.map clear clean (c.in_ok-write_row.ensures.keeps.stays.inside clean_three inside_two) (c.in_ok-write_row.ensures.keeps.ours clean_three inside_two ours_two) third put
     ((numbers, still_have third.objects s content view.uploads c.args.deposit.now told.1.2), there_at third.objects row.object n clear number (get_here s.objects n clear)))
     (λ done. deposit_again (tables_of new) s content row.object n clear c.args.deposit.now ingested number done))
 
-pub returns-in_err-clear_metadata-clause-stays : goal.returns-in_err-clear_metadata-clause-stays
-returns-in_err-clear_metadata-clause-stays g c = stays_err c.from_residual-in_err-clear_metadata.ensures.0 (stays_then c.in_ok-delete_files.ensures.stays c.clear_metadata.ensures.stays)
+pub returns-in_err-clear_metadata-clause-keeps : goal.returns-in_err-clear_metadata-clause-keeps
+returns-in_err-clear_metadata-clause-keeps g c = changes_err c.from_residual-in_err-clear_metadata.ensures.0 (stays_then c.in_ok-delete_files.ensures.keeps.stays c.clear_metadata.ensures.keeps.stays)
 
-pub returns-in_err-write_row-clause-stays : goal.returns-in_err-write_row-clause-stays
-returns-in_err-write_row-clause-stays g c = stays_err c.from_residual-in_err-write_row.ensures.0 (stays_then (stays_then c.in_ok-delete_files.ensures.stays c.in_ok-clear_metadata.ensures.stays) c.write_row.ensures.stays)
+pub returns-in_err-write_row-clause-keeps : goal.returns-in_err-write_row-clause-keeps
+returns-in_err-write_row-clause-keeps g c = changes_err c.from_residual-in_err-write_row.ensures.0 (stays_then (stays_then c.in_ok-delete_files.ensures.keeps.stays c.in_ok-clear_metadata.ensures.keeps.stays) c.write_row.ensures.keeps.stays)
 
-pub returns-clause-stays : goal.returns-clause-stays
-returns-clause-stays g c = stays_then (stays_then (stays_then c.in_ok-delete_files.ensures.stays c.in_ok-clear_metadata.ensures.stays) c.in_ok-write_row.ensures.stays) c.fill.ensures.stays
-
-pub returns-clause-ours : goal.returns-clause-ours
-returns-clause-ours g c =
-    let two = stays_then c.in_ok-delete_files.ensures.stays c.in_ok-clear_metadata.ensures.stays in
-    let three = stays_then two c.in_ok-write_row.ensures.stays in
-    let ours_two = ours_then {r = Ok tt} c.in_ok-delete_files.ensures.stays c.in_ok-clear_metadata.ensures.stays c.in_ok-delete_files.ensures.ours c.in_ok-clear_metadata.ensures.ours in
-    let ours_three = ours_then {r = Ok tt} two c.in_ok-write_row.ensures.stays ours_two c.in_ok-write_row.ensures.ours in
-    ours_then three c.fill.ensures.stays ours_three c.fill.ensures.ours
+pub returns-clause-keeps : goal.returns-clause-keeps
+returns-clause-keeps g c = changes_then (changes_then (changes_then c.in_ok-delete_files.ensures.keeps c.in_ok-clear_metadata.ensures.keeps) c.in_ok-write_row.ensures.keeps) c.fill.ensures.keeps
 
 pub returns-in_err-touched-clause-cause : goal.returns-in_err-touched-clause-cause
 returns-in_err-touched-clause-cause g c n clean inside ours s are storable = never_absent c.args.change.now.view.now storable.1 c.in_err-touched.ensures.absent
@@ -95,19 +87,19 @@ returns-in_err-clear_metadata-clause-cause g c n clean inside ours s are storabl
     let view = c.args.change.now.view.now in
     let told = storable.1 in
     let held = HasCopies c.args.deposit.now in
-    let before = clean_before c.clear_metadata.ensures.stays clean in
+    let before = clean_before c.clear_metadata.ensures.keeps.stays clean in
     let row = ingested_fits c.in_ok-touched.field-0 c.ingested_by-row.result c.args.ingests (found_fits view told c.in_ok-touched.field-0 c.in_ok-touched.ensures.told) c.ingested_by-row.ensures in
     if_err_is _ c.from_residual-in_err-clear_metadata.result c.in_err-clear_metadata.field-0.0 c.from_residual-in_err-clear_metadata.ensures.1
-    (fails_later g.T.Statements.state c.args.tx.now c.delete_files.new.tx c.clear_metadata.new.tx c.in_ok-delete_files.ensures.stays.survives FailsByStatement (FailsHolding held) (by_statement held) _
-    (c.in_err-clear_metadata.ensures.cause row.object clean (c.in_ok-delete_files.ensures.stays.inside before inside)))
+    (fails_later g.T.Statements.state c.args.tx.now c.delete_files.new.tx c.clear_metadata.new.tx c.in_ok-delete_files.ensures.keeps.stays.survives FailsByStatement (FailsHolding held) (by_statement held) _
+    (c.in_err-clear_metadata.ensures.cause row.object clean (c.in_ok-delete_files.ensures.keeps.stays.inside before inside)))
 
 pub returns-in_err-write_row-clause-cause : goal.returns-in_err-write_row-clause-cause
 returns-in_err-write_row-clause-cause g c n clean inside ours s are storable =
     let view = c.args.change.now.view.now in
     let told = storable.1 in
     let held = HasCopies c.args.deposit.now in
-    let two = stays_then c.in_ok-delete_files.ensures.stays c.in_ok-clear_metadata.ensures.stays in
-    let before = clean_before c.write_row.ensures.stays clean in
+    let two = stays_then c.in_ok-delete_files.ensures.keeps.stays c.in_ok-clear_metadata.ensures.keeps.stays in
+    let before = clean_before c.write_row.ensures.keeps.stays clean in
     let row = ingested_fits c.in_ok-touched.field-0 c.ingested_by-row.result c.args.ingests (found_fits view told c.in_ok-touched.field-0 c.in_ok-touched.ensures.told) c.ingested_by-row.ensures in
     if_err_is _ c.from_residual-in_err-write_row.result c.in_err-write_row.field-0.0 c.from_residual-in_err-write_row.ensures.1
     (fails_then g.T.Statements.state c.args.tx.now c.clear_metadata.new.tx c.write_row.new.tx two.survives (FailsHolding held) _
@@ -118,8 +110,14 @@ returns-clause-cause g c n clean inside ours s are storable =
     let view = c.args.change.now.view.now in
     let told = storable.1 in
     let held = HasCopies c.args.deposit.now in
-    let three = stays_then (stays_then c.in_ok-delete_files.ensures.stays c.in_ok-clear_metadata.ensures.stays) c.in_ok-write_row.ensures.stays in
-    let before = clean_before c.fill.ensures.stays clean in
+    let three = stays_then (stays_then c.in_ok-delete_files.ensures.keeps.stays c.in_ok-clear_metadata.ensures.keeps.stays) c.in_ok-write_row.ensures.keeps.stays in
+    let before = clean_before c.fill.ensures.keeps.stays clean in
     let row = ingested_fits c.in_ok-touched.field-0 c.ingested_by-row.result c.args.ingests (found_fits view told c.in_ok-touched.field-0 c.in_ok-touched.ensures.told) c.ingested_by-row.ensures in
     caused_later g.T.Statements.state (FailsHolding held) (FailsHolding held) (λ at now fault it. it) c.fill.result c.args.tx.now c.write_row.new.tx c.fill.new.tx three.survives
     (c.fill.ensures.cause (told.numbers, row.object, storable.2) clean (three.inside before inside))
+
+pub returns-in_err-touched-clause-keeps : goal.returns-in_err-touched-clause-keeps
+returns-in_err-touched-clause-keeps g c = changes_put g.T.Statements.lenders g.T.Statements.state c.args.tx.now _
+
+pub returns-in_err-delete_files-clause-keeps : goal.returns-in_err-delete_files-clause-keeps
+returns-in_err-delete_files-clause-keeps g c = changes_err c.from_residual-in_err-delete_files.ensures.0 c.in_err-delete_files.ensures.keeps.stays

@@ -14,29 +14,20 @@ use Rattle.dep_staging.specs.Assembling.{deposited}
 use Rattle.dep_changes.specs.Changed.{made_file}
 use Rattle.dep_changes.proofs.Assembled.{made_row, done_as}
 use Rattle.dep_changes.proofs.Causes.{by_statement, caused_among, new_row_fits, whole_fits}
+use Rattle.dep_row_maps.proofs.Changing.{changes_put}
 use Rattle.dep_changes.proofs.new_files.put_assembled.Goals as goal
 
 pub returns-in_err-upload-clause-map : goal.returns-in_err-upload-clause-map
 returns-in_err-upload-clause-map g c u o clean inside ours s are told = IfOk-from_err c.from_residual.result _ c.from_residual.ensures.0
 
-pub returns-in_err-upload-clause-ours : goal.returns-in_err-upload-clause-ours
-returns-in_err-upload-clause-ours g c clean inside ours = IfOk-from_err c.from_residual.result _ c.from_residual.ensures.0
-
 pub returns-in_err-row-clause-map : goal.returns-in_err-row-clause-map
 returns-in_err-row-clause-map g c u o clean inside ours s are told = IfOk-from_err c.from_residual-in_err-row.result _ c.from_residual-in_err-row.ensures.0
 
-pub returns-in_err-row-clause-ours : goal.returns-in_err-row-clause-ours
-returns-in_err-row-clause-ours g c clean inside ours =
-    IfOk-from_err c.from_residual-in_err-row.result _ c.from_residual-in_err-row.ensures.0
-
-pub returns-clause-ours : goal.returns-clause-ours
-returns-clause-ours g c = c.assemble.ensures.ours
-
-pub returns-clause-stays : goal.returns-clause-stays
-returns-clause-stays g c = c.assemble.ensures.stays
-
 pub returns-in_err-upload-clause-cause : goal.returns-in_err-upload-clause-cause
 returns-in_err-upload-clause-cause g c u storable clean inside = let whole = storable.3 in absurd (c.in_err-upload.ensures.absent whole.upload whole.it whole.told)
+
+pub returns-clause-keeps : goal.returns-clause-keeps
+returns-clause-keeps g c = c.assemble.ensures.keeps
 
 pub returns-in_err-row-clause-cause : goal.returns-in_err-row-clause-cause
 returns-in_err-row-clause-cause g c u storable clean inside =
@@ -64,3 +55,9 @@ returns-clause-map g c u o clean inside ours s are told =
     subst (λ (found : Option Upload). OnOk c.assemble.result (SeesState (g.T.Statements.state c.assemble.new.tx) (deposited s numbers.object o numbers.file (made_file s new (option_map_or assembled found [])) u))) (sym source.there)
     (done_as (λ (n f w : ℕ). OnOk c.assemble.result (SeesState (g.T.Statements.state c.assemble.new.tx) (deposited s n o f file w))) s numbers.object numbers.file u o it file c.in_ok-row.row up.row row_is is.0 there source.there
     (λ at_object at_upload upload_is same. c.assemble.ensures.map clean inside ours s are o it file at_object at_upload source.whole.segments upload_is same refl))
+
+pub returns-in_err-upload-clause-keeps : goal.returns-in_err-upload-clause-keeps
+returns-in_err-upload-clause-keeps g c = changes_put g.T.Statements.lenders g.T.Statements.state c.args.tx.now _
+
+pub returns-in_err-row-clause-keeps : goal.returns-in_err-row-clause-keeps
+returns-in_err-row-clause-keeps g c = changes_put g.T.Statements.lenders g.T.Statements.state c.args.tx.now _

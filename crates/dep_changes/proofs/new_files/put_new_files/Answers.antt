@@ -1,7 +1,7 @@
-use Rattle.std.proofs.Common.{◌≡◌, ◌+◌, ◌<◌, List, length, slice_get, Some, Ok, refl, ap, subst, arith, rules}
+use Rattle.std.proofs.Common.{◌≡◌, ◌+◌, ◌<◌, List, length, slice_get, Some, Ok, refl, ap, subst, arith}
 use Rattle.dep_types.specs.declared.counters.Counters.{Counters}
 use Rattle.dep_row_maps.proofs.Lens.{get_here}
-use Rattle.dep_tables.proofs.Chains.{clean_before, stays_err, stays_ok, stays_then}
+use Rattle.dep_tables.proofs.Chains.{clean_before, stays_ok, stays_then, stays_put}
 use Rattle.dep_tables.specs.Tables.{tables_of}
 use Rattle.dep_decisions.specs.declared.decision.NewFile.{NewFile}
 use Rattle.dep_changes.proofs.Added.{with_new_files, state_before, object_before, its_source, one_more, none_yet}
@@ -14,15 +14,16 @@ use Rattle.dep_row_maps.specs.Causes.{FailsHolding}
 use Rattle.dep_row_maps.proofs.Causes.{fails_later, holding_more, if_err_is}
 use Rattle.dep_objects.proofs.Places.{has_some}
 use Rattle.dep_changes.proofs.Causes.{room_below}
+use Rattle.dep_row_maps.proofs.Changing.{changes_err}
 use Rattle.dep_changes.proofs.new_files.put_new_files.Goals as goal
 
 pub files-preserved : goal.files-preserved
 files-preserved g c =
     let new = g.T.Statements.state c.put_new_file.new.tx in
     let inv = c.files.invariant in
-    let clean_mid = clean_before c.put_new_file.ensures.stays in (
-      stays_ok (stays_then {r = Ok tt} inv.0 c.in_ok-put_new_file.ensures.stays),
-      λ clean inside ours. c.in_ok-put_new_file.ensures.ours clean (inv.0.inside (clean_mid clean) inside) (inv.1 (clean_mid clean) inside ours),
+    let clean_mid = clean_before c.put_new_file.ensures.keeps.stays in (
+      stays_ok (stays_then {r = Ok tt} inv.0 c.in_ok-put_new_file.ensures.keeps.stays),
+      λ clean inside ours. c.in_ok-put_new_file.ensures.keeps.ours clean (inv.0.inside (clean_mid clean) inside) (inv.1 (clean_mid clean) inside ours),
       λ clean inside ours s are o numbers there sources.
           let content = c.args.change.now.content.now in
           let seen = c.args.change.now.view.now.uploads in
@@ -38,12 +39,12 @@ files-preserved g c =
           (state_before s content seen n o files i x at sources) so_far ((numbers, its_source s content seen n o files i x at sources), get_here s.objects n _)),
     )
 
-pub returns-in_err-put_new_file-clause-stays : goal.returns-in_err-put_new_file-clause-stays
-returns-in_err-put_new_file-clause-stays g c = stays_err c.from_residual.ensures.0 (stays_then c.files.invariant.0 c.put_new_file.ensures.stays)
+pub returns-in_err-put_new_file-clause-keeps : goal.returns-in_err-put_new_file-clause-keeps
+returns-in_err-put_new_file-clause-keeps g c = changes_err c.from_residual.ensures.0 (stays_then c.files.invariant.0 c.put_new_file.ensures.keeps.stays)
 
 pub files-init : goal.files-init
 files-init g c = (
-  record { same_reference = refl; survives = search rules; inside = λ clean inside. inside; kept = search rules },
+  stays_put g.T.Statements.lenders g.T.Statements.state c.args.tx.now _,
   λ clean inside ours. ours,
   λ clean inside ours s are o numbers there sources. none_yet (tables_of (g.T.Statements.state c.args.tx.now)) s c.args.change.now.content.now c.args.object o there are,
 )
@@ -62,7 +63,10 @@ returns-in_err-put_new_file-clause-cause g c storable clean inside =
     let x = c.index-files-index.result in
     let within : i < length files = omega arith in
     let at : slice_get files i ≡ Some x = slice_get_read files (length files) i x refl within c.index-files-index.is in
-    let before = clean_before c.put_new_file.ensures.stays clean in
+    let before = clean_before c.put_new_file.ensures.keeps.stays clean in
     if_err_is _ c.from_residual.result c.in_err-put_new_file.field-0.0 c.from_residual.ensures.1
     (fails_later g.T.Statements.state c.args.tx.now c.files.tx c.put_new_file.new.tx inv.0.survives (FailsHolding ⊤) (FailsHolding (files ≢ [])) (holding_more (λ _. has_some files i within)) _
     (c.in_err-put_new_file.ensures.cause (storable.0, storable.1, room_below c.args.change.now.view.now.next.file (length files) i c.requires within, storable.2 i x at) clean (inv.0.inside before inside)))
+
+pub returns-clause-keeps : goal.returns-clause-keeps
+returns-clause-keeps g c = record { stays = stays_ok c.files.invariant.0; ours = c.files.invariant.1 }

@@ -5,6 +5,7 @@ use Rattle.dep_row_maps.specs.Causes.{FailsByStatement, FailsHolding}
 use Rattle.dep_row_maps.specs.Causes.FailsHolding.{memory}
 use Rattle.dep_row_maps.proofs.Causes.{fails_first, if_err_is}
 use Rattle.dep_changes.proofs.Causes.{by_statement, caused_among, new_row_fits}
+use Rattle.dep_row_maps.proofs.Changing.{changes_put}
 use Rattle.dep_changes.proofs.new_files.put_posted.Goals as goal
 
 pub returns-in_err-row-clause-cause : goal.returns-in_err-row-clause-cause
@@ -17,3 +18,6 @@ returns-clause-cause g c place storable clean inside =
     let size = subst (λ (bytes : List ℕ). IsStorable (length bytes)) (sym c.as_slice.ensures) storable.3 in
     let fits = new_row_fits c.args.change.now storable.0 c.args.numbers c.args.new.now _ c.in_ok-row.row storable.1 storable.2 size c.in_ok-row.ensures.told in
     caused_among g.T.Statements.state FailsByStatement (FailsHolding ⊤) (by_statement ⊤) c.put_file.result c.args.tx.now c.put_file.new.tx (c.put_file.ensures.cause fits clean inside)
+
+pub returns-in_err-row-clause-keeps : goal.returns-in_err-row-clause-keeps
+returns-in_err-row-clause-keeps g c = changes_put g.T.Statements.lenders g.T.Statements.state c.args.tx.now _

@@ -1,8 +1,8 @@
-use Rattle.std.proofs.Common.{◌≡◌, Ok, refl, sym, subst}
+use Rattle.std.proofs.Common.{◌≡◌, refl, sym, subst}
 use Rattle.std.specs.FinMap as finmap
 use Rattle.dep_types.specs.State.{State, Object, File}
 use Rattle.dep_fixity.specs.Fixity.{digests_of}
-use Rattle.dep_tables.proofs.Chains.{clean_before, stays_err, stays_then}
+use Rattle.dep_tables.proofs.Chains.{clean_before, stays_then}
 use Rattle.dep_tables.specs.Tables.{tables_of}
 use Rattle.dep_tables.proofs.Results.{ok_then}
 use Rattle.dep_row_maps.specs.TablesAre.{TablesAre, with_object}
@@ -10,7 +10,6 @@ use Rattle.dep_row_maps.proofs.Lens.{get_here}
 use Rattle.dep_decisions.specs.Effects.{bytes_from, file_from, with_files}
 use Rattle.dep_decisions.specs.declared.decision.Source.{Source}
 use Rattle.dep_changes.proofs.Carried.{at_object}
-use Rattle.dep_changes.proofs.Chains.{ours_then}
 use Rattle.dep_changes.specs.Changed.{made_file}
 use Rattle.dep_changes.proofs.Steps.{files_row, number_is, its_number, at_number, rewritten, there_at, written_again, file_replaced}
 use Rattle.std.specs.Prelude.{⊤}
@@ -19,6 +18,7 @@ use Rattle.dep_row_maps.specs.Causes.FailsHolding.{statement}
 use Rattle.dep_row_maps.specs.Causes.FailsByStatement.{object_written}
 use Rattle.dep_row_maps.proofs.Causes.{fails_first, fails_later, if_err_is}
 use Rattle.dep_changes.proofs.Causes.{by_statement, caused_later, files_fit, found_fits, never_absent}
+use Rattle.dep_row_maps.proofs.Changing.{changes_err, changes_then, changes_put}
 use Rattle.dep_changes.proofs.new_files.set_file.Goals as goal
 
 pub returns-clause-map : goal.returns-clause-map
@@ -30,10 +30,10 @@ returns-clause-map g c n clean inside ours s are told =
     let one = g.T.Statements.state c.write_row.new.tx in
     let two = g.T.Statements.state c.delete_file.new.tx in
     let new = g.T.Statements.state c.put_posted.new.tx in
-    let clean_two = clean_before c.put_posted.ensures.stays clean in
-    let clean_one = clean_before c.delete_file.ensures.stays clean_two in
-    let inside_one = c.in_ok-write_row.ensures.stays.inside clean_one inside in
-    let ours_one = c.in_ok-write_row.ensures.ours clean_one inside ours in
+    let clean_two = clean_before c.put_posted.ensures.keeps.stays clean in
+    let clean_one = clean_before c.delete_file.ensures.keeps.stays clean_two in
+    let inside_one = c.in_ok-write_row.ensures.keeps.stays.inside clean_one inside in
+    let ours_one = c.in_ok-write_row.ensures.keeps.ours clean_one inside ours in
     let numbers = told.0 in
     let o = told.1.0 in
     let file = told.1.1 in
@@ -55,22 +55,16 @@ returns-clause-map g c n clean inside ours s are told =
     let digests : c.in-Posted.digests ≡ digests_of content = let posted = c.in-Posted.is in cc in
     at_object s s.uploads new c.put_posted.result n o (λ (x : Object). with_files s (finmap.insert x.files f (file_from s content as_new)) x) object.1
     (ok_then c.put_posted.result
-    (c.put_posted.ensures.map 0 left clean (c.in_ok-delete_file.ensures.stays.inside clean_two inside_one) (c.in_ok-delete_file.ensures.ours clean_two inside_one ours_one) second gone
+    (c.put_posted.ensures.map 0 left clean (c.in_ok-delete_file.ensures.keeps.stays.inside clean_two inside_one) (c.in_ok-delete_file.ensures.keeps.ours clean_two inside_one ours_one) second gone
     ((numbers, digests), there_at second.objects row.object n left number (get_here s.objects n left)))
     (λ there. subst (λ (from : Source). TablesAre (tables_of new) (with_object s n (with_files s (finmap.insert o.files f (made_file s as_new (bytes_from s content from))) o))) (sym source)
     (file_replaced (tables_of new) s n o f made (written_again (tables_of new) s n left it (at_number (tables_of new) second row.object n it number there)))))
 
-pub returns-in_err-delete_file-clause-stays : goal.returns-in_err-delete_file-clause-stays
-returns-in_err-delete_file-clause-stays g c = stays_err c.from_residual-in_err-delete_file.ensures.0 (stays_then c.in_ok-write_row.ensures.stays c.delete_file.ensures.stays)
+pub returns-in_err-delete_file-clause-keeps : goal.returns-in_err-delete_file-clause-keeps
+returns-in_err-delete_file-clause-keeps g c = changes_err c.from_residual-in_err-delete_file.ensures.0 (stays_then c.in_ok-write_row.ensures.keeps.stays c.delete_file.ensures.keeps.stays)
 
-pub returns-clause-stays : goal.returns-clause-stays
-returns-clause-stays g c = stays_then (stays_then c.in_ok-write_row.ensures.stays c.in_ok-delete_file.ensures.stays) c.put_posted.ensures.stays
-
-pub returns-clause-ours : goal.returns-clause-ours
-returns-clause-ours g c =
-    let two = stays_then c.in_ok-write_row.ensures.stays c.in_ok-delete_file.ensures.stays in
-    let ours_two = ours_then {r = Ok tt} c.in_ok-write_row.ensures.stays c.in_ok-delete_file.ensures.stays c.in_ok-write_row.ensures.ours c.in_ok-delete_file.ensures.ours in
-    ours_then two c.put_posted.ensures.stays ours_two c.put_posted.ensures.ours
+pub returns-clause-keeps : goal.returns-clause-keeps
+returns-clause-keeps g c = changes_then (changes_then c.in_ok-write_row.ensures.keeps c.in_ok-delete_file.ensures.keeps) c.put_posted.ensures.keeps
 
 pub returns-in_err-row-clause-cause : goal.returns-in_err-row-clause-cause
 returns-in_err-row-clause-cause g c n s storable clean inside = never_absent c.args.change.now.view.now storable.0 c.in_err-row.ensures.absent
@@ -85,16 +79,22 @@ returns-in_err-write_row-clause-cause g c n s storable clean inside =
 
 pub returns-in_err-delete_file-clause-cause : goal.returns-in_err-delete_file-clause-cause
 returns-in_err-delete_file-clause-cause g c n s storable clean inside =
-    let before = clean_before c.delete_file.ensures.stays clean in
+    let before = clean_before c.delete_file.ensures.keeps.stays clean in
     if_err_is _ c.from_residual-in_err-delete_file.result c.in_err-delete_file.field-0.0 c.from_residual-in_err-delete_file.ensures.1
-    (fails_later g.T.Statements.state c.args.tx.now c.write_row.new.tx c.delete_file.new.tx c.in_ok-write_row.ensures.stays.survives FailsByStatement (FailsHolding ⊤) (by_statement ⊤) _
-    (c.in_err-delete_file.ensures.cause storable.1 clean (c.in_ok-write_row.ensures.stays.inside before inside)))
+    (fails_later g.T.Statements.state c.args.tx.now c.write_row.new.tx c.delete_file.new.tx c.in_ok-write_row.ensures.keeps.stays.survives FailsByStatement (FailsHolding ⊤) (by_statement ⊤) _
+    (c.in_err-delete_file.ensures.cause storable.1 clean (c.in_ok-write_row.ensures.keeps.stays.inside before inside)))
 
 pub returns-clause-cause : goal.returns-clause-cause
 returns-clause-cause g c n s storable clean inside =
     let view = c.args.change.now.view.now in
-    let two = stays_then c.in_ok-write_row.ensures.stays c.in_ok-delete_file.ensures.stays in
-    let before = clean_before c.put_posted.ensures.stays clean in
+    let two = stays_then c.in_ok-write_row.ensures.keeps.stays c.in_ok-delete_file.ensures.keeps.stays in
+    let before = clean_before c.put_posted.ensures.keeps.stays clean in
     let fits = found_fits view storable.0 c.in_ok-row.row c.in_ok-row.ensures.told in
     caused_later g.T.Statements.state (FailsHolding ⊤) (FailsHolding ⊤) (λ at now fault it. it) c.put_posted.result c.args.tx.now c.delete_file.new.tx c.put_posted.new.tx two.survives
     (c.put_posted.ensures.cause 0 (storable.0.numbers, fits.object, storable.1, storable.2) clean (two.inside before inside))
+
+pub returns-in_err-row-clause-keeps : goal.returns-in_err-row-clause-keeps
+returns-in_err-row-clause-keeps g c = changes_put g.T.Statements.lenders g.T.Statements.state c.args.tx.now _
+
+pub returns-in_err-write_row-clause-keeps : goal.returns-in_err-write_row-clause-keeps
+returns-in_err-write_row-clause-keeps g c = changes_err c.from_residual-in_err-write_row.ensures.0 c.in_err-write_row.ensures.keeps.stays

@@ -1,14 +1,13 @@
-use Rattle.std.proofs.Common.{Ok, refl}
+use Rattle.std.proofs.Common.{refl}
 use Rattle.std.specs.FinMap as finmap
 use Rattle.dep_types.specs.State.{State, Object}
-use Rattle.dep_tables.proofs.Chains.{clean_before, stays_err, stays_then}
+use Rattle.dep_tables.proofs.Chains.{clean_before, stays_then}
 use Rattle.dep_tables.specs.Tables.{tables_of}
 use Rattle.dep_tables.proofs.Results.{ok_then}
 use Rattle.dep_row_maps.specs.TablesAre.{with_object}
 use Rattle.dep_row_maps.proofs.Lens.{get_here}
 use Rattle.dep_decisions.specs.Effects.{added, uploads_of, with_files, without}
 use Rattle.dep_changes.proofs.Carried.{at_object}
-use Rattle.dep_changes.proofs.Chains.{ours_then}
 use Rattle.dep_changes.proofs.Added.{new_files_again}
 use Rattle.dep_changes.proofs.Steps.{files_row, number_is, its_number, at_number, rewritten, there_at, written_again}
 use Rattle.std.proofs.Common.{◌≢◌, []}
@@ -17,6 +16,7 @@ use Rattle.dep_row_maps.specs.Causes.FailsHolding.{statement}
 use Rattle.dep_row_maps.specs.Causes.FailsByStatement.{object_written}
 use Rattle.dep_row_maps.proofs.Causes.{fails_among, fails_then, if_err_is}
 use Rattle.dep_changes.proofs.Causes.{by_statement, caused_later, files_fit, found_fits, never_absent}
+use Rattle.dep_row_maps.proofs.Changing.{changes_err, changes_then, changes_put}
 use Rattle.dep_changes.proofs.new_files.set_files.Goals as goal
 
 pub returns-clause-map : goal.returns-clause-map
@@ -26,10 +26,10 @@ returns-clause-map g c n clean inside ours s are told =
     let one = g.T.Statements.state c.delete_files.new.tx in
     let two = g.T.Statements.state c.write_row.new.tx in
     let new = g.T.Statements.state c.put_new_files.new.tx in
-    let clean_two = clean_before c.put_new_files.ensures.stays clean in
-    let clean_one = clean_before c.write_row.ensures.stays clean_two in
-    let inside_one = c.in_ok-delete_files.ensures.stays.inside clean_one inside in
-    let ours_one = c.in_ok-delete_files.ensures.ours clean_one inside ours in
+    let clean_two = clean_before c.put_new_files.ensures.keeps.stays clean in
+    let clean_one = clean_before c.write_row.ensures.keeps.stays clean_two in
+    let inside_one = c.in_ok-delete_files.ensures.keeps.stays.inside clean_one inside in
+    let ours_one = c.in_ok-delete_files.ensures.keeps.ours clean_one inside ours in
     let numbers = told.0 in
     let o = told.1.0 in
     let object = told.1.1 in
@@ -46,21 +46,15 @@ returns-clause-map g c n clean inside ours s are told =
     let second : State = with_object s n bare in
     at_object s (without s.uploads (uploads_of c.args.files.now)) new c.put_new_files.result n o (λ (x : Object). with_files s (added s content c.args.files.now finmap.empty) x) object.1
     (ok_then c.put_new_files.result
-    (c.put_new_files.ensures.map bare clean (c.in_ok-write_row.ensures.stays.inside clean_two inside_one) (c.in_ok-write_row.ensures.ours clean_two inside_one ours_one) second put
+    (c.put_new_files.ensures.map bare clean (c.in_ok-write_row.ensures.keeps.stays.inside clean_two inside_one) (c.in_ok-write_row.ensures.keeps.ours clean_two inside_one ours_one) second put
     ((numbers, told.1.2), there_at second.objects row.object n bare number (get_here s.objects n bare)))
     (λ added. new_files_again (tables_of new) s content row.object n bare bare c.args.files.now number added))
 
-pub returns-in_err-write_row-clause-stays : goal.returns-in_err-write_row-clause-stays
-returns-in_err-write_row-clause-stays g c = stays_err c.from_residual-in_err-write_row.ensures.0 (stays_then c.in_ok-delete_files.ensures.stays c.write_row.ensures.stays)
+pub returns-in_err-write_row-clause-keeps : goal.returns-in_err-write_row-clause-keeps
+returns-in_err-write_row-clause-keeps g c = changes_err c.from_residual-in_err-write_row.ensures.0 (stays_then c.in_ok-delete_files.ensures.keeps.stays c.write_row.ensures.keeps.stays)
 
-pub returns-clause-stays : goal.returns-clause-stays
-returns-clause-stays g c = stays_then (stays_then c.in_ok-delete_files.ensures.stays c.in_ok-write_row.ensures.stays) c.put_new_files.ensures.stays
-
-pub returns-clause-ours : goal.returns-clause-ours
-returns-clause-ours g c =
-    let two = stays_then c.in_ok-delete_files.ensures.stays c.in_ok-write_row.ensures.stays in
-    let ours_two = ours_then {r = Ok tt} c.in_ok-delete_files.ensures.stays c.in_ok-write_row.ensures.stays c.in_ok-delete_files.ensures.ours c.in_ok-write_row.ensures.ours in
-    ours_then two c.put_new_files.ensures.stays ours_two c.put_new_files.ensures.ours
+pub returns-clause-keeps : goal.returns-clause-keeps
+returns-clause-keeps g c = changes_then (changes_then c.in_ok-delete_files.ensures.keeps c.in_ok-write_row.ensures.keeps) c.put_new_files.ensures.keeps
 
 pub returns-in_err-row-clause-cause : goal.returns-in_err-row-clause-cause
 returns-in_err-row-clause-cause g c n clean inside ours s are storable = never_absent c.args.change.now.view.now storable.1 c.in_err-row.ensures.absent
@@ -79,20 +73,26 @@ returns-in_err-write_row-clause-cause g c n clean inside ours s are storable =
     let view = c.args.change.now.view.now in
     let told = storable.1 in
     let held = c.args.files.now ≢ [] in
-    let before = clean_before c.write_row.ensures.stays clean in
+    let before = clean_before c.write_row.ensures.keeps.stays clean in
     let row = c.in_ok-row.row in
     let fits = files_fit view told.numbers row c.files_changed.result (found_fits view told row c.in_ok-row.ensures.told) c.files_changed.ensures in
     if_err_is _ c.from_residual-in_err-write_row.result c.in_err-write_row.field-0.0 c.from_residual-in_err-write_row.ensures.1
-    (fails_then g.T.Statements.state c.args.tx.now c.delete_files.new.tx c.write_row.new.tx c.in_ok-delete_files.ensures.stays.survives (FailsHolding held) _
-    (statement (object_written _ (c.in_err-write_row.ensures.cause fits clean (c.in_ok-delete_files.ensures.stays.inside before inside)))))
+    (fails_then g.T.Statements.state c.args.tx.now c.delete_files.new.tx c.write_row.new.tx c.in_ok-delete_files.ensures.keeps.stays.survives (FailsHolding held) _
+    (statement (object_written _ (c.in_err-write_row.ensures.cause fits clean (c.in_ok-delete_files.ensures.keeps.stays.inside before inside)))))
 
 pub returns-clause-cause : goal.returns-clause-cause
 returns-clause-cause g c n clean inside ours s are storable =
     let view = c.args.change.now.view.now in
     let told = storable.1 in
     let held = c.args.files.now ≢ [] in
-    let two = stays_then c.in_ok-delete_files.ensures.stays c.in_ok-write_row.ensures.stays in
-    let before = clean_before c.put_new_files.ensures.stays clean in
+    let two = stays_then c.in_ok-delete_files.ensures.keeps.stays c.in_ok-write_row.ensures.keeps.stays in
+    let before = clean_before c.put_new_files.ensures.keeps.stays clean in
     let fits = found_fits view told c.in_ok-row.row c.in_ok-row.ensures.told in
     caused_later g.T.Statements.state (FailsHolding held) (FailsHolding held) (λ at now fault it. it) c.put_new_files.result c.args.tx.now c.write_row.new.tx c.put_new_files.new.tx two.survives
     (c.put_new_files.ensures.cause (told.numbers, fits.object, storable.2) clean (two.inside before inside))
+
+pub returns-in_err-row-clause-keeps : goal.returns-in_err-row-clause-keeps
+returns-in_err-row-clause-keeps g c = changes_put g.T.Statements.lenders g.T.Statements.state c.args.tx.now _
+
+pub returns-in_err-delete_files-clause-keeps : goal.returns-in_err-delete_files-clause-keeps
+returns-in_err-delete_files-clause-keeps g c = changes_err c.from_residual-in_err-delete_files.ensures.0 c.in_err-delete_files.ensures.keeps.stays

@@ -10,6 +10,7 @@ use Rattle.dep_decisions.specs.Effects.{changed, ingested_by}
 use Rattle.dep_changes.proofs.Carried.{at_object}
 use Rattle.dep_changes.proofs.Steps.{completed_row, number_is, at_number, rewritten}
 use Rattle.dep_changes.proofs.Causes.{completed_fits, found_fits, never_absent}
+use Rattle.dep_row_maps.proofs.Changing.{changes_put}
 use Rattle.dep_changes.proofs.objects.complete.Goals as goal
 
 pub returns-clause-map : goal.returns-clause-map
@@ -37,3 +38,6 @@ returns-clause-cause g c n s told clean inside =
     let row = c.in_ok-row.row in
     if_err_then c.write_row.result (c.write_row.ensures.cause (completed_fits view told.numbers row row (found_fits view told row c.in_ok-row.ensures.told)) clean inside)
     (λ fault failed. fails_first g.T.Statements.state c.args.tx.now c.write_row.new.tx (FailsHolding ⊥) fault (statement (object_written _ failed)))
+
+pub returns-in_err-row-clause-keeps : goal.returns-in_err-row-clause-keeps
+returns-in_err-row-clause-keeps g c = changes_put g.T.Statements.lenders g.T.Statements.state c.args.tx.now _

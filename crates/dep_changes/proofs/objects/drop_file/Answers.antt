@@ -1,13 +1,12 @@
 use Rattle.std.proofs.Common.{refl}
 use Rattle.std.specs.FinMap as finmap
 use Rattle.dep_types.specs.State.{State, Object}
-use Rattle.dep_tables.proofs.Chains.{clean_before, stays_then}
+use Rattle.dep_tables.proofs.Chains.{clean_before}
 use Rattle.dep_tables.specs.Tables.{tables_of}
 use Rattle.dep_tables.proofs.Results.{ok_then}
 use Rattle.dep_row_maps.specs.TablesAre.{with_object}
 use Rattle.dep_row_maps.proofs.Lens.{get_here}
 use Rattle.dep_decisions.specs.Effects.{with_files}
-use Rattle.dep_changes.proofs.Chains.{ours_then}
 use Rattle.dep_changes.proofs.Carried.{at_object}
 use Rattle.dep_changes.proofs.Steps.{files_row, its_number, at_number, rewritten, written_again}
 use Rattle.dep_row_maps.specs.Causes.{FailsByStatement, FailsHolding}
@@ -15,6 +14,7 @@ use Rattle.dep_row_maps.specs.Causes.FailsHolding.{statement}
 use Rattle.dep_row_maps.specs.Causes.FailsByStatement.{object_written}
 use Rattle.dep_row_maps.proofs.Causes.{fails_first, if_err_is}
 use Rattle.dep_changes.proofs.Causes.{by_statement, caused_later, files_fit, found_fits, never_absent}
+use Rattle.dep_row_maps.proofs.Changing.{changes_then, changes_err, changes_put}
 use Rattle.dep_changes.proofs.objects.drop_file.Goals as goal
 
 pub returns-clause-map : goal.returns-clause-map
@@ -22,7 +22,7 @@ returns-clause-map g c n clean inside ours s are told =
     let view = c.args.change.now.view.now in
     let mid = g.T.Statements.state c.write_row.new.tx in
     let new = g.T.Statements.state c.delete_file.new.tx in
-    let before = clean_before c.delete_file.ensures.stays clean in
+    let before = clean_before c.delete_file.ensures.keeps.stays clean in
     let numbers = told.0 in
     let o = told.1.0 in
     let file = told.1.1 in
@@ -36,14 +36,11 @@ returns-clause-map g c n clean inside ours s are told =
     let it : Object = with_files s (finmap.remove o.files c.args.file) o in
     at_object s s.uploads new c.delete_file.result n o (λ (x : Object). with_files s (finmap.remove x.files c.args.file) x) object.1
     (ok_then c.delete_file.result
-    (c.delete_file.ensures.map clean (c.in_ok-write_row.ensures.stays.inside before inside) (c.in_ok-write_row.ensures.ours before inside ours) one put n mark file (get_here s.objects n mark) told.1.2.1)
+    (c.delete_file.ensures.map clean (c.in_ok-write_row.ensures.keeps.stays.inside before inside) (c.in_ok-write_row.ensures.keeps.ours before inside ours) one put n mark file (get_here s.objects n mark) told.1.2.1)
     (λ gone. written_again (tables_of new) s n mark it gone))
 
-pub returns-clause-stays : goal.returns-clause-stays
-returns-clause-stays g c = stays_then c.in_ok-write_row.ensures.stays c.delete_file.ensures.stays
-
-pub returns-clause-ours : goal.returns-clause-ours
-returns-clause-ours g c = ours_then c.in_ok-write_row.ensures.stays c.delete_file.ensures.stays c.in_ok-write_row.ensures.ours c.delete_file.ensures.ours
+pub returns-clause-keeps : goal.returns-clause-keeps
+returns-clause-keeps g c = changes_then c.in_ok-write_row.ensures.keeps c.delete_file.ensures.keeps
 
 pub returns-in_err-row-clause-cause : goal.returns-in_err-row-clause-cause
 returns-in_err-row-clause-cause g c n s storable clean inside = never_absent c.args.change.now.view.now storable.0 c.in_err-row.ensures.absent
@@ -58,6 +55,12 @@ returns-in_err-write_row-clause-cause g c n s storable clean inside =
 
 pub returns-clause-cause : goal.returns-clause-cause
 returns-clause-cause g c n s storable clean inside =
-    let before = clean_before c.delete_file.ensures.stays clean in
-    caused_later g.T.Statements.state FailsByStatement (FailsHolding ⊥) (by_statement ⊥) c.delete_file.result c.args.tx.now c.write_row.new.tx c.delete_file.new.tx c.in_ok-write_row.ensures.stays.survives
-    (c.delete_file.ensures.cause storable.1 clean (c.in_ok-write_row.ensures.stays.inside before inside))
+    let before = clean_before c.delete_file.ensures.keeps.stays clean in
+    caused_later g.T.Statements.state FailsByStatement (FailsHolding ⊥) (by_statement ⊥) c.delete_file.result c.args.tx.now c.write_row.new.tx c.delete_file.new.tx c.in_ok-write_row.ensures.keeps.stays.survives
+    (c.delete_file.ensures.cause storable.1 clean (c.in_ok-write_row.ensures.keeps.stays.inside before inside))
+
+pub returns-in_err-row-clause-keeps : goal.returns-in_err-row-clause-keeps
+returns-in_err-row-clause-keeps g c = changes_put g.T.Statements.lenders g.T.Statements.state c.args.tx.now _
+
+pub returns-in_err-write_row-clause-keeps : goal.returns-in_err-write_row-clause-keeps
+returns-in_err-write_row-clause-keeps g c = changes_err c.from_residual-in_err-write_row.ensures.0 c.in_err-write_row.ensures.keeps.stays

@@ -1,4 +1,4 @@
-use Rattle.dep_tables.proofs.Chains.{clean_before, stays_then}
+use Rattle.dep_tables.proofs.Chains.{clean_before}
 use Rattle.dep_tables.specs.Tables.{tables_of}
 use Rattle.dep_tables.proofs.Results.{ok_then}
 use Rattle.dep_files.specs.Edits.{without_files}
@@ -6,19 +6,20 @@ use Rattle.dep_changes.proofs.Steps.{emptied, gone_after}
 use Rattle.dep_row_maps.specs.Causes.{FailsByStatement, FailsHolding}
 use Rattle.dep_row_maps.proofs.Causes.{fails_among, if_err_is}
 use Rattle.dep_changes.proofs.Causes.{by_statement, caused_later}
+use Rattle.dep_row_maps.proofs.Changing.{changes_then, changes_err}
 use Rattle.dep_changes.proofs.objects.drop_object.Goals as goal
 
 pub returns-clause-map : goal.returns-clause-map
 returns-clause-map g c o clean inside ours s are there =
     let new = g.T.Statements.state c.delete_object.new.tx in
-    let before = clean_before c.delete_object.ensures.stays clean in
+    let before = clean_before c.delete_object.ensures.keeps.stays clean in
     let none = c.in_ok-delete_files.ensures.map before inside ours s are o there in
     ok_then c.delete_object.result
-    (c.delete_object.ensures.map clean (c.in_ok-delete_files.ensures.stays.inside before inside) (c.in_ok-delete_files.ensures.ours before inside ours) (without_files s c.args.object o) none (emptied s c.args.object o))
+    (c.delete_object.ensures.map clean (c.in_ok-delete_files.ensures.keeps.stays.inside before inside) (c.in_ok-delete_files.ensures.keeps.ours before inside ours) (without_files s c.args.object o) none (emptied s c.args.object o))
     (λ gone. gone_after (tables_of new) s c.args.object _ gone)
 
-pub returns-clause-stays : goal.returns-clause-stays
-returns-clause-stays g c = stays_then c.in_ok-delete_files.ensures.stays c.delete_object.ensures.stays
+pub returns-clause-keeps : goal.returns-clause-keeps
+returns-clause-keeps g c = changes_then c.in_ok-delete_files.ensures.keeps c.delete_object.ensures.keeps
 
 pub returns-in_err-delete_files-clause-cause : goal.returns-in_err-delete_files-clause-cause
 returns-in_err-delete_files-clause-cause g c clean inside ours s are fits =
@@ -27,6 +28,9 @@ returns-in_err-delete_files-clause-cause g c clean inside ours s are fits =
 
 pub returns-clause-cause : goal.returns-clause-cause
 returns-clause-cause g c clean inside ours s are fits =
-    let before = clean_before c.delete_object.ensures.stays clean in
-    caused_later g.T.Statements.state FailsByStatement (FailsHolding ⊥) (by_statement ⊥) c.delete_object.result c.args.tx.now c.delete_files.new.tx c.delete_object.new.tx c.in_ok-delete_files.ensures.stays.survives
-    (c.delete_object.ensures.cause fits.1 clean (c.in_ok-delete_files.ensures.stays.inside before inside))
+    let before = clean_before c.delete_object.ensures.keeps.stays clean in
+    caused_later g.T.Statements.state FailsByStatement (FailsHolding ⊥) (by_statement ⊥) c.delete_object.result c.args.tx.now c.delete_files.new.tx c.delete_object.new.tx c.in_ok-delete_files.ensures.keeps.stays.survives
+    (c.delete_object.ensures.cause fits.1 clean (c.in_ok-delete_files.ensures.keeps.stays.inside before inside))
+
+pub returns-in_err-delete_files-clause-keeps : goal.returns-in_err-delete_files-clause-keeps
+returns-in_err-delete_files-clause-keeps g c = changes_err c.from_residual.ensures.0 c.in_err-delete_files.ensures.keeps.stays

@@ -1,12 +1,11 @@
 use Rattle.std.proofs.Common.{refl}
 use Rattle.dep_types.specs.State.{State, Object}
-use Rattle.dep_tables.proofs.Chains.{clean_before, stays_then}
+use Rattle.dep_tables.proofs.Chains.{clean_before}
 use Rattle.dep_tables.specs.Tables.{tables_of}
 use Rattle.dep_tables.proofs.Results.{ok_then}
 use Rattle.dep_row_maps.specs.TablesAre.{with_object}
 use Rattle.dep_row_maps.proofs.Lens.{get_here}
 use Rattle.dep_decisions.specs.Effects.{with_texts}
-use Rattle.dep_changes.proofs.Chains.{ours_then}
 use Rattle.dep_changes.proofs.Carried.{at_object}
 use Rattle.dep_changes.proofs.Steps.{texts_row, number_is, its_number, at_number, rewritten, there_at, written_again}
 use Rattle.std.proofs.Common.{◌≢◌}
@@ -16,6 +15,7 @@ use Rattle.dep_row_maps.specs.Causes.FailsHolding.{statement}
 use Rattle.dep_row_maps.specs.Causes.FailsByStatement.{object_written}
 use Rattle.dep_row_maps.proofs.Causes.{fails_first, if_err_is}
 use Rattle.dep_changes.proofs.Causes.{caused_later, found_fits, never_absent, texts_fit}
+use Rattle.dep_row_maps.proofs.Changing.{changes_then, changes_err, changes_put}
 use Rattle.dep_changes.proofs.objects.set_texts.Goals as goal
 
 pub returns-clause-map : goal.returns-clause-map
@@ -24,7 +24,7 @@ returns-clause-map g c n clean inside ours s are told =
     let texts = c.args.metadata.now in
     let mid = g.T.Statements.state c.write_row.new.tx in
     let new = g.T.Statements.state c.set_metadata.new.tx in
-    let before = clean_before c.set_metadata.ensures.stays clean in
+    let before = clean_before c.set_metadata.ensures.keeps.stays clean in
     let numbers = told.0 in
     let o = told.1.0 in
     let object = told.1.1 in
@@ -37,14 +37,11 @@ returns-clause-map g c n clean inside ours s are told =
     let one : State = with_object s n mark in
     at_object s s.uploads new c.set_metadata.result n o (with_texts s texts) object.1
     (ok_then c.set_metadata.result
-    (c.set_metadata.ensures.map clean (c.in_ok-write_row.ensures.stays.inside before inside) (c.in_ok-write_row.ensures.ours before inside ours) one put mark (there_at one.objects row.object n mark number (get_here s.objects n mark)))
+    (c.set_metadata.ensures.map clean (c.in_ok-write_row.ensures.keeps.stays.inside before inside) (c.in_ok-write_row.ensures.keeps.ours before inside ours) one put mark (there_at one.objects row.object n mark number (get_here s.objects n mark)))
     (λ set. written_again (tables_of new) s n mark (with_texts s texts o) (at_number (tables_of new) one row.object n (with_texts s texts o) number set)))
 
-pub returns-clause-stays : goal.returns-clause-stays
-returns-clause-stays g c = stays_then c.in_ok-write_row.ensures.stays c.set_metadata.ensures.stays
-
-pub returns-clause-ours : goal.returns-clause-ours
-returns-clause-ours g c = ours_then c.in_ok-write_row.ensures.stays c.set_metadata.ensures.stays c.in_ok-write_row.ensures.ours c.set_metadata.ensures.ours
+pub returns-clause-keeps : goal.returns-clause-keeps
+returns-clause-keeps g c = changes_then c.in_ok-write_row.ensures.keeps c.set_metadata.ensures.keeps
 
 pub returns-in_err-row-clause-cause : goal.returns-in_err-row-clause-cause
 returns-in_err-row-clause-cause g c n s storable clean inside = never_absent c.args.change.now.view.now storable.0 c.in_err-row.ensures.absent
@@ -62,7 +59,13 @@ pub returns-clause-cause : goal.returns-clause-cause
 returns-clause-cause g c n s storable clean inside =
     let view = c.args.change.now.view.now in
     let held = c.args.metadata.now ≢ finmap.empty in
-    let before = clean_before c.set_metadata.ensures.stays clean in
+    let before = clean_before c.set_metadata.ensures.keeps.stays clean in
     let fits = found_fits view storable.0 c.in_ok-row.row c.in_ok-row.ensures.told in
-    caused_later g.T.Statements.state (FailsHolding held) (FailsHolding held) (λ at now fault it. it) c.set_metadata.result c.args.tx.now c.write_row.new.tx c.set_metadata.new.tx c.in_ok-write_row.ensures.stays.survives
-    (c.set_metadata.ensures.cause (fits.object, storable.1) clean (c.in_ok-write_row.ensures.stays.inside before inside))
+    caused_later g.T.Statements.state (FailsHolding held) (FailsHolding held) (λ at now fault it. it) c.set_metadata.result c.args.tx.now c.write_row.new.tx c.set_metadata.new.tx c.in_ok-write_row.ensures.keeps.stays.survives
+    (c.set_metadata.ensures.cause (fits.object, storable.1) clean (c.in_ok-write_row.ensures.keeps.stays.inside before inside))
+
+pub returns-in_err-row-clause-keeps : goal.returns-in_err-row-clause-keeps
+returns-in_err-row-clause-keeps g c = changes_put g.T.Statements.lenders g.T.Statements.state c.args.tx.now _
+
+pub returns-in_err-write_row-clause-keeps : goal.returns-in_err-write_row-clause-keeps
+returns-in_err-write_row-clause-keeps g c = changes_err c.from_residual-in_err-write_row.ensures.0 c.in_err-write_row.ensures.keeps.stays

@@ -7,6 +7,7 @@ use Rattle.dep_row_maps.specs.Causes.FailsByStatement.{upload_written}
 use Rattle.dep_row_maps.proofs.Causes.{fails_first, if_err_then}
 use Rattle.dep_operations.specs.declared.view.LiveUpload.{LiveUpload}
 use Rattle.dep_changes.proofs.Causes.{by_statement, caused_among}
+use Rattle.dep_row_maps.proofs.Changing.{changes_put}
 use Rattle.dep_changes.proofs.uploads.receive.Goals as goal
 
 pub returns-in_err-live-clause-cause : goal.returns-in_err-live-clause-cause
@@ -34,3 +35,6 @@ returns-clause-cause g c u s storable clean inside =
     let size = subst (λ (bytes : List ℕ). IsStorable (length bytes)) (sym c.as_slice.ensures) storable.2 in
     caused_among g.T.Statements.state FailsByStatement (FailsHolding ⊥) (by_statement ⊥) c.put_segment.result c.args.tx.now c.put_segment.new.tx
     (c.put_segment.ensures.cause (row, record { upload = row.upload; number = storable.1; size = size }) clean inside)
+
+pub returns-in_err-live-clause-keeps : goal.returns-in_err-live-clause-keeps
+returns-in_err-live-clause-keeps g c = changes_put g.T.Statements.lenders g.T.Statements.state c.args.tx.now _

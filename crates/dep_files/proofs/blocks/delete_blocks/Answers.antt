@@ -1,18 +1,18 @@
-use Rattle.std.proofs.Common.{refl, subst, ◌∙◌, arith, rules}
+use Rattle.std.proofs.Common.{refl, subst, ◌∙◌, arith}
 use Rattle.dep_tables.specs.Edits.{IsFirstBlock}
 use Rattle.dep_tables.specs.Rows.{IsStorableKey}
 use Rattle.dep_tables.specs.Tables.{tables_of}
-use Rattle.dep_tables.proofs.Results.{ok_then, if_failed, not_storable, is_storable}
-use Rattle.dep_tables.proofs.Chains.{clean_before, stays_then, stays_ok, stays_err}
+use Rattle.dep_tables.proofs.Results.{ok_then, not_storable, is_storable}
+use Rattle.dep_tables.proofs.Chains.{clean_before, stays_then, stays_ok, stays_err, still_ours, stays_put}
 use Rattle.dep_row_maps.proofs.Causes.{fails_then, if_err_then, if_err_is}
 use Rattle.dep_row_maps.proofs.Runs.{one_run_deleted, all_deleted}
-use Rattle.dep_files.proofs.Results.{still_ours, same_tables, fails_behind, uncommitted_behind}
+use Rattle.dep_files.proofs.Results.{same_tables}
 use Rattle.dep_files.specs.Causes.{FailsToDeleteBlocks}
 use Rattle.dep_files.specs.Causes.FailsToDeleteBlocks.{found, run, rest}
 use Rattle.dep_files.proofs.blocks.delete_blocks.Goals as goal
 
 pub runs-init : goal.runs-init
-runs-init g c = (search rules, λ clean inside ours. (ours, refl))
+runs-init g c = (stays_put g.T.Statements.lenders g.T.Statements.state c.args.tx.now _, λ clean inside ours. (ours, refl))
 
 pub runs-preserved : goal.runs-preserved
 runs-preserved g c =
@@ -21,12 +21,12 @@ runs-preserved g c =
     let seen = g.T.Statements.state c.first_block.new.tx in
     let new = g.T.Statements.state c.delete_run.new.tx in
     let inv = c.runs.invariant in
-    let saw = stays_then inv.0 c.in_ok-start.ensures.stays in (
-      stays_ok (stays_then saw c.in_ok-delete_run.ensures.stays),
+    let saw = stays_then inv.0 c.in_ok-start.ensures.keeps.stays in (
+      stays_ok (stays_then saw c.in_ok-delete_run.ensures.keeps.stays),
       λ clean inside ours.
-          let before = clean_before c.delete_run.ensures.stays clean in
-          let was = inv.1 (clean_before c.first_block.ensures.stays before) inside ours in
-          let same = c.in_ok-start.ensures.same before was.0 in
+          let before = clean_before c.delete_run.ensures.keeps.stays clean in
+          let was = inv.1 (clean_before c.first_block.ensures.keeps.stays before) inside ours in
+          let same = c.in_ok-start.ensures.keeps.same before was.0 in
           let leads = c.in_ok-delete_run.ensures.ok clean (saw.inside before inside) (still_ours mid seen same was.0) in
           (leads.ours, one_run_deleted (record { owner = c.args.owner; at = c.run_end-at.result }) (tables_of old) (tables_of mid) (tables_of seen) (tables_of new) was.1 (same_tables mid seen same) leads.rows),
     )
@@ -36,40 +36,29 @@ returns-in_default-clause-ok g c clean inside ours =
     let old = g.T.Statements.state c.args.tx.now in
     let mid = g.T.Statements.state c.runs.tx in
     let seen = g.T.Statements.state c.first_block.new.tx in
-    let was = c.runs.invariant.1 (clean_before c.first_block.ensures.stays clean) inside ours in
-    let same = c.in_ok-start.ensures.same clean was.0 in
+    let was = c.runs.invariant.1 (clean_before c.first_block.ensures.keeps.stays clean) inside ours in
+    let same = c.in_ok-start.ensures.keeps.same clean was.0 in
     let none = subst (IsFirstBlock c.args.owner (tables_of mid)) c.in_default.is (c.in_ok-start.ensures.ok clean was.0) in
     record { ours = still_ours mid seen same was.0; rows = all_deleted c.args.owner (tables_of old) (tables_of mid) (tables_of seen) was.1 (same_tables mid seen same) none }
 
 pub returns-clause-ok : goal.returns-clause-ok
 returns-clause-ok g c clean inside ours =
     let inv = c.runs.invariant in
-    let before = clean_before c.delete_blocks.ensures.stays clean in
+    let before = clean_before c.delete_blocks.ensures.keeps.stays clean in
     let was = inv.1 before inside ours in
     ok_then c.delete_blocks.result (c.delete_blocks.ensures.ok clean (inv.0.inside before inside) was.0) (λ leads. record { ours = leads.ours; rows = leads.rows ∙ was.1 })
 
 pub returns-in_err-start-clause-stays : goal.returns-in_err-start-clause-stays
-returns-in_err-start-clause-stays g c = stays_err c.from_residual.ensures.0 (stays_then c.runs.invariant.0 c.first_block.ensures.stays)
+returns-in_err-start-clause-stays g c = stays_err c.from_residual.ensures.0 (stays_then c.runs.invariant.0 c.first_block.ensures.keeps.stays)
 
 pub returns-in_default-clause-stays : goal.returns-in_default-clause-stays
-returns-in_default-clause-stays g c = stays_ok (stays_then c.runs.invariant.0 c.in_ok-start.ensures.stays)
+returns-in_default-clause-stays g c = stays_ok (stays_then c.runs.invariant.0 c.in_ok-start.ensures.keeps.stays)
 
 pub returns-in_err-delete_run-clause-stays : goal.returns-in_err-delete_run-clause-stays
-returns-in_err-delete_run-clause-stays g c = stays_err c.from_residual-in_err-delete_run.ensures.0 (stays_then (stays_then c.runs.invariant.0 c.in_ok-start.ensures.stays) c.delete_run.ensures.stays)
+returns-in_err-delete_run-clause-stays g c = stays_err c.from_residual-in_err-delete_run.ensures.0 (stays_then (stays_then c.runs.invariant.0 c.in_ok-start.ensures.keeps.stays) c.delete_run.ensures.keeps.stays)
 
 pub returns-clause-stays : goal.returns-clause-stays
-returns-clause-stays g c = stays_then c.runs.invariant.0 c.delete_blocks.ensures.stays
-
-pub returns-in_err-start-clause-err : goal.returns-in_err-start-clause-err
-returns-in_err-start-clause-err g c clean inside is_open =
-    if_failed _ (uncommitted_behind c.runs.invariant.0 c.in_err-start.ensures.stays c.in_err-start.ensures.err clean inside is_open)
-
-pub returns-in_err-delete_run-clause-err : goal.returns-in_err-delete_run-clause-err
-returns-in_err-delete_run-clause-err g c clean inside is_open =
-    if_failed _ (fails_behind (stays_then c.runs.invariant.0 c.in_ok-start.ensures.stays) c.in_err-delete_run.ensures.stays c.in_err-delete_run.ensures.err clean inside is_open)
-
-pub returns-clause-err : goal.returns-clause-err
-returns-clause-err g c = fails_behind c.runs.invariant.0 c.delete_blocks.ensures.stays c.delete_blocks.ensures.err
+returns-clause-stays g c = stays_then c.runs.invariant.0 c.delete_blocks.ensures.keeps.stays
 
 pub returns-in_err-start-clause-cause : goal.returns-in_err-start-clause-cause
 returns-in_err-start-clause-cause g c storable clean inside =
@@ -84,8 +73,8 @@ returns-in_err-delete_run-clause-cause g c storable clean inside =
     let old = c.args.tx.now in
     let seen = c.first_block.new.tx in
     let new = c.delete_run.new.tx in
-    let saw = stays_then c.runs.invariant.0 c.in_ok-start.ensures.stays in
-    let before = clean_before c.delete_run.ensures.stays clean in
+    let saw = stays_then c.runs.invariant.0 c.in_ok-start.ensures.keeps.stays in
+    let before = clean_before c.delete_run.ensures.keeps.stays clean in
     let key : IsStorableKey (record { owner = c.args.owner; at = c.run_end-at.result }) = record { owner = storable; part = omega (arith, c.run_end-at.ensures.part); place = omega (arith, c.run_end-at.ensures.place) } in
     if_err_is _ c.from_residual-in_err-delete_run.result c.in_err-delete_run.field-0.0 c.from_residual-in_err-delete_run.ensures.1 (fails_then g.T.Statements.state old seen new saw.survives (FailsToDeleteBlocks c.args.owner) _
     (run _ (c.in_err-delete_run.ensures.cause key clean (saw.inside before inside))))
@@ -96,7 +85,7 @@ returns-clause-cause g c storable clean inside =
     let mid = c.runs.tx in
     let new = c.delete_blocks.new.tx in
     let inv = c.runs.invariant in
-    let before = clean_before c.delete_blocks.ensures.stays clean in
+    let before = clean_before c.delete_blocks.ensures.keeps.stays clean in
     if_err_then c.delete_blocks.result (c.delete_blocks.ensures.cause storable clean (inv.0.inside before inside))
     (λ fault failed. fails_then g.T.Statements.state old mid new inv.0.survives (FailsToDeleteBlocks c.args.owner) fault (rest failed))
 

@@ -1,7 +1,6 @@
 use Rattle.std.proofs.Common.{◌<◌, ◌^◌, length, arith, sym, subst}
 use Rattle.std.proofs.lemmas.List.{take_all}
 use Rattle.std.proofs.lemmas.List.Elements.{All-get_or}
-use Rattle.dep_tables.proofs.Results.{if_failed}
 use Rattle.dep_tables.proofs.Chains.{clean_before, stays_then, stays_ok, stays_err}
 use Rattle.dep_tables.specs.Tables.{tables_of}
 use Rattle.dep_types.specs.declared.rows.FileRow.{FileRow}
@@ -10,7 +9,6 @@ use Rattle.dep_row_maps.specs.Causes.FailsByStatement.{sha512_deleted}
 use Rattle.dep_row_maps.proofs.Causes.{fails_then, fails_later, if_err_is}
 use Rattle.dep_files.specs.Causes.{FailsToDeleteBlocks}
 use Rattle.dep_files.proofs.Causes.{deletes_among}
-use Rattle.dep_files.proofs.Results.{fails_behind, uncommitted_behind}
 use Rattle.dep_files.proofs.FileCalls.{one_more_gone}
 use Rattle.dep_files.proofs.files.delete_contents.Goals as goal
 
@@ -22,9 +20,9 @@ rows-preserved g c =
     let new = g.T.Statements.state c.delete_sha512.new.tx in
     let inv = c.rows.invariant in
     let within : c.rows.row-index < length c.args.rows.now = omega arith in (
-      stays_ok (stays_then (stays_then inv.0 c.in_ok-delete_blocks.ensures.stays) c.in_ok-delete_sha512.ensures.stays),
+      stays_ok (stays_then (stays_then inv.0 c.in_ok-delete_blocks.ensures.stays) c.in_ok-delete_sha512.ensures.keeps.stays),
       λ clean inside ours.
-          let clean_one = clean_before c.delete_sha512.ensures.stays clean in
+          let clean_one = clean_before c.delete_sha512.ensures.keeps.stays clean in
           let before = clean_before c.delete_blocks.ensures.stays clean_one in
           let was = inv.1 before inside ours in
           let first = c.in_ok-delete_blocks.ensures.ok clean_one (inv.0.inside before inside) was.ours in
@@ -35,17 +33,9 @@ rows-preserved g c =
 pub returns-in_err-delete_blocks-clause-stays : goal.returns-in_err-delete_blocks-clause-stays
 returns-in_err-delete_blocks-clause-stays g c = stays_err c.from_residual.ensures.0 (stays_then c.rows.invariant.0 c.delete_blocks.ensures.stays)
 
-pub returns-in_err-delete_blocks-clause-err : goal.returns-in_err-delete_blocks-clause-err
-returns-in_err-delete_blocks-clause-err g c clean inside is_open =
-    if_failed _ (uncommitted_behind c.rows.invariant.0 c.in_err-delete_blocks.ensures.stays c.in_err-delete_blocks.ensures.err clean inside is_open)
-
 pub returns-in_err-delete_sha512-clause-stays : goal.returns-in_err-delete_sha512-clause-stays
 returns-in_err-delete_sha512-clause-stays g c =
-    stays_err c.from_residual-in_err-delete_sha512.ensures.0 (stays_then (stays_then c.rows.invariant.0 c.in_ok-delete_blocks.ensures.stays) c.delete_sha512.ensures.stays)
-
-pub returns-in_err-delete_sha512-clause-err : goal.returns-in_err-delete_sha512-clause-err
-returns-in_err-delete_sha512-clause-err g c clean inside is_open =
-    if_failed _ (fails_behind (stays_then c.rows.invariant.0 c.in_ok-delete_blocks.ensures.stays) c.in_err-delete_sha512.ensures.stays c.in_err-delete_sha512.ensures.err clean inside is_open)
+    stays_err c.from_residual-in_err-delete_sha512.ensures.0 (stays_then (stays_then c.rows.invariant.0 c.in_ok-delete_blocks.ensures.stays) c.delete_sha512.ensures.keeps.stays)
 
 pub returns-clause-ok : goal.returns-clause-ok
 returns-clause-ok g c = rw (take_all c.rows.row-index c.args.rows.now c.rows-test.false) at c.rows.invariant.1
@@ -68,7 +58,7 @@ returns-in_err-delete_sha512-clause-cause g c storable clean inside =
     let one = c.delete_blocks.new.tx in
     let new = c.delete_sha512.new.tx in
     let stays = stays_then c.rows.invariant.0 c.in_ok-delete_blocks.ensures.stays in
-    let before = clean_before c.delete_sha512.ensures.stays clean in
+    let before = clean_before c.delete_sha512.ensures.keeps.stays clean in
     let within : c.rows.row-index < length c.args.rows.now = omega arith in
     let below = subst (λ (r : FileRow). r.file < 2 ^ 63) (sym c.row-item.is) (All-get_or (λ (r : FileRow). r.file < 2 ^ 63) c.args.rows.now c.rows.row-index _ within storable) in
     if_err_is _ c.from_residual-in_err-delete_sha512.result c.in_err-delete_sha512.field-0.0 c.from_residual-in_err-delete_sha512.ensures.1 (fails_then g.T.Statements.state old one new stays.survives FailsByStatement _

@@ -1,14 +1,14 @@
 use Rattle.dep_tables.specs.Tables.{tables_of}
-use Rattle.dep_tables.proofs.Results.{ok_then, if_failed}
-use Rattle.dep_tables.proofs.Chains.{clean_before, stays_then, stays_err}
+use Rattle.dep_tables.proofs.Results.{ok_then}
+use Rattle.dep_tables.proofs.Chains.{clean_before, stays_then}
 use Rattle.dep_row_maps.specs.Causes.{FailsByStatement}
 use Rattle.dep_row_maps.specs.Causes.FailsByStatement.{file_deleted, sha512_deleted}
 use Rattle.dep_row_maps.proofs.Causes.{fails_among, fails_then, if_err_then, if_err_is, never_failed}
 use Rattle.dep_tables.specs.declared.owner.BlockOwner.TheVariants as owner
 use Rattle.dep_files.specs.Causes.{FailsToDeleteBlocks}
 use Rattle.dep_files.proofs.Causes.{deletes_among}
-use Rattle.dep_files.proofs.Results.{fails_behind}
 use Rattle.dep_files.proofs.FileCalls.{file_gone, file_absent}
+use Rattle.dep_row_maps.proofs.Changing.{changes_err, by_leads, by_sees, changes_then}
 use Rattle.dep_files.proofs.files.delete_file.Goals as goal
 
 pub returns-clause-map : goal.returns-clause-map
@@ -17,8 +17,8 @@ returns-clause-map g c clean inside ours s are n o it there has =
     let one = g.T.Statements.state c.delete_blocks.new.tx in
     let two = g.T.Statements.state c.delete_sha512.new.tx in
     let new = g.T.Statements.state c.delete_file.new.tx in
-    let clean_two = clean_before c.delete_file.ensures.stays clean in
-    let clean_one = clean_before c.delete_sha512.ensures.stays clean_two in
+    let clean_two = clean_before c.delete_file.ensures.keeps.stays clean in
+    let clean_one = clean_before c.delete_sha512.ensures.keeps.stays clean_two in
     let first = c.in_ok-delete_blocks.ensures.ok clean_one inside ours in
     let second = c.in_ok-delete_sha512.ensures.ok clean_two (c.in_ok-delete_blocks.ensures.stays.inside clean_one inside) first.ours in
     ok_then c.delete_file.result (c.delete_file.ensures.ok clean second.shows.mode second.ours)
@@ -30,27 +30,19 @@ returns-clause-absent g c clean inside ours s are none =
     let one = g.T.Statements.state c.delete_blocks.new.tx in
     let two = g.T.Statements.state c.delete_sha512.new.tx in
     let new = g.T.Statements.state c.delete_file.new.tx in
-    let clean_two = clean_before c.delete_file.ensures.stays clean in
-    let clean_one = clean_before c.delete_sha512.ensures.stays clean_two in
+    let clean_two = clean_before c.delete_file.ensures.keeps.stays clean in
+    let clean_one = clean_before c.delete_sha512.ensures.keeps.stays clean_two in
     let first = c.in_ok-delete_blocks.ensures.ok clean_one inside ours in
     let second = c.in_ok-delete_sha512.ensures.ok clean_two (c.in_ok-delete_blocks.ensures.stays.inside clean_one inside) first.ours in
     ok_then c.delete_file.result (c.delete_file.ensures.ok clean second.shows.mode second.ours)
     (λ leads. file_absent (tables_of old) (tables_of one) (tables_of two) (tables_of new) s c.args.file are ours.trees.ordered.1.1.1.1.0 first.rows second.rows leads.rows none)
 
-pub returns-in_err-delete_sha512-clause-stays : goal.returns-in_err-delete_sha512-clause-stays
-returns-in_err-delete_sha512-clause-stays g c =
-    stays_err c.from_residual-in_err-delete_sha512.ensures.0 (stays_then c.in_ok-delete_blocks.ensures.stays c.delete_sha512.ensures.stays)
+pub returns-in_err-delete_sha512-clause-keeps : goal.returns-in_err-delete_sha512-clause-keeps
+returns-in_err-delete_sha512-clause-keeps g c = changes_err c.from_residual-in_err-delete_sha512.ensures.0 (stays_then c.in_ok-delete_blocks.ensures.stays c.delete_sha512.ensures.keeps.stays)
 
-pub returns-in_err-delete_sha512-clause-err : goal.returns-in_err-delete_sha512-clause-err
-returns-in_err-delete_sha512-clause-err g c clean inside is_open =
-    if_failed _ (fails_behind c.in_ok-delete_blocks.ensures.stays c.in_err-delete_sha512.ensures.stays c.in_err-delete_sha512.ensures.err clean inside is_open)
-
-pub returns-clause-stays : goal.returns-clause-stays
-returns-clause-stays g c = stays_then (stays_then c.in_ok-delete_blocks.ensures.stays c.in_ok-delete_sha512.ensures.stays) c.delete_file.ensures.stays
-
-pub returns-clause-err : goal.returns-clause-err
-returns-clause-err g c =
-    fails_behind (stays_then c.in_ok-delete_blocks.ensures.stays c.in_ok-delete_sha512.ensures.stays) c.delete_file.ensures.stays c.delete_file.ensures.err
+pub returns-clause-keeps : goal.returns-clause-keeps
+returns-clause-keeps g c =
+    changes_then (changes_then (by_sees _ c.in_ok-delete_blocks.ensures.stays c.in_ok-delete_blocks.ensures.ok) (by_leads _ c.in_ok-delete_sha512.ensures.keeps.stays c.in_ok-delete_sha512.ensures.ok)) (by_leads _ c.delete_file.ensures.keeps.stays c.delete_file.ensures.ok)
 
 pub returns-in_err-delete_blocks-clause-cause : goal.returns-in_err-delete_blocks-clause-cause
 returns-in_err-delete_blocks-clause-cause g c storable clean inside =
@@ -62,7 +54,7 @@ returns-in_err-delete_sha512-clause-cause g c storable clean inside =
     let old = c.args.tx.now in
     let one = c.delete_blocks.new.tx in
     let new = c.delete_sha512.new.tx in
-    let before = clean_before c.delete_sha512.ensures.stays clean in
+    let before = clean_before c.delete_sha512.ensures.keeps.stays clean in
     if_err_is _ c.from_residual-in_err-delete_sha512.result c.in_err-delete_sha512.field-0.0 c.from_residual-in_err-delete_sha512.ensures.1
     (fails_then g.T.Statements.state old one new c.delete_blocks.ensures.stays.survives FailsByStatement _
     (sha512_deleted _ (c.in_err-delete_sha512.ensures.cause storable clean (c.in_ok-delete_blocks.ensures.stays.inside before inside))))
@@ -72,8 +64,8 @@ returns-clause-cause g c storable clean inside =
     let old = c.args.tx.now in
     let two = c.delete_sha512.new.tx in
     let new = c.delete_file.new.tx in
-    let stays = stays_then c.in_ok-delete_blocks.ensures.stays c.in_ok-delete_sha512.ensures.stays in
-    let before = clean_before c.delete_file.ensures.stays clean in
+    let stays = stays_then c.in_ok-delete_blocks.ensures.stays c.in_ok-delete_sha512.ensures.keeps.stays in
+    let before = clean_before c.delete_file.ensures.keeps.stays clean in
     if_err_then c.delete_file.result (c.delete_file.ensures.cause storable clean (stays.inside before inside))
     (λ fault failed. fails_then g.T.Statements.state old two new stays.survives FailsByStatement fault (file_deleted _ failed))
 

@@ -1,17 +1,18 @@
 use Rattle.std.proofs.Common.{◌≡◌, ◌<◌, ◌^◌, List, ap, ◌∙◌, map}
 use Rattle.dep_types.specs.declared.rows.FileRow.{FileRow}
 use Rattle.dep_tables.specs.Tables.{tables_of}
-use Rattle.dep_tables.proofs.Results.{ok_then, if_failed}
-use Rattle.dep_tables.proofs.Chains.{clean_before, left_whole, stays_then, stays_err}
+use Rattle.dep_tables.proofs.Results.{ok_then}
+use Rattle.dep_tables.proofs.Chains.{clean_before, stays_then, still_ours}
 use Rattle.std.proofs.lemmas.List.Elements.{All-same}
 use Rattle.dep_row_maps.specs.Laws.{without_contents}
 use Rattle.dep_row_maps.specs.Causes.{FailsByStatement}
 use Rattle.dep_row_maps.specs.Causes.FailsByStatement.{files_deleted, files_read as rows_read}
 use Rattle.dep_row_maps.proofs.Causes.{fails_first, fails_then, fails_behind_them, if_err_then, if_err_is, never_failed}
 use Rattle.dep_row_maps.proofs.Readings.{files_read}
-use Rattle.dep_files.proofs.Results.{still_ours, same_tables, fails_behind, uncommitted_behind}
+use Rattle.dep_files.proofs.Results.{same_tables}
 use Rattle.dep_files.proofs.FileCalls.{files_gone}
 use Rattle.dep_files.proofs.Storable.{storable_files}
+use Rattle.dep_row_maps.proofs.Changing.{changes_err, by_leads, by_sees, changes_then, reads_change}
 use Rattle.dep_files.proofs.files.delete_files.Goals as goal
 
 pub returns-clause-map : goal.returns-clause-map
@@ -20,48 +21,26 @@ returns-clause-map g c clean inside ours s are o there =
     let one = g.T.Statements.state c.files_of.new.tx in
     let two = g.T.Statements.state c.delete_contents.new.tx in
     let new = g.T.Statements.state c.delete_files.new.tx in
-    let clean_two = clean_before c.delete_files.ensures.stays clean in
+    let clean_two = clean_before c.delete_files.ensures.keeps.stays clean in
     let clean_one = clean_before c.delete_contents.ensures.stays clean_two in
-    let same = c.in_ok-rows.ensures.same clean_one ours in
+    let same = c.in_ok-rows.ensures.keeps.same clean_one ours in
     let ours_one = still_ours old one same ours in
     let tables_one = same_tables old one same in
     let found = c.in_ok-rows.rows.items in
     let is = files_read (tables_of old) s are c.args.object found (c.in_ok-rows.ensures.ok clean_one ours) in
-    let gone = c.in_ok-delete_contents.ensures.ok clean_two (c.in_ok-rows.ensures.stays.inside clean_one inside) ours_one in
+    let gone = c.in_ok-delete_contents.ensures.ok clean_two (c.in_ok-rows.ensures.keeps.stays.inside clean_one inside) ours_one in
     let numbers = λ (rows : List FileRow). map (λ (r : FileRow). r.file) rows in
     let first : tables_of two ≡ without_contents (numbers found) (tables_of old) =
     gone.rows ∙ ap (λ rows. without_contents (numbers rows) (tables_of one)) c.as_slice.ensures.value ∙ ap (without_contents (numbers found)) tables_one in
-    ok_then c.delete_files.result (c.delete_files.ensures.ok clean (c.in_ok-delete_contents.ensures.stays.inside clean_two (c.in_ok-rows.ensures.stays.inside clean_one inside)) gone.ours)
+    ok_then c.delete_files.result (c.delete_files.ensures.ok clean (c.in_ok-delete_contents.ensures.stays.inside clean_two (c.in_ok-rows.ensures.keeps.stays.inside clean_one inside)) gone.ours)
     (λ leads. files_gone (tables_of old) (tables_of two) (tables_of new) s c.args.object o found are ours.trees.ordered.1.1.1.1.0 there is first leads.rows)
 
-pub returns-in_err-rows-clause-err : goal.returns-in_err-rows-clause-err
-returns-in_err-rows-clause-err g c ours clean inside is_open = if_failed _ (left_whole (g.T.Statements.state c.args.tx.now) (g.T.Statements.state c.files_of.new.tx) inside is_open (c.in_err-rows.ensures.err clean inside ours is_open))
+pub returns-in_err-delete_contents-clause-keeps : goal.returns-in_err-delete_contents-clause-keeps
+returns-in_err-delete_contents-clause-keeps g c = changes_err c.from_residual-in_err-delete_contents.ensures.0 (stays_then c.in_ok-rows.ensures.keeps.stays c.delete_contents.ensures.stays)
 
-pub returns-in_err-delete_contents-clause-stays : goal.returns-in_err-delete_contents-clause-stays
-returns-in_err-delete_contents-clause-stays g c =
-    stays_err c.from_residual-in_err-delete_contents.ensures.0 (stays_then c.in_ok-rows.ensures.stays c.delete_contents.ensures.stays)
-
-pub returns-in_err-delete_contents-clause-err : goal.returns-in_err-delete_contents-clause-err
-returns-in_err-delete_contents-clause-err g c ours clean inside is_open =
-    if_failed _ (uncommitted_behind c.in_ok-rows.ensures.stays c.in_err-delete_contents.ensures.stays c.in_err-delete_contents.ensures.err clean inside is_open)
-
-pub returns-clause-stays : goal.returns-clause-stays
-returns-clause-stays g c = stays_then (stays_then c.in_ok-rows.ensures.stays c.in_ok-delete_contents.ensures.stays) c.delete_files.ensures.stays
-
-pub returns-clause-err : goal.returns-clause-err
-returns-clause-err g c ours =
-    fails_behind (stays_then c.in_ok-rows.ensures.stays c.in_ok-delete_contents.ensures.stays) c.delete_files.ensures.stays c.delete_files.ensures.err
-
-pub returns-clause-ours : goal.returns-clause-ours
-returns-clause-ours g c clean inside ours =
-    let old = g.T.Statements.state c.args.tx.now in
-    let one = g.T.Statements.state c.files_of.new.tx in
-    let two = g.T.Statements.state c.delete_contents.new.tx in
-    let clean_two = clean_before c.delete_files.ensures.stays clean in
-    let clean_one = clean_before c.delete_contents.ensures.stays clean_two in
-    let inside_one = c.in_ok-rows.ensures.stays.inside clean_one inside in
-    let gone = c.in_ok-delete_contents.ensures.ok clean_two inside_one (still_ours old one (c.in_ok-rows.ensures.same clean_one ours) ours) in
-    ok_then c.delete_files.result (c.delete_files.ensures.ok clean (c.in_ok-delete_contents.ensures.stays.inside clean_two inside_one) gone.ours) (λ leads. leads.ours)
+pub returns-clause-keeps : goal.returns-clause-keeps
+returns-clause-keeps g c =
+    changes_then (changes_then (reads_change c.in_ok-rows.ensures.keeps) (by_sees _ c.in_ok-delete_contents.ensures.stays c.in_ok-delete_contents.ensures.ok)) (by_leads _ c.delete_files.ensures.keeps.stays c.delete_files.ensures.ok)
 
 pub returns-in_err-rows-clause-cause : goal.returns-in_err-rows-clause-cause
 returns-in_err-rows-clause-cause g c clean inside ours s are sound storable =
@@ -78,16 +57,16 @@ returns-in_err-delete_contents-clause-cause g c clean inside ours s are sound st
     let is = files_read (tables_of (g.T.Statements.state old)) s are c.args.object found (c.in_ok-rows.ensures.ok before ours) in
     let below = All-same (λ (r : FileRow). r.file < 2 ^ 63) c.as_slice.result.now found c.as_slice.ensures.value (storable_files s c.args.object found sound is) in
     if_err_is _ c.from_residual-in_err-delete_contents.result c.in_err-delete_contents.field-0.0 c.from_residual-in_err-delete_contents.ensures.1
-    (fails_behind_them g.T.Statements.state old mid new c.files_of.ensures.stays.survives FailsByStatement _
-    (c.in_err-delete_contents.ensures.cause below clean (c.in_ok-rows.ensures.stays.inside before inside)))
+    (fails_behind_them g.T.Statements.state old mid new c.files_of.ensures.keeps.stays.survives FailsByStatement _
+    (c.in_err-delete_contents.ensures.cause below clean (c.in_ok-rows.ensures.keeps.stays.inside before inside)))
 
 pub returns-clause-cause : goal.returns-clause-cause
 returns-clause-cause g c clean inside ours s are sound storable =
     let old = c.args.tx.now in
     let mid = c.delete_contents.new.tx in
     let new = c.delete_files.new.tx in
-    let stays = stays_then c.in_ok-rows.ensures.stays c.in_ok-delete_contents.ensures.stays in
-    let before = clean_before c.delete_files.ensures.stays clean in
+    let stays = stays_then c.in_ok-rows.ensures.keeps.stays c.in_ok-delete_contents.ensures.stays in
+    let before = clean_before c.delete_files.ensures.keeps.stays clean in
     if_err_then c.delete_files.result (c.delete_files.ensures.cause storable clean (stays.inside before inside))
     (λ fault failed. fails_then g.T.Statements.state old mid new stays.survives FailsByStatement fault (files_deleted _ failed))
 
@@ -96,3 +75,6 @@ returns-in_err-delete_contents-clause-numbers g c great = never_failed _ _ (c.in
 
 pub returns-clause-numbers : goal.returns-clause-numbers
 returns-clause-numbers g c great = never_failed _ _ (c.in_ok-rows.ensures.numbers great).0
+
+pub returns-in_err-rows-clause-keeps : goal.returns-in_err-rows-clause-keeps
+returns-in_err-rows-clause-keeps g c = changes_err c.from_residual.ensures.0 c.in_err-rows.ensures.keeps.stays

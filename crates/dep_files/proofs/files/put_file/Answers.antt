@@ -4,13 +4,14 @@ use Rattle.dep_statements.specs.Rows.{put_next}
 use Rattle.dep_tables.specs.Rows.{sha512_values, stored_file}
 use Rattle.dep_tables.specs.Tables.{Tables, tables_of}
 use Rattle.dep_tables.specs.declared.owner.BlockOwner.TheVariants as owner
-use Rattle.dep_tables.proofs.Results.{ok_then, if_failed}
-use Rattle.dep_tables.proofs.Chains.{clean_before, stays_then, stays_err}
+use Rattle.dep_tables.proofs.Results.{ok_then}
+use Rattle.dep_tables.proofs.Chains.{clean_before, stays_then}
 use Rattle.dep_row_maps.specs.Causes.{FailsByStatement}
 use Rattle.dep_row_maps.specs.Causes.FailsByStatement.{file_added, sha512_added}
 use Rattle.dep_row_maps.proofs.Causes.{fails_then, if_err_then, if_err_is}
-use Rattle.dep_files.proofs.Results.{ok_both, fails_behind}
+use Rattle.dep_files.proofs.Results.{ok_both}
 use Rattle.dep_files.proofs.FileCalls.{file_put, free_of}
+use Rattle.dep_row_maps.proofs.Changing.{changes_err, by_leads, by_sees, changes_then}
 use Rattle.dep_files.proofs.files.put_file.Goals as goal
 
 pub returns-clause-map : goal.returns-clause-map
@@ -19,8 +20,8 @@ returns-clause-map g c clean inside ours s are o file there is same =
     let one = g.T.Statements.state c.put_blocks.new.tx in
     let two = g.T.Statements.state c.insert_sha512.new.tx in
     let new = g.T.Statements.state c.insert_file.new.tx in
-    let clean_two = clean_before c.insert_file.ensures.stays clean in
-    let clean_one = clean_before c.insert_sha512.ensures.stays clean_two in
+    let clean_two = clean_before c.insert_file.ensures.keeps.stays clean in
+    let clean_one = clean_before c.insert_sha512.ensures.keeps.stays clean_two in
     let first = c.in_ok-put_blocks.ensures.ok clean_one inside ours in
     let second = c.in_ok-insert_sha512.ensures.ok clean_two (c.in_ok-put_blocks.ensures.stays.inside clean_one inside) first.ours in
     ok_both c.insert_file.result (c.insert_file.ensures.ok clean second.shows.mode second.ours) (c.insert_file.ensures.free clean second.shows.mode second.ours)
@@ -29,8 +30,8 @@ returns-clause-map g c clean inside ours s are o file there is same =
 
 pub returns-clause-rows : goal.returns-clause-rows
 returns-clause-rows g c clean inside ours =
-    let clean_two = clean_before c.insert_file.ensures.stays clean in
-    let clean_one = clean_before c.insert_sha512.ensures.stays clean_two in
+    let clean_two = clean_before c.insert_file.ensures.keeps.stays clean in
+    let clean_one = clean_before c.insert_sha512.ensures.keeps.stays clean_two in
     let first = c.in_ok-put_blocks.ensures.ok clean_one inside ours in
     let second = c.in_ok-insert_sha512.ensures.ok clean_two (c.in_ok-put_blocks.ensures.stays.inside clean_one inside) first.ours in
     let value = sha512_values (owner.File c.args.row.now.file) c.args.row.now.sha512 in
@@ -45,27 +46,19 @@ returns-clause-free g c clean inside ours s are =
     let old = g.T.Statements.state c.args.tx.now in
     let one = g.T.Statements.state c.put_blocks.new.tx in
     let two = g.T.Statements.state c.insert_sha512.new.tx in
-    let clean_two = clean_before c.insert_file.ensures.stays clean in
-    let clean_one = clean_before c.insert_sha512.ensures.stays clean_two in
+    let clean_two = clean_before c.insert_file.ensures.keeps.stays clean in
+    let clean_one = clean_before c.insert_sha512.ensures.keeps.stays clean_two in
     let first = c.in_ok-put_blocks.ensures.ok clean_one inside ours in
     let second = c.in_ok-insert_sha512.ensures.ok clean_two (c.in_ok-put_blocks.ensures.stays.inside clean_one inside) first.ours in
     ok_then c.insert_file.result (c.insert_file.ensures.free clean second.shows.mode second.ours)
     (λ free. free_of (tables_of old) (tables_of one) (tables_of two) c.args.row.now.file _ _ first.rows second.rows s are ours.trees.ordered.1.1.1.1.0 free)
 
-pub returns-in_err-insert_sha512-clause-stays : goal.returns-in_err-insert_sha512-clause-stays
-returns-in_err-insert_sha512-clause-stays g c =
-    stays_err c.from_residual-in_err-insert_sha512.ensures.0 (stays_then c.in_ok-put_blocks.ensures.stays c.insert_sha512.ensures.stays)
+pub returns-in_err-insert_sha512-clause-keeps : goal.returns-in_err-insert_sha512-clause-keeps
+returns-in_err-insert_sha512-clause-keeps g c = changes_err c.from_residual-in_err-insert_sha512.ensures.0 (stays_then c.in_ok-put_blocks.ensures.stays c.insert_sha512.ensures.keeps.stays)
 
-pub returns-in_err-insert_sha512-clause-err : goal.returns-in_err-insert_sha512-clause-err
-returns-in_err-insert_sha512-clause-err g c clean inside is_open =
-    if_failed _ (fails_behind c.in_ok-put_blocks.ensures.stays c.in_err-insert_sha512.ensures.stays c.in_err-insert_sha512.ensures.err clean inside is_open)
-
-pub returns-clause-stays : goal.returns-clause-stays
-returns-clause-stays g c = stays_then (stays_then c.in_ok-put_blocks.ensures.stays c.in_ok-insert_sha512.ensures.stays) c.insert_file.ensures.stays
-
-pub returns-clause-err : goal.returns-clause-err
-returns-clause-err g c =
-    fails_behind (stays_then c.in_ok-put_blocks.ensures.stays c.in_ok-insert_sha512.ensures.stays) c.insert_file.ensures.stays c.insert_file.ensures.err
+pub returns-clause-keeps : goal.returns-clause-keeps
+returns-clause-keeps g c =
+    changes_then (changes_then (by_sees _ c.in_ok-put_blocks.ensures.stays c.in_ok-put_blocks.ensures.ok) (by_leads _ c.in_ok-insert_sha512.ensures.keeps.stays c.in_ok-insert_sha512.ensures.ok)) (by_leads _ c.insert_file.ensures.keeps.stays c.insert_file.ensures.ok)
 
 pub returns-in_err-put_blocks-clause-cause : goal.returns-in_err-put_blocks-clause-cause
 returns-in_err-put_blocks-clause-cause g c storable clean inside =
@@ -76,7 +69,7 @@ returns-in_err-insert_sha512-clause-cause g c storable clean inside =
     let old = c.args.tx.now in
     let one = c.put_blocks.new.tx in
     let new = c.insert_sha512.new.tx in
-    let before = clean_before c.insert_sha512.ensures.stays clean in
+    let before = clean_before c.insert_sha512.ensures.keeps.stays clean in
     if_err_is _ c.from_residual-in_err-insert_sha512.result c.in_err-insert_sha512.field-0.0 c.from_residual-in_err-insert_sha512.ensures.1
     (fails_then g.T.Statements.state old one new c.put_blocks.ensures.stays.survives FailsByStatement _
     (sha512_added _ (c.in_err-insert_sha512.ensures.cause storable.file clean (c.in_ok-put_blocks.ensures.stays.inside before inside))))
@@ -86,7 +79,7 @@ returns-clause-cause g c storable clean inside =
     let old = c.args.tx.now in
     let two = c.insert_sha512.new.tx in
     let new = c.insert_file.new.tx in
-    let stays = stays_then c.in_ok-put_blocks.ensures.stays c.in_ok-insert_sha512.ensures.stays in
-    let before = clean_before c.insert_file.ensures.stays clean in
+    let stays = stays_then c.in_ok-put_blocks.ensures.stays c.in_ok-insert_sha512.ensures.keeps.stays in
+    let before = clean_before c.insert_file.ensures.keeps.stays clean in
     if_err_then c.insert_file.result (c.insert_file.ensures.cause storable clean (stays.inside before inside))
     (λ fault failed. fails_then g.T.Statements.state old two new stays.survives FailsByStatement fault (file_added _ failed))

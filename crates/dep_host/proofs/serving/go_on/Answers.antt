@@ -1,17 +1,36 @@
-use Rattle.std.proofs.Common.{[], ◌∷◌, ℕ, Option, is_some, sym, ap, subst, ◌∙◌}
-use Rattle.dep_host.specs.Rounds.{IsTold}
-use Rattle.dep_host.proofs.HostLemmas.{steps_join}
+use Rattle.std.proofs.Common.{ap, is_some, ◌∙◌}
+use Rattle.dep_host.proofs.HostLemmas.{stands_still, stays_same}
+use Rattle.dep_host.proofs.MeetLemmas.{none_once_shut}
 use Rattle.dep_host.proofs.RoundLemmas.{untold_in_time}
 use Rattle.dep_host.proofs.serving.go_on.Goals as goal
 
-pub returns-then-is_open-clause-goes : goal.returns-then-is_open-clause-goes
-returns-then-is_open-clause-goes g c =
-    steps_join g.A.Archive.condition g.R.Source.unread g.K.Sink.taken g.S.Spool.held c.is_open.ensures.goes c.work_ahead-is_left.ensures.goes
-
-pub returns-then-is_open-clause-told : goal.returns-then-is_open-clause-told
-returns-then-is_open-clause-told g c =
-    subst (λ (o : Option ℕ). IsTold c.args.host.now.shut_since o (c.args.second ∷ [])) (sym c.work_ahead-is_left.ensures.shut) c.is_open.ensures.told
+pub returns-then-is_open-clause-asks : goal.returns-then-is_open-clause-asks
+returns-then-is_open-clause-asks g c = record {
+  mid = c.is_open.new.self;
+  asks = c.is_open.ensures.asks;
+  works = c.work_ahead-is_left.ensures.goes;
+  stays = c.work_ahead-is_left.ensures.stays;
+}
 
 pub returns-then-is_open-clause-time : goal.returns-then-is_open-clause-time
 returns-then-is_open-clause-time g c =
-    untold_in_time _ c.args.second _ (ap is_some c.work_ahead-is_left.ensures.shut ∙ c.is_open.ensures.untold c.if-is_open.true)
+    untold_in_time _ c.args.second _ (ap is_some c.work_ahead-is_left.ensures.stays.shut ∙ c.is_open.ensures.untold c.if-is_open.true)
+
+pub returns-then-is_empty-clause-asks : goal.returns-then-is_empty-clause-asks
+returns-then-is_empty-clause-asks g c = record {
+  mid = c.is_open.new.self;
+  asks = c.is_open.ensures.asks;
+  works = stands_still g.A.Archive.condition g.R.Source.unread g.K.Sink.taken g.S.Spool.held _;
+  stays = stays_same _;
+}
+
+pub returns-clause-asks : goal.returns-clause-asks
+returns-clause-asks g c = record {
+  mid = c.is_open.new.self;
+  asks = c.is_open.ensures.asks;
+  works = stands_still g.A.Archive.condition g.R.Source.unread g.K.Sink.taken g.S.Spool.held _;
+  stays = stays_same _;
+}
+
+pub returns-clause-vacant : goal.returns-clause-vacant
+returns-clause-vacant g c = none_once_shut c.is_open.new.self (c.is_open.ensures.shut c.if-is_open.false)

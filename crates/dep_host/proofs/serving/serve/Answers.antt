@@ -1,50 +1,44 @@
-use Rattle.std.proofs.Common.{◌≡◌, false, Err, ap, ◌∙◌, arith}
-use Rattle.dep_host.proofs.HostLemmas.{no_step, both}
+use Rattle.std.proofs.Common.{◌≡◌, true, false, Err, ap, sym, ◌∙◌, arith}
 use Rattle.dep_host.proofs.CloseLemmas.{promised}
 use Rattle.dep_host.proofs.ShutLemmas.{steps_rightly}
-use Rattle.dep_host.proofs.RoundLemmas.{rounds_begin, rounds_go_on, one_second, none_at_end}
-use Rattle.dep_host.specs.Coming.{seconds_of}
-use Rattle.dep_host.specs.Courses.{is_overdue}
-use Rattle.dep_host.specs.declared.serving.Ended.TheVariants.{Spent}
+use Rattle.dep_host.proofs.MeetLemmas.{met_none, met_on, met_last, is_the_end, all_go}
+use Rattle.dep_host.specs.declared.serving.Ended.TheVariants.{Events, Shut, Spent}
 use Rattle.dep_host.proofs.serving.serve.Goals as goal
 
 pub loop-init : goal.loop-init
 loop-init g c = record {
-  goes = no_step g.A.Archive.condition g.R.Source.unread g.K.Sink.taken g.S.Spool.held _;
+  met = met_none g.A.Archive.condition g.R.Source.unread g.K.Sink.taken g.S.Spool.held g.L.HostLog.notes _ _ _;
   vacant = c.vacancy.ensures;
-  rounds = rounds_begin _ _ _;
   room = c.requires;
 }
 
 pub loop-preserved : goal.loop-preserved
 loop-preserved g c = record {
-  goes = both g.A.Archive.condition g.R.Source.unread g.K.Sink.taken g.S.Spool.held _ _ _ c.loop.invariant.goes c.meet.ensures.goes;
+  met = met_on g.A.Archive.condition g.R.Source.unread g.K.Sink.taken g.S.Spool.held g.L.HostLog.notes _ _ _ _ _ _ _ _ _ c.next-event.result Spent c.loop.invariant.met c.next-event.ensures.given
+      c.in-Ok.ensures.met (λ e. let bad : Spent ≡ Events = e in cc) (λ more. c.in-Ok.ensures.time) (λ e. let bad : Spent ≡ Shut = e in cc);
   vacant = c.in-Ok.ensures.vacant;
-  rounds = rounds_go_on _ _ _ _ _ _ _ _ Spent (seconds_of c.next-event.result) c.loop.invariant.rounds c.next-event.ensures.rounds c.meet.ensures.told (one_second c.next-event.result) c.meet.ensures.limits (λ more. c.in-Ok.ensures.time);
   room = omega (arith, c.meet.auto.room, c.loop.invariant.room);
 }
 
-pub returns-in-Err-clause-goes : goal.returns-in-Err-clause-goes
-returns-in-Err-clause-goes g c = both g.A.Archive.condition g.R.Source.unread g.K.Sink.taken g.S.Spool.held _ _ _ c.loop.invariant.goes c.meet.ensures.goes
+pub returns-in-Err : goal.returns-in-Err
+returns-in-Err g c =
+    let met = met_last g.A.Archive.condition g.R.Source.unread g.K.Sink.taken g.S.Spool.held g.L.HostLog.notes _ _ _ _ _ _ _ _ _ c.next-event.result c.in-Err.ended c.meet.result c.in-Err.is c.loop.invariant.met c.next-event.ensures.given c.meet.ensures.met c.meet.ensures.shut in
+    let goes = all_go g.A.Archive.condition g.R.Source.unread g.K.Sink.taken g.S.Spool.held g.L.HostLog.notes met.each in
+    record {
+      met = met;
+      goes = goes;
+      promise = promised g.A.Archive.condition g.R.Source.unread g.K.Sink.taken g.S.Spool.held c.hosts_keep_the_archive_promise.ensures _ _ goes;
+      end = λ e. c.next-event.ensures.end (is_the_end g.A.Archive.condition g.R.Source.unread g.K.Sink.taken g.S.Spool.held g.L.HostLog.notes _ _ _ _ c.next-event.result c.meet.result (c.in-Err.is ∙ ap Err e) c.meet.ensures.met);
+      shut = λ ends none. steps_rightly g.A.Archive.condition g.R.Source.unread g.K.Sink.taken g.S.Spool.held goes.1 (λ some clean. let bad : true ≡ false = sym some ∙ none in cc) ((c.meet.ensures.shut (c.in-Err.is ∙ ap Err ends)).0);
+    }
 
-pub returns-in-Err-clause-promise : goal.returns-in-Err-clause-promise
-returns-in-Err-clause-promise g c =
-    promised g.A.Archive.condition g.R.Source.unread g.K.Sink.taken g.S.Spool.held c.hosts_keep_the_archive_promise.ensures _ _
-    (both g.A.Archive.condition g.R.Source.unread g.K.Sink.taken g.S.Spool.held _ _ _ c.loop.invariant.goes c.meet.ensures.goes)
-
-pub returns-clause-promise : goal.returns-clause-promise
-returns-clause-promise g c =
-    promised g.A.Archive.condition g.R.Source.unread g.K.Sink.taken g.S.Spool.held c.hosts_keep_the_archive_promise.ensures _ _ c.loop.invariant.goes
-
-pub returns-in-Err-clause-shut : goal.returns-in-Err-clause-shut
-returns-in-Err-clause-shut g c = λ ends told.
-    let goes = both g.A.Archive.condition g.R.Source.unread g.K.Sink.taken g.S.Spool.held _ _ _ c.loop.invariant.goes c.meet.ensures.goes in
-    steps_rightly g.A.Archive.condition g.R.Source.unread g.K.Sink.taken g.S.Spool.held goes.1 told (c.meet.ensures.shut (c.in-Err.is ∙ ap Err ends))
-
-pub returns-in-Err-clause-time : goal.returns-in-Err-clause-time
-returns-in-Err-clause-time g c =
-    rounds_go_on _ _ _ _ _ _ _ _ c.in-Err.ended (seconds_of c.next-event.result) c.loop.invariant.rounds c.next-event.ensures.rounds c.meet.ensures.told (one_second c.next-event.result) c.meet.ensures.limits
-    (none_at_end (λ second. is_overdue c.meet.new.host.shut_since second c.meet.new.host.limits ≡ false) c.in-Err.ended c.next-event.result (λ e. c.meet.ensures.end (c.in-Err.is ∙ ap Err e)) (λ e. c.meet.ensures.unspent (c.in-Err.is ∙ ap Err e)))
-
-pub returns-clause-time : goal.returns-clause-time
-returns-clause-time g c = c.loop.invariant.rounds
+pub returns : goal.returns
+returns g c =
+    let goes = all_go g.A.Archive.condition g.R.Source.unread g.K.Sink.taken g.S.Spool.held g.L.HostLog.notes c.loop.invariant.met.each in
+    record {
+      met = c.loop.invariant.met;
+      goes = goes;
+      promise = promised g.A.Archive.condition g.R.Source.unread g.K.Sink.taken g.S.Spool.held c.hosts_keep_the_archive_promise.ensures _ _ goes;
+      end = λ e. let bad : Spent ≡ Events = e in cc;
+      shut = λ e none. let bad : Spent ≡ Shut = e in cc;
+    }

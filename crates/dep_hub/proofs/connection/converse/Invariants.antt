@@ -20,6 +20,6 @@ invariant-loop-count g l = record {
   flushed : IsFlushed (g.W.Flush.held l.fn.writer) (g.W.Flush.has_failed l.fn.writer)
       → IsFlushed (g.W.Flush.held l.writer) (g.W.Flush.has_failed l.writer);
   talk : Talk g.A.Archive.condition (goal.C-step g) l.fn.incoming.connection
-      (session g.A.Archive.condition l.fn.hub (wire (g.R.Inlet.unread l.fn.reader) (g.R.Inlet.reads l.fn.reader) (g.R.Inlet.last l.fn.reader) (g.W.Outlet.taken l.fn.writer) (g.W.Outlet.failures l.fn.writer)) l.fn.clock)
-      (session g.A.Archive.condition l.hub (wire (g.R.Inlet.unread l.reader) (g.R.Inlet.reads l.reader) (g.R.Inlet.last l.reader) (g.W.Outlet.taken l.writer) (g.W.Outlet.failures l.writer)) l.clock) l.count StaysOpen;
+      (session l.fn.hub (wire (g.R.Inlet.unread l.fn.reader) (g.R.Inlet.reads l.fn.reader) (g.R.Inlet.last l.fn.reader) (g.W.Outlet.taken l.fn.writer) (g.W.Outlet.failures l.fn.writer)) l.fn.clock)
+      (session l.hub (wire (g.R.Inlet.unread l.reader) (g.R.Inlet.reads l.reader) (g.R.Inlet.last l.reader) (g.W.Outlet.taken l.writer) (g.W.Outlet.failures l.writer)) l.clock) l.count StaysOpen;
 }

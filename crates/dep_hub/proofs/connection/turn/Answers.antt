@@ -12,27 +12,24 @@ pub returns-in-Open-clause-turn : goal.returns-in-Open-clause-turn
 returns-in-Open-clause-turn g c = record {
   served = c.arrive-arrived.new.self;
   turn = one_turn g.A.Archive.condition (given.C-step g) c.args.incoming.now.connection
-      (session g.A.Archive.condition c.args.hub.now (wire (g.R.Inlet.unread c.args.reader.now) (g.R.Inlet.reads c.args.reader.now) (g.R.Inlet.last c.args.reader.now) (g.W.Outlet.taken c.args.writer.now) (g.W.Outlet.failures c.args.writer.now)) c.args.clock.now)
-      (session g.A.Archive.condition c.arrive-arrived.new.self (wire (g.R.Inlet.unread c.read.new.self) (g.R.Inlet.reads c.read.new.self) (g.R.Inlet.last c.read.new.self) (g.W.Outlet.taken c.flush.new.self) (g.W.Outlet.failures c.flush.new.self)) c.clock-moment.new.self)
+      (session c.args.hub.now (wire (g.R.Inlet.unread c.args.reader.now) (g.R.Inlet.reads c.args.reader.now) (g.R.Inlet.last c.args.reader.now) (g.W.Outlet.taken c.args.writer.now) (g.W.Outlet.failures c.args.writer.now)) c.args.clock.now)
+      (session c.arrive-arrived.new.self (wire (g.R.Inlet.unread c.read.new.self) (g.R.Inlet.reads c.read.new.self) (g.R.Inlet.last c.read.new.self) (g.W.Outlet.taken c.flush.new.self) (g.W.Outlet.failures c.flush.new.self)) c.clock-moment.new.self)
       StaysOpen c.in-Ok.n c.args.incoming.now.buffer.len c.clock-moment.result
       c.read.new.buffer (drop (length c.read.new.buffer) c.args.incoming.now.buffer.items) c.as_mut_slice.result.now c.args.incoming.now.buffer.items c.deref.result.now
       c.deref.ensures.value c.read.auto.buffer c.as_mut_slice.ensures.len c.as_mut_slice.ensures.value c.requires.room
       c.in-Ok.ensures.bound.0 c.in-Ok.ensures.bound.1 c.in-Ok.n-test.1 c.in-Ok.ensures.bytes.0 c.read.ensures.count (c.in-Ok.ensures.last ∙ gives_bytes c.in-Ok.n c.in-Ok.n-test.1) c.clock-moment.ensures (arrives_flushed g.A.Archive.condition _ _ _ _ _ _ _ _ _ _ _ _ c.flush.ensures.taken c.flush.ensures.failures c.in-Open.ensures.arrival);
   ahead = record {
-    same_config = c.work_ahead-left.ensures.config;
-    same_connections = c.work_ahead-left.ensures.connections;
-    kept = c.work_ahead-left.ensures.kept;
-    left = c.work_ahead-left.ensures.left;
-    clean = c.work_ahead-left.ensures.clean;
-    honest = c.work_ahead-left.ensures.honest;
+    same_config = c.work_ahead-left.ensures.rests.config;
+    same_connections = c.work_ahead-left.ensures.rests.connections;
+    store = c.work_ahead-left.ensures.rests.store;
   };
 }
 
 pub returns-in-Closed-clause-turn : goal.returns-in-Closed-clause-turn
 returns-in-Closed-clause-turn g c =
     one_turn g.A.Archive.condition (given.C-step g) c.args.incoming.now.connection
-    (session g.A.Archive.condition c.args.hub.now (wire (g.R.Inlet.unread c.args.reader.now) (g.R.Inlet.reads c.args.reader.now) (g.R.Inlet.last c.args.reader.now) (g.W.Outlet.taken c.args.writer.now) (g.W.Outlet.failures c.args.writer.now)) c.args.clock.now)
-    (session g.A.Archive.condition c.arrive-arrived.new.self (wire (g.R.Inlet.unread c.read.new.self) (g.R.Inlet.reads c.read.new.self) (g.R.Inlet.last c.read.new.self) (g.W.Outlet.taken c.flush.new.self) (g.W.Outlet.failures c.flush.new.self)) c.clock-moment.new.self)
+    (session c.args.hub.now (wire (g.R.Inlet.unread c.args.reader.now) (g.R.Inlet.reads c.args.reader.now) (g.R.Inlet.last c.args.reader.now) (g.W.Outlet.taken c.args.writer.now) (g.W.Outlet.failures c.args.writer.now)) c.args.clock.now)
+    (session c.arrive-arrived.new.self (wire (g.R.Inlet.unread c.read.new.self) (g.R.Inlet.reads c.read.new.self) (g.R.Inlet.last c.read.new.self) (g.W.Outlet.taken c.flush.new.self) (g.W.Outlet.failures c.flush.new.self)) c.clock-moment.new.self)
     HasClosed c.in-Ok.n c.args.incoming.now.buffer.len c.clock-moment.result
     c.read.new.buffer (drop (length c.read.new.buffer) c.args.incoming.now.buffer.items) c.as_mut_slice.result.now c.args.incoming.now.buffer.items c.deref.result.now
     c.deref.ensures.value c.read.auto.buffer c.as_mut_slice.ensures.len c.as_mut_slice.ensures.value c.requires.room
@@ -41,8 +38,8 @@ returns-in-Closed-clause-turn g c =
 pub returns-in-Cut-clause-turn : goal.returns-in-Cut-clause-turn
 returns-in-Cut-clause-turn g c =
     one_turn g.A.Archive.condition (given.C-step g) c.args.incoming.now.connection
-    (session g.A.Archive.condition c.args.hub.now (wire (g.R.Inlet.unread c.args.reader.now) (g.R.Inlet.reads c.args.reader.now) (g.R.Inlet.last c.args.reader.now) (g.W.Outlet.taken c.args.writer.now) (g.W.Outlet.failures c.args.writer.now)) c.args.clock.now)
-    (session g.A.Archive.condition c.arrive-arrived.new.self (wire (g.R.Inlet.unread c.read.new.self) (g.R.Inlet.reads c.read.new.self) (g.R.Inlet.last c.read.new.self) (g.W.Outlet.taken c.flush.new.self) (g.W.Outlet.failures c.flush.new.self)) c.clock-moment.new.self)
+    (session c.args.hub.now (wire (g.R.Inlet.unread c.args.reader.now) (g.R.Inlet.reads c.args.reader.now) (g.R.Inlet.last c.args.reader.now) (g.W.Outlet.taken c.args.writer.now) (g.W.Outlet.failures c.args.writer.now)) c.args.clock.now)
+    (session c.arrive-arrived.new.self (wire (g.R.Inlet.unread c.read.new.self) (g.R.Inlet.reads c.read.new.self) (g.R.Inlet.last c.read.new.self) (g.W.Outlet.taken c.flush.new.self) (g.W.Outlet.failures c.flush.new.self)) c.clock-moment.new.self)
     Cut c.in-Ok.n c.args.incoming.now.buffer.len c.clock-moment.result
     c.read.new.buffer (drop (length c.read.new.buffer) c.args.incoming.now.buffer.items) c.as_mut_slice.result.now c.args.incoming.now.buffer.items c.deref.result.now
     c.deref.ensures.value c.read.auto.buffer c.as_mut_slice.ensures.len c.as_mut_slice.ensures.value c.requires.room
@@ -51,8 +48,8 @@ returns-in-Cut-clause-turn g c =
 pub returns-in-Err-clause-turn : goal.returns-in-Err-clause-turn
 returns-in-Err-clause-turn g c = (
   no_turn g.A.Archive.condition
-      (session g.A.Archive.condition c.args.hub.now (wire (g.R.Inlet.unread c.args.reader.now) (g.R.Inlet.reads c.args.reader.now) (g.R.Inlet.last c.args.reader.now) (g.W.Outlet.taken c.args.writer.now) (g.W.Outlet.failures c.args.writer.now)) c.args.clock.now)
-      (session g.A.Archive.condition c.args.hub.now (wire (g.R.Inlet.unread c.read.new.self) (g.R.Inlet.reads c.read.new.self) (g.R.Inlet.last c.read.new.self) (g.W.Outlet.taken c.args.writer.now) (g.W.Outlet.failures c.args.writer.now)) c.args.clock.now)
+      (session c.args.hub.now (wire (g.R.Inlet.unread c.args.reader.now) (g.R.Inlet.reads c.args.reader.now) (g.R.Inlet.last c.args.reader.now) (g.W.Outlet.taken c.args.writer.now) (g.W.Outlet.failures c.args.writer.now)) c.args.clock.now)
+      (session c.args.hub.now (wire (g.R.Inlet.unread c.read.new.self) (g.R.Inlet.reads c.read.new.self) (g.R.Inlet.last c.read.new.self) (g.W.Outlet.taken c.args.writer.now) (g.W.Outlet.failures c.args.writer.now)) c.args.clock.now)
       refl refl refl refl c.in-Err.ensures.bytes c.read.ensures.count,
   c.in-Err.ensures.last,
 )
@@ -61,8 +58,8 @@ pub returns-in-Ok-eq0-clause-turn : goal.returns-in-Ok-eq0-clause-turn
 returns-in-Ok-eq0-clause-turn g c =
     let none = c.in-Ok-eq0.field-0-test in (
       no_turn g.A.Archive.condition
-          (session g.A.Archive.condition c.args.hub.now (wire (g.R.Inlet.unread c.args.reader.now) (g.R.Inlet.reads c.args.reader.now) (g.R.Inlet.last c.args.reader.now) (g.W.Outlet.taken c.args.writer.now) (g.W.Outlet.failures c.args.writer.now)) c.args.clock.now)
-          (session g.A.Archive.condition c.args.hub.now (wire (g.R.Inlet.unread c.read.new.self) (g.R.Inlet.reads c.read.new.self) (g.R.Inlet.last c.read.new.self) (g.W.Outlet.taken c.args.writer.now) (g.W.Outlet.failures c.args.writer.now)) c.args.clock.now)
+          (session c.args.hub.now (wire (g.R.Inlet.unread c.args.reader.now) (g.R.Inlet.reads c.args.reader.now) (g.R.Inlet.last c.args.reader.now) (g.W.Outlet.taken c.args.writer.now) (g.W.Outlet.failures c.args.writer.now)) c.args.clock.now)
+          (session c.args.hub.now (wire (g.R.Inlet.unread c.read.new.self) (g.R.Inlet.reads c.read.new.self) (g.R.Inlet.last c.read.new.self) (g.W.Outlet.taken c.args.writer.now) (g.W.Outlet.failures c.args.writer.now)) c.args.clock.now)
           refl refl refl refl
           (none_read c.in-Ok-eq0.field-0 c.read.new.buffer (g.R.Inlet.unread c.args.reader.now) (g.R.Inlet.unread c.read.new.self) none c.in-Ok-eq0.ensures.bytes.0) c.read.ensures.count,
       c.in-Ok-eq0.ensures.bytes.1 none (has_room c.read.new.buffer c.as_mut_slice.result.now c.args.incoming.now.buffer.items c.read.auto.buffer c.as_mut_slice.ensures.value c.requires.room),
@@ -111,7 +108,7 @@ returns-in-Cut-clause-call g c =
 
 pub returns-in-Open-clause-there : goal.returns-in-Open-clause-there
 returns-in-Open-clause-there g c =
-    subst (λ (cs : Vec Connection Global). IsSome (intake_of cs.items c.args.incoming.now.connection)) (sym c.work_ahead-left.ensures.connections)
+    subst (λ (cs : Vec Connection Global). IsSome (intake_of cs.items c.args.incoming.now.connection)) (sym c.work_ahead-left.ensures.rests.connections)
     (c.arrive-arrived.ensures.there c.requires.there).1
 
 pub returns-in-Closed-clause-there : goal.returns-in-Closed-clause-there
@@ -124,28 +121,28 @@ pub returns-in-Open-clause-same : goal.returns-in-Open-clause-same
 returns-in-Open-clause-same g c = refl
 
 pub returns-in-Open-clause-config : goal.returns-in-Open-clause-config
-returns-in-Open-clause-config g c = c.work_ahead-left.ensures.config ∙ c.arrive-arrived.ensures.config
+returns-in-Open-clause-config g c = c.work_ahead-left.ensures.rests.config ∙ c.arrive-arrived.ensures.goes.config
 
 pub returns-in-Open-clause-next : goal.returns-in-Open-clause-next
-returns-in-Open-clause-next g c = c.work_ahead-left.ensures.next ∙ c.arrive-arrived.ensures.next
+returns-in-Open-clause-next g c = c.work_ahead-left.ensures.rests.next ∙ c.arrive-arrived.ensures.goes.next
 
 pub returns-in-Closed-clause-same : goal.returns-in-Closed-clause-same
 returns-in-Closed-clause-same g c = refl
 
 pub returns-in-Closed-clause-config : goal.returns-in-Closed-clause-config
-returns-in-Closed-clause-config g c = c.arrive-arrived.ensures.config
+returns-in-Closed-clause-config g c = c.arrive-arrived.ensures.goes.config
 
 pub returns-in-Closed-clause-next : goal.returns-in-Closed-clause-next
-returns-in-Closed-clause-next g c = c.arrive-arrived.ensures.next
+returns-in-Closed-clause-next g c = c.arrive-arrived.ensures.goes.next
 
 pub returns-in-Cut-clause-same : goal.returns-in-Cut-clause-same
 returns-in-Cut-clause-same g c = refl
 
 pub returns-in-Cut-clause-config : goal.returns-in-Cut-clause-config
-returns-in-Cut-clause-config g c = c.arrive-arrived.ensures.config
+returns-in-Cut-clause-config g c = c.arrive-arrived.ensures.goes.config
 
 pub returns-in-Cut-clause-next : goal.returns-in-Cut-clause-next
-returns-in-Cut-clause-next g c = c.arrive-arrived.ensures.next
+returns-in-Cut-clause-next g c = c.arrive-arrived.ensures.goes.next
 
 pub returns-in-Err-clause-call : goal.returns-in-Err-clause-call
 returns-in-Err-clause-call g c = c.requires.call

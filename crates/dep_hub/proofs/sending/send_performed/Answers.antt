@@ -1,5 +1,6 @@
 use Rattle.std.proofs.Common.{refl}
 use Rattle.dep_hub.specs.Sending.{outside}
+use Rattle.dep_hub.proofs.Leaving.{leaves_once}
 use Rattle.dep_hub.proofs.SendingLemmas.{ready_all, ready_cut, ready_front, front_cut}
 use Rattle.dep_hub.proofs.sending.send_performed.Goals as goal
 
@@ -9,8 +10,8 @@ returns-in-Ok g c =
     let new = g.A.Archive.condition c.stream.new.self in
     ready_all (outside (g.O.Outlet.taken c.args.out.now) (g.O.Outlet.failures c.args.out.now) old) (outside (g.O.Outlet.taken c.send.new.out) (g.O.Outlet.failures c.send.new.out) old)
     (outside (g.O.Outlet.taken c.stream.new.out) (g.O.Outlet.failures c.stream.new.out) new) c.args.performed.now c.in-Some.id c.in-Some.is
-    c.as_slice.result.now c.as_slice.ensures.value c.in-Sent.ensures.sends (c.in-Sent.ensures.kept refl) refl c.stream.ensures.honest c.stream.ensures.open
-    c.in-Ok.ensures.streams c.in-Ok.ensures.ok c.in-Ok.ensures.kept
+    c.as_slice.result.now c.as_slice.ensures.value c.in-Sent.ensures.sends (c.in-Sent.ensures.kept refl) refl c.stream.ensures.does.honest c.stream.ensures.does.was_open
+    c.in-Ok.ensures.streams (λ disk s at. (c.in-Ok.ensures.does.ok disk s at tt).1) c.in-Ok.ensures.count.kept
 
 pub returns-in-Err : goal.returns-in-Err
 returns-in-Err g c =
@@ -18,8 +19,8 @@ returns-in-Err g c =
     let new = g.A.Archive.condition c.stream.new.self in
     ready_cut (outside (g.O.Outlet.taken c.args.out.now) (g.O.Outlet.failures c.args.out.now) old) (outside (g.O.Outlet.taken c.send.new.out) (g.O.Outlet.failures c.send.new.out) old)
     (outside (g.O.Outlet.taken c.stream.new.out) (g.O.Outlet.failures c.stream.new.out) new) c.args.performed.now c.in-Some.id c.in-Some.is
-    c.as_slice.result.now c.as_slice.ensures.value c.in-Sent.ensures.sends (c.in-Sent.ensures.kept refl) refl c.stream.ensures.honest c.stream.ensures.open
-    _ c.in-Err.ensures.streams c.in-Err.ensures.err c.in-Err.ensures.stop
+    c.as_slice.result.now c.as_slice.ensures.value c.in-Sent.ensures.sends (c.in-Sent.ensures.kept refl) refl c.stream.ensures.does.honest c.stream.ensures.does.was_open
+    _ c.in-Err.ensures.streams c.in-Err.ensures.does.err (λ disk s at. leaves_once new s (c.in-Err.ensures.does.stop disk s at tt))
 
 pub returns-in-None : goal.returns-in-None
 returns-in-None g c =

@@ -20,17 +20,17 @@ returns-in-Ok-refused g c =
       sent = x.sent;
       passes = record {
         appends = x.passes.appends;
-        honest = λ h. c.tick.ensures.honest (x.passes.honest h);
-        clean = λ h. c.tick.ensures.open (x.passes.clean h);
+        honest = λ h. c.tick.ensures.does.honest (x.passes.honest h);
+        clean = λ h. c.tick.ensures.does.was_open (x.passes.clean h);
       };
       steps = λ disk s stands.
-          let t = (rw c.config.ensures at c.in-Ok.ensures.ok) (x.passes.honest disk) s stands in
+          let t = (rw c.config.ensures at c.in-Ok.ensures.does).ok (x.passes.honest disk) s stands tt in
           let now = tick config s c.args.context.now.moment in
           made_from config s (Fault c.args.fault.refusal c.args.fault.is_bare) c.args.context.now.moment x.sent _ _ _ c.send_performed-answered.result refl
           (answers_from config s (Fault c.args.fault.refusal c.args.fault.is_bare) c.args.context.now.moment x.sent _ _ c.send_performed-answered.result
           (x.sends disk (step config s (Fault c.args.fault.refusal c.args.fault.is_bare) c.args.context.now.moment)
           (record { state = t.1; ready = refusal_ready now delivery c.in-Ok-refused.performed c.args.fault.refusal None c.args.fault.is_bare true t.0 refl refl c.in-Ok-refused.ensures })));
-      shut = λ disk none. absurd (none (c.in-Ok.ensures.opened (x.passes.honest disk)));
+      shut = λ disk none. absurd (none (c.in-Ok.ensures.shut.opened (x.passes.honest disk)));
     }
 
 pub returns-in-Err-refused : goal.returns-in-Err-refused
@@ -39,16 +39,16 @@ returns-in-Err-refused g c =
     let config = c.args.context.now.site.now in
     let new = g.A.Archive.condition c.tick.new.self in
     answers_fixed config (outside (g.O.Outlet.taken c.args.out.now) (g.O.Outlet.failures c.args.out.now) (g.A.Archive.condition c.args.store.now)) (outside (g.O.Outlet.taken c.send_fault.new.out) (g.O.Outlet.failures c.send_fault.new.out) (g.A.Archive.condition c.tick.new.self)) (Fault c.args.fault.refusal c.args.fault.is_bare) c.args.context.now.moment Memory
-    c.tick.ensures.honest c.tick.ensures.open
+    c.tick.ensures.does.honest c.tick.ensures.does.was_open
     (λ disk s stands.
-    let t = (rw c.config.ensures at c.in-Ok.ensures.ok) disk s stands in record {
+    let t = (rw c.config.ensures at c.in-Ok.ensures.does).ok disk s stands tt in record {
       left = tick config s c.args.context.now.moment;
       is_left = inr refl;
       stands = λ _. t.1;
       stop = leaves_wider new _ _ (λ found e. inr (inl e))
           (stays_as new (tick config s c.args.context.now.moment) (g.met.A.Archive.settled c.tick.new.self) t.1);
     })
-    (λ sent answer h. h) (λ disk none. absurd (none (c.in-Ok.ensures.opened disk)))
+    (λ sent answer h. h) (λ disk none. absurd (none (c.in-Ok.ensures.shut.opened disk)))
     c.send_fault.result c.send_fault.ensures.sends c.send_fault.ensures.cause
 
 pub returns-in-Err : goal.returns-in-Err
@@ -56,12 +56,12 @@ unfolding step
 returns-in-Err g c =
     let new = g.A.Archive.condition c.tick.new.self in
     answers_fixed c.args.context.now.site.now (outside (g.O.Outlet.taken c.args.out.now) (g.O.Outlet.failures c.args.out.now) (g.A.Archive.condition c.args.store.now)) (outside (g.O.Outlet.taken c.send_fault-in-Err.new.out) (g.O.Outlet.failures c.send_fault-in-Err.new.out) (g.A.Archive.condition c.tick.new.self)) (Fault c.args.fault.refusal c.args.fault.is_bare) c.args.context.now.moment c.in-Err.store_fault
-    c.tick.ensures.honest c.tick.ensures.open
+    c.tick.ensures.does.honest c.tick.ensures.does.was_open
     (λ disk s stands. record {
       left = s;
       is_left = inl refl;
-      stands = λ is_open. c.in-Err.ensures.err is_open s stands;
-      stop = leaves_wider new _ _ (λ found e. elim e [ inl same ↦ inl same | inr next ↦ inr (inl next) ]) ((rw c.config.ensures at c.tick.ensures.stop) disk s stands);
+      stands = λ is_open. c.in-Err.ensures.does.err is_open s stands;
+      stop = leaves_wider new _ _ (λ found e. elim e [ inl same ↦ inl same | inr next ↦ inr (inl next) ]) ((rw c.config.ensures at c.tick.ensures.does).stop disk s stands tt);
     })
-    (λ sent answer h. h) c.tick.ensures.shut
+    (λ sent answer h. h) c.tick.ensures.shut.left
     c.send_fault-in-Err.result c.send_fault-in-Err.ensures.sends c.send_fault-in-Err.ensures.cause

@@ -18,16 +18,16 @@ returns-in-Ok-perform g c =
       sent = x.sent;
       passes = record {
         appends = x.passes.appends;
-        honest = λ h. c.tick.ensures.honest (c.perform.ensures.honest (x.passes.honest h));
-        clean = λ h. c.tick.ensures.open (c.perform.ensures.open (x.passes.clean h));
+        honest = λ h. c.tick.ensures.does.honest (c.perform.ensures.honest (x.passes.honest h));
+        clean = λ h. c.tick.ensures.does.was_open (c.perform.ensures.was_open (x.passes.clean h));
       };
       steps = λ disk s stands.
           let between = x.passes.honest disk in
-          let t = (rw c.config.ensures at c.in-Ok.ensures.ok) (c.perform.ensures.honest between) s stands in
-          let p = c.in-Ok-perform.ensures.ok between (tick config s c.args.context.now.moment) t.1 t.0 in
+          let t = (rw c.config.ensures at c.in-Ok.ensures.does).ok (c.perform.ensures.honest between) s stands tt in
+          let p = c.in-Ok-perform.ensures.ok between (tick config s c.args.context.now.moment) t.1 tt in
           made_from config s (Request m) c.args.context.now.moment x.sent _ _ _ c.send_performed-answered.result refl
-          (answers_from config s (Request m) c.args.context.now.moment x.sent _ _ c.send_performed-answered.result (x.sends disk (step config s (Request m) c.args.context.now.moment) p));
-      shut = λ disk none. absurd (none (c.in-Ok.ensures.opened (c.perform.ensures.honest (x.passes.honest disk))));
+          (answers_from config s (Request m) c.args.context.now.moment x.sent _ _ c.send_performed-answered.result (x.sends disk (step config s (Request m) c.args.context.now.moment) (record { state = p.1; ready = p.0 t.0 })));
+      shut = λ disk none. absurd (none (c.in-Ok.ensures.shut.opened (c.perform.ensures.honest (x.passes.honest disk))));
     }
 
 pub returns-in-Err-perform : goal.returns-in-Err-perform
@@ -37,15 +37,15 @@ returns-in-Err-perform g c =
     let m : Message = c.args.message in
     let new = g.A.Archive.condition c.perform.new.store in
     answers_fixed config (outside (g.O.Outlet.taken c.args.out.now) (g.O.Outlet.failures c.args.out.now) (g.A.Archive.condition c.args.store.now)) (outside (g.O.Outlet.taken c.send_fault.new.out) (g.O.Outlet.failures c.send_fault.new.out) (g.A.Archive.condition c.perform.new.store)) (Request m) c.args.context.now.moment c.in-Err-perform.fault
-    (λ h. c.tick.ensures.honest (c.perform.ensures.honest h)) (λ h. c.tick.ensures.open (c.perform.ensures.open h))
+    (λ h. c.tick.ensures.does.honest (c.perform.ensures.honest h)) (λ h. c.tick.ensures.does.was_open (c.perform.ensures.was_open h))
     (λ disk s stands.
-    let t = (rw c.config.ensures at c.in-Ok.ensures.ok) (c.perform.ensures.honest disk) s stands in record {
+    let t = (rw c.config.ensures at c.in-Ok.ensures.does).ok (c.perform.ensures.honest disk) s stands tt in record {
       left = tick config s c.args.context.now.moment;
       is_left = inr refl;
       stands = λ is_open. c.in-Err-perform.ensures.err is_open (tick config s c.args.context.now.moment) t.1;
-      stop = leaves_wider new _ _ (λ found e. inr e) (c.perform.ensures.stop disk (tick config s c.args.context.now.moment) t.1);
+      stop = leaves_wider new _ _ (λ found e. inr e) (c.perform.ensures.stop disk (tick config s c.args.context.now.moment) t.1 tt);
     })
-    (λ sent answer h. h) (λ disk none. absurd (none (c.in-Ok.ensures.opened (c.perform.ensures.honest disk))))
+    (λ sent answer h. h) (λ disk none. absurd (none (c.in-Ok.ensures.shut.opened (c.perform.ensures.honest disk))))
     c.send_fault.result c.send_fault.ensures.sends c.send_fault.ensures.cause
 
 pub returns-in-Err : goal.returns-in-Err
@@ -53,12 +53,12 @@ unfolding step
 returns-in-Err g c =
     let new = g.A.Archive.condition c.tick.new.self in
     answers_fixed c.args.context.now.site.now (outside (g.O.Outlet.taken c.args.out.now) (g.O.Outlet.failures c.args.out.now) (g.A.Archive.condition c.args.store.now)) (outside (g.O.Outlet.taken c.send_fault-in-Err.new.out) (g.O.Outlet.failures c.send_fault-in-Err.new.out) (g.A.Archive.condition c.tick.new.self)) (Request c.args.message) c.args.context.now.moment c.in-Err.fault
-    c.tick.ensures.honest c.tick.ensures.open
+    c.tick.ensures.does.honest c.tick.ensures.does.was_open
     (λ disk s stands. record {
       left = s;
       is_left = inl refl;
-      stands = λ is_open. c.in-Err.ensures.err is_open s stands;
-      stop = leaves_wider new _ _ (λ found e. elim e [ inl same ↦ inl same | inr next ↦ inr (inl next) ]) ((rw c.config.ensures at c.tick.ensures.stop) disk s stands);
+      stands = λ is_open. c.in-Err.ensures.does.err is_open s stands;
+      stop = leaves_wider new _ _ (λ found e. elim e [ inl same ↦ inl same | inr next ↦ inr (inl next) ]) ((rw c.config.ensures at c.tick.ensures.does).stop disk s stands tt);
     })
-    (λ sent answer h. h) c.tick.ensures.shut
+    (λ sent answer h. h) c.tick.ensures.shut.left
     c.send_fault-in-Err.result c.send_fault-in-Err.ensures.sends c.send_fault-in-Err.ensures.cause

@@ -1,11 +1,10 @@
-use Rattle.std.proofs.lemmas.Result.{on_err_weaker}
 use Rattle.std.proofs.Common.{sym, subst, map}
 use Rattle.dep_types.specs.MetadataEntries.{name_and_texts}
-use Rattle.dep_tables.proofs.Chains.{clean_before, stays_then}
+use Rattle.dep_tables.proofs.Chains.{clean_before, still_ours}
 use Rattle.dep_tables.proofs.Results.{ok_then}
 use Rattle.dep_tables.specs.Tables.{tables_of}
 use Rattle.dep_row_maps.specs.TablesAre.{TablesAre}
-use Rattle.dep_objects.proofs.Chains.{still_ours, tables_same, uncommitted_since}
+use Rattle.dep_objects.proofs.Chains.{tables_same}
 use Rattle.dep_objects.proofs.Appending.{metadata_appended}
 use Rattle.std.proofs.Common.{◌≢◌, ◌⊎◌, inl, inr, []}
 use Rattle.std.specs.FinMap as finmap
@@ -15,6 +14,7 @@ use Rattle.dep_row_maps.specs.Causes.FailsHolding.{memory, statement}
 use Rattle.dep_row_maps.specs.Causes.FailsByStatement.{metadata_read}
 use Rattle.dep_row_maps.proofs.Causes.{fails_first, fails_later, holding_more, if_err_is, if_err_then}
 use Rattle.dep_objects.proofs.Places.{places_in, same_as_read, some_entries}
+use Rattle.dep_row_maps.proofs.Changing.{by_sees, changes_then, reads_change}
 use Rattle.dep_objects.proofs.metadata.append_metadata.Goals as goal
 
 pub returns-clause-map : goal.returns-clause-map
@@ -23,32 +23,15 @@ returns-clause-map g c clean inside ours s are o there =
     let mid = g.T.Statements.state c.load_metadata.new.tx in
     let new = g.T.Statements.state c.put_entries.new.tx in
     let before = clean_before c.put_entries.ensures.stays clean in
-    let same = c.in_ok-have.ensures.same before ours in
+    let same = c.in_ok-have.ensures.keeps.same before ours in
     let here = subst (λ t. TablesAre t s) (sym (tables_same old mid same)) are in
     let ours_mid = still_ours old mid same ours in
-    ok_then c.put_entries.result (c.put_entries.ensures.ok clean (c.in_ok-have.ensures.stays.inside before inside) ours_mid)
+    ok_then c.put_entries.result (c.put_entries.ensures.ok clean (c.in_ok-have.ensures.keeps.stays.inside before inside) ours_mid)
     (λ sees. metadata_appended (tables_of mid) (tables_of new) s c.args.object o c.in_ok-have.have c.args.more.now (map name_and_texts c.entries.result.now) here ours_mid.trees.ordered.1.1.1.0 there c.entries.ensures
     (c.in_ok-have.ensures.map before inside ours s are) sees.rows)
 
-pub returns-clause-stays : goal.returns-clause-stays
-returns-clause-stays g c = stays_then c.in_ok-have.ensures.stays c.put_entries.ensures.stays
-
-pub returns-clause-ours : goal.returns-clause-ours
-returns-clause-ours g c clean inside ours =
-    let old = g.T.Statements.state c.args.tx.now in
-    let mid = g.T.Statements.state c.load_metadata.new.tx in
-    let before = clean_before c.put_entries.ensures.stays clean in
-    let same = c.in_ok-have.ensures.same before ours in
-    ok_then c.put_entries.result (c.put_entries.ensures.ok clean (c.in_ok-have.ensures.stays.inside before inside) (still_ours old mid same ours)) (λ sees. sees.ours)
-
-pub returns-clause-err : goal.returns-clause-err
-returns-clause-err g c ours clean inside is_open =
-    let old = g.T.Statements.state c.args.tx.now in
-    let mid = g.T.Statements.state c.load_metadata.new.tx in
-    let new = g.T.Statements.state c.put_entries.new.tx in
-    let before = clean_before c.put_entries.ensures.stays clean in
-    let same = c.in_ok-have.ensures.same before ours in
-    on_err_weaker c.put_entries.result (uncommitted_since old mid same new) (c.put_entries.ensures.err clean (c.in_ok-have.ensures.stays.inside before inside) is_open)
+pub returns-clause-keeps : goal.returns-clause-keeps
+returns-clause-keeps g c = changes_then (reads_change c.in_ok-have.ensures.keeps) (by_sees _ c.put_entries.ensures.stays c.put_entries.ensures.ok)
 
 pub returns-in_err-have-clause-cause : goal.returns-in_err-have-clause-cause
 returns-in_err-have-clause-cause g c clean inside ours s are storable places =
@@ -64,5 +47,5 @@ returns-clause-cause g c clean inside ours s are storable places =
     let before = clean_before c.put_entries.ensures.stays clean in
     let have = c.in_ok-have.have in
     let here = places_in have m all (finmap.entries more) c.entries.ensures (same_as_read have m (c.in_ok-have.ensures.map before inside ours s are)) places in
-    if_err_then c.put_entries.result (c.put_entries.ensures.cause (storable, here) clean (c.in_ok-have.ensures.stays.inside before inside))
-    (fails_later g.T.Statements.state c.args.tx.now c.load_metadata.new.tx c.put_entries.new.tx c.in_ok-have.ensures.stays.survives (FailsHolding (all ≢ [])) (FailsHolding ((m ≢ finmap.empty) ⊎ (more ≢ finmap.empty))) (holding_more (λ some. inr (some_entries more all c.entries.ensures some))))
+    if_err_then c.put_entries.result (c.put_entries.ensures.cause (storable, here) clean (c.in_ok-have.ensures.keeps.stays.inside before inside))
+    (fails_later g.T.Statements.state c.args.tx.now c.load_metadata.new.tx c.put_entries.new.tx c.in_ok-have.ensures.keeps.stays.survives (FailsHolding (all ≢ [])) (FailsHolding ((m ≢ finmap.empty) ⊎ (more ≢ finmap.empty))) (holding_more (λ some. inr (some_entries more all c.entries.ensures some))))

@@ -1,6 +1,6 @@
 use Rattle.std.proofs.Common.{ap, ◌∙◌, map}
 use Rattle.dep_types.specs.MetadataEntries.{name_and_texts}
-use Rattle.dep_tables.proofs.Chains.{clean_before, stays_then}
+use Rattle.dep_tables.proofs.Chains.{clean_before}
 use Rattle.dep_tables.proofs.Results.{ok_then}
 use Rattle.dep_tables.specs.Tables.{tables_of}
 use Rattle.dep_row_maps.specs.Owned.{put_each}
@@ -13,6 +13,7 @@ use Rattle.dep_row_maps.specs.Causes.FailsHolding.{statement}
 use Rattle.dep_row_maps.specs.Causes.FailsByStatement.{metadata_deleted}
 use Rattle.dep_row_maps.proofs.Causes.{fails_first, fails_later, holding_more, if_err_is, if_err_then}
 use Rattle.dep_objects.proofs.Places.{places_in, same_as_none, some_entries}
+use Rattle.dep_row_maps.proofs.Changing.{by_leads, by_sees, changes_then}
 use Rattle.dep_objects.proofs.metadata.set_metadata.Goals as goal
 
 pub returns-clause-map : goal.returns-clause-map
@@ -22,12 +23,13 @@ returns-clause-map g c clean inside ours s are o there =
     let new = g.T.Statements.state c.put_entries-2.new.tx in
     let before = clean_before c.put_entries-2.ensures.stays clean in
     let first = c.in_ok-delete_metadata.ensures.ok before inside ours in
-    ok_then c.put_entries-2.result (c.put_entries-2.ensures.ok clean (c.in_ok-delete_metadata.ensures.stays.inside before inside) first.ours)
+    ok_then c.put_entries-2.result (c.put_entries-2.ensures.ok clean (c.in_ok-delete_metadata.ensures.keeps.stays.inside before inside) first.ours)
     (λ sees. metadata_set (tables_of old) (tables_of mid) (tables_of new) s c.args.object o c.args.metadata.now (map name_and_texts c.entries.result.now) are ours.trees.ordered.1.1.1.0 there c.entries.ensures first.rows
     (sees.rows ∙ ap (λ m. record (tables_of mid) { metadata = put_each (rows_beside c.args.object m (map name_and_texts c.entries.result.now)) (tables_of mid).metadata }) c.new.ensures))
 
-pub returns-clause-stays : goal.returns-clause-stays
-returns-clause-stays g c = stays_then c.in_ok-delete_metadata.ensures.stays c.put_entries-2.ensures.stays
+pub returns-clause-keeps : goal.returns-clause-keeps
+returns-clause-keeps g c =
+    changes_then (by_leads _ c.in_ok-delete_metadata.ensures.keeps.stays c.in_ok-delete_metadata.ensures.ok) (by_sees _ c.put_entries-2.ensures.stays c.put_entries-2.ensures.ok)
 
 pub returns-in_err-delete_metadata-clause-cause : goal.returns-in_err-delete_metadata-clause-cause
 returns-in_err-delete_metadata-clause-cause g c storable clean inside =
@@ -40,5 +42,5 @@ returns-clause-cause g c storable clean inside =
     let all = c.entries.result.now in
     let before = clean_before c.put_entries-2.ensures.stays clean in
     let places = places_in c.new.result finmap.empty all (finmap.entries m) c.entries.ensures (same_as_none _ c.new.ensures) storable.1 in
-    if_err_then c.put_entries-2.result (c.put_entries-2.ensures.cause (storable.0, places) clean (c.in_ok-delete_metadata.ensures.stays.inside before inside))
-    (fails_later g.T.Statements.state c.args.tx.now c.delete_metadata.new.tx c.put_entries-2.new.tx c.in_ok-delete_metadata.ensures.stays.survives (FailsHolding (all ≢ [])) (FailsHolding (m ≢ finmap.empty)) (holding_more (some_entries m all c.entries.ensures)))
+    if_err_then c.put_entries-2.result (c.put_entries-2.ensures.cause (storable.0, places) clean (c.in_ok-delete_metadata.ensures.keeps.stays.inside before inside))
+    (fails_later g.T.Statements.state c.args.tx.now c.delete_metadata.new.tx c.put_entries-2.new.tx c.in_ok-delete_metadata.ensures.keeps.stays.survives (FailsHolding (all ≢ [])) (FailsHolding (m ≢ finmap.empty)) (holding_more (some_entries m all c.entries.ensures)))

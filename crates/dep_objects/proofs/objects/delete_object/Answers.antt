@@ -1,10 +1,11 @@
-use Rattle.dep_tables.proofs.Chains.{clean_before, stays_then}
+use Rattle.dep_tables.proofs.Chains.{clean_before}
 use Rattle.dep_tables.proofs.Results.{ok_then}
 use Rattle.dep_tables.specs.Tables.{tables_of}
 use Rattle.dep_objects.proofs.Puts.{object_gone}
 use Rattle.dep_row_maps.specs.Causes.{FailsByStatement}
 use Rattle.dep_row_maps.specs.Causes.FailsByStatement.{metadata_deleted, object_deleted}
 use Rattle.dep_row_maps.proofs.Causes.{fails_first, fails_then, if_err_is, if_err_then}
+use Rattle.dep_row_maps.proofs.Changing.{by_leads, changes_then}
 use Rattle.dep_objects.proofs.objects.delete_object.Goals as goal
 
 pub returns-clause-map : goal.returns-clause-map
@@ -12,13 +13,14 @@ returns-clause-map g c clean inside ours s are files =
     let old = g.T.Statements.state c.args.tx.now in
     let mid = g.T.Statements.state c.delete_metadata.new.tx in
     let new = g.T.Statements.state c.delete_object.new.tx in
-    let before = clean_before c.delete_object.ensures.stays clean in
+    let before = clean_before c.delete_object.ensures.keeps.stays clean in
     let first = c.in_ok-delete_metadata.ensures.ok before inside ours in
-    ok_then c.delete_object.result (c.delete_object.ensures.ok clean (c.in_ok-delete_metadata.ensures.stays.inside before inside) first.ours)
+    ok_then c.delete_object.result (c.delete_object.ensures.ok clean (c.in_ok-delete_metadata.ensures.keeps.stays.inside before inside) first.ours)
     (λ leads. object_gone (tables_of old) (tables_of mid) (tables_of new) s c.args.object are files first.rows leads.rows)
 
-pub returns-clause-stays : goal.returns-clause-stays
-returns-clause-stays g c = stays_then c.in_ok-delete_metadata.ensures.stays c.delete_object.ensures.stays
+pub returns-clause-keeps : goal.returns-clause-keeps
+returns-clause-keeps g c =
+    changes_then (by_leads _ c.in_ok-delete_metadata.ensures.keeps.stays c.in_ok-delete_metadata.ensures.ok) (by_leads _ c.delete_object.ensures.keeps.stays c.delete_object.ensures.ok)
 
 pub returns-in_err-delete_metadata-clause-cause : goal.returns-in_err-delete_metadata-clause-cause
 returns-in_err-delete_metadata-clause-cause g c storable clean inside =
@@ -27,6 +29,6 @@ returns-in_err-delete_metadata-clause-cause g c storable clean inside =
 
 pub returns-clause-cause : goal.returns-clause-cause
 returns-clause-cause g c storable clean inside =
-    let before = clean_before c.delete_object.ensures.stays clean in
-    if_err_then c.delete_object.result (c.delete_object.ensures.cause storable clean (c.in_ok-delete_metadata.ensures.stays.inside before inside))
-    (λ fault failed. fails_then g.T.Statements.state c.args.tx.now c.delete_metadata.new.tx c.delete_object.new.tx c.in_ok-delete_metadata.ensures.stays.survives FailsByStatement fault (object_deleted _ failed))
+    let before = clean_before c.delete_object.ensures.keeps.stays clean in
+    if_err_then c.delete_object.result (c.delete_object.ensures.cause storable clean (c.in_ok-delete_metadata.ensures.keeps.stays.inside before inside))
+    (λ fault failed. fails_then g.T.Statements.state c.args.tx.now c.delete_metadata.new.tx c.delete_object.new.tx c.in_ok-delete_metadata.ensures.keeps.stays.survives FailsByStatement fault (object_deleted _ failed))

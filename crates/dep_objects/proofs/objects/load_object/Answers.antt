@@ -1,12 +1,10 @@
-use Rattle.dep_tables.proofs.Chains.{clean_before, stays_err, stays_ok, stays_then}
-use Rattle.dep_tables.proofs.Results.{if_failed}
-use Rattle.sqlite.proofs.Callers.{unchanged_then}
+use Rattle.dep_tables.proofs.Chains.{clean_before, reads_ok, reads_then, reads_err, still_ours}
 use Rattle.std.proofs.Common.{◌≢◌, inl, inr, sym, subst, ◌∙◌}
 use Rattle.std.specs.FinMap as finmap
 use Rattle.dep_tables.specs.Tables.{tables_of}
 use Rattle.dep_row_maps.specs.TablesAre.{TablesAre}
 use Rattle.dep_row_maps.proofs.Readings.{object_read}
-use Rattle.dep_objects.proofs.Chains.{still_ours, tables_same, failed_since}
+use Rattle.dep_objects.proofs.Chains.{tables_same}
 use Rattle.dep_objects.proofs.Puts.{described, none_described}
 use Rattle.dep_row_maps.specs.Causes.{FailsHolding}
 use Rattle.dep_row_maps.specs.Causes.FailsHolding.{memory, statement}
@@ -23,48 +21,18 @@ pub returns-clause-map : goal.returns-clause-map
 returns-clause-map g c clean inside ours s are sound =
     let old = g.T.Statements.state c.args.tx.now in
     let mid = g.T.Statements.state c.find_object.new.tx in
-    let before = clean_before c.load_metadata.ensures.stays clean in
-    let same = c.in_ok-row.ensures.same before ours in
+    let before = clean_before c.load_metadata.ensures.keeps.stays clean in
+    let same = c.in_ok-row.ensures.keeps.same before ours in
     let found = object_read (tables_of old) s are c.args.object c.in_ok-row.field-0 (c.in_ok-row.ensures.ok before ours) in
     let here = subst (λ t. TablesAre t s) (sym (tables_same old mid same)) are in
     described s c.args.object c.in-Some.row c.in_ok-metadata.metadata sound (sym c.in-Some.is ∙ found)
-    (c.in_ok-metadata.ensures.map clean (c.in_ok-row.ensures.stays.inside before inside) (still_ours old mid same ours) s here)
+    (c.in_ok-metadata.ensures.map clean (c.in_ok-row.ensures.keeps.stays.inside before inside) (still_ours old mid same ours) s here)
 
-pub returns-in_err-metadata-clause-stays : goal.returns-in_err-metadata-clause-stays
-returns-in_err-metadata-clause-stays g c = stays_err c.from_residual-in_err-metadata.ensures.0 (stays_then c.in_ok-row.ensures.stays c.load_metadata.ensures.stays)
+pub returns-in_err-metadata-clause-keeps : goal.returns-in_err-metadata-clause-keeps
+returns-in_err-metadata-clause-keeps g c = reads_err c.from_residual-in_err-metadata.ensures.0 (reads_then c.in_ok-row.ensures.keeps c.load_metadata.ensures.keeps)
 
-pub returns-in_err-metadata-clause-err : goal.returns-in_err-metadata-clause-err
-returns-in_err-metadata-clause-err g c clean inside ours is_open =
-    let old = g.T.Statements.state c.args.tx.now in
-    let at_1 = g.T.Statements.state c.find_object.new.tx in
-    let at_2 = g.T.Statements.state c.load_metadata.new.tx in
-    let clean_1 = clean_before c.load_metadata.ensures.stays clean in
-    let inside_1 = c.in_ok-row.ensures.stays.inside clean_1 inside in
-    let same_1 = c.in_ok-row.ensures.same clean_1 ours in
-    if_failed _ (failed_since old at_1 same_1 at_2 (c.in_err-metadata.ensures.err clean inside_1 (still_ours old at_1 same_1 ours) is_open))
-
-pub returns-clause-stays : goal.returns-clause-stays
-returns-clause-stays g c = stays_ok (stays_then c.in_ok-row.ensures.stays c.in_ok-metadata.ensures.stays)
-
-pub returns-clause-same : goal.returns-clause-same
-returns-clause-same g c clean ours =
-    let old = g.T.Statements.state c.args.tx.now in
-    let at_1 = g.T.Statements.state c.find_object.new.tx in
-    let at_2 = g.T.Statements.state c.load_metadata.new.tx in
-    let clean_1 = clean_before c.load_metadata.ensures.stays clean in
-    let same_1 = c.in_ok-row.ensures.same clean_1 ours in
-    let same_2 = unchanged_then old at_1 at_2 same_1 (c.in_ok-metadata.ensures.same clean (still_ours old at_1 same_1 ours)) in
-    same_2
-
-pub returns-clause-ours : goal.returns-clause-ours
-returns-clause-ours g c clean inside ours =
-    let old = g.T.Statements.state c.args.tx.now in
-    let at_1 = g.T.Statements.state c.find_object.new.tx in
-    let at_2 = g.T.Statements.state c.load_metadata.new.tx in
-    let clean_1 = clean_before c.load_metadata.ensures.stays clean in
-    let same_1 = c.in_ok-row.ensures.same clean_1 ours in
-    let same_2 = unchanged_then old at_1 at_2 same_1 (c.in_ok-metadata.ensures.same clean (still_ours old at_1 same_1 ours)) in
-    still_ours old at_2 same_2 ours
+pub returns-clause-keeps : goal.returns-clause-keeps
+returns-clause-keeps g c = reads_ok (reads_then c.in_ok-row.ensures.keeps c.in_ok-metadata.ensures.keeps)
 
 pub returns-in_err-row-clause-cause : goal.returns-in_err-row-clause-cause
 returns-in_err-row-clause-cause g c clean inside ours s are storable =
@@ -75,10 +43,10 @@ pub returns-in_err-metadata-clause-cause : goal.returns-in_err-metadata-clause-c
 returns-in_err-metadata-clause-cause g c clean inside ours s are storable =
     let old = g.T.Statements.state c.args.tx.now in
     let mid = g.T.Statements.state c.find_object.new.tx in
-    let before = clean_before c.load_metadata.ensures.stays clean in
-    let same = c.in_ok-row.ensures.same before ours in
+    let before = clean_before c.load_metadata.ensures.keeps.stays clean in
+    let same = c.in_ok-row.ensures.keeps.same before ours in
     let here = subst (λ t. TablesAre t s) (sym (tables_same old mid same)) are in
-    let failed = c.in_err-metadata.ensures.cause clean (c.in_ok-row.ensures.stays.inside before inside) (still_ours old mid same ours) s here storable in
+    let failed = c.in_err-metadata.ensures.cause clean (c.in_ok-row.ensures.keeps.stays.inside before inside) (still_ours old mid same ours) s here storable in
     if_err_is _ c.from_residual-in_err-metadata.result c.in_err-metadata.field-0.0 c.from_residual-in_err-metadata.ensures.1
-    (fails_then g.T.Statements.state c.args.tx.now c.find_object.new.tx c.load_metadata.new.tx c.in_ok-row.ensures.stays.survives (FailsHolding (metadata_at s.objects c.args.object ≢ finmap.empty)) _
+    (fails_then g.T.Statements.state c.args.tx.now c.find_object.new.tx c.load_metadata.new.tx c.in_ok-row.ensures.keeps.stays.survives (FailsHolding (metadata_at s.objects c.args.object ≢ finmap.empty)) _
     (elim failed [ inl read ↦ statement (metadata_read _ read) | inr wants ↦ memory wants.0 wants.1 ]))

@@ -1,27 +1,19 @@
-use Rattle.std.proofs.Common.{◌≡◌, inl, inr, refl, ◌∙◌, arith, subst, sym}
-use Rattle.dep_program.proofs.ServeLemmas.{none_served, one_served, same_served, so_many}
+use Rattle.std.proofs.Common.{◌≡◌, inl, inr, refl, arith}
+use Rattle.dep_program.proofs.ServeLemmas.{none_served, one_served, same_served, so_many, serves_then}
 use Rattle.dep_program.proofs.serve.serve_on.Goals as goal
 
 pub loop-init : goal.loop-init
-loop-init g c = record { call = c.requires; config = refl; clean = λ h. h; honest = λ h. h; served = none_served _ _ _ _ }
+loop-init g c = record { call = c.requires; goes = record { config = refl; clean = λ h. h; honest = λ h. h }; served = none_served _ _ _ _ }
 
 pub loop-preserved : goal.loop-preserved
 loop-preserved g c = record {
   call = c.serve_next.ensures.call;
-  config = c.serve_next.ensures.config ∙ c.loop.invariant.config;
-  clean = λ h. c.loop.invariant.clean (c.serve_next.ensures.clean h);
-  honest = λ h. c.loop.invariant.honest (c.serve_next.ensures.honest h);
-  served = one_served _ _ _ _ _ _ _ _ _ c.loop.invariant.served c.serve_next.ensures.clean c.in-Ok.field-0 c.in-Ok.ensures.one;
+  goes = serves_then _ _ _ _ c.loop.invariant.goes c.serve_next.ensures.goes;
+  served = one_served _ _ _ _ _ _ _ _ _ c.loop.invariant.served c.serve_next.ensures.goes.clean c.in-Ok.field-0 c.in-Ok.ensures.one;
 }
 
-pub returns-in_default-clause-config : goal.returns-in_default-clause-config
-returns-in_default-clause-config g c = c.serve_next.ensures.config ∙ c.loop.invariant.config
-
-pub returns-in_default-clause-clean : goal.returns-in_default-clause-clean
-returns-in_default-clause-clean g c = λ h. c.loop.invariant.clean (c.serve_next.ensures.clean h)
-
-pub returns-in_default-clause-honest : goal.returns-in_default-clause-honest
-returns-in_default-clause-honest g c = λ h. c.loop.invariant.honest (c.serve_next.ensures.honest h)
+pub returns-in_default-clause-goes : goal.returns-in_default-clause-goes
+returns-in_default-clause-goes g c = serves_then _ _ _ _ c.loop.invariant.goes c.serve_next.ensures.goes
 
 pub returns-in_default-clause-serves : goal.returns-in_default-clause-serves
 returns-in_default-clause-serves g c =
@@ -32,14 +24,8 @@ returns-in_default-clause-serves g c =
       (c.loop.clock, served.moments),
     )
 
-pub returns-clause-config : goal.returns-clause-config
-returns-clause-config g c = c.loop.invariant.config
-
-pub returns-clause-clean : goal.returns-clause-clean
-returns-clause-clean g c = c.loop.invariant.clean
-
-pub returns-clause-honest : goal.returns-clause-honest
-returns-clause-honest g c = c.loop.invariant.honest
+pub returns-clause-goes : goal.returns-clause-goes
+returns-clause-goes g c = c.loop.invariant.goes
 
 pub returns-clause-serves : goal.returns-clause-serves
 returns-clause-serves g c =

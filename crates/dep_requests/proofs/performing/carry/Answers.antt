@@ -19,25 +19,25 @@ pub returns-clause-map : goal.returns-clause-map
 returns-clause-map g c clean within ours s are config sound fit rules ruling =
     let op = c.args.operation.now in
     let mid = g.T.Statements.state c.carry_out.new.tx in
-    let before = clean_before c.load_shown.ensures.stays clean in
+    let before = clean_before c.load_shown.ensures.keeps.stays clean in
     let made = subst (SeesState mid) (request_made config s op c.args.decision.now ruling.1)
     (c.in_ok-carry_out.ensures.map before within ours s are (record { config = config; op = op; sound = sound; seen = rules.view; ruling = ruling; sent = refl })) in
-    let then = c.in_ok-carry_out.ensures.ours before within ours in
+    let then = c.in_ok-carry_out.ensures.keeps.ours before within ours in
     let next = next_after config s op c.args.ruled.now.view c.args.decision.now c.after_taking-next.result rules.view ruling.1 (rw c.numbers_for.ensures at c.after_taking-next.ensures) in
     shown_after (effect config s op) op mid (g.T.Statements.state c.load_shown.new.tx) c.after_taking-next.result c.of-subject.result c.load_shown.result made c.of-subject.ensures next
     (c.load_shown.ensures.still clean then)
-    (c.load_shown.ensures.map clean (c.in_ok-carry_out.ensures.stays.inside before within) then (effect config s op) made (effect_sound config s op fit ruling.0 sound))
+    (c.load_shown.ensures.map clean (c.in_ok-carry_out.ensures.keeps.stays.inside before within) then (effect config s op) made (effect_sound config s op fit ruling.0 sound))
 
 pub returns-clause-stays : goal.returns-clause-stays
-returns-clause-stays g c = stays_then c.in_ok-carry_out.ensures.stays c.load_shown.ensures.stays
+returns-clause-stays g c = stays_then c.in_ok-carry_out.ensures.keeps.stays c.load_shown.ensures.keeps.stays
 
 pub returns-clause-ours : goal.returns-clause-ours
 returns-clause-ours g c =
-    ours_then c.in_ok-carry_out.ensures.stays c.load_shown.ensures.stays c.in_ok-carry_out.ensures.ours c.load_shown.ensures.ours
+    ours_then c.in_ok-carry_out.ensures.keeps.stays c.load_shown.ensures.keeps.stays c.in_ok-carry_out.ensures.keeps.ours c.load_shown.ensures.ours
 
 pub returns-clause-unchanged : goal.returns-clause-unchanged
 returns-clause-unchanged g c show =
-    reads_alone g.T.Statements.state c.args.tx.now c.carry_out.new.tx c.load_shown.new.tx c.load_shown.result (c.in_ok-carry_out.ensures.untouched show).1 c.load_shown.ensures.same
+    reads_alone g.T.Statements.state c.args.tx.now c.carry_out.new.tx c.load_shown.new.tx c.load_shown.result (c.in_ok-carry_out.ensures.untouched show).1 c.load_shown.ensures.keeps.same
 
 pub created_view-requires : goal.created_view-requires
 created_view-requires g c =

@@ -11,7 +11,7 @@ loop-text-init g c = none_made g.T.Statements.lenders g.T.Statements.state _ c.a
 pub loop-text-preserved : goal.loop-text-preserved
 loop-text-preserved g c =
     one_made g.T.Statements.lenders g.T.Statements.state _ c.loop-text.text-index c.args.tx.now c.run.new.self c.loop-text.tx _ c.loop-text-test.true c.loop-text.invariant
-    c.in_ok-run.ensures.stays c.in_ok-run.ensures.runs
+    c.in_ok-run.ensures.keeps.stays c.in_ok-run.ensures.runs
 
 -- where one was not made, nothing is said of an Ok
 pub returns-in_err-run : goal.returns-in_err-run
@@ -20,12 +20,12 @@ returns-in_err-run g c =
     record {
       adds = λ clean inside. IfOk-from_err c.from_residual.result _ is_err;
       cause = λ clean inside.
-          let before = clean_before c.in_err-run.ensures.stays clean in
+          let before = clean_before c.in_err-run.ensures.keeps.stays clean in
           let stays = c.loop-text.invariant.stays in
           if_err_told _ c.from_residual.result _ c.from_residual.ensures.1
           (one_failed g.T.Statements.lenders g.T.Statements.state _ c.loop-text.text-index c.args.tx.now c.run.new.self c.loop-text.tx _ _ c.loop-text-test.true c.loop-text.invariant
           before inside (c.in_err-run.ensures.cause clean (stays.inside before inside)));
-      stays = stays_err is_err (stays_then {r = Err c.in_err-run.field-0.0} c.loop-text.invariant.stays c.in_err-run.ensures.stays);
+      stays = stays_err is_err (stays_then {r = Err c.in_err-run.field-0.0} c.loop-text.invariant.stays c.in_err-run.ensures.keeps.stays);
     }
 
 pub returns : goal.returns

@@ -1,12 +1,15 @@
-use Rattle.std.proofs.Common.{rules, ◌≡◌}
+use Rattle.std.proofs.Common.{rules, ◌≡◌, ◌∙◌, false, refl, sym, subst}
+use Rattle.sqlite.specs.State.{Survives}
+use Rattle.dep_schema.specs.Transactions.{IsGivenBack}
 use Rattle.sqlite.proofs.StateLemmas.{clean_if_open}
-use Rattle.dep_schema.proofs.Transacting.{gave_up, committed, uncommitted, works_within, still_inside}
-use Rattle.dep_schema.proofs.Performed.{works}
-use Rattle.dep_staging.specs.HashedAhead.{AreRunning}
+use Rattle.dep_schema.proofs.Transacting.{back_by_rollback, back_then, fails_back, gave_up, committed, given_back, none_by_rollback, none_then, uncommitted, works_within, still_inside}
+use Rattle.dep_schema.proofs.Performed.{told_inside, works, works_still}
+use Rattle.dep_schema.specs.Performing.{StepsOver}
+use Rattle.sqlite.specs.Held.{state}
 use Rattle.dep_schema.proofs.performing.perform_request.Goals as goal
 
-pub returns-in_err-performed : goal.returns-in_err-performed
-returns-in_err-performed g c =
+pub returns-in_err-performed-clause-transacts : goal.returns-in_err-performed-clause-transacts
+returns-in_err-performed-clause-transacts g c =
     let old = c.args.connection.now in
     let left : c.answer.new.tx.tx.now ≡ c.tx-2-1.given.0 = search rules in
     let inside = c.tx-2-1.given.0.conn.now in
@@ -14,10 +17,8 @@ returns-in_err-performed g c =
     let work = works_within g.S.Store old new c.in_err-performed.ensures.stays c.transaction-tx.ensures.begun left (λ is_open trees h. g.met.S.Store.settled old.store trees is_open h)
     (clean_if_open (g.S.Store.view new.store) (g.met.S.Store.shut_if_dirty new.store)) in
     let same : new ≡ c.connection-1.given.0 = search rules in
-    record {
-      transacts = gave_up g.S.Store old inside new _ c.from_residual.result c.from_residual.ensures.0 work
-          c.drop-tx.ensures.undone c.drop-tx.ensures.survives _ same;
-    }
+    gave_up g.S.Store old inside new _ c.from_residual.result c.from_residual.ensures.0 work
+    c.drop-tx.ensures.undone c.drop-tx.ensures.survives _ same
 
 pub returns-in-Ok : goal.returns-in-Ok
 returns-in-Ok g c =
@@ -28,11 +29,13 @@ returns-in-Ok g c =
     let worked = rw (c.transaction-tx.ensures.begun, left) at c.in_ok-performed.ensures in
     let work = works_within g.S.Store old new c.in_ok-performed.ensures.stays c.transaction-tx.ensures.begun left (λ is_open trees h. g.met.S.Store.settled old.store trees is_open h)
     (clean_if_open (g.S.Store.view new.store) (g.met.S.Store.shut_if_dirty new.store)) in
-    let same : new ≡ c.connection-2-1.given.0 = search rules in
+    let same : new ≡ c.connection-then-performed-1.given.0 = search rules in
     record {
       transacts = committed g.S.Store old inside new _ _ work
-          (works g.S.Store old inside c.args.service.now c.args.operation.now (λ s. AreRunning s c.args.running.now) c.in_ok-performed.performed worked.map worked.ours)
+          (works g.S.Store old inside c.args.service.now c.args.operation.now c.args.running.now c.in_ok-performed.performed worked.map worked.ours)
           (λ clean. let ok = c.in-Ok.ensures.ok clean in (ok.1, ok.2, ok.3)) c.commit.ensures.survives _ same;
+      changes = λ clean s stands running. told_inside g.S.Store old inside new _ _ worked.changes c.commit.ensures.survives _ same clean s stands stands.means.sound running;
+      back = λ none. cc (sym c.if-performed.true ∙ none);
     }
 
 pub returns-in-Err : goal.returns-in-Err
@@ -44,9 +47,55 @@ returns-in-Err g c =
     let worked = rw (c.transaction-tx.ensures.begun, left) at c.in_ok-performed.ensures in
     let work = works_within g.S.Store old new c.in_ok-performed.ensures.stays c.transaction-tx.ensures.begun left (λ is_open trees h. g.met.S.Store.settled old.store trees is_open h)
     (clean_if_open (g.S.Store.view new.store) (g.met.S.Store.shut_if_dirty new.store)) in
-    let same : new ≡ c.connection-2-1.given.0 = search rules in
+    let same : new ≡ c.connection-then-performed-1.given.0 = search rules in
     record {
       transacts = uncommitted g.S.Store old inside new _ c.in_ok-performed.performed _ c.in-Err.error work
-          (works g.S.Store old inside c.args.service.now c.args.operation.now (λ s. AreRunning s c.args.running.now) c.in_ok-performed.performed worked.map worked.ours)
+          (works g.S.Store old inside c.args.service.now c.args.operation.now c.args.running.now c.in_ok-performed.performed worked.map worked.ours)
           (still_inside g.S.Store old c.in_ok-performed.ensures.stays c.transaction-tx.ensures.begun left) (λ clean. c.in-Err.ensures.err clean) c.commit.ensures.survives _ same;
+      changes = λ clean s stands running. tt;
+      back = tt;
+    }
+
+pub returns-in_err-check_open-clause-transacts : goal.returns-in_err-check_open-clause-transacts
+returns-in_err-check_open-clause-transacts g c =
+    let old = c.args.connection.now in
+    let left : c.answer.new.tx.tx.now ≡ c.tx-2-1.given.0 = search rules in
+    let inside = c.tx-2-1.given.0.conn.now in
+    let mid = c.rollback.new.self.0 in
+    let new = c.check_open.new.connection in
+    let work = works_within g.S.Store old mid c.in_ok-performed.ensures.stays c.transaction-tx.ensures.begun left (λ is_open trees h. g.met.S.Store.settled old.store trees is_open h)
+    (clean_if_open (g.S.Store.view mid.store) (g.met.S.Store.shut_if_dirty mid.store)) in
+    let same : mid ≡ c.connection-2-1.given.0 = search rules in
+    let after = state g.S.Store c.connection-2-1.given.0 in
+    let first = back_by_rollback g.S.Store old inside mid work
+    c.rollback.ensures.undone c.rollback.ensures.survives (c.is_autocommit-between.ensures.settled (search rules)) _ same in
+    let back = back_then (state g.S.Store old) after (state g.S.Store new) first c.check_open.ensures.back in
+    let survives = none_then (state g.S.Store old) after (state g.S.Store new) (none_by_rollback g.S.Store old inside mid work c.rollback.ensures.survives _ same) c.check_open.ensures.survives in
+    fails_back (state g.S.Store old) (state g.S.Store new) _ _ c.from_residual-in_err-check_open.ensures.0
+    (λ is_open trees h. g.met.S.Store.settled old.store trees is_open h) back survives
+
+pub returns : goal.returns
+returns g c =
+    let old = c.args.connection.now in
+    let left : c.answer.new.tx.tx.now ≡ c.tx-2-1.given.0 = search rules in
+    let inside = c.tx-2-1.given.0.conn.now in
+    let mid = c.rollback.new.self.0 in
+    let new = c.check_open.new.connection in
+    let work = works_within g.S.Store old mid c.in_ok-performed.ensures.stays c.transaction-tx.ensures.begun left (λ is_open trees h. g.met.S.Store.settled old.store trees is_open h)
+    (clean_if_open (g.S.Store.view mid.store) (g.met.S.Store.shut_if_dirty mid.store)) in
+    let same : mid ≡ c.connection-2-1.given.0 = search rules in
+    let after = state g.S.Store c.connection-2-1.given.0 in
+    let first = back_by_rollback g.S.Store old inside mid work
+    c.rollback.ensures.undone c.rollback.ensures.survives (c.is_autocommit-between.ensures.settled (search rules)) _ same in
+    let back = back_then (state g.S.Store old) after (state g.S.Store new) first c.check_open.ensures.back in
+    let survives = none_then (state g.S.Store old) after (state g.S.Store new) (none_by_rollback g.S.Store old inside mid work c.rollback.ensures.survives _ same) c.check_open.ensures.survives in
+    let worked = rw (c.transaction-tx.ensures.begun, left) at c.in_ok-performed.ensures in
+    let given : IsGivenBack (state g.S.Store old) (state g.S.Store new) = record { opened = c.in_ok-check_open.ensures.opened; back = back; survives = survives } in
+    let made = works g.S.Store old inside c.args.service.now c.args.operation.now c.args.running.now c.in_ok-performed.performed worked.map worked.ours in
+    let none : c.in_ok-performed.performed.has_changes ≡ false = c.if-performed.false in
+    record {
+      transacts = given_back (state g.S.Store old) (state g.S.Store new) c.in_ok-performed.performed _ (λ is_open trees h. g.met.S.Store.settled old.store trees is_open h) given
+          (works_still g.S.Store old inside mid new (StepsOver c.args.service.now c.args.operation.now c.args.running.now) c.in_ok-performed.performed made (worked.unchanged none) c.rollback.ensures.survives (subst (λ h. Survives (state g.S.Store h) (state g.S.Store new) (λ _. ⊥)) (sym same) c.check_open.ensures.survives));
+      changes = λ clean s stands running. told_inside g.S.Store old inside new _ _ worked.changes (none_then (state g.S.Store inside) (state g.S.Store mid) (state g.S.Store new) c.rollback.ensures.survives (subst (λ h. Survives (state g.S.Store h) (state g.S.Store new) (λ _. ⊥)) (sym same) c.check_open.ensures.survives)) new refl clean s stands stands.means.sound running;
+      back = λ none. given;
     }

@@ -13,16 +13,16 @@ values-preserved g c =
     let new = g.T.Statements.state c.insert_sha512.new.tx in
     let inv = c.values.invariant in
     let within : c.values.value-index < length c.args.values.now = omega arith in (
-      stays_ok (stays_then inv.0 c.in_ok-insert_sha512.ensures.stays),
+      stays_ok (stays_then inv.0 c.in_ok-insert_sha512.ensures.keeps.stays),
       λ clean inside ours.
-          let before = clean_before c.insert_sha512.ensures.stays clean in
+          let before = clean_before c.insert_sha512.ensures.keeps.stays clean in
           let was = inv.1 before inside ours in
           let leads = c.in_ok-insert_sha512.ensures.ok clean (inv.0.inside before inside) was.ours in
           record { ours = leads.ours; rows = one_more_value (tables_of old) (tables_of mid) (tables_of new) c.args.values.now c.values.value-index _ within was.rows leads.rows },
     )
 
 pub returns-in_err-insert_sha512-clause-stays : goal.returns-in_err-insert_sha512-clause-stays
-returns-in_err-insert_sha512-clause-stays g c = stays_err c.from_residual.ensures.0 (stays_then c.values.invariant.0 c.insert_sha512.ensures.stays)
+returns-in_err-insert_sha512-clause-stays g c = stays_err c.from_residual.ensures.0 (stays_then c.values.invariant.0 c.insert_sha512.ensures.keeps.stays)
 
 pub returns-clause-ok : goal.returns-clause-ok
 returns-clause-ok g c = rw (take_all c.values.value-index c.args.values.now c.values-test.false) at c.values.invariant.1
@@ -30,7 +30,7 @@ returns-clause-ok g c = rw (take_all c.values.value-index c.args.values.now c.va
 pub returns-in_err-insert_sha512-clause-cause : goal.returns-in_err-insert_sha512-clause-cause
 returns-in_err-insert_sha512-clause-cause g c any clean inside =
     let stays = c.values.invariant.0 in
-    let before = clean_before c.insert_sha512.ensures.stays clean in
+    let before = clean_before c.insert_sha512.ensures.keeps.stays clean in
     let within : c.values.value-index < length c.args.values.now = omega arith in
     let goes_on = stays.inside before inside in
     let failed = c.in_err-insert_sha512.ensures in

@@ -11,7 +11,7 @@ pub returns-clause-ok : goal.returns-clause-ok
 returns-clause-ok g c clean inside older =
     let extended = c.in_ok-extend_schema.ensures in
     let inserted = c.in_ok-insert_values.ensures in
-    let filled = clean_before c.write_version.ensures.stays clean in
+    let filled = clean_before c.write_version.ensures.keeps.stays clean in
     let there = clean_before inserted.stays filled in
     let made = extended.ok there inside older in
     let goes_on = extended.stays.inside there inside in
@@ -22,14 +22,14 @@ returns-clause-ok g c clean inside older =
 pub returns-clause-free : goal.returns-clause-free
 returns-clause-free g c clean inside =
     let extended = c.in_ok-extend_schema.ensures in
-    let there = clean_before c.in_ok-insert_values.ensures.stays (clean_before c.write_version.ensures.stays clean) in
+    let there = clean_before c.in_ok-insert_values.ensures.stays (clean_before c.write_version.ensures.keeps.stays clean) in
     if_ok c.write_version.result (extended.free there inside)
 
 pub returns-clause-cause : goal.returns-clause-cause
 returns-clause-cause g c clean inside =
     let extended = c.in_ok-extend_schema.ensures in
     let inserted = c.in_ok-insert_values.ensures in
-    let filled = clean_before c.write_version.ensures.stays clean in
+    let filled = clean_before c.write_version.ensures.keeps.stays clean in
     let there = clean_before inserted.stays filled in
     let goes_on = inserted.stays.inside filled (extended.stays.inside there inside) in
     let since = survived (g.T.Statements.state c.args.tx.now) (g.T.Statements.state c.extend_schema.new.tx) (g.T.Statements.state c.insert_values.new.tx) extended.stays.survives inserted.stays.survives in
@@ -37,7 +37,7 @@ returns-clause-cause g c clean inside =
     (λ fault failed. inr (extended.free there inside, fails_then g.T.Statements.state c.args.tx.now c.insert_values.new.tx c.write_version.new.tx since (FailsToFill c.args.values.now) fault (inr failed)))
 
 pub returns-clause-stays : goal.returns-clause-stays
-returns-clause-stays g c = stays_then c.in_ok-extend_schema.ensures.stays (stays_then c.in_ok-insert_values.ensures.stays c.write_version.ensures.stays)
+returns-clause-stays g c = stays_then c.in_ok-extend_schema.ensures.stays (stays_then c.in_ok-insert_values.ensures.stays c.write_version.ensures.keeps.stays)
 
 -- where the schema was not extended, or a value not put in, nothing is said of an Ok
 pub returns-in_err-extend_schema : goal.returns-in_err-extend_schema

@@ -1,12 +1,12 @@
-use Rattle.std.proofs.Common.{refl, subst, ◌∙◌, arith, rules}
+use Rattle.std.proofs.Common.{refl, subst, ◌∙◌, arith}
 use Rattle.dep_tables.specs.Edits.{IsFirstBlock}
 use Rattle.dep_tables.specs.Rows.{IsStorableKey}
 use Rattle.dep_tables.specs.Tables.{tables_of}
-use Rattle.dep_tables.proofs.Results.{ok_then, if_failed}
-use Rattle.dep_tables.proofs.Chains.{clean_before, stays_then, stays_ok, stays_err}
+use Rattle.dep_tables.proofs.Results.{ok_then}
+use Rattle.dep_tables.proofs.Chains.{clean_before, stays_then, stays_ok, stays_err, still_ours, stays_put}
 use Rattle.dep_row_maps.proofs.Causes.{fails_then, if_err_then, if_err_is}
 use Rattle.dep_row_maps.proofs.Runs.{one_run_moved, all_moved}
-use Rattle.dep_files.proofs.Results.{still_ours, same_tables, fails_behind, uncommitted_behind}
+use Rattle.dep_files.proofs.Results.{same_tables}
 use Rattle.dep_tables.specs.declared.owner.BlockOwner.TheVariants as owner
 use Rattle.dep_row_maps.specs.Causes.{FailsByStatement}
 use Rattle.dep_row_maps.specs.Causes.FailsByStatement.{block_found, blocks_moved, run_moved}
@@ -14,7 +14,7 @@ use Rattle.dep_row_maps.proofs.FilesOwn.{no_upload}
 use Rattle.dep_staging.proofs.assembling.move_content.Goals as goal
 
 pub runs-init : goal.runs-init
-runs-init g c = (search rules, λ clean inside ours. (ours, refl))
+runs-init g c = (stays_put g.T.Statements.lenders g.T.Statements.state c.args.tx.now _, λ clean inside ours. (ours, refl))
 
 pub runs-preserved : goal.runs-preserved
 runs-preserved g c =
@@ -23,12 +23,12 @@ runs-preserved g c =
     let seen = g.T.Statements.state c.first_block.new.tx in
     let new = g.T.Statements.state c.move_run.new.tx in
     let inv = c.runs.invariant in
-    let saw = stays_then inv.0 c.in_ok-start.ensures.stays in (
-      stays_ok (stays_then saw c.in_ok-move_run.ensures.stays),
+    let saw = stays_then inv.0 c.in_ok-start.ensures.keeps.stays in (
+      stays_ok (stays_then saw c.in_ok-move_run.ensures.keeps.stays),
       λ clean inside ours.
-          let before = clean_before c.move_run.ensures.stays clean in
-          let was = inv.1 (clean_before c.first_block.ensures.stays before) inside ours in
-          let same = c.in_ok-start.ensures.same before was.0 in
+          let before = clean_before c.move_run.ensures.keeps.stays clean in
+          let was = inv.1 (clean_before c.first_block.ensures.keeps.stays before) inside ours in
+          let same = c.in_ok-start.ensures.keeps.same before was.0 in
           let leads = c.in_ok-move_run.ensures.ok clean (saw.inside before inside) (still_ours mid seen same was.0) in
           (leads.ours, one_run_moved (record { owner = owner.Upload c.args.upload; at = c.run_end-at.result }) (owner.File c.args.file) (no_upload c.args.upload c.args.file) (tables_of old) (tables_of mid) (tables_of seen) (tables_of new) was.1 (same_tables mid seen same) leads.rows),
     )
@@ -38,40 +38,29 @@ returns-in_default-clause-ok g c clean inside ours =
     let old = g.T.Statements.state c.args.tx.now in
     let mid = g.T.Statements.state c.runs.tx in
     let seen = g.T.Statements.state c.first_block.new.tx in
-    let was = c.runs.invariant.1 (clean_before c.first_block.ensures.stays clean) inside ours in
-    let same = c.in_ok-start.ensures.same clean was.0 in
+    let was = c.runs.invariant.1 (clean_before c.first_block.ensures.keeps.stays clean) inside ours in
+    let same = c.in_ok-start.ensures.keeps.same clean was.0 in
     let none = subst (IsFirstBlock (owner.Upload c.args.upload) (tables_of mid)) c.in_default.is (c.in_ok-start.ensures.ok clean was.0) in
     record { ours = still_ours mid seen same was.0; rows = all_moved (owner.Upload c.args.upload) (owner.File c.args.file) (tables_of old) (tables_of mid) (tables_of seen) was.1 (same_tables mid seen same) none }
 
 pub returns-clause-ok : goal.returns-clause-ok
 returns-clause-ok g c clean inside ours =
     let inv = c.runs.invariant in
-    let before = clean_before c.move_blocks.ensures.stays clean in
+    let before = clean_before c.move_blocks.ensures.keeps.stays clean in
     let was = inv.1 before inside ours in
     ok_then c.move_blocks.result (c.move_blocks.ensures.ok clean (inv.0.inside before inside) was.0) (λ leads. record { ours = leads.ours; rows = leads.rows ∙ was.1 })
 
 pub returns-in_err-start-clause-stays : goal.returns-in_err-start-clause-stays
-returns-in_err-start-clause-stays g c = stays_err c.from_residual.ensures.0 (stays_then c.runs.invariant.0 c.first_block.ensures.stays)
+returns-in_err-start-clause-stays g c = stays_err c.from_residual.ensures.0 (stays_then c.runs.invariant.0 c.first_block.ensures.keeps.stays)
 
 pub returns-in_default-clause-stays : goal.returns-in_default-clause-stays
-returns-in_default-clause-stays g c = stays_ok (stays_then c.runs.invariant.0 c.in_ok-start.ensures.stays)
+returns-in_default-clause-stays g c = stays_ok (stays_then c.runs.invariant.0 c.in_ok-start.ensures.keeps.stays)
 
 pub returns-in_err-move_run-clause-stays : goal.returns-in_err-move_run-clause-stays
-returns-in_err-move_run-clause-stays g c = stays_err c.from_residual-in_err-move_run.ensures.0 (stays_then (stays_then c.runs.invariant.0 c.in_ok-start.ensures.stays) c.move_run.ensures.stays)
+returns-in_err-move_run-clause-stays g c = stays_err c.from_residual-in_err-move_run.ensures.0 (stays_then (stays_then c.runs.invariant.0 c.in_ok-start.ensures.keeps.stays) c.move_run.ensures.keeps.stays)
 
 pub returns-clause-stays : goal.returns-clause-stays
-returns-clause-stays g c = stays_then c.runs.invariant.0 c.move_blocks.ensures.stays
-
-pub returns-in_err-start-clause-err : goal.returns-in_err-start-clause-err
-returns-in_err-start-clause-err g c clean inside is_open =
-    if_failed _ (uncommitted_behind c.runs.invariant.0 c.in_err-start.ensures.stays c.in_err-start.ensures.err clean inside is_open)
-
-pub returns-in_err-move_run-clause-err : goal.returns-in_err-move_run-clause-err
-returns-in_err-move_run-clause-err g c clean inside is_open =
-    if_failed _ (fails_behind (stays_then c.runs.invariant.0 c.in_ok-start.ensures.stays) c.in_err-move_run.ensures.stays c.in_err-move_run.ensures.err clean inside is_open)
-
-pub returns-clause-err : goal.returns-clause-err
-returns-clause-err g c = fails_behind c.runs.invariant.0 c.move_blocks.ensures.stays c.move_blocks.ensures.err
+returns-clause-stays g c = stays_then c.runs.invariant.0 c.move_blocks.ensures.keeps.stays
 
 pub returns-in_err-start-clause-cause : goal.returns-in_err-start-clause-cause
 returns-in_err-start-clause-cause g c storable clean inside =
@@ -86,8 +75,8 @@ returns-in_err-move_run-clause-cause g c storable clean inside =
     let old = c.args.tx.now in
     let seen = c.first_block.new.tx in
     let new = c.move_run.new.tx in
-    let saw = stays_then c.runs.invariant.0 c.in_ok-start.ensures.stays in
-    let before = clean_before c.move_run.ensures.stays clean in
+    let saw = stays_then c.runs.invariant.0 c.in_ok-start.ensures.keeps.stays in
+    let before = clean_before c.move_run.ensures.keeps.stays clean in
     let key : IsStorableKey (record { owner = owner.Upload c.args.upload; at = c.run_end-at.result }) = record { owner = storable.0; part = omega (arith, c.run_end-at.ensures.part); place = omega (arith, c.run_end-at.ensures.place) } in
     if_err_is _ c.from_residual-in_err-move_run.result c.in_err-move_run.field-0.0 c.from_residual-in_err-move_run.ensures.1 (fails_then g.T.Statements.state old seen new saw.survives FailsByStatement _
     (run_moved _ (c.in_err-move_run.ensures.cause (key, storable.1) clean (saw.inside before inside))))
@@ -98,6 +87,6 @@ returns-clause-cause g c storable clean inside =
     let mid = c.runs.tx in
     let new = c.move_blocks.new.tx in
     let inv = c.runs.invariant in
-    let before = clean_before c.move_blocks.ensures.stays clean in
+    let before = clean_before c.move_blocks.ensures.keeps.stays clean in
     if_err_then c.move_blocks.result (c.move_blocks.ensures.cause storable clean (inv.0.inside before inside))
     (λ fault failed. fails_then g.T.Statements.state old mid new inv.0.survives FailsByStatement fault (blocks_moved _ failed))

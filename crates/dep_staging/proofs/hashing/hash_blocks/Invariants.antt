@@ -1,9 +1,9 @@
 use Rattle.std.proofs.Common.{IsTrue}
-use Rattle.sqlite.specs.State.{HasCleanDisk, IsUnchanged}
+use Rattle.sqlite.specs.State.{HasCleanDisk}
 use Rattle.dep_types.specs.Sound.{IsSound}
 use Rattle.dep_types.specs.State.{State}
 use Rattle.dep_tables.specs.Tables.{tables_of, IsOurs}
-use Rattle.dep_tables.proofs.Chains.{Stays}
+use Rattle.dep_tables.proofs.Chains.{MayReads}
 use Rattle.dep_row_maps.specs.TablesAre.{TablesAre}
 use Rattle.dep_staging.specs.HashedAhead.{IsRunning}
 use Rattle.dep_staging.proofs.hashing.hash_blocks.Given as goal
@@ -12,7 +12,6 @@ abbrev pub invariant-loop : goal.invariant-loop
 invariant-loop g l =
     let old = g.T.Statements.state l.fn.tx in
     let now = g.T.Statements.state l.tx in
-    Stays g.T.Statements.lenders g.T.Statements.state l.fn.tx l.tx
-    × (IsTrue old.is_open → HasCleanDisk now → IsOurs old → IsUnchanged old now)
+    MayReads g.T.Statements.lenders g.T.Statements.state l.fn.tx l.tx
     × (IsTrue old.is_open → HasCleanDisk now → IsOurs old → (s : State) → TablesAre (tables_of old) s → IsSound s
     → IsRunning s l.fn.run → IsRunning s l.run)

@@ -1,15 +1,11 @@
 use Rattle.std.proofs.Common.{◌<◌, ◌≤◌, ◌^◌, ◌++◌, length, arith, rules, sym, ap, subst, ◌∙◌, append_assoc}
 use Rattle.dep_fixity.specs.Fixity.{Holds}
-use Rattle.sqlite.proofs.StateLemmas.{unchanged}
-use Rattle.sqlite.proofs.Callers.{unchanged_then}
-use Rattle.dep_tables.proofs.Results.{if_failed}
-use Rattle.dep_tables.proofs.Chains.{clean_before, stays_then, stays_ok, stays_err}
+use Rattle.dep_tables.proofs.Chains.{clean_before, may_then, may_err, may_read, still_ours, may_put, may_ok}
 use Rattle.dep_tables.specs.Tables.{Tables}
 use Rattle.dep_row_maps.specs.Stored.{blocks_of}
 use Rattle.dep_row_maps.specs.TablesAre.{TablesAre}
-use Rattle.dep_files.proofs.Results.{still_ours, same_tables}
+use Rattle.dep_files.proofs.Results.{same_tables}
 use Rattle.dep_files.proofs.Cuts.{one_block_more, all_blocks, few_blocks}
-use Rattle.dep_staging.proofs.Chains.{failed_since}
 use Rattle.dep_staging.specs.Causes.{FailsToReadBlock}
 use Rattle.dep_row_maps.proofs.Causes.{fails_then}
 use Rattle.dep_staging.proofs.Hashed.{counted}
@@ -18,8 +14,7 @@ use Rattle.dep_staging.proofs.hashing.hash_segment.Goals as goal
 pub loop-place-init : goal.loop-place-init
 loop-place-init g c = (
   c.div_ceil-place-end.ensures,
-  search rules,
-  λ is_open clean ours. unchanged (g.T.Statements.state c.args.tx.now) is_open,
+  may_put g.T.Statements.lenders g.T.Statements.state c.args.tx.now _,
   λ is_open clean ours s are bytes message its holds. holds,
   subst (λ n. n < 2 ^ 63) (sym c.div_ceil-place-end.ensures) (few_blocks c.args.segment.now.size (omega arith)),
 )
@@ -28,44 +23,28 @@ pub loop-place-preserved : goal.loop-place-preserved
 loop-place-preserved g c =
     let old = g.T.Statements.state c.args.tx.now in
     let mid = g.T.Statements.state c.loop-place.tx in
-    let new = g.T.Statements.state c.segment_block.new.tx in
     let inv = c.loop-place.invariant in
-    let earlier = clean_before c.segment_block.ensures.stays in (
+    let earlier = clean_before c.segment_block.ensures.keeps.stays in (
       inv.0,
-      stays_ok (stays_then inv.1 c.in_ok-block.ensures.stays),
-      λ is_open clean ours.
-          let same = inv.2 is_open (earlier clean) ours in
-          unchanged_then old mid new same (c.in_ok-block.ensures.same clean (still_ours old mid same ours)),
+      may_ok (may_then inv.1 (may_read c.in_ok-block.ensures.keeps)),
       λ is_open clean ours s are bytes message its holds.
-          let same = inv.2 is_open (earlier clean) ours in
-          let so_far = inv.3 is_open (earlier clean) ours s are bytes message its holds in
+          let same = inv.1.same is_open (earlier clean) ours in
+          let so_far = inv.2 is_open (earlier clean) ours s are bytes message its holds in
           let are_mid = subst (λ (t : Tables). TablesAre t s) (sym (same_tables old mid same)) are in
           let within : c.loop-place.place < length (blocks_of bytes) = subst (λ n. c.loop-place.place < n) (inv.0 ∙ counted s c.args.segment.now bytes its) c.loop-place-test.true in
           let block = c.as_slice.ensures.value ∙ c.in_ok-block.ensures.map clean (still_ours old mid same ours) s are_mid bytes its in
           subst (Holds c.update.new.self) (append_assoc message _ _ ∙ ap (λ l. message ++ l) (one_block_more bytes c.loop-place.place c.as_slice.result.now within block)) (c.update.ensures _ so_far),
-      inv.4,
+      inv.3,
     )
 
 pub returns-clause-map : goal.returns-clause-map
 returns-clause-map g c clean ours is_open s are bytes message its holds =
     let inv = c.loop-place.invariant in
     let past : length (blocks_of bytes) ≤ c.loop-place.place = subst (λ n. n ≤ c.loop-place.place) (inv.0 ∙ counted s c.args.segment.now bytes its) c.loop-place-test.false in
-    subst (Holds c.loop-place.hasher) (ap (λ l. message ++ l) (all_blocks bytes c.loop-place.place past)) (inv.3 is_open clean ours s are bytes message its holds)
+    subst (Holds c.loop-place.hasher) (ap (λ l. message ++ l) (all_blocks bytes c.loop-place.place past)) (inv.2 is_open clean ours s are bytes message its holds)
 
-pub returns-in_err-block-clause-stays : goal.returns-in_err-block-clause-stays
-returns-in_err-block-clause-stays g c = stays_err c.from_residual.ensures.0 (stays_then c.loop-place.invariant.1 c.segment_block.ensures.stays)
-
-pub returns-in_err-block-clause-err : goal.returns-in_err-block-clause-err
-returns-in_err-block-clause-err g c clean inside ours is_open =
-    let old = g.T.Statements.state c.args.tx.now in
-    let mid = g.T.Statements.state c.loop-place.tx in
-    let new = g.T.Statements.state c.segment_block.new.tx in
-    let inv = c.loop-place.invariant in
-    let before = clean_before c.segment_block.ensures.stays clean in
-    let within = inv.1.inside before inside in
-    let was_open = (inv.1.kept before inside).was_open ((c.segment_block.ensures.stays.kept clean within).was_open is_open) in
-    let same = inv.2 was_open before ours in
-    if_failed _ (failed_since old mid new same (c.in_err-block.ensures.err clean within (still_ours old mid same ours) is_open))
+pub returns-in_err-block-clause-keeps : goal.returns-in_err-block-clause-keeps
+returns-in_err-block-clause-keeps g c = may_err c.from_residual.ensures.0 (may_then c.loop-place.invariant.1 (may_read c.segment_block.ensures.keeps))
 
 pub returns-in_err-block-clause-cause : goal.returns-in_err-block-clause-cause
 returns-in_err-block-clause-cause g c clean ours is_open s are bytes its storable =
@@ -73,10 +52,13 @@ returns-in_err-block-clause-cause g c clean ours is_open s are bytes its storabl
     let mid = c.loop-place.tx in
     let new = c.segment_block.new.tx in
     let inv = c.loop-place.invariant in
-    let same = inv.2 is_open (clean_before c.segment_block.ensures.stays clean) ours in
+    let same = inv.1.same is_open (clean_before c.segment_block.ensures.keeps.stays clean) ours in
     let are_mid = subst (λ (t : Tables). TablesAre t s) (sym (same_tables (g.T.Statements.state old) (g.T.Statements.state mid) same)) are in
     let within : c.loop-place.place < length (blocks_of bytes) = subst (λ n. c.loop-place.place < n) (inv.0 ∙ counted s c.args.segment.now bytes its) c.loop-place-test.true in
-    let below : c.loop-place.place < 2 ^ 63 = omega (arith, inv.4, c.loop-place-test.true) in
-    let known = fails_then g.T.Statements.state old mid new inv.1.survives (FailsToReadBlock c.args.segment.now.upload c.args.segment.now.number) _
+    let below : c.loop-place.place < 2 ^ 63 = omega (arith, inv.3, c.loop-place-test.true) in
+    let known = fails_then g.T.Statements.state old mid new inv.1.stays.survives (FailsToReadBlock c.args.segment.now.upload c.args.segment.now.number) _
     (c.in_err-block.ensures.cause clean (still_ours (g.T.Statements.state old) (g.T.Statements.state mid) same ours) s are_mid bytes its within storable below) in
     search rules
+
+pub returns-clause-keeps : goal.returns-clause-keeps
+returns-clause-keeps g c = may_ok c.loop-place.invariant.1

@@ -1,19 +1,17 @@
-use Rattle.std.proofs.Common.{◌≡◌, ◌≤◌, ◌<◌, ◌+◌, ◌-◌, ◌∙◌, ◌++◌, ℕ, List, [], length, get_or, take, drop, min, arith, rules, sym, ap, subst, append-nil}
+use Rattle.std.proofs.Common.{◌≡◌, ◌≤◌, ◌<◌, ◌+◌, ◌-◌, ◌∙◌, ◌++◌, ℕ, List, [], length, get_or, take, drop, min, arith, sym, ap, subst, append-nil}
 use Rattle.std.specs.FinMap as finmap
 use Rattle.std.specs.List.{flat_map}
 use Rattle.std.proofs.lemmas.List.{take_all, length-map, length-drop, get_or-drop, get_or_past}
 use Rattle.dep_fixity.specs.Fixity.{Holds, digests_of}
-use Rattle.sqlite.proofs.StateLemmas.{unchanged}
-use Rattle.sqlite.proofs.Callers.{unchanged_then}
 use Rattle.dep_types.specs.State.{Upload}
 use Rattle.dep_types.specs.declared.rows.UploadRow.{UploadRow}
-use Rattle.dep_tables.proofs.Chains.{clean_before, stays_then, stays_ok}
+use Rattle.dep_tables.proofs.Chains.{clean_before, still_ours, may_put, may_ok, may_then, may_err}
 use Rattle.dep_tables.specs.Tables.{Tables}
 use Rattle.dep_tables.specs.declared.segments.SegmentRow.{SegmentRow}
 use Rattle.dep_row_maps.specs.TablesAre.{TablesAre}
 use Rattle.dep_row_maps.proofs.Causes.{fails_later, if_err_is}
 use Rattle.dep_row_maps.proofs.Pieces.{assembled-joined}
-use Rattle.dep_files.proofs.Results.{still_ours, same_tables}
+use Rattle.dep_files.proofs.Results.{same_tables}
 use Rattle.dep_staging.specs.Causes.{FailsToHash, FailsToReadBlock}
 use Rattle.dep_staging.specs.Found.{segment_rows_of}
 use Rattle.dep_staging.specs.HashedAhead.{first_blocks}
@@ -46,8 +44,7 @@ entry_at u it rows whole i are within =
 
 pub rows-init : goal.rows-init
 rows-init g c = (
-  search rules,
-  λ is_open clean ours. unchanged (g.T.Statements.state c.args.tx.now) is_open,
+  may_put g.T.Statements.lenders g.T.Statements.state c.args.tx.now _,
   λ is_open clean ours s are u it live within running.
       let run = c.found-segments.result in
       let es = finmap.entries it.segments in
@@ -63,18 +60,14 @@ pub rows-preserved : goal.rows-preserved
 rows-preserved g c =
     let old = g.T.Statements.state c.args.tx.now in
     let mid = g.T.Statements.state c.rows.tx in
-    let new = g.T.Statements.state c.hash_segment.new.tx in
     let inv = c.rows.invariant in
-    let earlier = clean_before c.hash_segment.ensures.stays in (
-      stays_ok (stays_then inv.0 c.in_ok-hash_segment.ensures.stays),
-      λ is_open clean ours.
-          let same = inv.1 is_open (earlier clean) ours in
-          unchanged_then old mid new same (c.in_ok-hash_segment.ensures.same same.0.is_open clean (still_ours old mid same ours)),
+    let earlier = clean_before c.hash_segment.ensures.keeps.stays in (
+      may_ok (may_then inv.0 c.in_ok-hash_segment.ensures.keeps),
       λ is_open clean ours s are u it live within running.
-          let same = inv.1 is_open (earlier clean) ours in
+          let same = inv.0.same is_open (earlier clean) ours in
           let es = finmap.entries it.segments in
           let at = c.min-whole.result + c.rows.row-index in
-          let so_far = inv.2 is_open (earlier clean) ours s are u it live within running in
+          let so_far = inv.1 is_open (earlier clean) ours s are u it live within running in
           let are_mid = subst (λ (t : Tables). TablesAre t s) (sym (same_tables old mid same)) are in
           let m = c.in_ok-hash_segment.ensures.map clean (still_ours old mid same ours) same.0.is_open s are_mid in
           let e = entry_at u it c.as_slice-rows.result.now c.min-whole.result c.rows.row-index (c.as_slice-rows.ensures.value ∙ live.received) c.rows-test.true in
@@ -93,7 +86,7 @@ returns-clause-map g c is_open clean ours s are u it live within running =
     let past : length es ≤ at = let left = rest_length rows whole in omega (arith, left, count, c.rows-test.false) in
     let nothing : first_blocks c.rows.begun (get_or es at (0, [])).1 ≡ [] = ap (λ (x : ℕ × List ℕ). first_blocks c.rows.begun x.1) (get_or_past es at (0, []) past) ∙ no_first_blocks c.rows.begun in
     let whole_of = ap (λ l. flat_map (λ (e : ℕ × List ℕ). e.1) (take at es) ++ l) nothing ∙ append-nil _ ∙ ap (flat_map (λ (e : ℕ × List ℕ). e.1)) (take_all at es past) in
-    c.finish.ensures _ (subst (Holds c.rows.hasher) whole_of (c.rows.invariant.2 is_open clean ours s are u it live within running)) ∙ ap digests_of (assembled-joined it within)
+    c.finish.ensures _ (subst (Holds c.rows.hasher) whole_of (c.rows.invariant.1 is_open clean ours s are u it live within running)) ∙ ap digests_of (assembled-joined it within)
 
 pub returns-in_err-hash_segment-clause-cause : goal.returns-in_err-hash_segment-clause-cause
 returns-in_err-hash_segment-clause-cause g c clean ours is_open s are u it live storable =
@@ -101,14 +94,20 @@ returns-in_err-hash_segment-clause-cause g c clean ours is_open s are u it live 
     let mid = c.rows.tx in
     let new = c.hash_segment.new.tx in
     let inv = c.rows.invariant in
-    let same = inv.1 is_open (clean_before c.hash_segment.ensures.stays clean) ours in
+    let same = inv.0.same is_open (clean_before c.hash_segment.ensures.keeps.stays clean) ours in
     let are_mid = subst (λ (t : Tables). TablesAre t s) (sym (same_tables (g.T.Statements.state old) (g.T.Statements.state mid) same)) are in
     let rows = c.as_slice-rows.result.now in
     let at = c.min-whole.result + c.rows.row-index in
     let row = get_or (rest rows c.min-whole.result) c.rows.row-index none in
     let e = entry_at u it rows c.min-whole.result c.rows.row-index (c.as_slice-rows.ensures.value ∙ live.received) c.rows-test.true in
     if_err_is _ c.from_residual.result c.in_err-hash_segment.field-0.0 c.from_residual.ensures.1
-    (fails_later g.T.Statements.state old mid new inv.0.survives (FailsToReadBlock row.upload row.number) (FailsToHash u)
+    (fails_later g.T.Statements.state old mid new inv.0.stays.survives (FailsToReadBlock row.upload row.number) (FailsToHash u)
     (λ now' after fault failed. segment_among now' after fault u row (ap (λ (r : SegmentRow). r.upload) e.is) failed) _
     (c.in_err-hash_segment.ensures.cause clean (still_ours (g.T.Statements.state old) (g.T.Statements.state mid) same ours) same.0.is_open
     s are_mid e.bytes (segment_is u at it _ e s live.there) (storable_segment u at it _ e storable)))
+
+pub returns-clause-keeps : goal.returns-clause-keeps
+returns-clause-keeps g c = may_ok c.rows.invariant.0
+
+pub returns-in_err-hash_segment-clause-keeps : goal.returns-in_err-hash_segment-clause-keeps
+returns-in_err-hash_segment-clause-keeps g c = may_err c.from_residual.ensures.0 (may_then c.rows.invariant.0 c.hash_segment.ensures.keeps)

@@ -2,10 +2,10 @@ use Rattle.std.proofs.Common.{◌+◌, ◌++◌, ℕ, List, [], IsTrue, take, ge
 use Rattle.std.specs.List.{flat_map}
 use Rattle.std.specs.FinMap as finmap
 use Rattle.dep_fixity.specs.Fixity.{Holds}
-use Rattle.sqlite.specs.State.{HasCleanDisk, IsUnchanged}
+use Rattle.sqlite.specs.State.{HasCleanDisk}
 use Rattle.dep_types.specs.State.{State, Upload}
 use Rattle.dep_tables.specs.Tables.{tables_of, IsOurs}
-use Rattle.dep_tables.proofs.Chains.{Stays}
+use Rattle.dep_tables.proofs.Chains.{MayReads}
 use Rattle.dep_row_maps.specs.Laws.{HasSegmentsWithin}
 use Rattle.dep_row_maps.specs.TablesAre.{TablesAre}
 use Rattle.dep_staging.specs.Found.{IsLiveAs}
@@ -18,8 +18,7 @@ invariant-rows g l =
     let old = g.T.Statements.state l.fn.tx in
     let now = g.T.Statements.state l.tx in
     let at = l.whole + l.row-index in
-    Stays g.T.Statements.lenders g.T.Statements.state l.fn.tx l.tx
-    × (IsTrue old.is_open → HasCleanDisk now → IsOurs old → IsUnchanged old now)
+    MayReads g.T.Statements.lenders g.T.Statements.state l.fn.tx l.tx
     × (IsTrue old.is_open → HasCleanDisk now → IsOurs old → (s : State) → TablesAre (tables_of old) s
     → (u : ℕ) (it : Upload) → IsLiveAs s u l.staged it → HasSegmentsWithin it → AreRunning s l.running
     → Holds l.hasher (flat_map (λ (e : ℕ × List ℕ). e.1) (take at (finmap.entries it.segments)) ++ first_blocks l.begun (get_or (finmap.entries it.segments) at (0, [])).1))

@@ -1,7 +1,6 @@
-use Rattle.std.proofs.Common.{inl}
-use Rattle.dep_tables.proofs.Results.{if_failed}
 use Rattle.dep_row_maps.proofs.Causes.{if_err_is}
 use Rattle.dep_staging.proofs.Hashed.{block_is, block_there}
+use Rattle.dep_tables.proofs.Chains.{reads_ok, reads_err}
 use Rattle.dep_staging.proofs.hashing.segment_block.Goals as goal
 
 pub returns-in-Some-clause-map : goal.returns-in-Some-clause-map
@@ -16,8 +15,8 @@ pub returns-in-None-clause-cause : goal.returns-in-None-clause-cause
 returns-in-None-clause-cause g c clean ours s are bytes its within storable below =
     absurd (block_there (λ block. block.items) s c.args.segment.now bytes c.args.place c.in_ok-bytes.field-0 its (c.in_ok-bytes.ensures.map clean ours s are) within c.in-None.is)
 
-pub returns-in_err-bytes-clause-err : goal.returns-in_err-bytes-clause-err
-returns-in_err-bytes-clause-err g c clean inside ours is_open = if_failed _ (c.in_err-bytes.ensures.err clean inside ours is_open)
+pub returns-in_err-bytes-clause-keeps : goal.returns-in_err-bytes-clause-keeps
+returns-in_err-bytes-clause-keeps g c = reads_err c.from_residual.ensures.0 c.in_err-bytes.ensures.keeps
 
-pub returns-in-None-clause-err : goal.returns-in-None-clause-err
-returns-in-None-clause-err g c clean inside ours is_open = inl (c.in_ok-bytes.ensures.same clean ours)
+pub returns-in-None-clause-keeps : goal.returns-in-None-clause-keeps
+returns-in-None-clause-keeps g c = reads_ok c.in_ok-bytes.ensures.keeps

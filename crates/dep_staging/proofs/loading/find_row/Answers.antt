@@ -1,9 +1,9 @@
 use Rattle.dep_tables.specs.Tables.{tables_of}
-use Rattle.dep_tables.proofs.Chains.{clean_before}
+use Rattle.dep_tables.proofs.Chains.{clean_before, still_ours}
 use Rattle.dep_row_maps.specs.Causes.{FailsByStatement}
 use Rattle.dep_row_maps.specs.Causes.FailsByStatement.{sha512_found, upload_found}
 use Rattle.dep_row_maps.proofs.Causes.{fails_first, fails_then, if_err_is}
-use Rattle.dep_files.proofs.Results.{still_ours, same_tables}
+use Rattle.dep_files.proofs.Results.{same_tables}
 use Rattle.dep_staging.proofs.Loaded.{none_found, row_found}
 use Rattle.dep_staging.proofs.loading.find_row.Goals as goal
 
@@ -15,8 +15,8 @@ pub returns-clause-map : goal.returns-clause-map
 returns-clause-map g c clean ours s are =
     let old = g.T.Statements.state c.args.tx.now in
     let mid = g.T.Statements.state c.find_upload.new.tx in
-    let before = clean_before c.find_sha512.ensures.stays clean in
-    let same = c.in_ok-columns.ensures.same before ours in
+    let before = clean_before c.find_sha512.ensures.keeps.stays clean in
+    let same = c.in_ok-columns.ensures.keeps.same before ours in
     row_found (tables_of old) (tables_of mid) s c.args.upload c.in_ok-columns.field-0 c.in-Some.columns _ are c.in-Some.is (c.in_ok-columns.ensures.ok before ours) (same_tables old mid same)
     (c.in_ok-find_sha512.ensures.ok clean (still_ours old mid same ours))
 
@@ -28,5 +28,5 @@ returns-in_err-columns-clause-cause g c storable clean inside =
 pub returns-in_err-find_sha512-clause-cause : goal.returns-in_err-find_sha512-clause-cause
 returns-in_err-find_sha512-clause-cause g c storable clean inside =
     if_err_is _ c.from_residual-in_err-find_sha512.result c.in_err-find_sha512.field-0.0 c.from_residual-in_err-find_sha512.ensures.1
-    (fails_then g.T.Statements.state c.args.tx.now c.find_upload.new.tx c.find_sha512.new.tx c.find_upload.ensures.stays.survives FailsByStatement _
+    (fails_then g.T.Statements.state c.args.tx.now c.find_upload.new.tx c.find_sha512.new.tx c.find_upload.ensures.keeps.stays.survives FailsByStatement _
     (sha512_found _ (c.in_err-find_sha512.ensures.cause storable clean)))

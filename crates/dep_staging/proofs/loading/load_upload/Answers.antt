@@ -1,13 +1,11 @@
 use Rattle.std.proofs.Common.{sym, subst, ◌∙◌}
 use Rattle.dep_tables.specs.Tables.{Tables, tables_of}
-use Rattle.dep_tables.proofs.Results.{if_failed}
-use Rattle.dep_tables.proofs.Chains.{clean_before, stays_then, stays_ok, stays_err}
+use Rattle.dep_tables.proofs.Chains.{clean_before, reads_ok, reads_then, reads_err, still_ours}
 use Rattle.dep_row_maps.specs.TablesAre.{TablesAre}
 use Rattle.dep_row_maps.specs.Causes.{FailsByStatement}
 use Rattle.dep_row_maps.specs.Causes.FailsByStatement.{segments_read}
 use Rattle.dep_row_maps.proofs.Causes.{fails_then, if_err_is, never_failed}
-use Rattle.dep_files.proofs.Results.{still_ours, same_tables}
-use Rattle.dep_staging.proofs.Chains.{fails_reading, reads_ours, reads_then}
+use Rattle.dep_files.proofs.Results.{same_tables}
 use Rattle.dep_staging.proofs.Loaded.{found_live}
 use Rattle.dep_staging.proofs.loading.load_upload.Goals as goal
 
@@ -15,8 +13,8 @@ pub returns-in_ok-segments_of-in-Live-clause-map : goal.returns-in_ok-segments_o
 returns-in_ok-segments_of-in-Live-clause-map g c clean ours s are =
     let old = g.T.Statements.state c.args.tx.now in
     let mid = g.T.Statements.state c.find_staged.new.tx in
-    let before = clean_before c.segments_of.ensures.stays clean in
-    let same = c.in_ok-row.ensures.same before ours in
+    let before = clean_before c.segments_of.ensures.keeps.stays clean in
+    let same = c.in_ok-row.ensures.keeps.same before ours in
     found_live s c.args.upload (tables_of mid) (record { row = c.in-Live.row; received = c.in_ok-segments_of-in-Live.field-0 }) (subst (λ (t : Tables). TablesAre t s) (sym (same_tables old mid same)) are)
     (sym c.in-Live.is ∙ c.in_ok-row.ensures.map before ours s are) (c.in_ok-segments_of-in-Live.ensures.ok clean (still_ours old mid same ours))
 
@@ -26,21 +24,11 @@ returns-in-TimedOut-clause-map g c clean ours s are = sym (c.in_ok-row.ensures.m
 pub returns-in-Unknown-clause-map : goal.returns-in-Unknown-clause-map
 returns-in-Unknown-clause-map g c clean ours s are = sym (c.in_ok-row.ensures.map clean ours s are) ∙ c.in-Unknown.is
 
-pub returns-in_ok-segments_of-in-Live-clause-stays : goal.returns-in_ok-segments_of-in-Live-clause-stays
-returns-in_ok-segments_of-in-Live-clause-stays g c = stays_ok (stays_then c.in_ok-row.ensures.stays c.in_ok-segments_of-in-Live.ensures.stays)
+pub returns-in_ok-segments_of-in-Live-clause-keeps : goal.returns-in_ok-segments_of-in-Live-clause-keeps
+returns-in_ok-segments_of-in-Live-clause-keeps g c = reads_ok (reads_then c.in_ok-row.ensures.keeps c.in_ok-segments_of-in-Live.ensures.keeps)
 
-pub returns-in_ok-segments_of-in-Live-clause-same : goal.returns-in_ok-segments_of-in-Live-clause-same
-returns-in_ok-segments_of-in-Live-clause-same g c = reads_then c.in_ok-row.ensures.stays c.in_ok-segments_of-in-Live.ensures.stays c.in_ok-row.ensures.same (λ _. c.in_ok-segments_of-in-Live.ensures.same)
-
-pub returns-in_ok-segments_of-in-Live-clause-ours : goal.returns-in_ok-segments_of-in-Live-clause-ours
-returns-in_ok-segments_of-in-Live-clause-ours g c = reads_ours (returns-in_ok-segments_of-in-Live-clause-stays g c) (returns-in_ok-segments_of-in-Live-clause-same g c)
-
-pub returns-in_err-segments_of-in-Live-clause-stays : goal.returns-in_err-segments_of-in-Live-clause-stays
-returns-in_err-segments_of-in-Live-clause-stays g c = stays_err c.from_residual-in_err-segments_of-in-Live.ensures.0 (stays_then c.in_ok-row.ensures.stays c.segments_of.ensures.stays)
-
-pub returns-in_err-segments_of-in-Live-clause-err : goal.returns-in_err-segments_of-in-Live-clause-err
-returns-in_err-segments_of-in-Live-clause-err g c clean inside ours is_open =
-    if_failed _ (fails_reading c.in_ok-row.ensures.stays c.in_err-segments_of-in-Live.ensures.stays c.in_ok-row.ensures.same c.in_err-segments_of-in-Live.ensures.err clean inside ours is_open)
+pub returns-in_err-segments_of-in-Live-clause-keeps : goal.returns-in_err-segments_of-in-Live-clause-keeps
+returns-in_err-segments_of-in-Live-clause-keeps g c = reads_err c.from_residual-in_err-segments_of-in-Live.ensures.0 (reads_then c.in_ok-row.ensures.keeps c.segments_of.ensures.keeps)
 
 pub returns-in_err-row-clause-cause : goal.returns-in_err-row-clause-cause
 returns-in_err-row-clause-cause g c storable clean inside =
@@ -49,7 +37,7 @@ returns-in_err-row-clause-cause g c storable clean inside =
 pub returns-in_err-segments_of-in-Live-clause-cause : goal.returns-in_err-segments_of-in-Live-clause-cause
 returns-in_err-segments_of-in-Live-clause-cause g c storable clean inside =
     if_err_is _ c.from_residual-in_err-segments_of-in-Live.result c.in_err-segments_of-in-Live.field-0.0 c.from_residual-in_err-segments_of-in-Live.ensures.1
-    (fails_then g.T.Statements.state c.args.tx.now c.find_staged.new.tx c.segments_of.new.tx c.find_staged.ensures.stays.survives FailsByStatement _
+    (fails_then g.T.Statements.state c.args.tx.now c.find_staged.new.tx c.segments_of.new.tx c.find_staged.ensures.keeps.stays.survives FailsByStatement _
     (segments_read _ (c.in_err-segments_of-in-Live.ensures.cause storable clean)))
 
 pub returns-in_ok-segments_of-in-Live-clause-numbers : goal.returns-in_ok-segments_of-in-Live-clause-numbers

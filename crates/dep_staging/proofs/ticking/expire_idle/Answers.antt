@@ -1,20 +1,20 @@
-use Rattle.std.proofs.Common.{◌≡◌, ◌-◌, sym, subst, arith, rules}
+use Rattle.std.proofs.Common.{◌≡◌, ◌-◌, sym, subst, arith, refl}
 use Rattle.dep_tables.specs.Edits.{IsLeftBefore}
 use Rattle.dep_tables.specs.Tables.{Tables, tables_of}
-use Rattle.dep_tables.proofs.Results.{if_failed}
-use Rattle.dep_tables.proofs.Chains.{clean_before, stays_then, stays_ok, stays_err}
+use Rattle.dep_tables.proofs.Chains.{clean_before, stays_then, stays_ok, still_ours, stays_put}
 use Rattle.dep_row_maps.specs.TablesAre.{TablesAre}
-use Rattle.dep_files.proofs.Results.{still_ours, same_tables, fails_behind, uncommitted_behind}
+use Rattle.dep_files.proofs.Results.{same_tables}
 use Rattle.dep_staging.specs.Expiring.{expired_all}
 use Rattle.dep_staging.specs.Causes.{FailsToExpire, FailsToExpireAll}
 use Rattle.dep_staging.specs.Causes.FailsToExpireAll.{looked, ended}
 use Rattle.dep_row_maps.proofs.Causes.{fails_then, fails_later, if_err_is}
 use Rattle.dep_staging.proofs.Expired.{none_expired, found_idle, one_more, all_expired, few_uploads, idle_storable}
+use Rattle.dep_row_maps.proofs.Changing.{changes_err}
 use Rattle.dep_staging.proofs.ticking.expire_idle.Goals as goal
 
 pub uploads-init : goal.uploads-init
 uploads-init g c = (
-  search rules,
+  stays_put g.T.Statements.lenders g.T.Statements.state c.args.tx.now _,
   λ clean inside ours. ours,
   λ clean inside ours s are. none_expired c.args.config.now c.args.clock s (tables_of (g.T.Statements.state c.args.tx.now)) are,
 )
@@ -27,19 +27,19 @@ uploads-preserved g c =
     let seen = g.T.Statements.state c.left_before.new.tx in
     let new = g.T.Statements.state c.expire.new.tx in
     let inv = c.uploads.invariant in
-    let saw = stays_then inv.0 c.in_ok-left.ensures.stays in
-    let clean_seen = clean_before c.expire.ensures.stays in
-    let clean_mid = clean_before c.left_before.ensures.stays in (
-      stays_ok (stays_then saw c.in_ok-expire.ensures.stays),
+    let saw = stays_then inv.0 c.in_ok-left.ensures.keeps.stays in
+    let clean_seen = clean_before c.expire.ensures.keeps.stays in
+    let clean_mid = clean_before c.left_before.ensures.keeps.stays in (
+      stays_ok (stays_then saw c.in_ok-expire.ensures.keeps.stays),
       λ clean inside ours.
           let before = clean_seen clean in
           let ours_mid = inv.1 (clean_mid before) inside ours in
-          c.in_ok-expire.ensures.ours clean (saw.inside before inside) (still_ours mid seen (c.in_ok-left.ensures.same before ours_mid) ours_mid),
+          c.in_ok-expire.ensures.keeps.ours clean (saw.inside before inside) (still_ours mid seen (c.in_ok-left.ensures.keeps.same before ours_mid) ours_mid),
       λ clean inside ours s are.
           let before = clean_seen clean in
           let ours_mid = inv.1 (clean_mid before) inside ours in
           let z = inv.2 (clean_mid before) inside ours s are in
-          let same = c.in_ok-left.ensures.same before ours_mid in
+          let same = c.in_ok-left.ensures.keeps.same before ours_mid in
           let read = subst (λ m. IsLeftBefore m (tables_of mid) c.in_ok-left.field-0) c.saturating_sub-moment.ensures (c.in_ok-left.ensures.ok before ours_mid) in
           one_more config clock c.uploads.passed s (tables_of mid) z c.in_ok-left.field-0 read c.in-Some.left c.in-Some.is (tables_of new)
           (c.in_ok-expire.ensures.map clean (saw.inside before inside) (still_ours mid seen same ours_mid) z.left (subst (λ (t : Tables). TablesAre t z.left) (sym (same_tables mid seen same)) z.are)),
@@ -50,10 +50,10 @@ returns-in_default-clause-map g c clean inside ours s are =
     let mid = g.T.Statements.state c.uploads.tx in
     let seen = g.T.Statements.state c.left_before.new.tx in
     let inv = c.uploads.invariant in
-    let before = clean_before c.left_before.ensures.stays clean in
+    let before = clean_before c.left_before.ensures.keeps.stays clean in
     let ours_mid = inv.1 before inside ours in
     let z = inv.2 before inside ours s are in
-    let same = c.in_ok-left.ensures.same clean ours_mid in
+    let same = c.in_ok-left.ensures.keeps.same clean ours_mid in
     let read = subst (λ m. IsLeftBefore m (tables_of mid) c.in_ok-left.field-0) c.saturating_sub-moment.ensures (c.in_ok-left.ensures.ok clean ours_mid) in
     subst (λ (t : Tables). TablesAre t (expired_all c.args.config.now c.args.clock s)) (sym (same_tables mid seen same))
     (all_expired c.args.config.now c.args.clock c.uploads.passed s (tables_of mid) z c.in_ok-left.field-0 read c.in_default.is)
@@ -78,9 +78,9 @@ returns-in_err-expire-clause-cause g c clean inside ours s are below storable =
     let seen = c.left_before.new.tx in
     let new = c.expire.new.tx in
     let inv = c.uploads.invariant in
-    let clean_seen = clean_before c.expire.ensures.stays clean in
-    let clean_mid = clean_before c.left_before.ensures.stays clean_seen in
-    let saw = stays_then inv.0 c.in_ok-left.ensures.stays in
+    let clean_seen = clean_before c.expire.ensures.keeps.stays clean in
+    let clean_mid = clean_before c.left_before.ensures.keeps.stays clean_seen in
+    let saw = stays_then inv.0 c.in_ok-left.ensures.keeps.stays in
     let ours_mid = inv.1 clean_mid inside ours in
     let z = inv.2 clean_mid inside ours s are in
     let read = subst (λ m. IsLeftBefore m (tables_of (g.T.Statements.state mid)) c.in_ok-left.field-0) c.saturating_sub-moment.ensures (c.in_ok-left.ensures.ok clean_seen ours_mid) in
@@ -95,21 +95,20 @@ returns-clause-cause g c clean inside ours s are below storable =
     let z = c.uploads.invariant.2 clean inside ours s are in
     absurd (omega (arith, z.count, few_uploads s.uploads storable, c.uploads-test.false))
 
-pub returns-in_err-left-clause-stays : goal.returns-in_err-left-clause-stays
-returns-in_err-left-clause-stays g c = stays_err c.from_residual.ensures.0 (stays_then c.uploads.invariant.0 c.left_before.ensures.stays)
+pub returns-in_err-left-clause-keeps : goal.returns-in_err-left-clause-keeps
+returns-in_err-left-clause-keeps g c = changes_err c.from_residual.ensures.0 (stays_then c.uploads.invariant.0 c.left_before.ensures.keeps.stays)
 
-pub returns-in_err-left-clause-err : goal.returns-in_err-left-clause-err
-returns-in_err-left-clause-err g c ours clean inside is_open =
-    let ours_mid = c.uploads.invariant.1 (clean_before c.left_before.ensures.stays clean) inside ours in
-    if_failed _ (fails_behind c.uploads.invariant.0 c.in_err-left.ensures.stays (λ clean within is_open. c.in_err-left.ensures.err clean within ours_mid is_open) clean inside is_open)
+pub returns-in_default-clause-keeps : goal.returns-in_default-clause-keeps
+returns-in_default-clause-keeps g c =
+    record {
+      stays = stays_ok (stays_then c.uploads.invariant.0 c.in_ok-left.ensures.keeps.stays);
+      ours = λ clean inside ours.
+          let ours_mid = c.uploads.invariant.1 (clean_before c.left_before.ensures.keeps.stays clean) inside ours in
+          still_ours (g.T.Statements.state c.uploads.tx) (g.T.Statements.state c.left_before.new.tx) (c.in_ok-left.ensures.keeps.same clean ours_mid) ours_mid;
+    }
 
-pub returns-in_default-clause-stays : goal.returns-in_default-clause-stays
-returns-in_default-clause-stays g c = stays_ok (stays_then c.uploads.invariant.0 c.in_ok-left.ensures.stays)
+pub returns-in_err-expire-clause-keeps : goal.returns-in_err-expire-clause-keeps
+returns-in_err-expire-clause-keeps g c = changes_err c.from_residual-in_err-expire.ensures.0 (stays_then (stays_then c.uploads.invariant.0 c.in_ok-left.ensures.keeps.stays) c.expire.ensures.keeps.stays)
 
-pub returns-in_err-expire-clause-stays : goal.returns-in_err-expire-clause-stays
-returns-in_err-expire-clause-stays g c =
-    stays_err c.from_residual-in_err-expire.ensures.0 (stays_then (stays_then c.uploads.invariant.0 c.in_ok-left.ensures.stays) c.expire.ensures.stays)
-
-pub returns-in_err-expire-clause-err : goal.returns-in_err-expire-clause-err
-returns-in_err-expire-clause-err g c ours clean inside is_open =
-    if_failed _ (uncommitted_behind (stays_then c.uploads.invariant.0 c.in_ok-left.ensures.stays) c.in_err-expire.ensures.stays c.in_err-expire.ensures.err clean inside is_open)
+pub returns-clause-keeps : goal.returns-clause-keeps
+returns-clause-keeps g c = changes_err refl c.uploads.invariant.0

@@ -5,16 +5,16 @@ use Rattle.dep_tables.specs.declared.state.StateRow.{StateRow}
 use Rattle.dep_row_maps.specs.Stored.{state_row}
 use Rattle.dep_row_maps.specs.TablesAre.{TablesAre}
 use Rattle.dep_row_maps.proofs.Readings.{state_read}
-use Rattle.dep_files.proofs.Results.{still_ours, same_tables, fails_behind, uncommitted_behind}
+use Rattle.dep_files.proofs.Results.{same_tables}
 use Rattle.dep_staging.proofs.Expired.{tick_is, ticked_clock, ticked_row, storable_tick, storable_uploads}
-use Rattle.dep_tables.proofs.Results.{if_failed}
-use Rattle.dep_tables.proofs.Chains.{clean_before, left_whole, stays_then, stays_ok, stays_err}
+use Rattle.dep_tables.proofs.Chains.{clean_before, stays_then, still_ours}
 use Rattle.dep_tables.specs.Clauses.{FailsToRun}
 use Rattle.dep_tables.specs.Rows.{IsStorableState, state_values}
 use Rattle.dep_tables.specs.Texts.{write_state_text}
 use Rattle.dep_staging.specs.Causes.{FailsToExpireAll, FailsToTick}
 use Rattle.dep_staging.specs.Causes.FailsToTick.{read, written, expired}
 use Rattle.dep_row_maps.proofs.Causes.{fails_then, fails_later, if_err_is, survives_itself}
+use Rattle.dep_row_maps.proofs.Changing.{changes_err, changes_ok, changes_then, reads_change}
 use Rattle.dep_staging.proofs.ticking.tick.Goals as goal
 
 pub returns-clause-map : goal.returns-clause-map
@@ -23,24 +23,20 @@ returns-clause-map g c clean inside ours s are zero_free =
     let one = g.T.Statements.state c.read_state.new.tx in
     let two = g.T.Statements.state c.set_clock.new.tx in
     let new = g.T.Statements.state c.expire_idle.new.tx in
-    let clean_two = clean_before c.expire_idle.ensures.stays clean in
-    let clean_one = clean_before c.set_clock.ensures.stays clean_two in
-    let same = c.in_ok-row.ensures.same clean_one ours in
+    let clean_two = clean_before c.expire_idle.ensures.keeps.stays clean in
+    let clean_one = clean_before c.set_clock.ensures.keeps.stays clean_two in
+    let same = c.in_ok-row.ensures.keeps.same clean_one ours in
     let row = c.in_ok-row.row in
     let clock = c.max-clock.result in
     let is : row ≡ state_row s = state_read (tables_of old) s are row (c.in_ok-row.ensures.ok clean_one ours) in
     let now = ticked_clock s c.args.moment row clock is (c.max-clock.ensures ∙ ap (max row.clock) c.min.ensures) in
-    let inside_one = c.in_ok-row.ensures.stays.inside clean_one inside in
+    let inside_one = c.in_ok-row.ensures.keeps.stays.inside clean_one inside in
     let ours_one = still_ours old one same ours in
     let are_one = subst (λ (t : Tables). TablesAre t s) (sym (same_tables old one same)) are in
     let set = c.in_ok-set_clock.ensures.map clean_two inside_one ours_one s are_one is in
     let was : State = record s { clock = clock } in
-    let expired = c.in_ok-expire_idle.ensures.map clean (c.in_ok-set_clock.ensures.stays.inside clean_two inside_one) (c.in_ok-set_clock.ensures.ours clean_two inside_one ours_one) was set in
+    let expired = c.in_ok-expire_idle.ensures.map clean (c.in_ok-set_clock.ensures.keeps.stays.inside clean_two inside_one) (c.in_ok-set_clock.ensures.keeps.ours clean_two inside_one ours_one) was set in
     (now, subst (TablesAre (tables_of new)) (tick_is c.args.config.now s c.args.moment clock s.next now refl) expired)
-
-pub returns-in_err-row-clause-err : goal.returns-in_err-row-clause-err
-returns-in_err-row-clause-err g c ours clean inside is_open =
-    if_failed _ (left_whole (g.T.Statements.state c.args.tx.now) (g.T.Statements.state c.read_state.new.tx) inside is_open (c.in_err-row.ensures.err clean inside ours is_open))
 
 pub returns-in_err-row-clause-cause : goal.returns-in_err-row-clause-cause
 returns-in_err-row-clause-cause g c clean inside ours s are sound =
@@ -53,14 +49,14 @@ returns-in_err-set_clock-clause-cause g c clean inside ours s are sound =
     let old = c.args.tx.now in
     let one = c.read_state.new.tx in
     let new = c.set_clock.new.tx in
-    let before = clean_before c.set_clock.ensures.stays clean in
+    let before = clean_before c.set_clock.ensures.keeps.stays clean in
     let row = c.in_ok-row.row in
     let is : row ≡ state_row s = state_read (tables_of (g.T.Statements.state old)) s are row (c.in_ok-row.ensures.ok before ours) in
     let now = ticked_clock s c.args.moment row c.max-clock.result is (c.max-clock.ensures ∙ ap (max row.clock) c.min.ensures) in
     let told = ticked_row c.args.config.now s c.args.moment row c.max-clock.result is now in
-    if_err_is _ c.from_residual-in_err-set_clock.result c.in_err-set_clock.field-0.0 c.from_residual-in_err-set_clock.ensures.1 (fails_then g.T.Statements.state old one new c.read_state.ensures.stays.survives (FailsToTick c.args.config.now s c.args.moment) c.in_err-set_clock.field-0.0
+    if_err_is _ c.from_residual-in_err-set_clock.result c.in_err-set_clock.field-0.0 c.from_residual-in_err-set_clock.ensures.1 (fails_then g.T.Statements.state old one new c.read_state.ensures.keeps.stays.survives (FailsToTick c.args.config.now s c.args.moment) c.in_err-set_clock.field-0.0
     (written (subst (λ (r : StateRow). FailsToRun write_state_text (state_values r) (g.T.Statements.state one) (g.T.Statements.state new) c.in_err-set_clock.field-0.0) told
-    (c.in_err-set_clock.ensures.cause (subst IsStorableState (sym told) (storable_tick c.args.config.now s c.args.moment sound)) clean (c.in_ok-row.ensures.stays.inside before inside)))))
+    (c.in_err-set_clock.ensures.cause (subst IsStorableState (sym told) (storable_tick c.args.config.now s c.args.moment sound)) clean (c.in_ok-row.ensures.keeps.stays.inside before inside)))))
 
 pub returns-in_err-expire_idle-clause-cause : goal.returns-in_err-expire_idle-clause-cause
 returns-in_err-expire_idle-clause-cause g c clean inside ours s are sound =
@@ -69,45 +65,32 @@ returns-in_err-expire_idle-clause-cause g c clean inside ours s are sound =
     let one = c.read_state.new.tx in
     let two = c.set_clock.new.tx in
     let new = c.expire_idle.new.tx in
-    let clean_two = clean_before c.expire_idle.ensures.stays clean in
-    let clean_one = clean_before c.set_clock.ensures.stays clean_two in
-    let same = c.in_ok-row.ensures.same clean_one ours in
+    let clean_two = clean_before c.expire_idle.ensures.keeps.stays clean in
+    let clean_one = clean_before c.set_clock.ensures.keeps.stays clean_two in
+    let same = c.in_ok-row.ensures.keeps.same clean_one ours in
     let row = c.in_ok-row.row in
     let clock = c.max-clock.result in
     let is : row ≡ state_row s = state_read (tables_of (g.T.Statements.state old)) s are row (c.in_ok-row.ensures.ok clean_one ours) in
     let now = ticked_clock s c.args.moment row clock is (c.max-clock.ensures ∙ ap (max row.clock) c.min.ensures) in
-    let inside_one = c.in_ok-row.ensures.stays.inside clean_one inside in
+    let inside_one = c.in_ok-row.ensures.keeps.stays.inside clean_one inside in
     let ours_one = still_ours (g.T.Statements.state old) (g.T.Statements.state one) same ours in
     let are_one = subst (λ (t : Tables). TablesAre t s) (sym (same_tables (g.T.Statements.state old) (g.T.Statements.state one) same)) are in
     let set = c.in_ok-set_clock.ensures.map clean_two inside_one ours_one s are_one is in
     let was : State = record s { clock = clock } in
-    let set_stays = stays_then c.in_ok-row.ensures.stays c.in_ok-set_clock.ensures.stays in
+    let set_stays = stays_then c.in_ok-row.ensures.keeps.stays c.in_ok-set_clock.ensures.keeps.stays in
     if_err_is _ c.from_residual-in_err-expire_idle.result c.in_err-expire_idle.field-0.0 c.from_residual-in_err-expire_idle.ensures.1 (fails_later g.T.Statements.state old two new set_stays.survives (FailsToExpireAll config clock s.uploads) (FailsToTick config s c.args.moment)
     (λ at later fault failed. expired (subst (λ k. FailsToExpireAll config k s.uploads at later fault) now failed)) _
-    (c.in_err-expire_idle.ensures.cause clean (set_stays.inside clean_two inside) (c.in_ok-set_clock.ensures.ours clean_two inside_one ours_one) was set
+    (c.in_err-expire_idle.ensures.cause clean (set_stays.inside clean_two inside) (c.in_ok-set_clock.ensures.keeps.ours clean_two inside_one ours_one) was set
     (subst (λ k. k < 2 ^ 63) (sym now) (storable_tick config s c.args.moment sound).clock) (storable_uploads s sound)))
 
-pub returns-in_err-set_clock-clause-stays : goal.returns-in_err-set_clock-clause-stays
-returns-in_err-set_clock-clause-stays g c =
-    stays_err c.from_residual-in_err-set_clock.ensures.0 (stays_then c.in_ok-row.ensures.stays c.set_clock.ensures.stays)
+pub returns-in_err-set_clock-clause-keeps : goal.returns-in_err-set_clock-clause-keeps
+returns-in_err-set_clock-clause-keeps g c = changes_err c.from_residual-in_err-set_clock.ensures.0 (stays_then c.in_ok-row.ensures.keeps.stays c.set_clock.ensures.keeps.stays)
 
-pub returns-in_err-set_clock-clause-err : goal.returns-in_err-set_clock-clause-err
-returns-in_err-set_clock-clause-err g c ours clean inside is_open =
-    if_failed _ (fails_behind c.in_ok-row.ensures.stays c.in_err-set_clock.ensures.stays c.in_err-set_clock.ensures.err clean inside is_open)
+pub returns-in_err-expire_idle-clause-keeps : goal.returns-in_err-expire_idle-clause-keeps
+returns-in_err-expire_idle-clause-keeps g c = changes_err c.from_residual-in_err-expire_idle.ensures.0 (stays_then (stays_then c.in_ok-row.ensures.keeps.stays c.in_ok-set_clock.ensures.keeps.stays) c.expire_idle.ensures.keeps.stays)
 
-pub returns-in_err-expire_idle-clause-stays : goal.returns-in_err-expire_idle-clause-stays
-returns-in_err-expire_idle-clause-stays g c =
-    stays_err c.from_residual-in_err-expire_idle.ensures.0 (stays_then (stays_then c.in_ok-row.ensures.stays c.in_ok-set_clock.ensures.stays) c.expire_idle.ensures.stays)
+pub returns-in_err-row-clause-keeps : goal.returns-in_err-row-clause-keeps
+returns-in_err-row-clause-keeps g c = changes_err c.from_residual.ensures.0 c.in_err-row.ensures.keeps.stays
 
-pub returns-in_err-expire_idle-clause-err : goal.returns-in_err-expire_idle-clause-err
-returns-in_err-expire_idle-clause-err g c ours clean inside is_open =
-    let old = g.T.Statements.state c.args.tx.now in
-    let one = g.T.Statements.state c.read_state.new.tx in
-    let clean_two = clean_before c.expire_idle.ensures.stays clean in
-    let clean_one = clean_before c.set_clock.ensures.stays clean_two in
-    let ours_one = still_ours old one (c.in_ok-row.ensures.same clean_one ours) ours in
-    let ours_two = c.in_ok-set_clock.ensures.ours clean_two (c.in_ok-row.ensures.stays.inside clean_one inside) ours_one in
-    if_failed _ (uncommitted_behind (stays_then c.in_ok-row.ensures.stays c.in_ok-set_clock.ensures.stays) c.in_err-expire_idle.ensures.stays (c.in_err-expire_idle.ensures.err ours_two) clean inside is_open)
-
-pub returns-clause-stays : goal.returns-clause-stays
-returns-clause-stays g c = stays_ok (stays_then (stays_then c.in_ok-row.ensures.stays c.in_ok-set_clock.ensures.stays) c.in_ok-expire_idle.ensures.stays)
+pub returns-clause-keeps : goal.returns-clause-keeps
+returns-clause-keeps g c = changes_ok (changes_then (changes_then (reads_change c.in_ok-row.ensures.keeps) c.in_ok-set_clock.ensures.keeps) c.in_ok-expire_idle.ensures.keeps)

@@ -1,13 +1,13 @@
 use Rattle.dep_tables.specs.Tables.{tables_of}
-use Rattle.dep_tables.proofs.Results.{ok_then, if_failed}
-use Rattle.dep_tables.proofs.Chains.{clean_before, stays_then, stays_err}
+use Rattle.dep_tables.proofs.Results.{ok_then}
+use Rattle.dep_tables.proofs.Chains.{clean_before, stays_then}
 use Rattle.dep_tables.specs.declared.owner.BlockOwner.TheVariants as owner
 use Rattle.dep_files.specs.Causes.{FailsToDeleteBlocks}
-use Rattle.dep_files.proofs.Results.{fails_behind}
 use Rattle.dep_staging.proofs.UploadCalls.{dropped}
 use Rattle.dep_staging.specs.Causes.{FailsToDrop}
 use Rattle.dep_staging.specs.Causes.FailsToDrop.{blocks, promise, segments, row}
 use Rattle.dep_row_maps.proofs.Causes.{fails_among, fails_then, if_err_then, if_err_is, never_failed}
+use Rattle.dep_row_maps.proofs.Changing.{changes_err, by_leads, by_sees, changes_then}
 use Rattle.dep_staging.proofs.uploads.drop_upload.Goals as goal
 
 pub returns-clause-map : goal.returns-clause-map
@@ -17,9 +17,9 @@ returns-clause-map g c clean inside ours s are =
     let two = g.T.Statements.state c.delete_sha512.new.tx in
     let three = g.T.Statements.state c.delete_segments.new.tx in
     let new = g.T.Statements.state c.delete_upload.new.tx in
-    let clean_three = clean_before c.delete_upload.ensures.stays clean in
-    let clean_two = clean_before c.delete_segments.ensures.stays clean_three in
-    let clean_one = clean_before c.delete_sha512.ensures.stays clean_two in
+    let clean_three = clean_before c.delete_upload.ensures.keeps.stays clean in
+    let clean_two = clean_before c.delete_segments.ensures.keeps.stays clean_three in
+    let clean_one = clean_before c.delete_sha512.ensures.keeps.stays clean_two in
     let first = c.in_ok-delete_blocks.ensures.ok clean_one inside ours in
     let second = c.in_ok-delete_sha512.ensures.ok clean_two (c.in_ok-delete_blocks.ensures.stays.inside clean_one inside) first.ours in
     let third = c.in_ok-delete_segments.ensures.ok clean_three second.shows.mode second.ours in
@@ -37,7 +37,7 @@ returns-in_err-delete_sha512-clause-cause g c storable clean inside =
     let one = c.delete_blocks.new.tx in
     let new = c.delete_sha512.new.tx in
     let stays = c.in_ok-delete_blocks.ensures.stays in
-    let within = stays.inside (clean_before c.delete_sha512.ensures.stays clean) inside in
+    let within = stays.inside (clean_before c.delete_sha512.ensures.keeps.stays clean) inside in
     if_err_is _ c.from_residual-in_err-delete_sha512.result c.in_err-delete_sha512.field-0.0 c.from_residual-in_err-delete_sha512.ensures.1 (fails_then g.T.Statements.state old one new stays.survives (FailsToDrop c.args.upload) _
     (promise (c.in_err-delete_sha512.ensures.cause storable clean within)))
 
@@ -46,8 +46,8 @@ returns-in_err-delete_segments-clause-cause g c storable clean inside =
     let old = c.args.tx.now in
     let two = c.delete_sha512.new.tx in
     let new = c.delete_segments.new.tx in
-    let stays = stays_then c.in_ok-delete_blocks.ensures.stays c.in_ok-delete_sha512.ensures.stays in
-    let within = stays.inside (clean_before c.delete_segments.ensures.stays clean) inside in
+    let stays = stays_then c.in_ok-delete_blocks.ensures.stays c.in_ok-delete_sha512.ensures.keeps.stays in
+    let within = stays.inside (clean_before c.delete_segments.ensures.keeps.stays clean) inside in
     if_err_is _ c.from_residual-in_err-delete_segments.result c.in_err-delete_segments.field-0.0 c.from_residual-in_err-delete_segments.ensures.1 (fails_then g.T.Statements.state old two new stays.survives (FailsToDrop c.args.upload) _
     (segments (c.in_err-delete_segments.ensures.cause storable clean within)))
 
@@ -56,8 +56,8 @@ returns-clause-cause g c storable clean inside =
     let old = c.args.tx.now in
     let three = c.delete_segments.new.tx in
     let new = c.delete_upload.new.tx in
-    let stays = stays_then (stays_then c.in_ok-delete_blocks.ensures.stays c.in_ok-delete_sha512.ensures.stays) c.in_ok-delete_segments.ensures.stays in
-    let within = stays.inside (clean_before c.delete_upload.ensures.stays clean) inside in
+    let stays = stays_then (stays_then c.in_ok-delete_blocks.ensures.stays c.in_ok-delete_sha512.ensures.keeps.stays) c.in_ok-delete_segments.ensures.keeps.stays in
+    let within = stays.inside (clean_before c.delete_upload.ensures.keeps.stays clean) inside in
     if_err_then c.delete_upload.result (c.delete_upload.ensures.cause storable clean within)
     (λ fault failed. fails_then g.T.Statements.state old three new stays.survives (FailsToDrop c.args.upload) fault (row failed))
 
@@ -70,25 +70,12 @@ returns-in_err-delete_segments-clause-numbers g c great = never_failed _ _ (c.in
 pub returns-clause-numbers : goal.returns-clause-numbers
 returns-clause-numbers g c great = never_failed _ _ (c.in_ok-delete_blocks.ensures.numbers great).0
 
-pub returns-in_err-delete_sha512-clause-stays : goal.returns-in_err-delete_sha512-clause-stays
-returns-in_err-delete_sha512-clause-stays g c =
-    stays_err c.from_residual-in_err-delete_sha512.ensures.0 (stays_then c.in_ok-delete_blocks.ensures.stays c.delete_sha512.ensures.stays)
+pub returns-in_err-delete_sha512-clause-keeps : goal.returns-in_err-delete_sha512-clause-keeps
+returns-in_err-delete_sha512-clause-keeps g c = changes_err c.from_residual-in_err-delete_sha512.ensures.0 (stays_then c.in_ok-delete_blocks.ensures.stays c.delete_sha512.ensures.keeps.stays)
 
-pub returns-in_err-delete_sha512-clause-err : goal.returns-in_err-delete_sha512-clause-err
-returns-in_err-delete_sha512-clause-err g c clean inside is_open =
-    if_failed _ (fails_behind c.in_ok-delete_blocks.ensures.stays c.in_err-delete_sha512.ensures.stays c.in_err-delete_sha512.ensures.err clean inside is_open)
+pub returns-in_err-delete_segments-clause-keeps : goal.returns-in_err-delete_segments-clause-keeps
+returns-in_err-delete_segments-clause-keeps g c = changes_err c.from_residual-in_err-delete_segments.ensures.0 (stays_then (stays_then c.in_ok-delete_blocks.ensures.stays c.in_ok-delete_sha512.ensures.keeps.stays) c.delete_segments.ensures.keeps.stays)
 
-pub returns-in_err-delete_segments-clause-stays : goal.returns-in_err-delete_segments-clause-stays
-returns-in_err-delete_segments-clause-stays g c =
-    stays_err c.from_residual-in_err-delete_segments.ensures.0 (stays_then (stays_then c.in_ok-delete_blocks.ensures.stays c.in_ok-delete_sha512.ensures.stays) c.delete_segments.ensures.stays)
-
-pub returns-in_err-delete_segments-clause-err : goal.returns-in_err-delete_segments-clause-err
-returns-in_err-delete_segments-clause-err g c clean inside is_open =
-    if_failed _ (fails_behind (stays_then c.in_ok-delete_blocks.ensures.stays c.in_ok-delete_sha512.ensures.stays) c.in_err-delete_segments.ensures.stays c.in_err-delete_segments.ensures.err clean inside is_open)
-
-pub returns-clause-stays : goal.returns-clause-stays
-returns-clause-stays g c = stays_then (stays_then (stays_then c.in_ok-delete_blocks.ensures.stays c.in_ok-delete_sha512.ensures.stays) c.in_ok-delete_segments.ensures.stays) c.delete_upload.ensures.stays
-
-pub returns-clause-err : goal.returns-clause-err
-returns-clause-err g c =
-    fails_behind (stays_then (stays_then c.in_ok-delete_blocks.ensures.stays c.in_ok-delete_sha512.ensures.stays) c.in_ok-delete_segments.ensures.stays) c.delete_upload.ensures.stays c.delete_upload.ensures.err
+pub returns-clause-keeps : goal.returns-clause-keeps
+returns-clause-keeps g c =
+    changes_then (changes_then (changes_then (by_sees _ c.in_ok-delete_blocks.ensures.stays c.in_ok-delete_blocks.ensures.ok) (by_leads _ c.in_ok-delete_sha512.ensures.keeps.stays c.in_ok-delete_sha512.ensures.ok)) (by_leads _ c.in_ok-delete_segments.ensures.keeps.stays c.in_ok-delete_segments.ensures.ok)) (by_leads _ c.delete_upload.ensures.keeps.stays c.delete_upload.ensures.ok)

@@ -19,7 +19,7 @@ returns-in-Some-clause-map g c clean inside ours s are it is empty =
     let old = tables_of (g.T.Statements.state c.args.tx.now) in
     let mid = tables_of (g.T.Statements.state c.insert_upload.new.tx) in
     let new = tables_of (g.T.Statements.state c.insert_sha512.new.tx) in
-    let before = clean_before c.insert_sha512.ensures.stays clean in
+    let before = clean_before c.insert_sha512.ensures.keeps.stays clean in
     let first = c.in_ok-insert_upload.ensures.ok before inside ours in
     let free = ap (λ (r : UploadColumns). row_at old.uploads r.upload) (sym c.of_row.ensures) ∙ c.in_ok-insert_upload.ensures.free before inside ours in
     ok_then c.insert_sha512.result (c.insert_sha512.ensures.ok clean first.shows.mode first.ours)
@@ -49,6 +49,6 @@ returns-in-Some-clause-cause g c storable clean inside =
     let old = c.args.tx.now in
     let mid = c.insert_upload.new.tx in
     let new = c.insert_sha512.new.tx in
-    let within = c.in_ok-insert_upload.ensures.stays.inside (clean_before c.insert_sha512.ensures.stays clean) inside in
+    let within = c.in_ok-insert_upload.ensures.keeps.stays.inside (clean_before c.insert_sha512.ensures.keeps.stays clean) inside in
     if_err_then c.insert_sha512.result (c.insert_sha512.ensures.cause storable.upload clean within)
-    (λ fault failed. fails_then g.T.Statements.state old mid new c.insert_upload.ensures.stays.survives (FailsToOpen c.args.row.now) fault (promise c.in-Some.value c.in-Some.is failed))
+    (λ fault failed. fails_then g.T.Statements.state old mid new c.insert_upload.ensures.keeps.stays.survives (FailsToOpen c.args.row.now) fault (promise c.in-Some.value c.in-Some.is failed))

@@ -1,50 +1,49 @@
+use Rattle.sqlite.specs.State.{HasCleanDisk}
 use Rattle.sqlite.specs.Held.{state}
 use Rattle.sqlite.proofs.StateLemmas.{clean_if_open}
-use Rattle.dep_store.proofs.Audited.{audited_of}
+use Rattle.dep_store.specs.Auditing.{IsObjectAudited}
+use Rattle.dep_store.proofs.Audited.{audited_of, none_told}
 use Rattle.dep_store.proofs.Carrying.{tables_kept}
 use Rattle.dep_streams.proofs.Stills.{commits_none, still_left}
+use Rattle.dep_tables.specs.Tables.{Tables}
 use Rattle.dep_tables.proofs.Results.{ok_then}
+use Rattle.dep_schema.specs.Standing.{Stands}
 use Rattle.dep_schema.proofs.Transacting.{ok_tells, still_tells, left_tells, left_still}
 use Rattle.dep_store.proofs.auditing.audit_object.Goals as goal
 
-pub returns-in_err-files-clause-still : goal.returns-in_err-files-clause-still
-returns-in_err-files-clause-still g c =
+pub returns-in_err-files : goal.returns-in_err-files
+returns-in_err-files g c =
+    let new = state g.S.Store c.list_files.new.connection in
     let store = c.list_files.new.connection.store in
-    still_tells _ _ _ _ c.in_err-files.ensures.transacts (clean_if_open (g.S.Store.view store) (g.met.S.Store.shut_if_dirty store))
+    let it = c.in_err-files.ensures.transacts in
+    record {
+      ok = λ clean t at. none_told c.from_residual.result (λ audit. IsObjectAudited t c.args.object audit × Stands new t) c.from_residual.ensures.0;
+      still = still_tells _ _ _ _ it (clean_if_open (g.S.Store.view store) (g.met.S.Store.shut_if_dirty store));
+      honest = it.honest;
+      was_open = it.was_open;
+      stop = left_tells _ _ _ _ it;
+    }
 
-pub returns-in_err-files-clause-stop : goal.returns-in_err-files-clause-stop
-returns-in_err-files-clause-stop g c = left_tells _ _ _ _ c.in_err-files.ensures.transacts
-
-pub returns-clause-ok : goal.returns-clause-ok
-returns-clause-ok g c clean t stands =
-    let mid = state g.S.Store c.list_files.new.connection in
-    let told = ok_tells _ _ _ _ c.in_ok-files.ensures.transacts (c.audit_files.ensures.stays.honest clean) t stands in
-    audited_of mid (state g.S.Store c.audit_files.new.connection) t c.args.object c.in_ok-files.files.items c.audit_files.result told.1 told.0
-    (ok_then c.audit_files.result (c.audit_files.ensures.ok clean told.1.ours)
-    (λ left. (still_left g.S.Store c.list_files.new.connection c.audit_files.new.connection left).unchanged told.1.is_open))
-    (rw c.as_slice.ensures.value at (c.audit_files.ensures.audits clean told.1.ours))
-
-pub returns-clause-still : goal.returns-clause-still
-returns-clause-still g c is_open t stands =
-    let mid = state g.S.Store c.list_files.new.connection in
-    let store = c.audit_files.new.connection.store in
-    let clean = clean_if_open (g.S.Store.view store) (g.met.S.Store.shut_if_dirty store) is_open in
-    let told = ok_tells _ _ _ _ c.in_ok-files.ensures.transacts (c.audit_files.ensures.stays.honest clean) t stands in
-    tables_kept mid (state g.S.Store c.audit_files.new.connection) t told.1 is_open (c.audit_files.ensures.stays.kept clean told.1.ours)
-
-pub returns-clause-honest : goal.returns-clause-honest
-returns-clause-honest g c clean = c.in_ok-files.ensures.transacts.honest (c.audit_files.ensures.stays.honest clean)
-
-pub returns-clause-open : goal.returns-clause-open
-returns-clause-open g c is_open =
-    let store = c.audit_files.new.connection.store in
-    let clean = clean_if_open (g.S.Store.view store) (g.met.S.Store.shut_if_dirty store) is_open in
-    c.in_ok-files.ensures.opened (c.audit_files.ensures.stays.honest clean)
-
-pub returns-clause-stop : goal.returns-clause-stop
-returns-clause-stop g c clean t stands =
+pub returns : goal.returns
+returns g c =
     let mid = state g.S.Store c.list_files.new.connection in
     let new = state g.S.Store c.audit_files.new.connection in
-    let store = c.list_files.new.connection.store in
-    let told = ok_tells _ _ _ _ c.in_ok-files.ensures.transacts (c.audit_files.ensures.stays.honest clean) t stands in
-    left_still mid new t (λ trees h. g.met.S.Store.settled store trees told.1.is_open h) told.1 (commits_none c.audit_files.ensures.stays told.1.ours) clean
+    let stays = c.audit_files.ensures.stays in
+    let clean_now = clean_if_open (g.S.Store.view c.audit_files.new.connection.store) (g.met.S.Store.shut_if_dirty c.audit_files.new.connection.store) in
+    let told = λ (clean : HasCleanDisk new) (t : Tables) (at : Stands (state g.S.Store c.args.connection.now) t). ok_tells _ _ _ _ c.in_ok-files.ensures.transacts (stays.honest clean) t at in
+    record {
+      ok = λ clean t at.
+          let it = told clean t at in
+          audited_of mid new t c.args.object c.in_ok-files.files.items c.audit_files.result it.1 it.0
+          (ok_then c.audit_files.result (c.audit_files.ensures.ok clean it.1.ours)
+          (λ left. (still_left g.S.Store c.list_files.new.connection c.audit_files.new.connection left).unchanged it.1.is_open))
+          (rw c.as_slice.ensures.value at (c.audit_files.ensures.audits clean it.1.ours));
+      still = λ is_open t at.
+          let it = told (clean_now is_open) t at in
+          tables_kept mid new t it.1 is_open (stays.kept (clean_now is_open) it.1.ours);
+      honest = λ clean. c.in_ok-files.ensures.transacts.honest (stays.honest clean);
+      was_open = λ is_open. c.in_ok-files.ensures.opened (stays.honest (clean_now is_open));
+      stop = λ clean t at.
+          let it = told clean t at in
+          left_still mid new t (λ trees h. g.met.S.Store.settled c.list_files.new.connection.store trees it.1.is_open h) it.1 (commits_none stays it.1.ours) clean;
+    }

@@ -13,7 +13,7 @@ returns-in_err-more-clause-back g c =
     let left : c.hash_ahead.new.tx.tx.now ≡ c.tx-2-1.given.0 = search rules in
     let inside = c.tx-2-1.given.0.conn.now in
     let new = c.drop-tx.new.self.0 in
-    let work = works_within g.S.Store old new c.in_err-more.ensures.stays c.transaction-tx.ensures.begun left (λ is_open trees h. g.met.S.Store.settled old.store trees is_open h)
+    let work = works_within g.S.Store old new c.in_err-more.ensures.keeps.stays c.transaction-tx.ensures.begun left (λ is_open trees h. g.met.S.Store.settled old.store trees is_open h)
     (clean_if_open (g.S.Store.view new.store) (g.met.S.Store.shut_if_dirty new.store)) in
     let same : new ≡ c.connection-1.given.0 = search rules in
     back_by_rollback g.S.Store old inside new work
@@ -25,7 +25,7 @@ returns-clause-back g c =
     let left : c.hash_ahead.new.tx.tx.now ≡ c.tx-2-1.given.0 = search rules in
     let inside = c.tx-2-1.given.0.conn.now in
     let new = c.rollback.new.self.0 in
-    let work = works_within g.S.Store old new c.in_ok-more.ensures.stays c.transaction-tx.ensures.begun left (λ is_open trees h. g.met.S.Store.settled old.store trees is_open h)
+    let work = works_within g.S.Store old new c.in_ok-more.ensures.keeps.stays c.transaction-tx.ensures.begun left (λ is_open trees h. g.met.S.Store.settled old.store trees is_open h)
     (clean_if_open (g.S.Store.view new.store) (g.met.S.Store.shut_if_dirty new.store)) in
     let same : new ≡ c.connection-2-1.given.0 = search rules in
     back_by_rollback g.S.Store old inside new work

@@ -11,7 +11,7 @@ returns-in_err-found g c =
     let left : c.next_object.new.tx.tx.now ≡ c.tx-2-1.given.0 = search rules in
     let inside = c.tx-2-1.given.0.conn.now in
     let new = c.drop-tx.new.self.0 in
-    let work = works_within g.S.Store old new c.in_err-found.ensures.stays c.transaction-tx.ensures.begun left (λ is_open trees h. g.met.S.Store.settled old.store trees is_open h)
+    let work = works_within g.S.Store old new c.in_err-found.ensures.keeps.stays c.transaction-tx.ensures.begun left (λ is_open trees h. g.met.S.Store.settled old.store trees is_open h)
     (clean_if_open (g.S.Store.view new.store) (g.met.S.Store.shut_if_dirty new.store)) in
     let same : new ≡ c.connection-1.given.0 = search rules in
     record {
@@ -27,12 +27,12 @@ returns-in-Ok g c =
     let inside = c.tx-2-1.given.0.conn.now in
     let new = c.commit.new.self.0 in
     let worked = rw (c.transaction-tx.ensures.begun, left) at c.in_ok-found.ensures in
-    let work = works_within g.S.Store old new c.in_ok-found.ensures.stays c.transaction-tx.ensures.begun left (λ is_open trees h. g.met.S.Store.settled old.store trees is_open h)
+    let work = works_within g.S.Store old new c.in_ok-found.ensures.keeps.stays c.transaction-tx.ensures.begun left (λ is_open trees h. g.met.S.Store.settled old.store trees is_open h)
     (clean_if_open (g.S.Store.view new.store) (g.met.S.Store.shut_if_dirty new.store)) in
     let same : new ≡ c.connection-2-1.given.0 = search rules in
     record {
       transacts = committed g.S.Store old inside new _ _ work
-          (tells g.S.Store old inside (IsObjectAfter c.args.after) c.in_ok-found.found worked.ok worked.same)
+          (tells g.S.Store old inside (IsObjectAfter c.args.after) c.in_ok-found.found worked.ok worked.keeps.same)
           (λ clean. let ok = c.in-Ok.ensures.ok clean in (ok.1, ok.2, ok.3)) c.commit.ensures.survives _ same;
       opened = began_open g.S.Store old inside new work
           (λ clean. let ok = c.in-Ok.ensures.ok clean in (ok.1, ok.2, ok.3)) c.commit.ensures.survives _ same;
@@ -45,12 +45,12 @@ returns-in-Err g c =
     let inside = c.tx-2-1.given.0.conn.now in
     let new = c.commit.new.self.0 in
     let worked = rw (c.transaction-tx.ensures.begun, left) at c.in_ok-found.ensures in
-    let work = works_within g.S.Store old new c.in_ok-found.ensures.stays c.transaction-tx.ensures.begun left (λ is_open trees h. g.met.S.Store.settled old.store trees is_open h)
+    let work = works_within g.S.Store old new c.in_ok-found.ensures.keeps.stays c.transaction-tx.ensures.begun left (λ is_open trees h. g.met.S.Store.settled old.store trees is_open h)
     (clean_if_open (g.S.Store.view new.store) (g.met.S.Store.shut_if_dirty new.store)) in
     let same : new ≡ c.connection-2-1.given.0 = search rules in
     record {
       transacts = uncommitted g.S.Store old inside new _ c.in_ok-found.found _ c.in-Err.error work
-          (tells g.S.Store old inside (IsObjectAfter c.args.after) c.in_ok-found.found worked.ok worked.same)
-          (still_inside g.S.Store old c.in_ok-found.ensures.stays c.transaction-tx.ensures.begun left) (λ clean. c.in-Err.ensures.err clean) c.commit.ensures.survives _ same;
+          (tells g.S.Store old inside (IsObjectAfter c.args.after) c.in_ok-found.found worked.ok worked.keeps.same)
+          (still_inside g.S.Store old c.in_ok-found.ensures.keeps.stays c.transaction-tx.ensures.begun left) (λ clean. c.in-Err.ensures.err clean) c.commit.ensures.survives _ same;
       opened = λ clean. tt;
     }

@@ -1,45 +1,30 @@
-use Rattle.std.proofs.Common.{rules, inl, inr, Bool, sym, subst, []}
+use Rattle.std.proofs.Common.{inr, Bool, sym, subst}
 use Rattle.std.proofs.lemmas.Result.{IfOk-weaker, IfErr-weaker}
 use Rattle.sqlite.specs.Held.{state}
 use Rattle.sqlite.proofs.StateLemmas.{clean_if_open}
 use Rattle.dep_types.specs.declared.store_fault.StoreFault.{StoreFault}
 use Rattle.dep_hub.specs.Shut.{TellsOpen}
 use Rattle.dep_store.specs.Archive.{shown_by}
-use Rattle.dep_schema.proofs.Transacting.{back_by_statement, not_run}
 use Rattle.dep_store.proofs.ShutLemmas.{closed_if_shut, fails_alone}
 use Rattle.dep_store.proofs.remembering.tell_open.Goals as goal
 
 pub returns-in-Err-clause-told : goal.returns-in-Err-clause-told
 returns-in-Err-clause-told g c =
     let old = state g.S.Store c.args.connection.now in
-    let new = state g.S.Store c.prepare.new.self in
+    let new = state g.S.Store c.probe.new.connection in
     IfOk-weaker c.told_by.result _ _
     (λ (b : Bool) (shut, closed). subst (λ (b : Bool). TellsOpen (shown_by new) b) (sym shut) (λ is_open.
-    let clean = clean_if_open (g.S.Store.view c.prepare.new.self.store) (g.met.S.Store.shut_if_dirty c.prepare.new.self.store) is_open in
-    closed_if_shut old new _ c.in-Err.error (c.in-Err.ensures.err clean []) closed is_open))
+    let clean = clean_if_open (g.S.Store.view c.probe.new.connection.store) (g.met.S.Store.shut_if_dirty c.probe.new.connection.store) is_open in
+    closed_if_shut old new _ c.in-Err.error (c.in-Err.ensures.cause clean) closed is_open))
     c.told_by.ensures.shut
 
 pub returns-in-Err-clause-cause : goal.returns-in-Err-clause-cause
 returns-in-Err-clause-cause g c clean =
     let old = state g.S.Store c.args.connection.now in
-    let new = state g.S.Store c.prepare.new.self in
+    let new = state g.S.Store c.probe.new.connection in
     IfErr-weaker c.told_by.result _ _
-    (λ (fault : StoreFault) (same, other). inr (c.in-Err.error, fails_alone old new c.in-Err.error (c.in-Err.ensures.err clean []), other, same))
+    (λ (fault : StoreFault) (same, other). inr (c.in-Err.error, fails_alone old new c.in-Err.error (c.in-Err.ensures.cause clean), other, same))
     c.told_by.ensures.fault
 
-pub returns-in-Err-clause-back : goal.returns-in-Err-clause-back
-returns-in-Err-clause-back g c is_open =
-    let old = state g.S.Store c.args.connection.now in
-    let new = state g.S.Store c.prepare.new.self in
-    let clean = clean_if_open (g.S.Store.view c.prepare.new.self.store) (g.met.S.Store.shut_if_dirty c.prepare.new.self.store) is_open in
-    back_by_statement old new (c.is_autocommit-between.ensures.settled (search rules)) c.requires.settled (not_run old new _ [] c.in-Err.error (c.in-Err.ensures.err clean [])) is_open
-
-pub returns-clause-told : goal.returns-clause-told
-returns-clause-told g c = λ clean. (c.in_default.ensures.ok clean).1.0.is_open
-
-pub returns-clause-back : goal.returns-clause-back
-returns-clause-back g c is_open =
-    let old = state g.S.Store c.args.connection.now in
-    let new = state g.S.Store c.prepare.new.self in
-    let clean = clean_if_open (g.S.Store.view c.prepare.new.self.store) (g.met.S.Store.shut_if_dirty c.prepare.new.self.store) is_open in
-    back_by_statement old new (c.is_autocommit-between.ensures.settled (search rules)) c.requires.settled (inl (c.in_default.ensures.ok clean).1) is_open
+pub returns-in-Ok-clause-told : goal.returns-in-Ok-clause-told
+returns-in-Ok-clause-told g c = λ clean. c.in-Ok.ensures.opened clean

@@ -1,6 +1,6 @@
 use Rattle.std.proofs.Common.{◌≡◌, length, refl, rules}
-use Rattle.sqlite.specs.Held.{state}
-use Rattle.dep_store.proofs.TellLemmas.{told_object, object_fails, leaves_held}
+use Rattle.dep_store.proofs.TellLemmas.{told_object, object_fails}
+use Rattle.dep_store.proofs.Tries.{tells_keeps}
 use Rattle.dep_store.proofs.telling.tell_object.Goals as goal
 
 pub returns-in_err-tell_damaged-clause-writes : goal.returns-in_err-tell_damaged-clause-writes
@@ -25,11 +25,11 @@ returns-clause-writes g c =
 pub returns-clause-kept : goal.returns-clause-kept
 returns-clause-kept g c clean t at = (c.in_ok-audit.ensures.ok clean t at).1
 
-pub returns-in_err-audit-clause-stop : goal.returns-in_err-audit-clause-stop
-returns-in_err-audit-clause-stop g c clean s h = leaves_held (state g.S.Store c.audit.new.self) s h.means (c.in_err-audit.ensures.stop clean h.tables h.stands)
+pub returns-in_err-audit-clause-stays : goal.returns-in_err-audit-clause-stays
+returns-in_err-audit-clause-stays g c = tells_keeps _ _ _ _ c.in_err-audit.ensures
 
-pub returns-in_err-tell_damaged-clause-stop : goal.returns-in_err-tell_damaged-clause-stop
-returns-in_err-tell_damaged-clause-stop g c clean s h = leaves_held (state g.S.Store c.audit.new.self) s h.means (c.in_ok-audit.ensures.stop clean h.tables h.stands)
+pub returns-in_err-tell_damaged-clause-stays : goal.returns-in_err-tell_damaged-clause-stays
+returns-in_err-tell_damaged-clause-stays g c = tells_keeps _ _ _ _ c.in_ok-audit.ensures
 
-pub returns-clause-stop : goal.returns-clause-stop
-returns-clause-stop g c clean s h = leaves_held (state g.S.Store c.audit.new.self) s h.means (c.in_ok-audit.ensures.stop clean h.tables h.stands)
+pub returns-clause-stays : goal.returns-clause-stays
+returns-clause-stays g c = tells_keeps _ _ _ _ c.in_ok-audit.ensures

@@ -10,7 +10,7 @@ returns-in_err-moved g c =
     let left : c.tick.new.tx.tx.now ≡ c.tx-2-1.given.0 = search rules in
     let inside = c.tx-2-1.given.0.conn.now in
     let new = c.drop-tx.new.self.0 in
-    let work = works_within g.S.Store old new c.in_err-moved.ensures.stays c.transaction-tx.ensures.begun left (λ is_open trees h. g.met.S.Store.settled old.store trees is_open h)
+    let work = works_within g.S.Store old new c.in_err-moved.ensures.keeps.stays c.transaction-tx.ensures.begun left (λ is_open trees h. g.met.S.Store.settled old.store trees is_open h)
     (clean_if_open (g.S.Store.view new.store) (g.met.S.Store.shut_if_dirty new.store)) in
     let same : new ≡ c.connection-1.given.0 = search rules in
     record {
@@ -25,12 +25,12 @@ returns-in-Ok g c =
     let inside = c.tx-2-1.given.0.conn.now in
     let new = c.commit.new.self.0 in
     let worked = rw (c.transaction-tx.ensures.begun, left) at c.in_ok-moved.ensures in
-    let work = works_within g.S.Store old new c.in_ok-moved.ensures.stays c.transaction-tx.ensures.begun left (λ is_open trees h. g.met.S.Store.settled old.store trees is_open h)
+    let work = works_within g.S.Store old new c.in_ok-moved.ensures.keeps.stays c.transaction-tx.ensures.begun left (λ is_open trees h. g.met.S.Store.settled old.store trees is_open h)
     (clean_if_open (g.S.Store.view new.store) (g.met.S.Store.shut_if_dirty new.store)) in
     let same : new ≡ c.connection-2-1.given.0 = search rules in
     record {
       transacts = committed g.S.Store old inside new _ _ work
-          (ticks g.S.Store old inside c.args.config.now c.args.moment c.in_ok-moved.moved c.new-clock.result c.new-clock.ensures worked.map worked.ours)
+          (ticks g.S.Store old inside c.args.config.now c.args.moment c.in_ok-moved.moved c.new-clock.result c.new-clock.ensures worked.map worked.keeps.ours)
           (λ clean. let ok = c.in-Ok.ensures.ok clean in (ok.1, ok.2, ok.3)) c.commit.ensures.survives _ same;
     }
 
@@ -41,11 +41,11 @@ returns-in-Err g c =
     let inside = c.tx-2-1.given.0.conn.now in
     let new = c.commit.new.self.0 in
     let worked = rw (c.transaction-tx.ensures.begun, left) at c.in_ok-moved.ensures in
-    let work = works_within g.S.Store old new c.in_ok-moved.ensures.stays c.transaction-tx.ensures.begun left (λ is_open trees h. g.met.S.Store.settled old.store trees is_open h)
+    let work = works_within g.S.Store old new c.in_ok-moved.ensures.keeps.stays c.transaction-tx.ensures.begun left (λ is_open trees h. g.met.S.Store.settled old.store trees is_open h)
     (clean_if_open (g.S.Store.view new.store) (g.met.S.Store.shut_if_dirty new.store)) in
     let same : new ≡ c.connection-2-1.given.0 = search rules in
     record {
       transacts = uncommitted g.S.Store old inside new _ c.new-clock.result _ c.in-Err.error work
-          (ticks g.S.Store old inside c.args.config.now c.args.moment c.in_ok-moved.moved c.new-clock.result c.new-clock.ensures worked.map worked.ours)
-          (still_inside g.S.Store old c.in_ok-moved.ensures.stays c.transaction-tx.ensures.begun left) (λ clean. c.in-Err.ensures.err clean) c.commit.ensures.survives _ same;
+          (ticks g.S.Store old inside c.args.config.now c.args.moment c.in_ok-moved.moved c.new-clock.result c.new-clock.ensures worked.map worked.keeps.ours)
+          (still_inside g.S.Store old c.in_ok-moved.ensures.keeps.stays c.transaction-tx.ensures.begun left) (λ clean. c.in-Err.ensures.err clean) c.commit.ensures.survives _ same;
     }

@@ -16,8 +16,9 @@ use Rattle.dep_streams.proofs.OrderedBlocks.{owner_is}
 use Rattle.dep_streams.proofs.Stills.{commits_none, ours_still, stays_then, still_left, still_same}
 use Rattle.dep_streams.specs.Faults.{IsStreamStoppedBy}
 use Rattle.dep_streams.proofs.FaultsTold.{none_failed, no_file_failed, asked_failed, writer_before, writer_after, none_streamed, told_for, stopped_then}
-use Rattle.dep_files.proofs.Results.{still_ours, same_tables}
+use Rattle.dep_files.proofs.Results.{same_tables}
 use Rattle.dep_streams.proofs.Streams.{SizeTold, size_told, all_sent, some_sent, blocks_from}
+use Rattle.dep_tables.proofs.Chains.{still_ours}
 use Rattle.dep_streams.proofs.streaming.stream_content.Goals as goal
 
 pub returns-in-Err : goal.returns-in-Err

@@ -23,8 +23,5 @@ returns-clause-numbers g c = is_storable c.is_storable_segment.result c.if-not-i
 pub returns-then-not-is_storable_segment-clause-cause : goal.returns-then-not-is_storable_segment-clause-cause
 returns-then-not-is_storable_segment-clause-cause g c = not_storable c.is_storable_segment.result c.if-not-is_storable_segment.true c.is_storable_segment.ensures.1
 
-pub returns-clause-err : goal.returns-clause-err
-returns-clause-err g c = c.run.ensures.err
-
-pub returns-clause-stays : goal.returns-clause-stays
-returns-clause-stays g c = c.run.ensures.stays
+pub returns-clause-keeps : goal.returns-clause-keeps
+returns-clause-keeps g c = c.run.ensures.keeps

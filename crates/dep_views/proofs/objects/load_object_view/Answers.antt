@@ -1,8 +1,5 @@
-use Rattle.dep_tables.proofs.Results.{if_failed}
-use Rattle.dep_tables.proofs.Chains.{clean_before, stays_then, stays_ok, stays_err}
+use Rattle.dep_tables.proofs.Chains.{clean_before, reads_ok, reads_then, reads_err, still_ours}
 use Rattle.std.proofs.Common.{sym, ◌∙◌, ◌≢◌}
-use Rattle.dep_staging.proofs.Chains.{fails_reading, reads_ours, reads_then}
-use Rattle.dep_files.proofs.Results.{still_ours}
 use Rattle.dep_views.proofs.Chains.{still_seen}
 use Rattle.dep_views.proofs.Told.{viewed, none_viewed}
 use Rattle.std.specs.FinMap as finmap
@@ -22,26 +19,16 @@ returns-clause-map g c clean inside ours s are sound =
     let old = g.T.Statements.state c.args.tx.now in
     let mid = g.T.Statements.state c.load_object.new.tx in
     let new = g.T.Statements.state c.load_files.new.tx in
-    let before = clean_before c.load_files.ensures.stays clean in
-    let same = c.in_ok-described.ensures.same before ours in
+    let before = clean_before c.load_files.ensures.keeps.stays clean in
+    let same = c.in_ok-described.ensures.keeps.same before ours in
     viewed s c.args.object c.in-Some.described c.in_ok-files.files (sym c.in-Some.is ∙ c.in_ok-described.ensures.map before inside ours s are sound)
     (c.in_ok-files.ensures.map clean (still_ours old mid same ours) s (still_seen old mid s same are))
 
-pub returns-in_err-files-clause-stays : goal.returns-in_err-files-clause-stays
-returns-in_err-files-clause-stays g c = stays_err c.from_residual-in_err-files.ensures.0 (stays_then c.in_ok-described.ensures.stays c.load_files.ensures.stays)
+pub returns-in_err-files-clause-keeps : goal.returns-in_err-files-clause-keeps
+returns-in_err-files-clause-keeps g c = reads_err c.from_residual-in_err-files.ensures.0 (reads_then c.in_ok-described.ensures.keeps c.load_files.ensures.keeps)
 
-pub returns-in_err-files-clause-err : goal.returns-in_err-files-clause-err
-returns-in_err-files-clause-err g c clean inside ours is_open =
-    if_failed _ (fails_reading c.in_ok-described.ensures.stays c.in_err-files.ensures.stays c.in_ok-described.ensures.same c.in_err-files.ensures.err clean inside ours is_open)
-
-pub returns-clause-stays : goal.returns-clause-stays
-returns-clause-stays g c = stays_ok (stays_then c.in_ok-described.ensures.stays c.in_ok-files.ensures.stays)
-
-pub returns-clause-same : goal.returns-clause-same
-returns-clause-same g c = reads_then c.in_ok-described.ensures.stays c.in_ok-files.ensures.stays c.in_ok-described.ensures.same (λ _. c.in_ok-files.ensures.same)
-
-pub returns-clause-ours : goal.returns-clause-ours
-returns-clause-ours g c = reads_ours (returns-clause-stays g c) (returns-clause-same g c)
+pub returns-clause-keeps : goal.returns-clause-keeps
+returns-clause-keeps g c = reads_ok (reads_then c.in_ok-described.ensures.keeps c.in_ok-files.ensures.keeps)
 
 pub returns-in_err-described-clause-cause : goal.returns-in_err-described-clause-cause
 returns-in_err-described-clause-cause g c clean inside ours s are storable =
@@ -50,5 +37,11 @@ returns-in_err-described-clause-cause g c clean inside ours s are storable =
 pub returns-in_err-files-clause-cause : goal.returns-in_err-files-clause-cause
 returns-in_err-files-clause-cause g c clean inside ours s are storable =
     if_err_is _ c.from_residual-in_err-files.result c.in_err-files.field-0.0 c.from_residual-in_err-files.ensures.1
-    (fails_then g.T.Statements.state c.args.tx.now c.load_object.new.tx c.load_files.new.tx c.load_object.ensures.stays.survives (FailsHolding (metadata_at s.objects c.args.object ≢ finmap.empty)) _
+    (fails_then g.T.Statements.state c.args.tx.now c.load_object.new.tx c.load_files.new.tx c.load_object.ensures.keeps.stays.survives (FailsHolding (metadata_at s.objects c.args.object ≢ finmap.empty)) _
     (statement (files_read _ (c.in_err-files.ensures.cause storable clean))))
+
+pub returns-in_err-described-clause-keeps : goal.returns-in_err-described-clause-keeps
+returns-in_err-described-clause-keeps g c = reads_err c.from_residual.ensures.0 c.in_err-described.ensures.keeps
+
+pub returns-in_default-clause-keeps : goal.returns-in_default-clause-keeps
+returns-in_default-clause-keeps g c = reads_ok c.in_ok-described.ensures.keeps

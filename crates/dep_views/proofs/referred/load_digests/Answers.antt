@@ -10,6 +10,7 @@ use Rattle.dep_row_maps.proofs.Causes.{fails_among, if_err_is}
 use Rattle.dep_staging.specs.Causes.{FailsToHash}
 use Rattle.dep_staging.proofs.Causes.{hash_among}
 use Rattle.dep_views.proofs.Causes.{storable_segments}
+use Rattle.dep_tables.proofs.Chains.{may_ok, may_err, may_put}
 use Rattle.dep_views.proofs.referred.load_digests.Goals as goal
 
 pub returns-then-not-is_complete-clause-map : goal.returns-then-not-is_complete-clause-map
@@ -30,3 +31,12 @@ returns-in_err-digests-clause-cause g c is_open clean inside ours s are sound u 
     if_err_is _ c.from_residual.result c.in_err-digests.field-0.0 c.from_residual.ensures.1
     (fails_among g.T.Statements.state c.args.tx.now c.hash_upload.new.tx (FailsToHash u) FailsByStatement (λ at now fault failed. hash_among at now fault u failed) _
     (c.in_err-digests.ensures.cause clean ours is_open s are u it live (storable_segments s u it sound live.there few)))
+
+pub returns-in_err-digests-clause-keeps : goal.returns-in_err-digests-clause-keeps
+returns-in_err-digests-clause-keeps g c = may_err c.from_residual.ensures.0 c.in_err-digests.ensures.keeps
+
+pub returns-then-not-is_complete-clause-keeps : goal.returns-then-not-is_complete-clause-keeps
+returns-then-not-is_complete-clause-keeps g c = may_put g.T.Statements.lenders g.T.Statements.state c.args.tx.now _
+
+pub returns-clause-keeps : goal.returns-clause-keeps
+returns-clause-keeps g c = may_ok c.in_ok-digests.ensures.keeps

@@ -5,6 +5,7 @@ use Rattle.dep_types.specs.declared.store_fault.StoreFault.TheVariants.{Memory}
 use Rattle.dep_row_maps.specs.Causes.{FailsByStatement, FailsHolding}
 use Rattle.dep_row_maps.specs.Causes.FailsHolding.{statement, memory}
 use Rattle.dep_row_maps.proofs.Causes.{fails_among, fails_first, if_err_is}
+use Rattle.dep_tables.proofs.Chains.{may_err, may_read}
 use Rattle.dep_views.proofs.referred.recall.Goals as goal
 
 pub returns-in-Ok-clause-map : goal.returns-in-Ok-clause-map
@@ -21,3 +22,6 @@ returns-in_err-found-clause-cause g c clean inside ours s are sound storable =
 pub returns-in-Err-clause-cause : goal.returns-in-Err-clause-cause
 returns-in-Err-clause-cause g c clean inside ours s are sound storable =
     fails_first g.T.Statements.state c.args.tx.now c.load_referred.new.tx (FailsHolding ⊤) Memory (memory tt refl)
+
+pub returns-in_err-found-clause-keeps : goal.returns-in_err-found-clause-keeps
+returns-in_err-found-clause-keeps g c = may_err c.from_residual.ensures.0 (may_read c.in_err-found.ensures.keeps)

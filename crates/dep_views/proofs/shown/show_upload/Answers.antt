@@ -7,6 +7,7 @@ use Rattle.dep_row_maps.specs.Causes.FailsHolding.{statement, memory}
 use Rattle.dep_row_maps.proofs.Causes.{fails_among, fails_first, if_err_is}
 use Rattle.dep_views.specs.Causes.{HasSegments}
 use Rattle.dep_views.proofs.Causes.{has_segments}
+use Rattle.dep_tables.proofs.Chains.{reads_ok, reads_err}
 use Rattle.dep_views.proofs.shown.show_upload.Goals as goal
 
 pub returns-in_ok-numbers_of-in-Live-clause-map : goal.returns-in_ok-numbers_of-in-Live-clause-map
@@ -35,3 +36,18 @@ returns-in_err-numbers_of-in-Live-clause-cause g c clean inside ours s are stora
     if_err_is _ c.from_residual-in_err-numbers_of-in-Live.result c.in_err-numbers_of-in-Live.field-0.0 c.from_residual-in_err-numbers_of-in-Live.ensures.1
     (fails_first g.T.Statements.state c.args.tx.now c.load_upload.new.tx (FailsHolding (HasSegments s c.args.upload)) _
     (memory (has_segments s c.args.upload c.in-Live.staged it (λ none. why.0 (c.as_slice.ensures.value ∙ none))) why.1))
+
+pub returns-in_err-staged-clause-keeps : goal.returns-in_err-staged-clause-keeps
+returns-in_err-staged-clause-keeps g c = reads_err c.from_residual.ensures.0 c.in_err-staged.ensures.keeps
+
+pub returns-in-TimedOut-clause-keeps : goal.returns-in-TimedOut-clause-keeps
+returns-in-TimedOut-clause-keeps g c = reads_ok c.in_ok-staged.ensures.keeps
+
+pub returns-in-Unknown-clause-keeps : goal.returns-in-Unknown-clause-keeps
+returns-in-Unknown-clause-keeps g c = reads_ok c.in_ok-staged.ensures.keeps
+
+pub returns-in_ok-numbers_of-in-Live-clause-keeps : goal.returns-in_ok-numbers_of-in-Live-clause-keeps
+returns-in_ok-numbers_of-in-Live-clause-keeps g c = reads_ok c.in_ok-staged.ensures.keeps
+
+pub returns-in_err-numbers_of-in-Live-clause-keeps : goal.returns-in_err-numbers_of-in-Live-clause-keeps
+returns-in_err-numbers_of-in-Live-clause-keeps g c = reads_ok c.in_ok-staged.ensures.keeps

@@ -1,15 +1,11 @@
-use Rattle.std.proofs.Common.{IsTrue, Ok, inl, ◌≡◌, ◌≢◌, refl, ◌∙◌, ◌++◌, [], ◌∷◌, map, take, get_or, sym, ap}
+use Rattle.std.proofs.Common.{IsTrue, Ok, ◌≡◌, ◌≢◌, refl, ◌∙◌, ◌++◌, [], ◌∷◌, map, take, get_or, sym, ap}
 use Rattle.std.proofs.lemmas.List.{map_more, take_all}
 use Rattle.std.proofs.lemmas.List.Elements.{All-get_or}
 use Rattle.dep_types.specs.declared.store_fault.StoreFault.TheVariants.{Memory}
-use Rattle.sqlite.proofs.Callers.{unchanged_then}
 use Rattle.dep_objects.proofs.Named.{pushed}
-use Rattle.dep_files.proofs.Results.{still_ours}
 use Rattle.dep_operations.specs.Views.{upload_view}
 use Rattle.dep_operations.specs.declared.view.UploadView.{UploadView}
-use Rattle.dep_staging.proofs.Chains.{failed_since}
-use Rattle.dep_tables.proofs.Results.{if_failed}
-use Rattle.dep_tables.proofs.Chains.{clean_before, stays_then, stays_ok, stays_err}
+use Rattle.dep_tables.proofs.Chains.{clean_before, may_ok, may_then, may_err, still_ours}
 use Rattle.dep_views.proofs.Chains.{still_seen}
 use Rattle.dep_row_maps.specs.Causes.{FailsHolding}
 use Rattle.dep_row_maps.specs.Causes.FailsHolding.{memory}
@@ -22,17 +18,13 @@ pub uploads-preserved : goal.uploads-preserved
 uploads-preserved g c =
     let old = g.T.Statements.state c.args.tx.now in
     let mid = g.T.Statements.state c.uploads.tx in
-    let new = g.T.Statements.state c.load_state.new.tx in
     let inv = c.uploads.invariant in
-    let earlier = clean_before c.load_state.ensures.stays in (
-      stays_ok (stays_then {r = Ok c.in_ok-state.state} inv.0 c.in_ok-state.ensures.stays),
-      λ is_open clean ours.
-          let same = inv.1 is_open (earlier clean) ours in
-          unchanged_then old mid new same (c.in_ok-state.ensures.same same.0.is_open clean (still_ours old mid same ours)),
+    let earlier = clean_before c.load_state.ensures.keeps.stays in (
+      may_ok (may_then {r = Ok c.in_ok-state.state} inv.0 c.in_ok-state.ensures.keeps),
       λ is_open clean inside ours s are sound running.
-          let same = inv.1 is_open (earlier clean) ours in
-          let so_far = inv.2 is_open (earlier clean) inside ours s are sound running in
-          let it = c.in_ok-state.ensures.map clean (inv.0.inside (earlier clean) inside) (still_ours old mid same ours) s (still_seen old mid s same are) sound so_far.0 in
+          let same = inv.0.same is_open (earlier clean) ours in
+          let so_far = inv.1 is_open (earlier clean) inside ours s are sound running in
+          let it = c.in_ok-state.ensures.map clean (inv.0.stays.inside (earlier clean) inside) (still_ours old mid same ours) s (still_seen old mid s same are) sound so_far.0 in
           let f = upload_view c.args.by_reference s in
           let xs = c.args.uploads.now in
           let n = get_or xs c.uploads.upload-index 0 in
@@ -45,35 +37,13 @@ uploads-preserved g c =
 pub returns-clause-map : goal.returns-clause-map
 returns-clause-map g c is_open clean inside ours s are sound running =
     let f = upload_view c.args.by_reference s in
-    c.from_vec.ensures ∙ (c.uploads.invariant.2 is_open clean inside ours s are sound running).1 ∙ ap (map f) (take_all c.uploads.upload-index c.args.uploads.now c.uploads-test.false)
+    c.from_vec.ensures ∙ (c.uploads.invariant.1 is_open clean inside ours s are sound running).1 ∙ ap (map f) (take_all c.uploads.upload-index c.args.uploads.now c.uploads-test.false)
 
-pub returns-in_err-state-clause-stays : goal.returns-in_err-state-clause-stays
-returns-in_err-state-clause-stays g c = stays_err c.from_residual.ensures.0 (stays_then c.uploads.invariant.0 c.load_state.ensures.stays)
+pub returns-in_err-state-clause-keeps : goal.returns-in_err-state-clause-keeps
+returns-in_err-state-clause-keeps g c = may_err c.from_residual.ensures.0 (may_then c.uploads.invariant.0 c.load_state.ensures.keeps)
 
-pub returns-in_err-state-clause-err : goal.returns-in_err-state-clause-err
-returns-in_err-state-clause-err g c clean inside ours is_open =
-    let old = g.T.Statements.state c.args.tx.now in
-    let mid = g.T.Statements.state c.uploads.tx in
-    let new = g.T.Statements.state c.load_state.new.tx in
-    let inv = c.uploads.invariant in
-    let before = clean_before c.load_state.ensures.stays clean in
-    let opened = (inv.0.kept before inside).was_open ((c.load_state.ensures.stays.kept clean (inv.0.inside before inside)).was_open is_open) in
-    let same = inv.1 opened before ours in
-    if_failed _ (failed_since old mid new same (c.in_err-state.ensures.err clean (inv.0.inside before inside) (still_ours old mid same ours) is_open))
-
-pub returns-then-is_err-clause-stays : goal.returns-then-is_err-clause-stays
-returns-then-is_err-clause-stays g c = stays_ok (stays_then c.uploads.invariant.0 c.in_ok-state.ensures.stays)
-
-pub returns-then-is_err-clause-err : goal.returns-then-is_err-clause-err
-returns-then-is_err-clause-err g c clean inside ours is_open =
-    let old = g.T.Statements.state c.args.tx.now in
-    let mid = g.T.Statements.state c.uploads.tx in
-    let new = g.T.Statements.state c.load_state.new.tx in
-    let inv = c.uploads.invariant in
-    let before = clean_before c.load_state.ensures.stays clean in
-    let opened = (inv.0.kept before inside).was_open ((c.load_state.ensures.stays.kept clean (inv.0.inside before inside)).was_open is_open) in
-    let same = inv.1 opened before ours in
-    inl (unchanged_then old mid new same (c.in_ok-state.ensures.same same.0.is_open clean (still_ours old mid same ours)))
+pub returns-then-is_err-clause-keeps : goal.returns-then-is_err-clause-keeps
+returns-then-is_err-clause-keeps g c = may_ok (may_then c.uploads.invariant.0 c.in_ok-state.ensures.keeps)
 
 pub returns-in_err-state-clause-cause : goal.returns-in_err-state-clause-cause
 returns-in_err-state-clause-cause g c is_open clean inside ours s are sound storable =
@@ -81,15 +51,18 @@ returns-in_err-state-clause-cause g c is_open clean inside ours s are sound stor
     let mid = c.uploads.tx in
     let new = c.load_state.new.tx in
     let inv = c.uploads.invariant in
-    let before = clean_before c.load_state.ensures.stays clean in
-    let same = inv.1 is_open before ours in
+    let before = clean_before c.load_state.ensures.keeps.stays clean in
+    let same = inv.0.same is_open before ours in
     let xs = c.args.uploads.now in
     let small = All-get_or IsStorable xs c.uploads.upload-index 0 c.uploads-test.true storable in
     if_err_is _ c.from_residual.result c.in_err-state.field-0.0 c.from_residual.ensures.1
-    (fails_later g.T.Statements.state old mid new inv.0.survives (FailsHolding (IsTrue c.args.by_reference)) (FailsHolding (xs ≢ [])) (holding_more (λ _. not_empty xs c.uploads.upload-index c.uploads-test.true)) _
-    (c.in_err-state.ensures.cause clean (inv.0.inside before inside) (still_ours (g.T.Statements.state old) (g.T.Statements.state mid) same ours) s
+    (fails_later g.T.Statements.state old mid new inv.0.stays.survives (FailsHolding (IsTrue c.args.by_reference)) (FailsHolding (xs ≢ [])) (holding_more (λ _. not_empty xs c.uploads.upload-index c.uploads-test.true)) _
+    (c.in_err-state.ensures.cause clean (inv.0.stays.inside before inside) (still_ours (g.T.Statements.state old) (g.T.Statements.state mid) same ours) s
     (still_seen (g.T.Statements.state old) (g.T.Statements.state mid) s same are) sound small))
 
 pub returns-then-is_err-clause-cause : goal.returns-then-is_err-clause-cause
 returns-then-is_err-clause-cause g c is_open clean inside ours s are sound storable =
     fails_first g.T.Statements.state c.args.tx.now c.load_state.new.tx (FailsHolding (c.args.uploads.now ≢ [])) Memory (memory (not_empty c.args.uploads.now c.uploads.upload-index c.uploads-test.true) refl)
+
+pub returns-clause-keeps : goal.returns-clause-keeps
+returns-clause-keeps g c = may_ok c.uploads.invariant.0

@@ -1,9 +1,9 @@
 use Rattle.std.proofs.Common.{◌≡◌, map, take, IsTrue}
-use Rattle.sqlite.specs.State.{HasCleanDisk, IsUnchanged}
+use Rattle.sqlite.specs.State.{HasCleanDisk}
 use Rattle.dep_types.specs.State.{State}
 use Rattle.dep_types.specs.Sound.{IsSound}
 use Rattle.dep_tables.specs.Tables.{tables_of, IsOurs}
-use Rattle.dep_tables.proofs.Chains.{Stays}
+use Rattle.dep_tables.proofs.Chains.{MayReads}
 use Rattle.dep_row_maps.specs.TablesAre.{TablesAre}
 use Rattle.dep_operations.specs.Views.{upload_view}
 use Rattle.dep_staging.specs.HashedAhead.{AreRunning}
@@ -15,7 +15,6 @@ abbrev pub invariant-uploads : goal.invariant-uploads
 invariant-uploads g l =
     let old = g.T.Statements.state l.fn.tx in
     let now = g.T.Statements.state l.tx in
-    Stays g.T.Statements.lenders g.T.Statements.state l.fn.tx l.tx
-    × (IsTrue old.is_open → HasCleanDisk now → IsOurs old → IsUnchanged old now)
+    MayReads g.T.Statements.lenders g.T.Statements.state l.fn.tx l.tx
     × (IsTrue old.is_open → HasCleanDisk now → IsTrue old.in_transaction → IsOurs old → (s : State) → TablesAre (tables_of old) s → IsSound s → AreRunning s l.running
     → AreKnown s l.known × (l.views.items ≡ map (upload_view l.by_reference s) (take l.upload-index l.uploads)))

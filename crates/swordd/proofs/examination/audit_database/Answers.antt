@@ -15,7 +15,7 @@ returns-in-Ok-clause-audits g c =
       subst (λ (h : Held _). AuditsDatabase (state g.S.Store c.args.connection) (state g.S.Store h) it.0 run.result) (sym c.close.ensures)
           (audits_all (state g.S.Store c.args.connection) (state g.S.Store c.in-Ok.store) (state g.S.Store run.new.store)
           (λ is_open. clean_if_open (g.S.Store.view run.new.store.store) (g.met.S.Store.shut_if_dirty run.new.store.store) is_open)
-          run.ensures.honest c.in-Ok.ensures.fresh c.in-Ok.ensures.found it.0 run.result c.in-Ok.ensures.tables c.in-Ok.ensures.older it.2 run.ensures.still run.ensures.stop),
+          run.ensures.stays.honest c.in-Ok.ensures.fresh c.in-Ok.ensures.found it.0 run.result c.in-Ok.ensures.tables c.in-Ok.ensures.older it.2 run.ensures.stays.still run.ensures.stays.stop),
     )
 
 pub returns-in-Err-clause-audits : goal.returns-in-Err-clause-audits

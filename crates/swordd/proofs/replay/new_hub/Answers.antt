@@ -12,10 +12,10 @@ use Rattle.swordd.proofs.replay.new_hub.Goals as goal
 pub returns-in-Ok-open_hub-clause-stands : goal.returns-in-Ok-open_hub-clause-stands
 returns-in-Ok-open_hub-clause-stands c =
     c.in-Ok-open_hub.ensures.fresh (memory_is_clean c.in-Ok-open_hub.hub.store.store)
-    (empty_holds_none (state over_memory c.in-Ok-open_in_memory.connection) c.in-Ok-open_in_memory.ensures.empty)
+    (empty_holds_none (state over_memory c.in-Ok.connection) c.in-Ok.ensures.empty)
 
 pub returns-in-Err-clause-refused : goal.returns-in-Err-clause-refused
 returns-in-Err-clause-refused c =
     subst (λ (o : Outcome). IsNotBegun c.args.base.now o) (sym c.outcome.ensures)
     (begins_not c.args.base.now c.in-Err.fault
-    (λ same checked. c.in-Err.ensures.refused same (subst (λ (x : Config). IsChecked x) (sym c.in-Ok.ensures) checked)))
+    (λ same checked. c.in-Err.ensures.refused same (subst (λ (x : Config). IsChecked x) (sym c.in-Ok-configuration.ensures) checked)))

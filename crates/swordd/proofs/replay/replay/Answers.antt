@@ -18,6 +18,6 @@ returns-in-Ok-clause-replays g c =
     let after = wire (g.R.Inlet.unread run.new.reader) (g.R.Inlet.reads run.new.reader) (g.R.Inlet.last run.new.reader) (g.W.Outlet.taken run.new.writer) (g.W.Outlet.failures run.new.writer) in
     subst (λ (o : Outcome). Replays c.args.base.now c.args.moment before after o) (sym c.outcome_of.ensures)
     (comes_to _ _ c.args.moment (λ f. f.0 ≡ c.args.moment) (λ before after m p e. ((search of_calls), (search of_calls)))
-    c.args.base.now (session _ c.in-Ok.hub before _) (session _ run.new.hub after _)
+    c.args.base.now (session c.in-Ok.hub before _) (session run.new.hub after _)
     c.in-Ok.ensures.stands (memory_is_clean run.new.hub.store.store) c.in-Ok.ensures.config refl
     run.result run.ensures.converses)

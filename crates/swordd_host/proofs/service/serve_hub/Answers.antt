@@ -1,40 +1,41 @@
-use Rattle.std.proofs.Common.{[], ap, ◌∙◌, Option, None, Some}
-use Rattle.std.specs.Prelude.{IsNone, IsSome}
+use Rattle.std.proofs.Common.{[], ap, ◌∙◌}
 use Rattle.dep_host.specs.Hosting.{position}
 use Rattle.swordd_host.specs.Hosted.{not_begun, not_let_in}
-use Rattle.swordd_host.proofs.HostedLemmas.{ends_at}
+use Rattle.swordd_host.proofs.HostedLemmas.{ends_at, went_on}
 use Rattle.swordd_host.proofs.service.serve_hub.Goals as goal
 
--- nothing was told
-untold : {T : Type 0} (o : Option T) → IsNone o → IsSome o → ⊥
-untold None none some = cc some
-untold (Some x) none some = cc none
-
 pub returns-in-Err : goal.returns-in-Err
-returns-in-Err g c = record { ends = ([], not_begun (c.into_store.ensures.same ∙ ap (λ h. h.store) c.in-Err.ensures.kept)) }
+returns-in-Err g c =
+    let ends = not_begun (c.into_store.ensures.same ∙ ap (λ h. h.store) c.in-Err.ensures.kept) in
+    record { ends = ([], ends, went_on g.A.Archive.condition g.R.Source.unread g.K.Sink.taken g.P.Spool.held c.args.hub c.into_store.result ends c.hosts_make_a_run.ensures c.nothing_held.ensures.holds) }
 
 pub returns-in_default : goal.returns-in_default
-returns-in_default g c = record { ends = ([], not_begun (c.into_store-in_default.ensures.same ∙ ap (λ h. h.store) (c.into_hub.ensures ∙ c.in-Ok.ensures.hub))) }
+returns-in_default g c =
+    let ends = not_begun (c.into_store-in_default.ensures.same ∙ ap (λ h. h.store) (c.into_hub.ensures ∙ c.in-Ok.ensures.hub)) in
+    record { ends = ([], ends, went_on g.A.Archive.condition g.R.Source.unread g.K.Sink.taken g.P.Spool.held c.args.hub c.into_store-in_default.result ends c.hosts_make_a_run.ensures c.nothing_held.ensures.holds) }
 
 pub returns-then-not-open : goal.returns-then-not-open
 returns-then-not-open g c =
-    record { ends = ([], not_let_in (c.into_store-then-not-open.ensures.same ∙ ap (λ h. h.store) (c.into_hub-then-not-open.ensures ∙ c.in-Ok.ensures.hub))) }
+    let ends = not_let_in (c.into_store-then-not-open.ensures.same ∙ ap (λ h. h.store) (c.into_hub-then-not-open.ensures ∙ c.in-Ok.ensures.hub)) in
+    record { ends = ([], ends, went_on g.A.Archive.condition g.R.Source.unread g.K.Sink.taken g.P.Spool.held c.args.hub c.into_store-then-not-open.result ends c.hosts_make_a_run.ensures c.nothing_held.ensures.holds) }
 
 pub returns : goal.returns
 returns g c =
     let run = c.serve-ended.ensures.goes in
+    let ends = ends_at g.A.Archive.condition g.R.Source.unread g.K.Sink.taken g.P.Spool.held c.args.hub c.into_store-2.result c.serve-ended.result
+    (record {
+      first = position c.in-Ok.host;
+      last = position c.serve-ended.new.host;
+      over = c.in-Ok.ensures.hub;
+      empty = c.in-Ok.ensures.empty;
+      steps = run.1;
+      left = c.into_store-2.ensures.same ∙ ap (λ h. h.store) c.into_hub-2.ensures;
+    })
+    c.serve-ended.ensures.end (λ is. c.serve-ended.ensures.shut is c.in-Ok.ensures.untold) c.was_cut.result c.was_cut.ensures c.outcome_at-outcome.result c.outcome_at-outcome.ensures in
     record {
       ends = (
         run.0,
-        ends_at g.A.Archive.condition g.R.Source.unread g.K.Sink.taken g.P.Spool.held c.args.hub c.into_store-2.result c.serve-ended.result
-            (record {
-              first = position c.in-Ok.host;
-              last = position c.serve-ended.new.host;
-              over = c.in-Ok.ensures.hub;
-              empty = c.in-Ok.ensures.empty;
-              steps = run.1;
-              left = c.into_store-2.ensures.same ∙ ap (λ h. h.store) c.into_hub-2.ensures;
-            })
-            c.serve-ended.ensures.end (λ is. c.serve-ended.ensures.shut is (λ some clean. untold c.in-Ok.host.shut_since c.in-Ok.ensures.untold some)) c.was_cut.result c.was_cut.ensures c.outcome_at-outcome.result c.outcome_at-outcome.ensures,
+        ends,
+        went_on g.A.Archive.condition g.R.Source.unread g.K.Sink.taken g.P.Spool.held c.args.hub c.into_store-2.result ends c.hosts_make_a_run.ensures c.nothing_held.ensures.holds,
       );
     }

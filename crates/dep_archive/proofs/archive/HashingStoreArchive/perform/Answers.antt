@@ -1,30 +1,54 @@
-use Rattle.std.proofs.Common.{sym, subst}
+use Rattle.std.proofs.Common.{Result, Ok, sym, subst}
 use Rattle.sqlite.specs.Held.{Held, state}
-use Rattle.sqlite.specs.State.{HasCleanDisk}
+use Rattle.dep_types.specs.declared.store_fault.StoreFault.{StoreFault}
+use Rattle.dep_answers.specs.Performing.{IsReady}
+use Rattle.dep_answers.specs.declared.performed.Performed.{Performed}
 use Rattle.dep_answers.specs.Steps.{operation_step}
 use Rattle.dep_answers.proofs.SegmentsStay.{step_keeps_segments}
-use Rattle.dep_schema.specs.States.{StandsFor}
-use Rattle.dep_archive.proofs.KeepingLemmas.{are_running_still}
+use Rattle.dep_fields.specs.Fit.{AreFit}
+use Rattle.dep_hub.specs.Archives.{MakesStep, FailsIfShut}
+use Rattle.dep_archive.specs.Archive.{shown_by}
+use Rattle.dep_archive.proofs.KeepingLemmas.{are_running_still, tries_hashed, tries_failed, shut_hashed, fails_failed}
 use Rattle.dep_archive.proofs.archive.HashingStoreArchive.perform.Goals as goal
 
-pub returns-in_err-performed-clause-stop : goal.returns-in_err-performed-clause-stop
-returns-in_err-performed-clause-stop g c clean fit s keeps = c.perform.ensures.stop clean fit s keeps.stands keeps.hashed
-
-pub returns-clause-ok : goal.returns-clause-ok
-returns-clause-ok g c clean fit s keeps =
+pub returns-in_err-performed-clause-does : goal.returns-in_err-performed-clause-does
+returns-in_err-performed-clause-does g c =
     let runs = c.args.self.now.running in
-    let next = (operation_step c.args.service.now s c.args.operation.now).state in
-    let was_clean = subst (λ (h : Held _). HasCleanDisk (state g.S.Store h)) c.note.ensures.store clean in
-    let it = c.in_ok-performed.ensures.ok was_clean fit s keeps.stands keeps.hashed in
-    record {
-      state = record {
-        stands = subst (λ (h : Held _). StandsFor (state g.S.Store h) next) (sym c.note.ensures.store) it.state;
-        hashed = c.note.ensures.running next (are_running_still s next runs (step_keeps_segments c.args.service.now s c.args.operation.now) keeps.hashed);
-      };
-      ready = it.ready;
-    }
+    let config = c.args.service.now in
+    let op = c.args.operation.now in
+    let old = state g.S.Store c.args.self.now.store in
+    let new = state g.S.Store c.perform.new.self in
+    tries_failed (shown_by old runs) (shown_by new runs) _ (λ s p. IsReady (operation_step config s op) p) (λ s. (operation_step config s op).state) _ c.from_residual.result c.from_residual.ensures.0
+    (tries_hashed old new runs runs _ (λ s. AreFit op.fields) (λ s p. IsReady (operation_step config s op) p) (λ s. (operation_step config s op).state) _ (λ s fit are. (fit, are)) (λ s are. are)
+    (λ s are. are_running_still s (operation_step config s op).state runs (step_keeps_segments config s op) are) c.in_err-performed.ensures.does)
 
-pub returns-clause-stop : goal.returns-clause-stop
-returns-clause-stop g c clean fit s keeps image may =
-    let was_clean = subst (λ (h : Held _). HasCleanDisk (state g.S.Store h)) c.note.ensures.store clean in
-    c.perform.ensures.stop was_clean fit s keeps.stands keeps.hashed image (subst (λ (h : Held _). (state g.S.Store h).may_leave image) c.note.ensures.store may)
+pub returns-in_err-performed-clause-shut : goal.returns-in_err-performed-clause-shut
+returns-in_err-performed-clause-shut g c =
+    let runs = c.args.self.now.running in
+    let old = state g.S.Store c.args.self.now.store in
+    let new = state g.S.Store c.perform.new.self in
+    fails_failed (shown_by old runs) (shown_by new runs) _ c.from_residual.result c.from_residual.ensures.0
+    (shut_hashed old new runs runs _ c.in_err-performed.ensures.shut)
+
+pub returns-clause-does : goal.returns-clause-does
+returns-clause-does g c =
+    let runs = c.args.self.now.running in
+    let later = c.note.new.self.running in
+    let config = c.args.service.now in
+    let op = c.args.operation.now in
+    let old = state g.S.Store c.args.self.now.store in
+    let done : Result Performed StoreFault = Ok c.in_ok-performed.performed in
+    subst (λ (h : Held _). MakesStep (shown_by old runs) (shown_by (state g.S.Store h) later) (λ s. AreFit op.fields) (λ s. operation_step config s op) done) (sym c.note.ensures.store)
+    (tries_hashed old (state g.S.Store c.perform.new.self) runs later _ (λ s. AreFit op.fields) (λ s p. IsReady (operation_step config s op) p) (λ s. (operation_step config s op).state) done
+    (λ s fit are. (fit, are)) (λ s are. c.note.ensures.running s are)
+    (λ s are. c.note.ensures.running (operation_step config s op).state (are_running_still s (operation_step config s op).state runs (step_keeps_segments config s op) are))
+    c.in_ok-performed.ensures.does)
+
+pub returns-clause-shut : goal.returns-clause-shut
+returns-clause-shut g c =
+    let runs = c.args.self.now.running in
+    let later = c.note.new.self.running in
+    let old = state g.S.Store c.args.self.now.store in
+    let done : Result Performed StoreFault = Ok c.in_ok-performed.performed in
+    subst (λ (h : Held _). FailsIfShut (shown_by old runs) (shown_by (state g.S.Store h) later) done) (sym c.note.ensures.store)
+    (shut_hashed old (state g.S.Store c.perform.new.self) runs later done c.in_ok-performed.ensures.shut)

@@ -2,19 +2,19 @@ use Rattle.std.proofs.Common.{◌≡◌}
 use Rattle.sqlite.specs.Held.{state}
 use Rattle.dep_types.specs.State.{tick}
 use Rattle.dep_decisions.proofs.SegmentsStay.{tick_keeps_segments}
-use Rattle.dep_archive.proofs.KeepingLemmas.{are_running_still, ok_keeps, err_keeps}
+use Rattle.dep_hub.specs.Archives.{Always}
+use Rattle.dep_archive.proofs.KeepingLemmas.{are_running_still, tries_hashed, shut_hashed}
 use Rattle.dep_archive.proofs.archive.HashingStoreArchive.tick.Goals as goal
 
-pub returns-clause-ok : goal.returns-clause-ok
-returns-clause-ok g c clean s keeps =
+pub returns-clause-does : goal.returns-clause-does
+returns-clause-does g c =
     let runs = c.args.self.now.running in
-    let next = tick c.args.config.now s c.args.moment in
-    ok_keeps (state g.S.Store c.tick.new.self) runs next (are_running_still s next runs (tick_keeps_segments c.args.config.now s c.args.moment) keeps.hashed)
-    c.tick.result (λ clock. clock ≡ next.clock) (c.tick.ensures.ok clean s keeps.stands)
+    let config = c.args.config.now in
+    tries_hashed (state g.S.Store c.args.self.now.store) (state g.S.Store c.tick.new.self) runs runs Always Always (λ s clock. clock ≡ (tick config s c.args.moment).clock)
+    (λ s. tick config s c.args.moment) c.tick.result (λ s its are. tt) (λ s are. are)
+    (λ s are. are_running_still s (tick config s c.args.moment) runs (tick_keeps_segments config s c.args.moment) are) c.tick.ensures.does
 
-pub returns-clause-err : goal.returns-clause-err
-returns-clause-err g c is_open s keeps =
-    err_keeps (state g.S.Store c.tick.new.self) c.args.self.now.running s keeps.hashed c.tick.result (c.tick.ensures.err is_open s keeps.stands)
-
-pub returns-clause-stop : goal.returns-clause-stop
-returns-clause-stop g c clean s keeps = c.tick.ensures.stop clean s keeps.stands
+pub returns-clause-shut : goal.returns-clause-shut
+returns-clause-shut g c =
+    let runs = c.args.self.now.running in
+    shut_hashed (state g.S.Store c.args.self.now.store) (state g.S.Store c.tick.new.self) runs runs c.tick.result c.tick.ensures.shut

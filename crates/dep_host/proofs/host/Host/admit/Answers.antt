@@ -1,62 +1,80 @@
-use Rattle.std.proofs.Common.{◌≡◌, None, Some, IsSomeAnd, refl, sym, subst, [], ◌∙◌}
-use Rattle.std.proofs.lemmas.List.{get_or-set_same}
+use Rattle.std.proofs.Common.{refl, sym, subst, [], ◌∷◌, inr, ◌∙◌, arith, rules}
 use Rattle.std.specs.Io.KnownBytes.{IsAtEnd}
 use Rattle.dep_hub.specs.Records.{Live}
 use Rattle.dep_hub.specs.Holding.{MovesLine}
 use Rattle.dep_outbox.specs.Wires.{told}
-use Rattle.dep_host.specs.Hosting.{refused, comes}
-use Rattle.dep_host.proofs.HostLemmas.{one_step, no_step}
+use Rattle.dep_host.specs.Notes.{Grows, LetIn}
+use Rattle.dep_host.specs.declared.log.Refusal.TheVariants.{Address, Full, Memory}
+use Rattle.dep_host.proofs.HostLemmas.{untouched, stays_same, stays_set}
+use Rattle.dep_host.proofs.MeetLemmas.{turned}
 use Rattle.dep_host.proofs.host.Host.admit.Goals as goal
 
-pub returns-then-seated_from-self-clause-goes : goal.returns-then-seated_from-self-clause-goes
-returns-then-seated_from-self-clause-goes g c = no_step g.A.Archive.condition g.R.Source.unread g.K.Sink.taken g.S.Spool.held _
+pub returns-then-seated_from-self : goal.returns-then-seated_from-self
+returns-then-seated_from-self g c =
+    turned g.A.Archive.condition g.R.Source.unread g.K.Sink.taken g.S.Spool.held g.L.HostLog.notes _ _ _ _ c.args.at c.args.client Address _ c.turn_away.ensures.same (record {
+      keeps = untouched g.A.Archive.condition g.R.Source.unread g.K.Sink.taken g.S.Spool.held _ _ refl refl refl refl;
+      may = omega (arith, c.seated_from.ensures, c.if-seated_from-self.true);
+      stays = stays_same _;
+      noted = c.turn_away.ensures.noted;
+    })
 
-pub returns-in-Err-Full-clause-goes : goal.returns-in-Err-Full-clause-goes
-returns-in-Err-Full-clause-goes g c =
-    one_step g.A.Archive.condition g.R.Source.unread g.K.Sink.taken g.S.Spool.held _ _ _
-    (refused (record {
-      sits = refl;
-      next = c.in-Err-Full.ensures.kept;
-      keeps = c.in-Err-Full.ensures.holding;
-      same_store = c.connect.ensures.store;
-      same_config = c.connect.ensures.config;
-      same_limits = refl;
-      same_shut = refl;
-    }))
+pub returns-in-Err-Full : goal.returns-in-Err-Full
+returns-in-Err-Full g c =
+    turned g.A.Archive.condition g.R.Source.unread g.K.Sink.taken g.S.Spool.held g.L.HostLog.notes _ _ _ _ c.args.at c.args.client Full _ c.turn_away-in-Err-Full.ensures.same (record {
+      keeps = record {
+        sits = refl;
+        next = c.in-Err-Full.ensures.kept;
+        keeps = c.in-Err-Full.ensures.holding;
+        same_store = c.connect.ensures.store;
+        same_config = c.connect.ensures.config;
+        same_limits = refl;
+        same_shut = refl;
+      };
+      may = (c.requires.vacant.2, inr (c.in-Err-Full.ensures.full (search rules)));
+      stays = record { places = refl; limits = refl; shut = refl; unanswered = refl };
+      noted = c.turn_away-in-Err-Full.ensures.noted;
+    })
 
-pub returns-in-Err-Memory-clause-goes : goal.returns-in-Err-Memory-clause-goes
-returns-in-Err-Memory-clause-goes g c =
-    one_step g.A.Archive.condition g.R.Source.unread g.K.Sink.taken g.S.Spool.held _ _ _
-    (refused (record {
-      sits = refl;
-      next = c.in-Err-Memory.ensures.kept;
-      keeps = c.in-Err-Memory.ensures.holding;
-      same_store = c.connect.ensures.store;
-      same_config = c.connect.ensures.config;
-      same_limits = refl;
-      same_shut = refl;
-    }))
+pub returns-in-Err-Memory : goal.returns-in-Err-Memory
+returns-in-Err-Memory g c =
+    turned g.A.Archive.condition g.R.Source.unread g.K.Sink.taken g.S.Spool.held g.L.HostLog.notes _ _ _ _ c.args.at c.args.client Memory _ c.turn_away-in-Err-Memory.ensures.same (record {
+      keeps = record {
+        sits = refl;
+        next = c.in-Err-Memory.ensures.kept;
+        keeps = c.in-Err-Memory.ensures.holding;
+        same_store = c.connect.ensures.store;
+        same_config = c.connect.ensures.config;
+        same_limits = refl;
+        same_shut = refl;
+      };
+      may = c.requires.vacant.2;
+      stays = record { places = refl; limits = refl; shut = refl; unanswered = refl };
+      noted = c.turn_away-in-Err-Memory.ensures.noted;
+    })
 
-pub returns-clause-goes : goal.returns-clause-goes
-returns-clause-goes g c =
-    one_step g.A.Archive.condition g.R.Source.unread g.K.Sink.taken g.S.Spool.held _ _ _
-    (comes {at = c.args.at} {seat = c.new.result} (record {
-      there = c.requires.vacant.0;
-      free = c.requires.vacant.1;
-      sits = refl;
-      is_next = c.new.ensures.number ∙ c.in-Ok.ensures.next.0;
-      next = c.in-Ok.ensures.next.1;
-      moves = subst (λ n. MovesLine g.A.Archive.condition c.args.self.now.hub c.connect.new.self n (Live []) (λ kept. kept)) (sym c.new.ensures.number) c.in-Ok.ensures.holding;
-      same_store = c.connect.ensures.store;
-      same_config = c.connect.ensures.config;
-      fresh = subst (λ w. IsAtEnd (told g.K.Sink.taken g.S.Spool.held w)) (sym c.new.ensures.wire) c.requires.fresh;
-      opens = c.new.ensures.phase;
-      uncounted = c.new.ensures.unfinished;
-      is_open = c.requires.vacant.2;
-      same_limits = refl;
-      same_shut = refl;
-    }))
-
-pub returns-clause-source : goal.returns-clause-source
-returns-clause-source g c =
-    subst (λ o. IsSomeAnd o (λ seat. seat.source ≡ c.args.client.source)) (sym (get_or-set_same c.args.self.now.seats.items c.args.at (Some c.new.result) None c.requires.vacant.0)) c.new.ensures.source
+pub returns : goal.returns
+returns g c = record {
+  seat = c.new.result;
+  comes = record {
+    there = c.requires.vacant.0;
+    free = c.requires.vacant.1;
+    sits = refl;
+    is_next = c.new.ensures.number ∙ c.in-Ok.ensures.next.0;
+    next = c.in-Ok.ensures.next.1;
+    moves = subst (λ n. MovesLine g.A.Archive.condition c.args.self.now.hub c.connect.new.self n (Live []) (λ kept. kept)) (sym c.new.ensures.number) c.in-Ok.ensures.holding;
+    same_store = c.connect.ensures.store;
+    same_config = c.connect.ensures.config;
+    fresh = subst (λ w. IsAtEnd (told g.K.Sink.taken g.S.Spool.held w)) (sym c.new.ensures.wire) c.requires.fresh;
+    opens = c.new.ensures.phase;
+    uncounted = c.new.ensures.unfinished;
+    is_open = c.requires.vacant.2;
+    same_limits = refl;
+    same_shut = refl;
+  };
+  source = c.new.ensures.source;
+  wire = c.new.ensures.wire;
+  address = c.new.ensures.address;
+  room = omega (arith, c.seated_from.ensures, c.if-seated_from-self.false);
+  stays = stays_set _ _ c.args.at _ refl refl refl refl;
+  noted = subst (λ n. Grows (g.L.HostLog.notes c.args.log.now) (g.L.HostLog.notes c.opened.new.self) (LetIn n c.args.client.address ∷ [])) (sym c.new.ensures.number) c.opened.ensures.noted;
+}

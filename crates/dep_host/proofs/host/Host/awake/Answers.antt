@@ -1,5 +1,29 @@
-use Rattle.dep_host.proofs.HostLemmas.{no_step}
+use Rattle.std.proofs.Common.{◌<◌, length, refl, None, ◌∙◌, arith}
+use Rattle.std.proofs.lemmas.List.{get_or_past}
+use Rattle.dep_host.specs.Seats.{woken_seat}
+use Rattle.dep_host.proofs.HostLemmas.{slot_read, stays_same, stays_set}
+use Rattle.dep_host.proofs.MeetLemmas.{changes_none, changes_one, changes_nobody}
 use Rattle.dep_host.proofs.host.Host.awake.Goals as goal
 
-pub returns-else-at-len-clause-goes : goal.returns-else-at-len-clause-goes
-returns-else-at-len-clause-goes g c = no_step g.A.Archive.condition g.R.Source.unread g.K.Sink.taken g.S.Spool.held _
+pub returns-else-at-len : goal.returns-else-at-len
+returns-else-at-len g c = record {
+  same_hub = refl;
+  seats = changes_none (λ s. woken_seat s c.args.is_readable c.args.is_writable) _ c.args.at (get_or_past _ c.args.at None (omega (arith, c.len.ensures, c.if-at-len.false)));
+  stays = stays_same _;
+}
+
+pub returns-in-Some : goal.returns-in-Some
+returns-in-Some g c = let there : c.args.at < length c.args.self.now.seats.items = omega (arith, c.len.ensures, c.if-at-len.true) in record {
+  same_hub = refl;
+  seats = changes_one (λ s. woken_seat s c.args.is_readable c.args.is_writable) _ c.args.at c.in-Some.seat c.awake.new.self
+      (slot_read _ _ _ there c.index_mut.ensures.value ∙ c.in-Some.is) c.awake.ensures;
+  stays = stays_set _ _ c.args.at _ refl refl refl refl;
+}
+
+pub returns-in_default : goal.returns-in_default
+returns-in_default g c = let there : c.args.at < length c.args.self.now.seats.items = omega (arith, c.len.ensures, c.if-at-len.true) in record {
+  same_hub = refl;
+  seats = changes_nobody (λ s. woken_seat s c.args.is_readable c.args.is_writable) _ c.args.at c.index_mut.result.now
+      (slot_read _ _ _ there c.index_mut.ensures.value) c.in_default.is;
+  stays = stays_set _ _ c.args.at _ refl refl refl refl;
+}

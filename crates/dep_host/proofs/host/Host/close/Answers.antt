@@ -1,9 +1,7 @@
-use Rattle.std.proofs.Common.{[], None, refl, sym, ap, subst, set, ◌∙◌}
+use Rattle.std.proofs.Common.{None, refl, sym, ap, subst, set, ◌∙◌}
 use Rattle.std.proofs.lemmas.List.{get_or-set_same, get_or-set_other}
-use Rattle.dep_hub.specs.Records.{Absent}
-use Rattle.dep_hub.specs.Holding.{MovesLine, with_held}
 use Rattle.dep_host.specs.Hosting.{MayGo, position}
-use Rattle.dep_host.proofs.HostLemmas.{slot_read, closing, closing_none}
+use Rattle.dep_host.proofs.HostLemmas.{slot_read, closing, closing_none, stays_set}
 use Rattle.dep_host.proofs.host.Host.close.Goals as goal
 
 pub returns-in-Some-clause-goes : goal.returns-in-Some-clause-goes
@@ -15,10 +13,10 @@ returns-in-Some-clause-goes g c =
       gone = ap (λ y. set c.args.self.now.seats.items c.args.at y) c.take.ensures.after;
       reason = c.args.closing;
       done = subst (λ o. MayGo (position c.args.self.now) c.args.second c.args.closing o) sat c.requires.done;
-      next = c.close.ensures.next;
-      moves = subst (λ n. MovesLine g.A.Archive.condition c.args.self.now.hub c.close.new.self n Absent (with_held n [])) c.connection.ensures c.close.ensures.holding;
-      same_store = c.close.ensures.store;
-      same_config = c.close.ensures.config;
+      next = c.close.ensures.kept.next;
+      moves = c.close.ensures.holding;
+      same_store = c.close.ensures.kept.store;
+      same_config = c.close.ensures.kept.config;
       same_limits = refl;
       same_shut = refl;
     })
@@ -27,6 +25,12 @@ pub returns-in_default-clause-goes : goal.returns-in_default-clause-goes
 returns-in_default-clause-goes g c =
     closing_none g.A.Archive.condition g.R.Source.unread g.K.Sink.taken g.S.Spool.held _ _ c.args.at c.args.second _
     (slot_read _ _ _ c.requires.there c.index_mut.ensures.value ∙ (sym c.take.ensures.value ∙ c.in_default.is))
+
+pub returns-in-Some-clause-stays : goal.returns-in-Some-clause-stays
+returns-in-Some-clause-stays g c = stays_set _ _ c.args.at _ refl refl refl refl
+
+pub returns-in_default-clause-stays : goal.returns-in_default-clause-stays
+returns-in_default-clause-stays g c = stays_set _ _ c.args.at _ refl refl refl refl
 
 pub returns-in-Some-clause-gone : goal.returns-in-Some-clause-gone
 returns-in-Some-clause-gone g c = get_or-set_same _ c.args.at _ None c.requires.there ∙ c.take.ensures.after

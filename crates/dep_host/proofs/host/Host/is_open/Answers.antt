@@ -1,58 +1,54 @@
 use Rattle.std.proofs.Common.{[], inl, inr, refl, sym, ◌∙◌, rules}
 use Rattle.std.proofs.lemmas.List.Elements.{Contains-push}
-use Rattle.dep_host.proofs.HostLemmas.{asked, stands_still, told_shut}
+use Rattle.dep_host.proofs.HostLemmas.{asked, stands_still, told_shut, told_open}
 use Rattle.dep_host.proofs.host.Host.is_open.Goals as goal
 
-pub returns-then-is_some-clause-goes : goal.returns-then-is_some-clause-goes
-returns-then-is_some-clause-goes g c = stands_still g.A.Archive.condition g.R.Source.unread g.K.Sink.taken g.S.Spool.held _
+pub returns-then-is_some-clause-asks : goal.returns-then-is_some-clause-asks
+returns-then-is_some-clause-asks g c = record {
+  steps = stands_still g.A.Archive.condition g.R.Source.unread g.K.Sink.taken g.S.Spool.held _;
+  told = inl refl;
+  limits = refl;
+  known = inl (sym c.is_some.ensures ∙ c.if-is_some.true);
+}
 
-pub returns-in-Ok-false-clause-goes : goal.returns-in-Ok-false-clause-goes
-returns-in-Ok-false-clause-goes g c =
-    asked g.A.Archive.condition g.R.Source.unread g.K.Sink.taken g.S.Spool.held _ _ (record {
-      sits = refl;
-      next = c.is_open.ensures.next;
-      same_config = c.is_open.ensures.config;
-      clean = c.is_open.ensures.clean;
-      honest = c.is_open.ensures.honest;
-      stands = c.is_open.ensures.stands;
-      same_limits = refl;
-      told = inr (sym c.is_some.ensures ∙ c.if-is_some.false, told_shut (g.A.Archive.condition c.is_open.new.self.store) c.in-Ok-false.field-0 (search rules) c.in-Ok-false.ensures.told);
-    })
+pub returns-in-Ok-false-clause-asks : goal.returns-in-Ok-false-clause-asks
+returns-in-Ok-false-clause-asks g c = record {
+  steps = asked g.A.Archive.condition g.R.Source.unread g.K.Sink.taken g.S.Spool.held _ _ (record {
+    sits = refl;
+    hub = record { next = c.is_open.ensures.rests.next; same_config = c.is_open.ensures.rests.config; clean = c.is_open.ensures.rests.store.was_open; honest = c.is_open.ensures.rests.store.honest };
+    stands = c.is_open.ensures.rests.stands;
+    same_limits = refl;
+    told = inr (sym c.is_some.ensures ∙ c.if-is_some.false, told_shut (g.A.Archive.condition c.is_open.new.self.store) c.in-Ok-false.field-0 (search rules) c.in-Ok-false.ensures.told);
+  });
+  told = inr (sym c.is_some.ensures ∙ c.if-is_some.false, Contains-push [] c.args.second);
+  limits = refl;
+  known = inl refl;
+}
 
-pub returns-in-Ok-true-clause-goes : goal.returns-in-Ok-true-clause-goes
-returns-in-Ok-true-clause-goes g c =
-    asked g.A.Archive.condition g.R.Source.unread g.K.Sink.taken g.S.Spool.held _ _ (record {
-      sits = refl;
-      next = c.is_open.ensures.next;
-      same_config = c.is_open.ensures.config;
-      clean = c.is_open.ensures.clean;
-      honest = c.is_open.ensures.honest;
-      stands = c.is_open.ensures.stands;
-      same_limits = refl;
-      told = inl refl;
-    })
+pub returns-in-Ok-true-clause-asks : goal.returns-in-Ok-true-clause-asks
+returns-in-Ok-true-clause-asks g c = record {
+  steps = asked g.A.Archive.condition g.R.Source.unread g.K.Sink.taken g.S.Spool.held _ _ (record {
+    sits = refl;
+    hub = record { next = c.is_open.ensures.rests.next; same_config = c.is_open.ensures.rests.config; clean = c.is_open.ensures.rests.store.was_open; honest = c.is_open.ensures.rests.store.honest };
+    stands = c.is_open.ensures.rests.stands;
+    same_limits = refl;
+    told = inl refl;
+  });
+  told = inl refl;
+  limits = refl;
+  known = inr (inl (told_open (g.A.Archive.condition c.is_open.new.self.store) c.in-Ok-true.field-0 (search rules) c.in-Ok-true.ensures.told));
+}
 
-pub returns-in-Ok-true-2-clause-goes : goal.returns-in-Ok-true-2-clause-goes
-returns-in-Ok-true-2-clause-goes g c =
-    asked g.A.Archive.condition g.R.Source.unread g.K.Sink.taken g.S.Spool.held _ _ (record {
-      sits = refl;
-      next = c.is_open.ensures.next;
-      same_config = c.is_open.ensures.config;
-      clean = c.is_open.ensures.clean;
-      honest = c.is_open.ensures.honest;
-      stands = c.is_open.ensures.stands;
-      same_limits = refl;
-      told = inl refl;
-    })
-
-pub returns-then-is_some-clause-told : goal.returns-then-is_some-clause-told
-returns-then-is_some-clause-told g c = inl refl
-
-pub returns-in-Ok-false-clause-told : goal.returns-in-Ok-false-clause-told
-returns-in-Ok-false-clause-told g c = inr (sym c.is_some.ensures ∙ c.if-is_some.false, Contains-push [] c.args.second)
-
-pub returns-in-Ok-true-clause-told : goal.returns-in-Ok-true-clause-told
-returns-in-Ok-true-clause-told g c = inl refl
-
-pub returns-in-Ok-true-2-clause-told : goal.returns-in-Ok-true-2-clause-told
-returns-in-Ok-true-2-clause-told g c = inl refl
+pub returns-in-Err-clause-asks : goal.returns-in-Err-clause-asks
+returns-in-Err-clause-asks g c = record {
+  steps = asked g.A.Archive.condition g.R.Source.unread g.K.Sink.taken g.S.Spool.held _ _ (record {
+    sits = refl;
+    hub = record { next = c.is_open.ensures.rests.next; same_config = c.is_open.ensures.rests.config; clean = c.is_open.ensures.rests.store.was_open; honest = c.is_open.ensures.rests.store.honest };
+    stands = c.is_open.ensures.rests.stands;
+    same_limits = refl;
+    told = inl refl;
+  });
+  told = inl refl;
+  limits = refl;
+  known = inr (inr c.saturating_add-self.ensures);
+}

@@ -1,29 +1,25 @@
 use Rattle.std.proofs.Common.{ℕ, Option, is_some, refl, sym, ap, ◌∙◌, arith}
-use Rattle.dep_host.proofs.HostLemmas.{round_begins, round_goes_on, round_ends, left_goes_on}
+use Rattle.dep_host.proofs.HostLemmas.{round_begins, round_goes_on, round_ends, left_goes_on, stays_same, stays_on}
 use Rattle.dep_host.proofs.host.Host.serve_each.Goals as goal
 
 pub loop-at-init : goal.loop-at-init
 loop-at-init g c = record {
   goes = round_begins g.A.Archive.condition g.R.Source.unread g.K.Sink.taken g.S.Spool.held _ _ _;
   left = λ place h. absurd (let none : ⊥ = omega (arith, h) in none);
-  seats = refl;
   room = c.requires.room;
-  limits = refl;
-  shut = refl;
+  stays = stays_same _;
 }
 
 pub loop-at-preserved : goal.loop-at-preserved
 loop-at-preserved g c = record {
   goes = round_goes_on g.A.Archive.condition g.R.Source.unread g.K.Sink.taken g.S.Spool.held _ _ _ _ _ _ _ c.loop-at.invariant.goes c.serve_at.ensures.goes c.serve_at.ensures.others refl;
-  left = left_goes_on _ _ _ _ _ _ _ c.loop-at.invariant.left c.serve_at.ensures.here c.serve_at.ensures.limits c.serve_at.ensures.others refl;
-  seats = c.serve_at.ensures.seats ∙ c.loop-at.invariant.seats;
+  left = left_goes_on _ _ _ _ _ _ _ c.loop-at.invariant.left c.serve_at.ensures.here c.serve_at.ensures.stays.limits c.serve_at.ensures.others refl;
   room = omega (arith, c.serve_at.auto.room, c.loop-at.invariant.room);
-  limits = c.serve_at.ensures.limits ∙ c.loop-at.invariant.limits;
-  shut = c.serve_at.ensures.shut ∙ c.loop-at.invariant.shut;
+  stays = stays_on _ _ _ c.loop-at.invariant.stays c.serve_at.ensures.stays;
 }
 
 pub returns-clause-goes : goal.returns-clause-goes
 returns-clause-goes g c = round_ends g.A.Archive.condition g.R.Source.unread g.K.Sink.taken g.S.Spool.held _ _ _ _ _ c.loop-at.invariant.goes c.requires.full
 
 pub serve_at-requires-clause-shut : goal.serve_at-requires-clause-shut
-serve_at-requires-clause-shut g c = c.requires.shut ∙ ap (λ (o : Option ℕ). is_some o) (sym c.loop-at.invariant.shut)
+serve_at-requires-clause-shut g c = c.requires.shut ∙ ap (λ (o : Option ℕ). is_some o) (sym c.loop-at.invariant.stays.shut)

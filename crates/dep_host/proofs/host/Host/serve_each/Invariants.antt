@@ -1,15 +1,13 @@
-use Rattle.std.proofs.Common.{◌≡◌, ◌≤◌, ◌<◌, ℕ, length}
+use Rattle.std.proofs.Common.{◌≤◌, ◌<◌, ℕ, length}
 use Rattle.dep_hub.specs.Turns.{most_read}
-use Rattle.dep_host.specs.Hosting.{HasTime, position, slot}
+use Rattle.dep_host.specs.Hosting.{HasTime, Stays, position, slot}
 use Rattle.dep_host.proofs.HostLemmas.{RoundSoFar}
 use Rattle.dep_host.proofs.host.Host.serve_each.Given as goal
 
 abbrev pub invariant-loop-at : goal.invariant-loop-at
 invariant-loop-at g l = record {
-  goes : RoundSoFar g.A.Archive.condition g.R.Source.unread g.K.Sink.taken g.S.Spool.held (position l.fn.self) (position l.self) l.at l.turn.time.second l.turn.is_full;
+  goes : RoundSoFar g.A.Archive.condition g.R.Source.unread g.K.Sink.taken g.S.Spool.held (position l.fn.self) (position l.self) l.at l.turn.time l.turn.is_full;
   left : (place : ℕ) → place < l.at → HasTime l.turn.time.second l.self.limits (slot place l.self.seats.items);
-  seats : length l.self.seats.items ≡ length l.fn.self.seats.items;
   room : length l.room ≤ most_read;
-  limits : l.self.limits ≡ l.fn.self.limits;
-  shut : l.self.shut_since ≡ l.fn.self.shut_since;
+  stays : Stays l.fn.self l.self;
 }

@@ -23,15 +23,11 @@ returns-clause-answers g c =
     (g.O.Outlet.taken c.args.out.now) (g.O.Outlet.taken c.answer_next.new.out) (g.O.Outlet.failures c.args.out.now) (g.O.Outlet.failures c.answer_next.new.out)
     c.args.moment c.answer_next.ensures.limit c.answer_next.ensures.dead c.answer_next.result c.answer_next.ensures.answers
 
-pub returns-clause-clean : goal.returns-clause-clean
-returns-clause-clean g c =
-    (next_passes c.args.self.now.config c.index_mut-kept.result.now.intake c.args.moment (outside (g.O.Outlet.taken c.args.out.now) (g.O.Outlet.failures c.args.out.now) (g.A.Archive.condition c.args.self.now.store))
-    (outside (g.O.Outlet.taken c.answer_next.new.out) (g.O.Outlet.failures c.answer_next.new.out) (g.A.Archive.condition c.answer_next.new.store)) c.answer_next.new.intake.place c.answer_next.result c.answer_next.ensures.answers).1.clean
-
-pub returns-clause-honest : goal.returns-clause-honest
-returns-clause-honest g c =
-    (next_passes c.args.self.now.config c.index_mut-kept.result.now.intake c.args.moment (outside (g.O.Outlet.taken c.args.out.now) (g.O.Outlet.failures c.args.out.now) (g.A.Archive.condition c.args.self.now.store))
-    (outside (g.O.Outlet.taken c.answer_next.new.out) (g.O.Outlet.failures c.answer_next.new.out) (g.A.Archive.condition c.answer_next.new.store)) c.answer_next.new.intake.place c.answer_next.result c.answer_next.ensures.answers).1.honest
+pub returns-clause-goes : goal.returns-clause-goes
+returns-clause-goes g c =
+    let passes = (next_passes c.args.self.now.config c.index_mut-kept.result.now.intake c.args.moment (outside (g.O.Outlet.taken c.args.out.now) (g.O.Outlet.failures c.args.out.now) (g.A.Archive.condition c.args.self.now.store))
+    (outside (g.O.Outlet.taken c.answer_next.new.out) (g.O.Outlet.failures c.answer_next.new.out) (g.A.Archive.condition c.answer_next.new.store)) c.answer_next.new.intake.place c.answer_next.result c.answer_next.ensures.answers).1 in
+    record { config = refl; next = refl; clean = passes.clean; honest = passes.honest }
 
 pub returns-in_default-clause-there : goal.returns-in_default-clause-there
 returns-in_default-clause-there g c = λ there.

@@ -21,11 +21,8 @@ returns-clause-arrival g c =
     (g.met.A.Archive.settled store)
     (g.O.Outlet.taken c.args.out.now) (g.O.Outlet.taken c.serve.new.out) (g.O.Outlet.failures c.args.out.now) (g.O.Outlet.failures c.serve.new.out) c.serve.result c.serve.ensures.there c.serve.ensures.served
 
-pub returns-clause-clean : goal.returns-clause-clean
-returns-clause-clean g c = c.serve.ensures.served.passes.clean
-
-pub returns-clause-honest : goal.returns-clause-honest
-returns-clause-honest g c = c.serve.ensures.served.passes.honest
+pub returns-clause-goes : goal.returns-clause-goes
+returns-clause-goes g c = record { config = refl; next = refl; clean = c.serve.ensures.served.passes.clean; honest = c.serve.ensures.served.passes.honest }
 
 pub returns-in_default-clause-there : goal.returns-in_default-clause-there
 returns-in_default-clause-there g c = λ there.

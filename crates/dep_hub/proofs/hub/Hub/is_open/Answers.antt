@@ -1,16 +1,7 @@
-use Rattle.dep_hub.proofs.Leaving.{leaves_before}
-use Rattle.dep_hub.proofs.HoldingLemmas.{rests_holding}
+use Rattle.std.proofs.Common.{refl}
+use Rattle.dep_hub.proofs.HoldingLemmas.{rests_on}
 use Rattle.dep_hub.proofs.hub.Hub.is_open.Goals as goal
 
-pub returns-clause-stands : goal.returns-clause-stands
-returns-clause-stands g c clean first records held h = record {
-  world = h.world;
-  run = h.run;
-  at = record { state = c.is_open.ensures.kept clean h.world.state h.at.state; kept = h.at.kept };
-}
-
-pub returns-clause-stops : goal.returns-clause-stops
-returns-clause-stops g c honest first records held h =
-    let old = c.args.self.now in
-    leaves_before (g.A.Archive.condition old.store) (g.A.Archive.condition c.is_open.new.self) _ (c.is_open.ensures.left honest)
-    (rests_holding g.A.Archive.condition old (g.met.A.Archive.settled old.store) first records held h)
+pub returns-clause-rests : goal.returns-clause-rests
+returns-clause-rests g c =
+    rests_on g.A.Archive.condition c.args.self.now _ refl refl refl (g.met.A.Archive.settled c.args.self.now.store) c.is_open.ensures.rests

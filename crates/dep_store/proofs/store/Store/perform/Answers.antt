@@ -7,15 +7,26 @@ use Rattle.dep_answers.specs.Steps.{operation_step}
 use Rattle.dep_answers.specs.declared.performed.Performed.{Performed}
 use Rattle.dep_fields.specs.Fit.{AreFit}
 use Rattle.dep_tables.specs.Tables.{Tables}
-use Rattle.dep_schema.specs.Transactions.{OverStates, Transacts}
-use Rattle.dep_schema.proofs.Transacting.{ok_over_states, err_state, stop_over_states, unmoved}
-use Rattle.dep_schema.proofs.Performed.{performs}
+use Rattle.std.proofs.Common.{◌≡◌, ◌∙◌, rules, Ok, Err, Result, OnErr, subst}
+use Rattle.std.proofs.lemmas.Result.{IfOk-from_err}
+use Rattle.dep_requests.specs.declared.performing.Done.{Done}
+use Rattle.dep_schema.specs.Transactions.{OverStates, Transacts, IsGivenBack}
+use Rattle.dep_schema.proofs.Transacting.{stood_before}
+use Rattle.dep_schema.proofs.Transacting.{unmoved}
 use Rattle.dep_store.proofs.Remembered.{service_made}
+use Rattle.dep_store.proofs.Tries.{tries_over}
 use Rattle.dep_store.proofs.store.Store.perform.Goals as goal
+
+on_err : {A E P : Type 0} (r : Result A E) → P → OnErr r P
+on_err (Ok a) p = tt
+on_err (Err e) p = p
 
 module _ (config : Config) (op : Operation) where
   abbrev ready : State → Performed → Type 0
   ready s p = IsReady (operation_step config s op) p
+
+  abbrev done_ready : State → Done → Type 0
+  done_ready s done = ready s done.performed
 
   abbrev next : State → State
   next s = (operation_step config s op).state
@@ -23,38 +34,50 @@ module _ (config : Config) (op : Operation) where
   abbrev Made : Tables → Performed → Tables → Type 0
   Made t p after = AreFit op.fields → OverStates ready next t p after
 
-pub returns-in-Some-clause-ok : goal.returns-in-Some-clause-ok
-returns-in-Some-clause-ok g c clean fit s given running =
+pub returns-in-Some-clause-does : goal.returns-in-Some-clause-does
+returns-in-Some-clause-does g c =
     let d = state g.S.Store c.self.inside.connection in
     let config = c.args.service.now in
     let op = c.args.operation.now in
     let told = c.recalled.ensures c.in-Some.it c.in-Some.is in
     let still : Transacts d d c.show_service.result (Made config op) = unmoved d c.show_service.result (Made config op) (λ is_open trees h. g.met.S.Store.settled c.self.inside.connection.store trees is_open h)
     (λ t stands. service_made d t config op c.in-Some.it c.show_service.result stands (c.self.invariant.0 c.in-Some.it told.0) c.show_service.ensures) in
-    performs config s op (state g.S.Store c.args.self.now) c.show_service.result (ok_over_states _ _ _ _ (ready config op) (next config op) (rw c.self.view_is at still) clean s (λ t p after made means. made fit s means) given)
+    tries_over (state g.S.Store c.args.self.now) (state g.S.Store c.args.self.now) c.show_service.result (Made config op) _ (ready config op) (next config op)
+    (λ s its t p after made means. made its.0 s means) (rw c.self.view_is at still)
 
-pub returns-in-Some-clause-stop : goal.returns-in-Some-clause-stop
-returns-in-Some-clause-stop g c clean fit s given running =
-    let d = state g.S.Store c.self.inside.connection in
+pub returns-in_err-done-clause-does : goal.returns-in_err-done-clause-does
+returns-in_err-done-clause-does g c =
     let config = c.args.service.now in
     let op = c.args.operation.now in
-    let told = c.recalled.ensures c.in-Some.it c.in-Some.is in
-    let still : Transacts d d c.show_service.result (Made config op) = unmoved d c.show_service.result (Made config op) (λ is_open trees h. g.met.S.Store.settled c.self.inside.connection.store trees is_open h)
-    (λ t stands. service_made d t config op c.in-Some.it c.show_service.result stands (c.self.invariant.0 c.in-Some.it told.0) c.show_service.ensures) in
-    stop_over_states _ _ _ _ (ready config op) (next config op) (rw c.self.view_is at still) clean s (λ t p after made means. made fit s means) given
+    let did = tries_over (state g.S.Store c.args.self.now) (state g.S.Store c.perform_if_open.new.connection) _ _ _ (done_ready config op) (next config op)
+    (λ s its t p after made means. made its.0 s means its.1) (rw c.self.view_is at c.in_err-done.ensures.transacts) in
+    record {
+      ok = λ clean s at its. IfOk-from_err c.from_residual.result _ c.from_residual.ensures.0;
+      err = λ is_open s at. on_err c.from_residual.result (did.err is_open s at);
+      honest = did.honest;
+      was_open = did.was_open;
+      stop = did.stop;
+    }
 
-pub returns-clause-ok : goal.returns-clause-ok
-returns-clause-ok g c clean fit s given running =
+pub returns-clause-does : goal.returns-clause-does
+returns-clause-does g c =
     let config = c.args.service.now in
     let op = c.args.operation.now in
-    performs config s op (state g.S.Store c.serve.new.connection) c.serve.result
-    (ok_over_states _ _ _ _ (ready config op) (next config op) c.serve.ensures.transacts clean s (λ t p after made means. made fit s means running) (rw (← c.self.view_is) at given))
+    let did = tries_over (state g.S.Store c.args.self.now) (state g.S.Store c.perform_if_open.new.connection) _ _ _ (done_ready config op) (next config op)
+    (λ s its t p after made means. made its.0 s means its.1) (rw c.self.view_is at c.in_ok-done.ensures.transacts) in
+    record { ok = did.ok; err = λ is_open s at. tt; honest = did.honest; was_open = did.was_open; stop = did.stop }
 
-pub returns-clause-err : goal.returns-clause-err
-returns-clause-err g c is_open s given = err_state _ _ _ _ c.serve.ensures.transacts is_open s (rw (← c.self.view_is) at given)
+pub returns-clause-unchanged : goal.returns-clause-unchanged
+returns-clause-unchanged g c clean s given running nothing =
+    let stands = rw (← c.self.view_is) at given in
+    subst (λ h. IsGivenBack (state g.S.Store h) (state g.S.Store c.perform_if_open.new.connection)) c.self.view_is
+    (c.in_ok-done.ensures.back ((c.in_ok-done.ensures.changes clean s stands running).1 nothing))
 
-pub returns-clause-stop : goal.returns-clause-stop
-returns-clause-stop g c clean fit s given running =
-    let config = c.args.service.now in
-    let op = c.args.operation.now in
-    stop_over_states _ _ _ _ (ready config op) (next config op) c.serve.ensures.transacts clean s (λ t p after made means. made fit s means running) (rw (← c.self.view_is) at given)
+pub invariant_of-self-2 : goal.invariant_of-self-2
+invariant_of-self-2 g c = (
+  λ m is s stands.
+      let known = c.still_known-self-inside.ensures m is in
+      let was : c.self.inside.remembered ≡ c.replace-remembered.result = search rules in
+      c.self.invariant.0 m (was ∙ known.0) s (stood_before (state g.S.Store c.self.inside.connection) (state g.S.Store c.perform_if_open.new.connection) (c.in_ok-done.ensures.back known.1).back (search rules) s stands),
+  λ m is clean. (c.in_ok-done.ensures.back (c.still_known-self-inside.ensures m is).1).opened clean,
+)

@@ -1,8 +1,10 @@
 use Rattle.sqlite.specs.Held.{state}
 use Rattle.sqlite.proofs.StateLemmas.{clean_if_open}
-use Rattle.dep_schema.proofs.Transacting.{after_back}
-use Rattle.dep_store.proofs.ShutLemmas.{fails_back, fails_still, was_open_then}
-use Rattle.dep_store.proofs.showing.serve.Goals as goal
+use Rattle.std.proofs.lemmas.Result.{IfOk-weaker}
+use Rattle.dep_requests.specs.declared.performing.Done.{Done}
+use Rattle.dep_schema.proofs.Transacting.{after_back, fails_back, given_back_then}
+use Rattle.dep_store.proofs.ShutLemmas.{fails_still, state_back, was_open_then}
+use Rattle.dep_store.proofs.showing.perform_if_open.Goals as goal
 
 pub returns-in_err-check_open-clause-transacts : goal.returns-in_err-check_open-clause-transacts
 returns-in_err-check_open-clause-transacts g c =
@@ -24,3 +26,17 @@ pub returns-clause-shut : goal.returns-clause-shut
 returns-clause-shut g c =
     was_open_then (state g.S.Store c.args.connection.now) (state g.S.Store c.perform_request.new.connection) c.perform_request.result
     (λ clean. (c.check_open.ensures.back (c.in_ok-check_open.ensures.opened (c.perform_request.ensures.transacts.honest clean))).0)
+
+pub returns-clause-changes : goal.returns-clause-changes
+returns-clause-changes g c clean s stands running =
+    c.perform_request.ensures.changes clean s
+    (state_back (state g.S.Store c.args.connection.now) (state g.S.Store c.check_open.new.connection) s c.check_open.ensures.back
+    (c.in_ok-check_open.ensures.opened (c.perform_request.ensures.transacts.honest clean)) stands)
+    running
+
+pub returns-clause-back : goal.returns-clause-back
+returns-clause-back g c =
+    IfOk-weaker c.perform_request.result _ _
+    (λ (answer : Done) given same. given_back_then (state g.S.Store c.args.connection.now) (state g.S.Store c.check_open.new.connection) (state g.S.Store c.perform_request.new.connection)
+    c.check_open.ensures.back c.check_open.ensures.survives (given same))
+    c.perform_request.ensures.back

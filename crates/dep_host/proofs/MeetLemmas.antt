@@ -1,0 +1,238 @@
+-- What a host makes of what comes to it.
+use Rattle.std.proofs.Common.{◌≡◌, inl, inr, ◌<◌, ℕ, Bool, true, false, if◌then◌else◌, List, [], ◌∷◌, ◌++◌, Option, None, Some, is_some, refl, sym, ap, subst, ◌∙◌, append_assoc, length, set, IsSome, arith}
+use Rattle.std.specs.Option.{option_map}
+use Rattle.std.specs.declared.result.Result.{Result}
+use Rattle.std.specs.declared.result.Result.TheVariants.{Ok, Err}
+use Rattle.std.specs.List.{AllByRecursion}
+use Rattle.std.proofs.lemmas.Bool.{cases_eq, cases_lt}
+use Rattle.std.proofs.lemmas.List.Elements.{Contains-append_right}
+use Rattle.std.proofs.lemmas.List.{append-nil, set-get_or, get_or_past, get_or-set_same, get_or-set_other}
+use Rattle.std.proofs.lemmas.Grind.{flat_map-append}
+use Rattle.dep_types.specs.Conditions.{Condition}
+use Rattle.dep_host.specs.declared.seat.Seat.{Seat}
+use Rattle.dep_host.specs.declared.host.Host.{Host}
+use Rattle.dep_host.specs.declared.log.Refusal.{Refusal}
+use Rattle.dep_host.specs.declared.log.Refusal.TheVariants as refusal
+use Rattle.dep_host.specs.declared.events.Client.{Client}
+use Rattle.dep_host.specs.declared.events.Event.{Event}
+use Rattle.dep_host.specs.declared.events.Event.TheVariants as came
+use Rattle.dep_host.specs.declared.serving.Ended.{Ended}
+use Rattle.dep_host.specs.declared.serving.Ended.TheVariants as ended
+use Rattle.dep_host.specs.Coming.{seconds_of, seconds_in}
+use Rattle.dep_host.specs.Courses.{is_overdue}
+use Rattle.dep_host.specs.Seats.{woken_seat}
+use Rattle.dep_host.specs.Hosting.{GoesOn, position, slot, refused, comes}
+use Rattle.dep_host.specs.Meeting.{IsOffer, MayEnd, Wakes, MayRefuse, TurnsAway, Admits, Meets, wakes, lets_in, turns_away, makes_round, IsMet, MeetsAll, begins, goes_on, all_given, Met}
+use Rattle.dep_host.specs.Notes.{Note, Grows}
+use Rattle.dep_host.specs.Rounds.{IsTold, EndsInTime}
+use Rattle.dep_host.proofs.HostLemmas.{untouched, woken, one_step, no_step, both}
+use Rattle.dep_host.proofs.RoundLemmas.{rounds_begin, rounds_go_on, one_second}
+
+pub grows_none : {X : Type 0} (told : Option (List X)) → Grows told told []
+grows_none None = tt
+grows_none (Some xs) = sym (append-nil xs)
+
+pub grows_on : {X : Type 0} (old mid new : Option (List X)) (xs ys : List X) → Grows old mid xs → Grows mid new ys → Grows old new (xs ++ ys)
+grows_on None mid new xs ys g h = tt
+grows_on (Some o) None new xs ys g h = absurd g
+grows_on (Some o) (Some m) None xs ys g h = absurd h
+grows_on (Some o) (Some m) (Some n) xs ys g h = h ∙ (ap (λ l. l ++ ys) g ∙ append_assoc o xs ys)
+
+-- where nobody sits nobody is changed
+pub changes_none : {X : Type 0} (f : X → X) (seats : List (Option X)) (at : ℕ) → slot at seats ≡ None → seats ≡ set seats at (option_map f (slot at seats))
+changes_none {X = X} f seats at e =
+    sym (ap (λ (o : Option X). set seats at (option_map f o)) e ∙ (ap (λ (o : Option X). set seats at o) (sym e) ∙ set-get_or seats at None))
+
+-- one was changed, or there was nobody
+pub changes_one : {X : Type 0} (f : X → X) (seats : List (Option X)) (at : ℕ) (before after : X) → slot at seats ≡ Some before → after ≡ f before
+    → set seats at (Some after) ≡ set seats at (option_map f (slot at seats))
+changes_one {X = X} f seats at before after e h = ap (λ (o : Option X). set seats at o) (ap Some h ∙ ap (λ (o : Option X). option_map f o) (sym e))
+
+pub changes_nobody : {X : Type 0} (f : X → X) (seats : List (Option X)) (at : ℕ) (x : Option X) → slot at seats ≡ x → x ≡ None
+    → set seats at x ≡ set seats at (option_map f (slot at seats))
+changes_nobody {X = X} f seats at x e none = ap (λ (o : Option X). set seats at o) (none ∙ ap (λ (o : Option X). option_map f o) (sym (e ∙ none)))
+
+not_none : {X : Type 0} (o : Option X) (x : X) → o ≡ Some x → o ≡ None → ⊥
+not_none o x e f = let bad : Some x ≡ None = sym e ∙ f in cc
+
+-- who sits somewhere sits at a place
+pub sits_within : {X : Type 0} (seats : List (Option X)) (at : ℕ) (x : X) → slot at seats ≡ Some x → at < length seats
+sits_within seats at x e = elim (cases_lt at (length seats)) [
+  | inl lt ↦ lt
+  | inr ge ↦ absurd (not_none (slot at seats) x e (get_or_past seats at None ge))
+]
+
+-- nobody sits where nobody sat, once one was changed, nor the other way
+free_on : {X : Type 0} (f : X → X) (seats : List (Option X)) (at place : ℕ) → slot place seats ≡ None → slot place (set seats at (option_map f (slot at seats))) ≡ None
+free_on {X = X} f seats at place free = elim (cases_eq place at) [
+  | inl e ↦ ap (λ (l : List (Option X)). slot place l) (sym (changes_none f seats at (ap (λ (n : ℕ). slot n seats) (sym e) ∙ free))) ∙ free
+  | inr ne ↦ get_or-set_other seats at place _ None ne ∙ free
+]
+
+free_there : {X : Type 0} (f : X → X) (seats : List (Option X)) (at : ℕ) (o : Option X) → slot at seats ≡ o → slot at (set seats at (option_map f o)) ≡ None → slot at seats ≡ None
+free_there f seats at None e free = e
+free_there f seats at (Some x) e free = absurd (not_none _ (f x) (get_or-set_same seats at (Some (f x)) None (sits_within seats at x e)) free)
+
+free_back : {X : Type 0} (f : X → X) (seats : List (Option X)) (at place : ℕ) → slot place (set seats at (option_map f (slot at seats))) ≡ None → slot place seats ≡ None
+free_back {X = X} f seats at place free = elim (cases_eq place at) [
+  | inl e ↦ ap (λ (n : ℕ). slot n seats) e ∙ free_there f seats at (slot at seats) refl (subst (λ (n : ℕ). slot n (set seats at (option_map f (slot at seats))) ≡ None) e free)
+  | inr ne ↦ sym (get_or-set_other seats at place _ None ne) ∙ free
+]
+
+-- what was offered is offered still
+pub offer_kept : {A R K S : Type 0} (p q : Host A R K S) (at : ℕ) (r w : Bool) (o : Option ℕ) → IsOffer p o → Wakes p q at r w → IsOffer q o
+offer_kept {R = R} {K = K} {S = S} p q at r w None none h = λ place v.
+    none place (
+      subst (λ (n : ℕ). place < n) h.stays.places v.0,
+      free_back (λ (s : Seat R K S). woken_seat s r w) p.seats.items at place (subst (λ (l : List (Option (Seat R K S))). slot place l ≡ None) h.seats v.1),
+      subst (λ (s : Option ℕ). is_some s ≡ false) h.stays.shut v.2,
+    )
+offer_kept {R = R} {K = K} {S = S} p q at r w (Some place) v h = (
+  subst (λ (n : ℕ). place < n) (sym h.stays.places) v.0,
+  subst (λ (l : List (Option (Seat R K S))). slot place l ≡ None) (sym h.seats) (free_on (λ (s : Seat R K S). woken_seat s r w) p.seats.items at place v.1),
+  subst (λ (s : Option ℕ). is_some s ≡ false) (sym h.stays.shut) v.2,
+)
+
+-- nothing is vacant once it was told that the store is shut
+pub none_once_shut : {A R K S : Type 0} (p : Host A R K S) → IsSome p.shut_since → IsOffer p None
+none_once_shut p shut = λ at v. let bad : true ≡ false = sym shut ∙ v.2 in cc
+
+pub none_offered : {A R K S : Type 0} (p : Host A R K S) (o : Option ℕ) → o ≡ None → IsOffer p o → IsOffer p None
+none_offered p o none h = subst (λ (v : Option ℕ). IsOffer p v) none h
+
+-- why a client is turned away where no place was offered
+refuses_by : {A R K S : Type 0} (p : Host A R K S) (client : Client R K S) (b : Bool) → is_some p.shut_since ≡ b → IsOffer p None → MayRefuse p client (if b then refusal.Shut else refusal.Full)
+refuses_by p client true e none = e
+refuses_by p client false e none = (e, inl none)
+
+pub may_refuse : {A R K S : Type 0} (p : Host A R K S) (client : Client R K S) (why : Refusal) → why ≡ (if is_some p.shut_since then refusal.Shut else refusal.Full) → IsOffer p None → MayRefuse p client why
+may_refuse p client why is none = subst (λ (r : Refusal). MayRefuse p client r) (sym is) (refuses_by p client (is_some p.shut_since) refl none)
+
+may_end_on : {A R K S : Type 0} (host : Host A R K S) (xs ys : List ℕ) → MayEnd host ys → MayEnd host (xs ++ ys)
+may_end_on host xs ys (shut, inl empty) = (shut, inl empty)
+may_end_on host xs ys (shut, inr late) = (shut, inr (late.0, Contains-append_right xs ys late.0 late.1, late.2))
+
+-- nobody sits anywhere, where nobody sits at the places that there are
+pub nobody : {X : Type 0} (seats : List (Option X)) (all : ℕ) → all ≡ length seats → ((place : ℕ) → place < all → slot place seats ≡ None) → (at : ℕ) → slot at seats ≡ None
+nobody seats all e none at = elim (cases_lt at all) [
+  | inl lt ↦ none at lt
+  | inr ge ↦ get_or_past seats at None (omega (arith, ge, e))
+]
+
+given_more : {R K S : Type 0} (old new : Option (List (Event R K S))) (events : List (Event R K S)) (end : Ended) → (end ≡ ended.Events → ⊥) → Grows old new events → Grows old new (all_given end events)
+given_more old new events ended.Events more g = absurd (more refl)
+given_more old new events ended.Shut more g = g
+given_more old new events ended.Spent more g = g
+
+seconds_more : {R K S : Type 0} (events : List (Event R K S)) (event : Event R K S) → seconds_in (events ++ event ∷ []) ≡ seconds_in events ++ seconds_of event
+seconds_more {R = R} {K = K} {S = S} events event =
+    flat_map-append (λ (e : Event R K S). seconds_of e) events (event ∷ []) ∙ ap (λ (l : List ℕ). seconds_in events ++ l) (append-nil (seconds_of event))
+
+module _ {A R K S : Type 0} (condition : A → Condition) (unread : R → Option (List ℕ)) (taken : K → Option (List ℕ)) (held : S → Option (List ℕ)) where
+  wakes_there : (p q : Host A R K S) (at : ℕ) (r w : Bool) (o : Option (Seat R K S)) → slot at p.seats.items ≡ o → Wakes p q at r w → GoesOn condition unread taken held (position p) (position q)
+  wakes_there p q at r w None e h = one_step condition unread taken held (position p) (position q) []
+      (refused (untouched condition unread taken held (position p) (position q) h.same_hub h.stays.limits h.stays.shut
+      (h.seats ∙ sym (changes_none (λ (s : Seat R K S). woken_seat s r w) p.seats.items at e))))
+  wakes_there p q at r w (Some before) e h = (
+    [],
+    woken condition unread taken held (position p) (position q) at before (woken_seat before r w) (sits_within p.seats.items at before e) e
+        (h.seats ∙ ap (λ (o : Option (Seat R K S)). set p.seats.items at (option_map (λ (s : Seat R K S). woken_seat s r w) o)) e)
+        h.same_hub h.stays.limits h.stays.shut (record { connection = refl; address = refl }) refl refl (λ h. h) (λ h. h) refl,
+  )
+
+  module _ {L : Type 0} (notes : L → Option (List Note)) where
+    -- it was turned away for what was answered
+    pub turned : (p q : Host A R K S) (l m : L) (at : ℕ) (client : Client R K S) (why told : Refusal) → told ≡ why → TurnsAway condition unread taken held notes p q l m client why
+        → Admits condition unread taken held notes p q l m at client (Err told)
+    turned p q l m at client why told same h = subst (λ (r : Refusal). TurnsAway condition unread taken held notes p q l m client r) (sym same) h
+
+    pub admitted : (p q : Host A R K S) (l m : L) (at : ℕ) (client : Client R K S) (result : Result (Unit {0}) Refusal) → Admits condition unread taken held notes p q l m at client result
+        → Meets condition unread taken held notes p q l m (came.Client client)
+    admitted p q l m at client (Ok x) h = lets_in h
+    admitted p q l m at client (Err why) h = turns_away h
+
+    pub meets_as : (p q : Host A R K S) (l m : L) (event other : Event R K S) → event ≡ other → Meets condition unread taken held notes p q l m other → Meets condition unread taken held notes p q l m event
+    meets_as p q l m event other is h = subst (λ (e : Event R K S). Meets condition unread taken held notes p q l m e) (sym is) h
+
+    pub round_met : {T : Type 0} (p q : Host A R K S) (l m : L) (event : Event R K S) (result : Result T Ended) → (result ≡ Err ended.Events → ⊥) → (result ≡ Err ended.Spent → ⊥)
+        → Meets condition unread taken held notes p q l m event → IsMet condition unread taken held notes p q l m event result
+    round_met p q l m event (Ok now) more few h = h
+    round_met p q l m event (Err ended.Events) more few h = absurd (more refl)
+    round_met p q l m event (Err ended.Shut) more few h = h
+    round_met p q l m event (Err ended.Spent) more few h = absurd (few refl)
+
+    -- what comes of an event
+    pub meets_go : {p q : Host A R K S} {l m : L} {event : Event R K S} → Meets condition unread taken held notes p q l m event → GoesOn condition unread taken held (position p) (position q)
+    meets_go {p = p} {q = q} (wakes {at = at} {r = r} {w = w} h same) = wakes_there p q at r w (slot at p.seats.items) refl h
+    meets_go {p = p} {q = q} (lets_in h) = one_step condition unread taken held (position p) (position q) _ (comes h.comes)
+    meets_go {p = p} {q = q} (turns_away h) = one_step condition unread taken held (position p) (position q) [] (refused h.keeps)
+    meets_go {p = p} {q = q} (makes_round h) =
+        both condition unread taken held (position p) (position h.mid) (position q) (h.goes.deeds, h.goes.steps)
+        (both condition unread taken held (position h.mid) (position h.asks.mid) (position q) ([], h.asks.asks.steps) ([], h.asks.works))
+
+    pub meets_limits : {p q : Host A R K S} {l m : L} {event : Event R K S} → Meets condition unread taken held notes p q l m event → q.limits ≡ p.limits
+    meets_limits (wakes h same) = h.stays.limits
+    meets_limits (lets_in h) = h.stays.limits
+    meets_limits (turns_away h) = h.stays.limits
+    meets_limits (makes_round h) = h.asks.stays.limits ∙ (h.asks.asks.limits ∙ h.stays.limits)
+
+    pub meets_told : {p q : Host A R K S} {l m : L} {event : Event R K S} → Meets condition unread taken held notes p q l m event → IsTold p.shut_since q.shut_since (seconds_of event)
+    meets_told (wakes h same) = inl h.stays.shut
+    meets_told (lets_in h) = inl h.stays.shut
+    meets_told (turns_away h) = inl h.stays.shut
+    meets_told {p = p} {q = q} (makes_round {time = time} h) =
+        subst (λ (o : Option ℕ). IsTold o q.shut_since (time.second ∷ [])) h.stays.shut
+        (subst (λ (o : Option ℕ). IsTold h.mid.shut_since o (time.second ∷ [])) (sym h.asks.stays.shut) h.asks.asks.told)
+
+    pub all_go : {p : Host A R K S} {l : L} {events : List (Event R K S)} {q : Host A R K S} {m : L} → MeetsAll condition unread taken held notes p l events q m → GoesOn condition unread taken held (position p) (position q)
+    all_go {p = p} begins = no_step condition unread taken held (position p)
+    all_go {p = p} (goes_on {q = q} {n = n} s h) = both condition unread taken held (position p) (position q) (position n) (all_go s) (meets_go h)
+
+    pub met_none : (told : Option (List (Event R K S))) (p : Host A R K S) (l : L) → Met condition unread taken held notes told told p p l l ended.Spent
+    met_none told p l = record {
+      events = [];
+      given = grows_none told;
+      each = begins;
+      in_time = rounds_begin p.shut_since p.limits;
+      may_end = λ e. let bad : ended.Spent ≡ ended.Shut = e in cc;
+    }
+
+    pub met_on : (old mid new : Option (List (Event R K S))) (p q r : Host A R K S) (l m n : L) (event : Event R K S) (end : Ended)
+        → Met condition unread taken held notes old mid p q l m ended.Spent → Grows mid new (event ∷ []) → Meets condition unread taken held notes q r m n event
+        → (end ≡ ended.Events → ⊥) → ((end ≡ ended.Shut → ⊥) → AllByRecursion (λ second. is_overdue r.shut_since second r.limits ≡ false) (seconds_of event))
+        → (end ≡ ended.Shut → MayEnd r (seconds_of event)) → Met condition unread taken held notes old new p r l n end
+    met_on old mid new p q r l m n event end s g h more now may = record {
+      events = s.events ++ event ∷ [];
+      given = given_more old new (s.events ++ event ∷ []) end more (grows_on old mid new s.events (event ∷ []) s.given g);
+      each = goes_on s.each h;
+      in_time = subst (λ (l : List ℕ). EndsInTime l p.shut_since r.shut_since r.limits end) (sym (seconds_more s.events event))
+          (rounds_go_on (seconds_in s.events) (seconds_of event) p.shut_since q.shut_since r.shut_since q.limits r.limits end s.in_time (meets_told h) (one_second event) (meets_limits h) now);
+      may_end = λ e. subst (λ (l : List ℕ). MayEnd r l) (sym (seconds_more s.events event)) (may_end_on r (seconds_in s.events) (seconds_of event) (may e));
+    }
+
+    -- the last event, behind which nothing more is asked for
+    ended_by : (T : Type 0) (old mid new : Option (List (Event R K S))) (p q r : Host A R K S) (l m n : L) (event : Event R K S) (end : Ended)
+        → Met condition unread taken held notes old mid p q l m ended.Spent → Grows mid new (event ∷ []) → IsMet condition unread taken held notes {T = T} q r m n event (Err end)
+        → (end ≡ ended.Shut → MayEnd r (seconds_of event)) → Met condition unread taken held notes old new p r l n end
+    ended_by T old mid new p q r l m n event ended.Events s g h may =
+        let now : Met condition unread taken held notes old new p q l m ended.Events = record {
+          events = s.events;
+          given = grows_on old mid new s.events (came.End ∷ []) s.given (subst (λ (e : Event R K S). Grows mid new (e ∷ [])) h.0 g);
+          each = s.each;
+          in_time = record { is_told = s.in_time.is_told; in_time = s.in_time.in_time };
+          may_end = λ e. let bad : ended.Events ≡ ended.Shut = e in cc;
+        } in
+        subst (λ (k : L). Met condition unread taken held notes old new p r l k ended.Events) (sym h.2)
+        (subst (λ (k : Host A R K S). Met condition unread taken held notes old new p k l m ended.Events) (sym h.1) now)
+    ended_by T old mid new p q r l m n event ended.Shut s g h may =
+        met_on old mid new p q r l m n event ended.Shut s g h (λ e. let bad : ended.Shut ≡ ended.Events = e in cc) (λ more. absurd (more refl)) may
+    ended_by T old mid new p q r l m n event ended.Spent s g h may = absurd h
+
+    pub met_last : {T : Type 0} (old mid new : Option (List (Event R K S))) (p q r : Host A R K S) (l m n : L) (event : Event R K S) (end : Ended) (result : Result T Ended)
+        → result ≡ Err end → Met condition unread taken held notes old mid p q l m ended.Spent → Grows mid new (event ∷ []) → IsMet condition unread taken held notes q r m n event result
+        → (result ≡ Err ended.Shut → MayEnd r (seconds_of event)) → Met condition unread taken held notes old new p r l n end
+    met_last {T = T} old mid new p q r l m n event end result is s g h may =
+        ended_by T old mid new p q r l m n event end s g (subst (λ (k : Result T Ended). IsMet condition unread taken held notes q r m n event k) is h) (λ e. may (is ∙ ap Err e))
+
+    pub is_the_end : {T : Type 0} (p q : Host A R K S) (l m : L) (event : Event R K S) (result : Result T Ended) → result ≡ Err ended.Events → IsMet condition unread taken held notes p q l m event result → event ≡ came.End
+    is_the_end {T = T} p q l m event result is h = let at_end = subst (λ (k : Result T Ended). IsMet condition unread taken held notes p q l m event k) is h in at_end.0

@@ -1,0 +1,60 @@
+-- What follows from how a host goes on.
+use Rattle.std.specs.Prelude.{◌≡◌, ◌++◌, ℕ, List, [], Option, Some}
+use Rattle.dep_types.specs.State.{State}
+use Rattle.dep_types.specs.Conditions.{Condition}
+use Rattle.dep_hub.specs.Records.{Record}
+use Rattle.dep_hub.specs.Standing.{IsClean}
+use Rattle.dep_hub.specs.Holding.{StandsHoldingAfter}
+use Rattle.dep_outbox.specs.Wires.{told}
+use Rattle.dep_host.specs.declared.seat.Seat.{Seat}
+use Rattle.dep_host.specs.Hosting.{Position, Deed, Steps, Tells, AreOutgoing, IsEmpty, slot, replies_to}
+use Rattle.dep_host.specs.Runs.{StandsBehind, KeepsPromise, Follows, StaysOpen, read_of, arrived_of}
+
+-- what was read of a connection that stays open has arrived, but for what is held
+abbrev pub ReadsArrive : Type 0
+ReadsArrive = (first held : ℕ → List ℕ) (deeds : List Deed) (records : List Record) (number : ℕ)
+    → Follows first deeds records held → StaysOpen number deeds
+    → first number ++ read_of number deeds ≡ arrived_of number records ++ held number
+
+module _ {A R K S : Type 0} (condition : A → Condition) (unread : R → Option (List ℕ))
+    (taken : K → Option (List ℕ)) (held : S → Option (List ℕ)) where
+  -- behind all records that a hub stood for it stands for those of what was done, while it is open
+  abbrev pub MakesRuns : Type 0
+  MakesRuns = (p q : Position A R K S) (deeds : List Deed) (first : State) (records : List Record)
+      (kept : ℕ → List ℕ) → Steps condition unread taken held p deeds q
+      → StandsHoldingAfter condition p.hub first records kept → IsClean condition q.hub
+      → StandsBehind condition q.hub first records kept deeds
+
+  -- what a wire took since its connection came is what was sent to that
+  abbrev pub TakesWhatIsSent : Type 0
+  TakesWhatIsSent = (p q : Position A R K S) (deeds : List Deed)
+      → ((sink : K) → Tells (taken sink)) → ((spool : S) → Tells (held spool)) → IsEmpty p
+      → Steps condition unread taken held p deeds q
+      → (at : ℕ) (seat : Seat R K S) → slot at q.seats ≡ Some seat
+      → told taken held seat.wire ≡ Some (replies_to seat.connection deeds)
+
+  -- no connection sits at two places
+  abbrev pub SitsApart : Type 0
+  SitsApart = (p q : Position A R K S) (deeds : List Deed) → IsEmpty p
+      → Steps condition unread taken held p deeds q
+      → (a b : ℕ) (s t : Seat R K S) → slot a q.seats ≡ Some s → slot b q.seats ≡ Some t
+      → s.connection ≡ t.connection → a ≡ b
+
+  -- who sits at a place was never closed
+  abbrev pub SitsOpen : Type 0
+  SitsOpen = (p q : Position A R K S) (deeds : List Deed) → IsEmpty p
+      → Steps condition unread taken held p deeds q
+      → (at : ℕ) (seat : Seat R K S) → slot at q.seats ≡ Some seat
+      → StaysOpen seat.connection deeds
+
+  -- the archive promise, of any deeds from a host without connections
+  abbrev pub KeepsPromises : Type 0
+  KeepsPromises = (p q : Position A R K S) (deeds : List Deed) (first : State) (before : List Record)
+      → IsEmpty p → StandsHoldingAfter condition p.hub first before (λ n. [])
+      → Steps condition unread taken held p deeds q → IsClean condition q.hub
+      → KeepsPromise condition unread taken held q first before deeds
+
+  -- who was told that the store is shut lets nobody in, reads nothing, and forgets it never
+  abbrev pub TakesNothing : Type 0
+  TakesNothing = (p q : Position A R K S) (deeds : List Deed) (since : ℕ) → p.shut ≡ Some since
+      → Steps condition unread taken held p deeds q → AreOutgoing deeds × (q.shut ≡ Some since)

@@ -1,0 +1,156 @@
+-- What a host makes of what comes to it, event by event.
+use Rattle.std.specs.Prelude.{◌≡◌, ◌⊎◌, ◌<◌, ◌≤◌, ℕ, Bool, true, List, [], ◌∷◌, ◌++◌, length, set, Option, None, Some, IsNone, IsSome}
+use Rattle.std.specs.List.{Contains}
+use Rattle.std.specs.Option.{option_map}
+use Rattle.std.specs.declared.result.Result.{Result}
+use Rattle.std.specs.declared.result.Result.TheVariants as result
+use Rattle.dep_types.specs.Conditions.{Condition}
+use Rattle.dep_types.specs.Writing.{HasRisen}
+use Rattle.dep_hub.specs.Shut.{TellsOpen}
+use Rattle.dep_hub.specs.Numbers.{most_connections, last_number}
+use Rattle.dep_hub.specs.declared.hub.Hub.{Hub}
+use Rattle.dep_host.specs.declared.seat.Seat.{Seat}
+use Rattle.dep_host.specs.declared.seat.Time.{Time}
+use Rattle.dep_host.specs.declared.host.Host.{Host}
+use Rattle.dep_host.specs.declared.log.Refusal.{Refusal}
+use Rattle.dep_host.specs.declared.log.Refusal.TheVariants as refusal
+use Rattle.dep_host.specs.declared.events.Client.{Client}
+use Rattle.dep_host.specs.declared.events.Event.{Event}
+use Rattle.dep_host.specs.declared.events.Event.TheVariants as came
+use Rattle.dep_host.specs.declared.serving.Ended.{Ended}
+use Rattle.dep_host.specs.declared.serving.Ended.TheVariants as ended
+use Rattle.dep_host.specs.Coming.{origin, seated_from, seconds_in}
+use Rattle.dep_host.specs.Courses.{is_overdue}
+use Rattle.dep_host.specs.Seats.{woken_seat}
+use Rattle.dep_host.specs.Hosting.{Comes, GoesRound, HasTime, IsEmpty, IsVacant, Refused, Stays, Steps, position, slot}
+use Rattle.dep_host.specs.Notes.{Note, LetIn, TurnedAway, Grows}
+use Rattle.dep_host.specs.Rounds.{EndsInTime, IsTold}
+
+-- a further connection can be seated at the place that is offered, and nowhere where none is
+abbrev pub IsOffer : {A R K S : Type 0} → Host A R K S → Option ℕ → Type 0
+IsOffer host None = (at : ℕ) → IsVacant host at → ⊥
+IsOffer host (Some at) = IsVacant host at
+
+-- the socket of the connection at a place may be ready, where one sits there
+pub record Wakes {A R K S : Type 0} (p q : Host A R K S) (at : ℕ) (is_readable is_writable : Bool)
+    : Type 0 where
+  pub same_hub : q.hub ≡ p.hub
+  pub seats : q.seats.items ≡ set p.seats.items at
+      (option_map (λ s. woken_seat s is_readable is_writable) (slot at p.seats.items))
+  pub stays : Stays p q
+
+-- It may end because its store is shut, as it was told: nobody sits there any more, or one of these
+-- rounds was an idle time later.
+abbrev pub MayEnd : {A R K S : Type 0} → Host A R K S → (rounds : List ℕ) → Type 0
+MayEnd host rounds = IsSome host.shut_since × (IsEmpty (position host)
+    ⊎ ((second : ℕ) × Contains rounds second
+    × (is_overdue host.shut_since second host.limits ≡ true)))
+
+-- what came, of which these were met: an end is the last
+abbrev pub all_given : {R K S : Type 0} → Ended → List (Event R K S) → List (Event R K S)
+all_given ended.Events events = events ++ came.End ∷ []
+all_given ended.Shut events = events
+all_given ended.Spent events = events
+
+-- the hub opens no further connection
+abbrev pub IsFull : {A : Type 0} → Hub A → Type 0
+IsFull hub = (most_connections ≤ length hub.connections.items) ⊎ (last_number ≤ hub.next)
+
+-- why a client is turned away: of a want of memory nothing else is told
+abbrev pub MayRefuse : {A R K S : Type 0} → Host A R K S → Client R K S → Refusal → Type 0
+MayRefuse p client refusal.Address =
+    p.limits.address_connections ≤ seated_from (origin client.address) p.seats.items
+MayRefuse p client refusal.Full =
+    IsNone p.shut_since × (IsOffer p None ⊎ IsFull p.hub)
+MayRefuse p client refusal.Memory = IsNone p.shut_since
+MayRefuse p client refusal.Shut = IsSome p.shut_since
+
+module _ {A R K S : Type 0} (condition : A → Condition) (unread : R → Option (List ℕ))
+    (taken : K → Option (List ℕ)) (held : S → Option (List ℕ)) where
+  -- It was asked at a second whether the store is open: it is shut; or open, unless its disk has
+  -- told a lie; or this could not be told, which is counted.
+  pub record IsAsked (p q : Host A R K S) (second : ℕ) : Type 0 where
+    pub steps : Steps condition unread taken held (position p) [] (position q)
+    pub told : IsTold p.shut_since q.shut_since (second ∷ [])
+    pub limits : q.limits ≡ p.limits
+    pub known : IsSome q.shut_since
+        ⊎ (TellsOpen (condition q.hub.store) true ⊎ HasRisen p.unanswered q.unanswered)
+
+  -- it was asked whether the store is open, which may have worked ahead then
+  pub record AsksOn (p q : Host A R K S) (second : ℕ) : Type 0 where
+    pub mid : Host A R K S
+    pub asks : IsAsked p mid second
+    pub works : Steps condition unread taken held (position mid) [] (position q)
+    pub stays : Stays mid q
+
+  -- each place had its turn at that time, and then it was asked whether the store is open
+  pub record MakesRound (p q : Host A R K S) (time : Time) : Type 0 where
+    pub mid : Host A R K S
+    pub goes : GoesRound condition unread taken held (position p) (position mid) time
+    pub left : (at : ℕ) → HasTime time.second mid.limits (slot at mid.seats.items)
+    pub stays : Stays p mid
+    pub asks : AsksOn mid q time.second
+
+module _ {A R K S L : Type 0} (condition : A → Condition) (unread : R → Option (List ℕ))
+    (taken : K → Option (List ℕ)) (held : S → Option (List ℕ))
+    (notes : L → Option (List Note)) where
+  -- a client was let in, and its log was told
+  pub record LetsIn (p q : Host A R K S) (l m : L) (at : ℕ) (client : Client R K S) : Type 0 where
+    pub seat : Seat R K S
+    pub comes : Comes condition unread taken held (position p) (position q) at seat
+    pub source : seat.source ≡ client.source
+    pub wire : seat.wire ≡ client.wire
+    pub address : seat.address ≡ client.address
+    -- fewer sit there that come from its address than may
+    pub room : seated_from (origin client.address) p.seats.items < p.limits.address_connections
+    pub stays : Stays p q
+    pub noted : Grows (notes l) (notes m) (LetIn seat.connection client.address ∷ [])
+
+  -- a client was turned away for a reason, and its log was told
+  pub record TurnsAway (p q : Host A R K S) (l m : L) (client : Client R K S) (why : Refusal)
+      : Type 0 where
+    pub keeps : Refused condition unread taken held (position p) (position q)
+    pub may : MayRefuse p client why
+    pub stays : Stays p q
+    pub noted : Grows (notes l) (notes m) (TurnedAway client.address why ∷ [])
+
+  -- what became of a client that came to a place
+  abbrev pub Admits : (p q : Host A R K S) → (l m : L) → (at : ℕ) → Client R K S
+      → Result (Unit {0}) Refusal → Type 0
+  Admits p q l m at client (result.Ok _) = LetsIn p q l m at client
+  Admits p q l m at client (result.Err why) = TurnsAway p q l m client why
+
+  -- what it makes of one event
+  pub data Meets (p q : Host A R K S) (l m : L) : Event R K S → Type 0 where
+    wakes : {at : ℕ} {r w : Bool} → Wakes p q at r w → m ≡ l → Meets p q l m (came.Ready at r w)
+    lets_in : {client : Client R K S} {at : ℕ} → LetsIn p q l m at client
+        → Meets p q l m (came.Client client)
+    turns_away : {client : Client R K S} {why : Refusal} → TurnsAway p q l m client why
+        → Meets p q l m (came.Client client)
+    makes_round : {time : Time} → MakesRound condition unread taken held p q time
+        → Meets p q l m (came.Round time)
+
+  -- an event was met, or was the end, by whether it goes on
+  abbrev pub IsMet : {T : Type 0} → (p q : Host A R K S) → (l m : L) → Event R K S → Result T Ended
+      → Type 0
+  IsMet p q l m event (result.Ok now) = Meets p q l m event
+  IsMet p q l m event (result.Err ended.Events) = (event ≡ came.End) × (q ≡ p) × (m ≡ l)
+  IsMet p q l m event (result.Err ended.Shut) = Meets p q l m event
+  IsMet p q l m event (result.Err ended.Spent) = ⊥
+
+  -- what it makes of all of them, one after another
+  pub data MeetsAll (p : Host A R K S) (l : L)
+      : List (Event R K S) → Host A R K S → L → Type 0 where
+    begins : MeetsAll p l [] p l
+    goes_on : {events : List (Event R K S)} {event : Event R K S} {q n : Host A R K S} {m o : L}
+        → MeetsAll p l events q m → Meets q n m o event → MeetsAll p l (events ++ event ∷ []) n o
+
+  -- What came in a call, where it is told, and what became of each: it was met, up to the end, and
+  -- no round was too late, nor a shut store left too soon.
+  pub record Met (told_old told_new : Option (List (Event R K S))) (p q : Host A R K S) (l m : L)
+      (end : Ended) : Type 0 where
+    pub events : List (Event R K S)
+    pub given : Grows told_old told_new (all_given end events)
+    pub each : MeetsAll p l events q m
+    pub in_time : EndsInTime (seconds_in events) p.shut_since q.shut_since q.limits end
+    pub may_end : end ≡ ended.Shut → MayEnd q (seconds_in events)

@@ -1,0 +1,57 @@
+-- What the tables are once a database was opened, or was not.
+use Rattle.std.specs.Prelude.{◌≡◌, ℕ, IsTrue, Result, IfOk, OnOk}
+use Rattle.sqlite.specs.Schema.{Schema}
+use Rattle.sqlite.specs.State.{State, HasCleanDisk, Survives}
+use Rattle.sqlite.specs.Held.{Held, state}
+use Rattle.sqlite_trees.specs.declared.store.Store.{Ghosts}
+use Rattle.dep_statements.specs.Adding.{HasCounters}
+use Rattle.dep_tables.specs.Tables.{Tables, tables_of, IsOf, IsKnownSchema}
+use Rattle.dep_tables.specs.Versions.{our_version, HasVersion}
+use Rattle.dep_schema.specs.Beside.{LacksFormat}
+use Rattle.dep_schema.specs.Standing.{first_tables, HoldsNone, HoldsOf, Stands, StandsOf, StandsBeside, CommitsOpen}
+use Rattle.dep_schema.specs.OpenFaults.{begun, ShowsOrMakes, FailsToOpen}
+use Rattle.dep_schema.specs.declared.opening.OpenFault.{OpenFault}
+
+module _ (old new : State) (result : Result ℕ OpenFault) where
+  -- the tables of one of our versions stand, with that version
+  abbrev pub StandsKnown : Type 0
+  StandsKnown = HasCleanDisk new → (its : Schema) → IsKnownSchema its → IsOf its old
+      → IfOk result (λ version. HasVersion version (tables_of old) × StandsOf its new (tables_of old))
+
+  -- with no `format` our first tables stand beside those of others
+  abbrev pub StandsMade : Type 0
+  StandsMade = HasCleanDisk new → LacksFormat old.now.schema → HasCounters old.now.schema
+      → OnOk result (StandsBeside old new)
+
+module _ {S : Type 0} (g : Ghosts S) (old new : Held S) where
+  -- the version and the tables of a new store, where there was no table at all
+  abbrev pub StandsFresh : ℕ → Type 0
+  StandsFresh version = HasCleanDisk (state g new) → HoldsNone (state g old).now.trees
+      → Stands (state g new) first_tables × (version ≡ our_version)
+
+  -- the version and the tables that there were, where they were of one of our versions
+  abbrev pub StandsFound : ℕ → Type 0
+  StandsFound version = HasCleanDisk (state g new) → (its : Schema) → IsKnownSchema its
+      → (tables : Tables) → HoldsOf its (state g old).now.trees tables
+      → HasVersion version tables × StandsOf its (state g new) tables
+
+  -- our first tables beside those of others, where there was no `format`
+  abbrev pub StandsAdded : Type 0
+  StandsAdded = HasCleanDisk (state g new) → LacksFormat (state g old).now.schema
+      → HasCounters (state g old).now.schema → StandsBeside (state g old) (state g new)
+
+  -- why a database was opened with this version
+  abbrev pub OpensBy : ℕ → Type 0
+  OpensBy version = HasCleanDisk (state g new) → ShowsOrMakes g (begun old) version
+
+  -- why it was not opened, which this fault tells
+  abbrev pub RefusesBy : OpenFault → Type 0
+  RefusesBy fault = HasCleanDisk (state g new) → FailsToOpen g old new fault
+
+  -- no store that was shut is open
+  abbrev pub WasOpen : Type 0
+  WasOpen = IsTrue (state g new).is_open → IsTrue (state g old).is_open
+
+  -- a crash leaves what it left before, or what an open commits
+  abbrev pub SurvivesOpen : Type 0
+  SurvivesOpen = Survives (state g old) (state g new) (CommitsOpen (state g old))

@@ -1,0 +1,44 @@
+//! Whether a store is open.
+
+ghost use Rattle.std.specs.Prelude.{◌≡◌, [], false, IsTrue, IfErr, OnOk, codes};
+ghost use Rattle.sqlite.specs.State.{HasCleanDisk, IsNotRun, Survives};
+ghost use Rattle.sqlite.specs.Held.{state};
+ghost use Rattle.dep_schema.specs.Transactions.{IsBackAt};
+
+use dep_tables::fault_of;
+use dep_types::StoreFault;
+use sqlite::{Alter, Connection, Error};
+
+/// Prepares a statement that reads no table. SQLite refuses it as `Closed` where a fault has shut the store.
+pub fn probe<S: Alter>(connection: &mut Connection<S>) -> Result<(), Error>
+    requires settled { (state S.Store connection.old).in_transaction ≡ false }
+    ensures opened { HasCleanDisk (state S.Store connection.new)
+        → OnOk result (IsTrue (state S.Store connection.new).is_open) }
+    ensures cause { HasCleanDisk (state S.Store connection.new)
+        → IfErr result
+        (IsNotRun (state S.Store connection.old) (state S.Store connection.new) (codes "SELECT 1") []) }
+    ensures back { IsBackAt (state S.Store connection.old) (state S.Store connection.new) }
+    ensures mode { (state S.Store connection.new).in_transaction ≡ false }
+    ensures survives { Survives (state S.Store connection.old) (state S.Store connection.new) (λ _. ⊥) }
+{
+    let _between = connection.is_autocommit();
+    if let Err(error) = connection.prepare("SELECT 1") {
+        return Err(error);
+    }
+    Ok(())
+}
+
+/// Fails where the store was shut, or fails itself for it.
+pub fn check_open<S: Alter>(connection: &mut Connection<S>) -> Result<(), StoreFault>
+    requires settled { (state S.Store connection.old).in_transaction ≡ false }
+    ensures opened { HasCleanDisk (state S.Store connection.new)
+        → OnOk result (IsTrue (state S.Store connection.new).is_open) }
+    ensures back { IsBackAt (state S.Store connection.old) (state S.Store connection.new) }
+    ensures mode { (state S.Store connection.new).in_transaction ≡ false }
+    ensures survives { Survives (state S.Store connection.old) (state S.Store connection.new) (λ _. ⊥) }
+{
+    match probe(connection) {
+        Ok(()) => Ok(()),
+        Err(error) => Err(fault_of(error)),
+    }
+}

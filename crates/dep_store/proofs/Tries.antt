@@ -1,0 +1,137 @@
+-- What a call on a store comes to, as those who serve it see it, from what it makes of the tables.
+use Rattle.std.proofs.Common.{◌≡◌, ℕ, inl, inr, Result, Ok, Err, OnOk, OnErr, IfOk, IsTrue, sym, subst, arith}
+use Rattle.sqlite.specs.State as db
+use Rattle.sqlite.specs.State.{HasCleanDisk, Survives}
+use Rattle.dep_types.specs.State.{State}
+use Rattle.dep_types.specs.declared.stream_fault.StreamFault.{StreamFault}
+use Rattle.dep_types.specs.declared.stream_fault.StreamFault.TheVariants.{Writer}
+use Rattle.dep_tables.specs.Tables.{Tables}
+use Rattle.dep_streams.specs.Faults.{BlamesOutlet}
+use Rattle.dep_schema.specs.Standing.{Stands}
+use Rattle.dep_schema.specs.States.{TablesStandFor, StandsFor, Leaves}
+use Rattle.dep_schema.specs.Transactions.{Transacts, OnlyTells, IsBackAt}
+use Rattle.dep_schema.proofs.Transacting.{IsSettled, IsOver, ok_over_states, err_state, stop_over_states, ok_tells, still_tells, left_tells, leaves_still, leaves_as_was}
+use Rattle.dep_hub.specs.Archives.{TriesTo, Tells, KeepsState, KeepsAll, Always, CountsFailures}
+use Rattle.dep_store.specs.Archive.{shown_by}
+use Rattle.dep_store.specs.Staying.{TellsTables, KeepsTables, LeavesOnly}
+use Rattle.dep_store.proofs.ShutLemmas.{state_back}
+use Rattle.dep_store.proofs.TellLemmas.{leaves_held, stands_still}
+
+-- a transaction goes on from each state of which this holds
+pub tries_over : {A E : Type 0} (old new : db.State) (r : Result A E) (Makes : Tables → A → Tables → Type 0) (holds : State → Type 0)
+    (told : State → A → Type 0) (next : State → State) → ((s : State) → holds s → IsOver old new r Makes told next s) → Transacts old new r Makes
+    → TriesTo (shown_by old) (shown_by new) holds told next r
+tries_over old new r Makes holds told next over it = record {
+  ok = λ clean s at its. ok_over_states old new r Makes told next it clean s (over s its) at;
+  err = λ is_open s at. err_state old new r Makes it is_open s at;
+  honest = it.honest;
+  was_open = it.was_open;
+  stop = λ clean s at its. stop_over_states old new r Makes told next it clean s (over s its) at;
+}
+
+-- a transaction that only tells
+module _ {A E : Type 0} (old new : db.State) (r : Result A E) (told : Tables → A → Type 0) (it : Transacts old new r (OnlyTells told)) where
+  pub tells_over : (P : State → A → Type 0) → ((t : Tables) (answer : A) (s : State) → told t answer → TablesStandFor t s → P s answer)
+      → Tells (shown_by old) (shown_by new) P r
+  tells_over P means = tries_over old new r (OnlyTells told) Always P (λ s. s)
+      (λ s always t answer after made stand. (means t answer s made.0 stand, subst (λ (x : Tables). TablesStandFor x s) (sym made.1) stand)) it
+
+  pub tells_tables : (IsTrue new.is_open → HasCleanDisk new) → TellsTables old new told r
+  tells_tables clean = record {
+    ok = ok_tells old new r told it;
+    still = still_tells old new r told it clean;
+    honest = it.honest;
+    was_open = it.was_open;
+    stop = left_tells old new r told it;
+  }
+
+-- it failed before anything was asked
+pub none_tried : {A E : Type 0} (d : db.State) → (IsTrue d.is_open → IsSettled d) → (holds : State → Type 0) (told : State → A → Type 0) (next : State → State) (fault : E)
+    → TriesTo (shown_by d) (shown_by d) holds told next (Err fault)
+none_tried d settled holds told next fault = record {
+  ok = λ clean s at its. tt;
+  err = λ is_open s at. at;
+  honest = λ clean. clean;
+  was_open = λ is_open. is_open;
+  stop = λ clean s at its image h. let l = leaves_as_was d s (settled at.stands.is_open) at image h in (l.0, l.1, inl l.2);
+}
+
+pub honest_back : (old new : db.State) → Survives old new (λ _. ⊥) → HasCleanDisk new → HasCleanDisk old
+honest_back old new survives clean = omega (arith, clean, survives.clean)
+
+-- it failed, and all was given back
+pub fails_keeping : {A E : Type 0} (old new : db.State) → (IsTrue old.is_open → IsSettled old) → IsBackAt old new → Survives old new (λ _. ⊥) → (fault : E)
+    → KeepsState {A = A} (shown_by old) (shown_by new) (Err fault)
+fails_keeping old new settled back survives fault = record {
+  ok = λ clean s at always. tt;
+  err = λ is_open s at. state_back old new s back is_open at;
+  honest = λ clean. honest_back old new survives clean;
+  was_open = λ is_open. (back is_open).0;
+  stop = λ clean s at always image h. let l = leaves_still old new s (settled at.stands.is_open) at survives clean image h in (l.0, l.1, inl l.2);
+}
+
+-- all was given back
+pub leaves_only : (old new : db.State) → Survives old new (λ _. ⊥) → LeavesOnly old new
+leaves_only old new survives clean trees h = elim (survives.crash clean trees h) [ inl earlier ↦ earlier | inr none ↦ absurd none ]
+
+pub keeps_back : (old new : db.State) → IsBackAt old new → Survives old new (λ _. ⊥) → KeepsAll (shown_by old) (shown_by new)
+keeps_back old new back survives = record {
+  kept = λ is_open s at. state_back old new s back is_open at;
+  honest = λ clean. honest_back old new survives clean;
+  was_open = λ is_open. (back is_open).0;
+  left = λ clean image h. (image, leaves_only old new survives clean image h, λ s. (λ x. x, λ x. x));
+}
+
+-- nothing was asked
+pub keeps_same : (d : db.State) → KeepsAll (shown_by d) (shown_by d)
+keeps_same d = record {
+  kept = λ is_open s at. at;
+  honest = λ clean. clean;
+  was_open = λ is_open. is_open;
+  left = λ clean image h. (image, h, λ s. (λ x. x, λ x. x));
+}
+
+-- from what a call that reads leaves by its answer
+pub keeps_state : {A E : Type 0} (old new : db.State) (r : Result A E) → (HasCleanDisk new → (s : State) → StandsFor old s → OnOk r (StandsFor new s))
+    → (IsTrue new.is_open → (s : State) → StandsFor old s → OnErr r (StandsFor new s)) → (HasCleanDisk new → HasCleanDisk old) → (IsTrue new.is_open → IsTrue old.is_open)
+    → (HasCleanDisk new → (s : State) → StandsFor old s → Leaves new (λ left. left ≡ s)) → KeepsState (shown_by old) (shown_by new) r
+keeps_state {A} {E} old new r ok err honest was_open stop = record {
+  ok = λ clean s at always. each r s (ok clean s at);
+  err = err;
+  honest = honest;
+  was_open = was_open;
+  stop = λ clean s at always image h. let l = stop clean s at image h in (l.0, l.1, inl l.2);
+}
+  where
+    each : (r : Result A E) (s : State) → OnOk r (StandsFor new s) → IfOk r (λ answer. Unit {0} × StandsFor new s)
+    each (Ok answer) s h = (tt, h)
+    each (Err fault) s h = tt
+
+pub counts : {A : Type 0} (failures failures_after : ℕ) (r : Result A StreamFault) → BlamesOutlet Writer failures failures_after r → CountsFailures failures failures_after r
+counts failures failures_after r it = record { kept = it.kept; cause = it.cause; others = it.others }
+
+-- ---- tables that stay
+
+pub tells_keeps : {A E : Type 0} (old new : db.State) (told : Tables → A → Type 0) (r : Result A E) → TellsTables old new told r → KeepsTables old new
+tells_keeps old new told r it = record {
+  still = it.still;
+  honest = it.honest;
+  was_open = it.was_open;
+  stop = λ clean s h. leaves_held new s h.means (it.stop clean h.tables h.stands);
+}
+
+pub keeps_still : (d : db.State) → (IsTrue d.is_open → IsSettled d) → KeepsTables d d
+keeps_still d settled = record {
+  still = λ is_open t at. at;
+  honest = λ clean. clean;
+  was_open = λ is_open. is_open;
+  stop = λ clean s h. leaves_as_was d s (settled h.stands.is_open) h;
+}
+
+pub keeps_then : (old mid new : db.State) → (HasCleanDisk mid → (t : Tables) → Stands old t → Stands mid t) → KeepsTables old mid → KeepsTables mid new → KeepsTables old new
+keeps_then old mid new kept one two = record {
+  still = λ is_open t at. two.still is_open t (one.still (two.was_open is_open) t at);
+  honest = λ clean. one.honest (two.honest clean);
+  was_open = λ is_open. one.was_open (two.was_open is_open);
+  stop = λ clean s h. two.stop clean s (stands_still s h (kept (two.honest clean) h.tables h.stands));
+}

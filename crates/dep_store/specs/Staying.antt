@@ -1,0 +1,43 @@
+-- What stays of a store over a call that reads.
+use Rattle.std.specs.Prelude.{◌≡◌, IsTrue, Result, IfOk}
+use Rattle.sqlite.specs.State as db
+use Rattle.sqlite.specs.Tree.{Trees}
+use Rattle.dep_types.specs.State.{State}
+use Rattle.dep_tables.specs.Tables.{Tables}
+use Rattle.dep_staging.specs.HashedAhead.{AreRunning}
+use Rattle.dep_staging.specs.declared.running.RunningHashes.{RunningHashes}
+use Rattle.dep_schema.specs.Standing.{Holds, Stands}
+use Rattle.dep_schema.specs.States.{StandsFor, Leaves}
+
+-- whatever its tables are, they stay, while it is open
+abbrev pub TablesStay : (old new : db.State) → Type 0
+TablesStay old new = IsTrue new.is_open → (t : Tables) → Stands old t → Stands new t
+
+-- a crash leaves nothing that it might not have left before
+abbrev pub LeavesOnly : (old new : db.State) → Type 0
+LeavesOnly old new = db.HasCleanDisk new → (trees : Trees) → new.may_leave trees
+    → old.may_leave trees
+
+-- What was hashed of uploads is what was received of them, as it was before, in each state for which
+-- it stood, while it is open.
+abbrev pub KeepsRunning : (old new : db.State) → (running_before running : RunningHashes) → Type 0
+KeepsRunning old new running_before running = IsTrue new.is_open
+    → (s : State) → StandsFor old s → AreRunning s running_before → AreRunning s running
+
+-- an Ok tells this of its tables, which stay, whether they stand for a state or not
+pub record TellsTables {A E : Type 0} (old new : db.State) (told : Tables → A → Type 0)
+    (result : Result A E) : Type 0 where
+  pub ok : db.HasCleanDisk new → (t : Tables) → Stands old t
+      → IfOk result (λ answer. told t answer × Stands new t)
+  pub still : TablesStay old new
+  pub honest : db.HasCleanDisk new → db.HasCleanDisk old
+  pub was_open : IsTrue new.is_open → IsTrue old.is_open
+  pub stop : db.HasCleanDisk new → (t : Tables) → Stands old t → (trees : Trees)
+      → new.may_leave trees → Holds trees t
+
+-- the tables stay, and a crash leaves the state for which they stood, if they stood for one
+pub record KeepsTables (old new : db.State) : Type 0 where
+  pub still : TablesStay old new
+  pub honest : db.HasCleanDisk new → db.HasCleanDisk old
+  pub was_open : IsTrue new.is_open → IsTrue old.is_open
+  pub stop : db.HasCleanDisk new → (s : State) → StandsFor old s → Leaves new (λ left. left ≡ s)
