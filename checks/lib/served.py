@@ -2,6 +2,7 @@
 
 import http.client
 import pathlib
+import random
 import socket
 import subprocess
 import tempfile
@@ -15,9 +16,17 @@ from expectations import expect
 FOUR_DIGITS = range(8081, 9999)
 
 
-def free_port(ports=(0,)):
-    """A port of 127.0.0.1 at which nothing listens: the first one of these, or any."""
-    for port in ports:
+def never_given():
+    """The ports of five digits that the system gives to no connection that goes out, in any order: what one of these checks
+    chooses is not taken by a client of another before a server listens there. All, where the system keeps none back."""
+    lowest, highest = map(int, pathlib.Path("/proc/sys/net/ipv4/ip_local_port_range").read_text().split())
+    ports = [it for it in range(10_000, 65_536) if not lowest <= it <= highest] or range(10_000, 65_536)
+    return random.sample(ports, len(ports))
+
+
+def free_port(ports=None):
+    """A port of 127.0.0.1 at which nothing listens: the first one of these, or any that is never given."""
+    for port in ports or never_given():
         with socket.socket() as probe:
             try:
                 probe.bind((ADDRESS, port))
