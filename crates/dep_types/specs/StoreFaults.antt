@@ -16,3 +16,8 @@ stream_fault_number stream.Writer = 1
 stream_fault_number stream.Store = 2
 stream_fault_number stream.Memory = 3
 stream_fault_number stream.NoSuchFile = 4
+
+-- a fault of the store that ends a content
+abbrev pub stream_fault_for : StoreFault → StreamFault
+stream_fault_for Store = stream.Store
+stream_fault_for Memory = stream.Memory

@@ -2,6 +2,7 @@
 ghost use Rattle.std.specs.Prelude.{◌≡◌};
 ghost use Rattle.dep_types.specs.StoreFaults.{fault_number};
 
+use std::alloc::{AllocError, AllocFailed};
 use std::error::Error;
 use std::fmt;
 
@@ -36,3 +37,23 @@ impl fmt::Display for StoreFault {
 }
 
 impl Error for StoreFault {}
+
+impl From<AllocError> for StoreFault {
+    ghost use Rattle.dep_types.specs.declared.store_fault.StoreFault.TheVariants.{Memory};
+
+    ghost from_gives = { λ _ fault. fault ≡ Memory };
+
+    fn from(_error: AllocError) -> StoreFault {
+        StoreFault::Memory
+    }
+}
+
+impl<T: Drop> From<AllocFailed<T>> for StoreFault {
+    ghost use Rattle.dep_types.specs.declared.store_fault.StoreFault.TheVariants.{Memory};
+
+    ghost from_gives = { λ _ fault. fault ≡ Memory };
+
+    fn from(_error: AllocFailed<T>) -> StoreFault {
+        StoreFault::Memory
+    }
+}

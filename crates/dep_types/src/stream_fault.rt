@@ -1,7 +1,9 @@
 //! Why a content was not sent.
 ghost use Rattle.std.specs.Prelude.{◌≡◌};
-ghost use Rattle.dep_types.specs.StoreFaults.{stream_fault_number};
+ghost use Rattle.dep_types.specs.StoreFaults.{stream_fault_number, stream_fault_for};
 
+use crate::outlet::WriteFailed;
+use crate::store_fault::StoreFault;
 use std::error::Error;
 use std::fmt;
 
@@ -44,3 +46,24 @@ impl fmt::Display for StreamFault {
 }
 
 impl Error for StreamFault {}
+
+impl From<StoreFault> for StreamFault {
+    ghost from_gives = { λ fault told. told ≡ stream_fault_for fault };
+
+    fn from(fault: StoreFault) -> StreamFault {
+        match fault {
+            StoreFault::Store => StreamFault::Store,
+            StoreFault::Memory => StreamFault::Memory,
+        }
+    }
+}
+
+impl From<WriteFailed> for StreamFault {
+    ghost use Rattle.dep_types.specs.declared.stream_fault.StreamFault.TheVariants.{Writer};
+
+    ghost from_gives = { λ _ fault. fault ≡ Writer };
+
+    fn from(_error: WriteFailed) -> StreamFault {
+        StreamFault::Writer
+    }
+}
