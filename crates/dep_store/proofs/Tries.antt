@@ -45,17 +45,6 @@ module _ {A E : Type 0} (old new : db.State) (r : Result A E) (told : Tables →
     stop = left_tells old new r told it;
   }
 
--- it failed before anything was asked
-pub none_tried : {A E : Type 0} (d : db.State) → (IsTrue d.is_open → IsSettled d) → (holds : State → Type 0) (told : State → A → Type 0) (next : State → State) (fault : E)
-    → TriesTo (shown_by d) (shown_by d) holds told next (Err fault)
-none_tried d settled holds told next fault = record {
-  ok = λ clean s at its. tt;
-  err = λ is_open s at. at;
-  honest = λ clean. clean;
-  was_open = λ is_open. is_open;
-  stop = λ clean s at its image h. let l = leaves_as_was d s (settled at.stands.is_open) at image h in (l.0, l.1, inl l.2);
-}
-
 pub honest_back : (old new : db.State) → Survives old new (λ _. ⊥) → HasCleanDisk new → HasCleanDisk old
 honest_back old new survives clean = omega (arith, clean, survives.clean)
 
@@ -73,14 +62,6 @@ fails_keeping old new settled back survives fault = record {
 -- all was given back
 pub leaves_only : (old new : db.State) → Survives old new (λ _. ⊥) → LeavesOnly old new
 leaves_only old new survives clean trees h = elim (survives.crash clean trees h) [ inl earlier ↦ earlier | inr none ↦ absurd none ]
-
-pub keeps_back : (old new : db.State) → IsBackAt old new → Survives old new (λ _. ⊥) → KeepsAll (shown_by old) (shown_by new)
-keeps_back old new back survives = record {
-  kept = λ is_open s at. state_back old new s back is_open at;
-  honest = λ clean. honest_back old new survives clean;
-  was_open = λ is_open. (back is_open).0;
-  left = λ clean image h. (image, leaves_only old new survives clean image h, λ s. (λ x. x, λ x. x));
-}
 
 -- nothing was asked
 pub keeps_same : (d : db.State) → KeepsAll (shown_by d) (shown_by d)

@@ -1,6 +1,6 @@
 //! What a store remembers of the archive, so that a request for the service document asks no tables.
 
-ghost use Rattle.std.specs.Prelude.{◌≡◌, ◌≢◌, ◌≤◌, ℕ, Some, false, IsTrue, IfOk, IfErr, OnOk, ◌↔◌};
+ghost use Rattle.std.specs.Prelude.{◌≡◌, ◌≢◌, ◌≤◌, ℕ, Some, None, false, if◌then◌else◌, IsTrue, IfOk, IfErr, OnOk, ◌↔◌};
 ghost use Rattle.sqlite.specs.State.{HasCleanDisk, Survives};
 ghost use Rattle.sqlite.specs.Held.{state};
 ghost use Rattle.dep_types.specs.State.{State};
@@ -41,7 +41,7 @@ impl Remembered {
 
 /// What is remembered still behind a request: all of it, unless something was changed.
 pub(crate) fn still_known(remembered: Option<Remembered>, has_changes: bool) -> Option<Remembered>
-    ensures { (m : Remembered) → result ≡ Some m → (remembered ≡ Some m) × (has_changes ≡ false) }
+    ensures { result ≡ (if has_changes then None else remembered) }
 {
     if has_changes { None } else { remembered }
 }

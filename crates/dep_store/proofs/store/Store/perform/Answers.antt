@@ -7,19 +7,17 @@ use Rattle.dep_answers.specs.Steps.{operation_step}
 use Rattle.dep_answers.specs.declared.performed.Performed.{Performed}
 use Rattle.dep_fields.specs.Fit.{AreFit}
 use Rattle.dep_tables.specs.Tables.{Tables}
-use Rattle.std.proofs.Common.{◌≡◌, ◌∙◌, rules, Ok, Err, Result, OnErr, subst}
+use Rattle.dep_tables.proofs.Results.{if_failed}
+use Rattle.std.proofs.Common.{◌≡◌, ◌∙◌, Some, rules, sym, subst}
 use Rattle.std.proofs.lemmas.Result.{IfOk-from_err}
 use Rattle.dep_requests.specs.declared.performing.Done.{Done}
 use Rattle.dep_schema.specs.Transactions.{OverStates, Transacts, IsGivenBack}
 use Rattle.dep_schema.proofs.Transacting.{stood_before}
 use Rattle.dep_schema.proofs.Transacting.{unmoved}
-use Rattle.dep_store.proofs.Remembered.{service_made}
+use Rattle.dep_store.specs.declared.remembering.Remembered.{Remembered}
+use Rattle.dep_store.proofs.Remembered.{known_still, service_made}
 use Rattle.dep_store.proofs.Tries.{tries_over}
 use Rattle.dep_store.proofs.store.Store.perform.Goals as goal
-
-on_err : {A E P : Type 0} (r : Result A E) → P → OnErr r P
-on_err (Ok a) p = tt
-on_err (Err e) p = p
 
 module _ (config : Config) (op : Operation) where
   abbrev ready : State → Performed → Type 0
@@ -53,7 +51,7 @@ returns-in_err-done-clause-does g c =
     (λ s its t p after made means. made its.0 s means its.1) (rw c.self.view_is at c.in_err-done.ensures.transacts) in
     record {
       ok = λ clean s at its. IfOk-from_err c.from_residual.result _ c.from_residual.ensures.0;
-      err = λ is_open s at. on_err c.from_residual.result (did.err is_open s at);
+      err = λ is_open s at. if_failed c.from_residual.result (did.err is_open s at);
       honest = did.honest;
       was_open = did.was_open;
       stop = did.stop;
@@ -74,10 +72,10 @@ returns-clause-unchanged g c clean s given running nothing =
     (c.in_ok-done.ensures.back ((c.in_ok-done.ensures.changes clean s stands running).1 nothing))
 
 pub invariant_of-self-2 : goal.invariant_of-self-2
-invariant_of-self-2 g c = (
-  λ m is s stands.
-      let known = c.still_known-self-inside.ensures m is in
-      let was : c.self.inside.remembered ≡ c.replace-remembered.result = search rules in
-      c.self.invariant.0 m (was ∙ known.0) s (stood_before (state g.S.Store c.self.inside.connection) (state g.S.Store c.perform_if_open.new.connection) (c.in_ok-done.ensures.back known.1).back (search rules) s stands),
-  λ m is clean. (c.in_ok-done.ensures.back (c.still_known-self-inside.ensures m is).1).opened clean,
-)
+invariant_of-self-2 g c =
+    let known = λ (m : Remembered) (is : c.still_known-self-inside.result ≡ Some m). known_still c.in_ok-done.done.has_changes c.replace-remembered.result m (sym c.still_known-self-inside.ensures ∙ is) in (
+      λ m is s stands.
+          let was : c.self.inside.remembered ≡ c.replace-remembered.result = search rules in
+          c.self.invariant.0 m (was ∙ (known m is).0) s (stood_before (state g.S.Store c.self.inside.connection) (state g.S.Store c.perform_if_open.new.connection) (c.in_ok-done.ensures.back (known m is).1).back (search rules) s stands),
+      λ m is clean. (c.in_ok-done.ensures.back (known m is).1).opened clean,
+    )
