@@ -13,9 +13,9 @@ use Rattle.dep_types.specs.declared.stream_fault.StreamFault.{StreamFault}
 use Rattle.dep_types.specs.declared.stream_fault.StreamFault.TheVariants.{Writer, Store, Memory, NoSuchFile}
 use Rattle.dep_types.specs.Writing.{HasRisen}
 use Rattle.dep_bag.specs.Parts.{row_path}
-use Rattle.dep_bag.specs.Giving.{IsGivenAt, IsCausedBy, SinkState, IsStreamedTo, IsContentGiven, unsent_fault}
+use Rattle.dep_bag.specs.ExportFaults.{unsent_fault}
+use Rattle.dep_bag.specs.Giving.{IsCausedBy, SinkState, IsStreamedTo, IsContentGiven}
 use Rattle.dep_bag.specs.declared.export_fault.ExportFault.{ExportFault}
-use Rattle.dep_bag.specs.declared.export_fault.ExportFault.TheVariants as export
 use Rattle.dep_bag.proofs.GivenParts.{IsOurs, cause_passed, err_keeps, faulty, file_front, nothing_front, ours_there, whole_front}
 use Rattle.dep_bag.proofs.Still.{unchanged}
 
@@ -56,12 +56,12 @@ all_front s sound f path sent bytes has held =
     file_front path sent bytes (subst (IsFront sent) (same_content s sound f sent bytes has held) (whole_front sent))
 
 -- a front of it, where it was not sent to its end
-pub unsent_given : (s : State) → IsSound s → (f : ℕ) (path sent bytes : List ℕ) (fault : StreamFault) → IsStreamed {X = Unit {0}} s f sent (Err fault) → HasContent s f bytes
-    → IsGivenAt (unsent_fault fault) (file_given (path, bytes)) (file_begun path ++ sent)
-unsent_given s sound f path sent bytes Writer is has = part_sent s sound f path sent bytes is has
-unsent_given s sound f path sent bytes Store is has = perhaps_sent s sound f path sent bytes is has
-unsent_given s sound f path sent bytes Memory is has = perhaps_sent s sound f path sent bytes is has
-unsent_given s sound f path sent bytes NoSuchFile is has = absurd (no_content s f bytes is.1 has)
+pub unsent_front : (s : State) → IsSound s → (f : ℕ) (path sent bytes : List ℕ) (fault : StreamFault) → IsStreamed {X = Unit {0}} s f sent (Err fault) → HasContent s f bytes
+    → IsFront (file_begun path ++ sent) (file_given (path, bytes))
+unsent_front s sound f path sent bytes Writer is has = part_sent s sound f path sent bytes is has
+unsent_front s sound f path sent bytes Store is has = perhaps_sent s sound f path sent bytes is has
+unsent_front s sound f path sent bytes Memory is has = perhaps_sent s sound f path sent bytes is has
+unsent_front s sound f path sent bytes NoSuchFile is has = absurd (no_content s f bytes is.1 has)
 
 -- only what the sink refused is a fault of the sink
 pub unsent_cause : (before after : ℕ) (fault : StreamFault)
@@ -74,11 +74,11 @@ unsent_cause before after Memory cause others = others (λ is. cc)
 unsent_cause before after NoSuchFile cause others = others (λ is. cc)
 
 -- and none says that the object isn't there
-pub unsent_there : {X : Type 0} (fault : StreamFault) → ◌≡◌ {A = Result X ExportFault} (Err (unsent_fault fault)) (Err export.NoSuchObject) → ⊥
-unsent_there Writer is = cc
-unsent_there Store is = cc
-unsent_there Memory is = cc
-unsent_there NoSuchFile is = cc
+pub unsent_ours : (fault : StreamFault) → IsOurs (unsent_fault fault)
+unsent_ours Writer = tt
+unsent_ours Store = tt
+unsent_ours Memory = tt
+unsent_ours NoSuchFile = tt
 
 -- a fault before the source was asked
 pub none_streamed : {X : Type 0} (c : Condition) → ((s : State) → StandsFor c s → Leaves c (λ left. left ≡ s)) → (a b : SinkState) (row : FileRow) (r : Result X ExportFault)

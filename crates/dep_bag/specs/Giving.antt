@@ -8,8 +8,6 @@ use Rattle.dep_types.specs.Sinks.{Entry, folder_made, file_given, IsFront}
 use Rattle.dep_types.specs.declared.rows.FileRow.{FileRow}
 use Rattle.dep_types.specs.declared.rows.ObjectView.{ObjectView}
 use Rattle.dep_types.specs.Streams.{HasContent}
-use Rattle.dep_types.specs.declared.stream_fault.StreamFault.{StreamFault}
-use Rattle.dep_types.specs.declared.stream_fault.StreamFault.TheVariants as stream
 use Rattle.dep_bag.specs.Parts.{row_path, told_listed, told_tag_files, told_tag_manifests}
 use Rattle.dep_bag.specs.Source.{OfEachState, KeepsStanding, StandsStill}
 use Rattle.dep_bag.specs.declared.export_fault.ExportFault.{ExportFault}
@@ -93,13 +91,6 @@ tag_transcript view = folder_made (codes "data") ++ flat_map file_given (told_ta
 -- the tag manifests
 abbrev pub manifests_transcript : ObjectView → List ℕ
 manifests_transcript view = flat_map file_given (told_tag_manifests view)
-
--- why an export ends where a content was not sent
-abbrev pub unsent_fault : StreamFault → ExportFault
-unsent_fault stream.Writer = Sink
-unsent_fault stream.Store = Store
-unsent_fault stream.NoSuchFile = Store
-unsent_fault stream.Memory = Memory
 
 -- these are the files of the rows: their paths, and their contents in the state
 abbrev pub AreFilesOf : State → List FileRow → List Entry → Type 0

@@ -1,8 +1,9 @@
 //! Why a bag was not exported whole.
 ghost use Rattle.std.specs.Prelude.{◌≡◌};
+ghost use Rattle.dep_bag.specs.ExportFaults.{export_fault_for, unsent_fault};
 ghost use Rattle.dep_bag.specs.declared.export_fault.ExportFault.TheVariants.{Sink, Memory};
 
-use dep_types::{SinkFailed, WriteFailed};
+use dep_types::{SinkFailed, StoreFault, StreamFault, WriteFailed};
 use std::alloc::AllocError;
 use std::error::Error;
 use std::fmt;
@@ -70,5 +71,29 @@ impl From<WriteFailed> for ExportFault {
 
     fn from(_error: WriteFailed) -> ExportFault {
         ExportFault::Sink
+    }
+}
+
+impl From<StoreFault> for ExportFault {
+    ghost from_gives = { λ fault told. told ≡ export_fault_for fault };
+
+    fn from(fault: StoreFault) -> ExportFault {
+        match fault {
+            StoreFault::Store => ExportFault::Store,
+            StoreFault::Memory => ExportFault::Memory,
+        }
+    }
+}
+
+impl From<StreamFault> for ExportFault {
+    ghost from_gives = { λ fault told. told ≡ unsent_fault fault };
+
+    fn from(fault: StreamFault) -> ExportFault {
+        match fault {
+            StreamFault::Writer => ExportFault::Sink,
+            // The file was listed: a store that lacks it has failed.
+            StreamFault::Store | StreamFault::NoSuchFile => ExportFault::Store,
+            StreamFault::Memory => ExportFault::Memory,
+        }
     }
 }

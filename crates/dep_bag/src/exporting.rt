@@ -8,7 +8,7 @@ ghost use Rattle.dep_bag.specs.Exports.{IsExported};
 use crate::export_fault::ExportFault;
 use crate::giving::{give_payload, give_tag_files};
 use crate::source::BagSource;
-use dep_types::{BagSink, StoreFault};
+use dep_types::BagSink;
 use std::alloc::Global;
 
 /// Gives a sink the folder `data` and then each file of an object's bag, in the order of the list.
@@ -28,11 +28,8 @@ pub fn export<S: BagSource, K: BagSink>(
     ensures kept { KeepsStanding (S.condition source.old) (S.condition source.new) result }
     ensures still { StandsStill (S.condition source.old) (S.condition source.new) }
 {
-    let view = match source.view(object) {
-        Ok(Some(view)) => view,
-        Ok(None) => return Err(ExportFault::NoSuchObject),
-        Err(StoreFault::Store) => return Err(ExportFault::Store),
-        Err(StoreFault::Memory) => return Err(ExportFault::Memory),
+    let Some(view) = source.view(object)? else {
+        return Err(ExportFault::NoSuchObject);
     };
     give_tag_files(alloc, &view, sink)?;
     give_payload(alloc, source, view.files.as_slice(), sink)

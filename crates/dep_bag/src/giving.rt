@@ -1,8 +1,8 @@
 //! Files that are given to a sink, one after another.
-ghost use Rattle.std.specs.Prelude.{◌≡◌, ℕ, List};
+ghost use Rattle.std.specs.Prelude.{ℕ, List};
 ghost use Rattle.dep_types.specs.Sinks.{file_given};
 ghost use Rattle.dep_docs_out.specs.Made.{Makes};
-ghost use Rattle.dep_bag.specs.Giving.{Gives, Streams, IsContentGiven, AreContentsGiven, listed_transcript, manifests_transcript, tag_transcript, unsent_fault};
+ghost use Rattle.dep_bag.specs.Giving.{Gives, Streams, IsContentGiven, AreContentsGiven, listed_transcript, manifests_transcript, tag_transcript};
 
 use crate::export_fault::ExportFault;
 use crate::manifest::payload_manifest;
@@ -15,7 +15,7 @@ use crate::tag_files::{declaration, information};
 use crate::tag_manifests::{TagManifests, tag_manifests};
 use dep_docs_out::bag_metadata_doc;
 use dep_manifest::Algorithm;
-use dep_types::{BagSink, FileRow, ObjectView, StreamFault};
+use dep_types::{BagSink, FileRow, ObjectView};
 use std::alloc::{AllocError, Global};
 
 /// Gives a sink the folder of the payload, and the files that are not payload.
@@ -113,21 +113,7 @@ fn give_stored<S: BagSource, K: BagSink>(
     let path = payload_path(alloc, row)?;
     sink.begin(path.as_str())?;
     drop(path);
-    match source.stream(row.file, sink) {
-        Ok(()) => {}
-        Err(fault) => return Err(unsent(fault)),
-    }
+    source.stream(row.file, sink)?;
     sink.finish()?;
     Ok(())
-}
-
-// Why an export ends where a content was not sent.
-fn unsent(fault: StreamFault) -> ExportFault
-    ensures { result ≡ unsent_fault fault }
-{
-    match fault {
-        StreamFault::Writer => ExportFault::Sink,
-        StreamFault::Store | StreamFault::NoSuchFile => ExportFault::Store,
-        StreamFault::Memory => ExportFault::Memory,
-    }
 }

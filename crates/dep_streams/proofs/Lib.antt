@@ -7,6 +7,7 @@ pub mod SendingLemmas
 pub mod NextRow
 pub mod RowsSent
 pub mod FaultsTold
+pub mod Told
 pub mod OrderedBlocks
 pub mod Streams
 pub mod KnownTables

@@ -18,8 +18,8 @@ use Rattle.dep_tables.specs.Rows.{owner_values, shown_block, is_block_of, by_par
 use Rattle.dep_tables.specs.Tables.{tables_of, IsOurs}
 use Rattle.dep_tables.proofs.Leading.{blocks_at}
 use Rattle.dep_tables.proofs.BlocksTable.{of_owner, tests_owner, order, by_place_total}
-use Rattle.dep_streams.specs.declared.fault.BlockFault.{BlockFault}
-use Rattle.dep_streams.specs.declared.fault.BlockFault.TheVariants.{Writer, Store, Memory}
+use Rattle.dep_types.specs.declared.stream_fault.StreamFault.{StreamFault}
+use Rattle.dep_types.specs.declared.stream_fault.StreamFault.TheVariants.{Writer, Store, Memory, NoSuchFile}
 use Rattle.dep_streams.specs.Sent.{blob_of, joined, StopsBetween, StopsWithin, SendsSized, BeginsBlocks, SendsBlocks}
 
 joined_both : (xs ys : List Row) → joined (xs ++ ys) ≡ joined xs ++ joined ys
@@ -49,11 +49,12 @@ module _ (sql : List ℕ) (params : Row) (old : State) (stored : List Row) (star
       joined_both (h.given ++ h.row ∷ []) x.0 ∙ ap (λ (l : List ℕ). l ++ joined x.0) (front ∙ ap (λ (l : List ℕ). l ++ h.short.rest) (sym h.sends)) ∙ append_assoc sent h.short.rest (joined x.0) in
       (record { all = (h.given ++ h.row ∷ []) ++ x.0; ordered = x.1; rest = h.short.rest ++ joined x.0; whole = whole }, λ e. h.short.short (no_more h.short.rest (joined x.0) e))
 
-  sends : (size : ℕ) (sent : List ℕ) (r : Result (Unit {0}) BlockFault) → SendsSized sql params old size sent r → SendsBlocks stored size sent r
+  sends : (size : ℕ) (sent : List ℕ) (r : Result (Unit {0}) StreamFault) → SendsSized sql params old size sent r → SendsBlocks stored size sent r
   sends size sent (Ok done) h = (between sent h.0, h.1)
   sends size sent (Err Writer) h = within sent h
   sends size sent (Err Store) h = (between sent h.0, h.1)
   sends size sent (Err Memory) h = (between sent h.0, h.1)
+  sends size sent (Err NoSuchFile) h = h
 
 abbrev pub values : List Term
 values = col 1 3 ∷ col 1 4 ∷ col 1 5 ∷ []
@@ -62,7 +63,7 @@ pub owner_is : Asks our_schema blocks_of_text 10 of_owner values order no_limit
 unfolding understood everything
 owner_is = record { names = _; is = refl; unlisted = refl; plain = (refl, refl) }
 
-pub sends_owner : (old : State) (o : BlockOwner) (size : ℕ) (sent : List ℕ) (r : Result (Unit {0}) BlockFault) → IsOurs old → SendsSized blocks_of_text (owner_values o) old size sent r
+pub sends_owner : (old : State) (o : BlockOwner) (size : ℕ) (sent : List ℕ) (r : Result (Unit {0}) StreamFault) → IsOurs old → SendsSized blocks_of_text (owner_values o) old size sent r
     → SendsBlocks (filter (is_block_of o) (tables_of old).blocks) size sent r
 sends_owner old o size sent r ours h =
     sends blocks_of_text (owner_values o) old (filter (is_block_of o) (tables_of old).blocks)

@@ -16,29 +16,30 @@ use Rattle.dep_types.specs.Writing.{HasRisen}
 use Rattle.dep_streams.specs.Clauses.{OnlyShows, StaysOver, ReadsOver, FailsOver, GivesOver}
 use Rattle.dep_types.specs.declared.store_fault.StoreFault.{StoreFault}
 use Rattle.dep_types.specs.declared.store_fault.StoreFault.TheVariants as store
-use Rattle.dep_tables.specs.Clauses.{FailsToAsk}
 use Rattle.dep_tables.specs.Faults.{fault_for}
 use Rattle.dep_tables.specs.Rows.{IsBytesValue}
 use Rattle.dep_streams.specs.Causes.{FailsToGive, FailsToSend}
 use Rattle.dep_streams.specs.Causes.FailsToGive.{query_failed, too_few, unread, uncounted}
-use Rattle.dep_streams.specs.Faults.{BlamesOutlet, stopped_by, IsStoppedBy}
-use Rattle.dep_streams.specs.Sent.{blob_of, joined, GivesRow, GivesSized, StopsBetween, SendsSized}
-use Rattle.dep_streams.specs.declared.fault.BlockFault.{BlockFault}
-use Rattle.dep_streams.specs.declared.fault.BlockFault.TheVariants.{Writer, Store, Memory}
+use Rattle.dep_streams.specs.Faults.{BlamesOutlet, IsStoppedBy}
+use Rattle.dep_streams.specs.Sent.{blob_of, joined, GivesSized, StopsBetween, SendsSized}
+use Rattle.dep_types.specs.StoreFaults.{stream_fault_for}
+use Rattle.dep_types.specs.declared.stream_fault.StreamFault.{StreamFault}
+use Rattle.dep_types.specs.declared.stream_fault.StreamFault.TheVariants.{Writer, Store, Memory, NoSuchFile}
 use Rattle.dep_streams.proofs.NextRow as row
 use Rattle.dep_streams.proofs.NextRow.{begun_stays, refused_stays}
 use Rattle.dep_streams.proofs.Stills.{commits_none}
 use Rattle.dep_streams.proofs.ShownFrom.{shown_from}
-use Rattle.dep_streams.proofs.FaultsTold.{stopped_for}
+use Rattle.dep_streams.proofs.FaultsTold.{asked_failed, asked_there, stopped_for}
 use Rattle.dep_streams.proofs.SendingLemmas.{all_sent, begins_from, cut_sized, fails_from, joined_more, less_left, some_left, stops_sized}
 
 -- what the sending of a query's rows leaves, by what it answers
-pub record EndsSending {S : Type 0} (g : Ghosts S) (sql : List ℕ) (params : Row) (first new : Held S) (size : ℕ) (start taken : Option (List ℕ)) (were are : ℕ) (result : Result (Unit {0}) BlockFault) : Type 0 where
+pub record EndsSending {S : Type 0} (g : Ghosts S) (sql : List ℕ) (params : Row) (first new : Held S) (size : ℕ) (start taken : Option (List ℕ)) (were are : ℕ) (result : Result (Unit {0}) StreamFault) : Type 0 where
   pub streams : GivesOver (OnlyShows sql) g first new start taken (λ s sent. SendsSized sql params s size sent result)
   pub why : FailsOver (OnlyShows sql) g first new result (FailsToSend sql params size)
   pub ok : ReadsOver (OnlyShows sql) g first new result
   pub stays : StaysOver (OnlyShows sql) g first new
   pub outlet : BlamesOutlet Writer were are result
+  pub there : result ≢ Err NoSuchFile
 
 -- the rows so far were sent, and there is more to send
 pub record HasSent {S : Type 0} (g : Ghosts S) (sql : List ℕ) (params : Row) (first now : Held S) (size left count : ℕ) (start taken : Option (List ℕ)) (were are : ℕ) : Type 0 where
@@ -53,50 +54,42 @@ pub record HasSent {S : Type 0} (g : Ghosts S) (sql : List ℕ) (params : Row) (
 
 -- ---- faults
 
-abbrev fails : (A : Type 0) → BlockFault → Result A BlockFault
+abbrev fails : (A : Type 0) → StreamFault → Result A StreamFault
 fails A fault = Err fault
 
-fault_is : (A : Type 0) (fault other : BlockFault) → fails A fault ≡ fails A other → fault ≡ other
+fault_is : (A : Type 0) (fault other : StreamFault) → fails A fault ≡ fails A other → fault ≡ other
 fault_is A fault other e = cc
 
-no_fault : (A : Type 0) (x : A) (fault : BlockFault) → Ok x ≢ fails A fault
+no_fault : (A : Type 0) (x : A) (fault : StreamFault) → Ok x ≢ fails A fault
 no_fault A x fault e = cc
-
-not_writer : (fault : StoreFault) → stopped_by fault ≢ Writer
-not_writer store.Store e = cc
-not_writer store.Memory e = cc
 
 -- a fault of the store behind whole rows
 stopped : {S : Type 0} (g : Ghosts S) (sql : List ℕ) (params : Row) (first new : Held S) (size : ℕ) (start taken : Option (List ℕ)) (were are : ℕ) (sent : List ℕ) (fault : StoreFault)
     → length sent < size → Appends start taken sent → are ≡ were
     → (HasCleanDisk (state g new) → OnlyShows sql (state g first) → StopsBetween sql params (state g first) sent)
     → (HasCleanDisk (state g new) → OnlyShows sql (state g first) → FailsToGive sql params (Some size) (state g first) (state g new) fault)
-    → StaysOver (OnlyShows sql) g first new → EndsSending g sql params first new size start taken were are (Err (stopped_by fault))
+    → StaysOver (OnlyShows sql) g first new → EndsSending g sql params first new size start taken were are (Err (stream_fault_for fault))
 stopped g sql params first new size start taken were are sent fault low appended same between why stays = record {
   streams = (sent, appended, λ late plain. stops_sized sql params (state g first) size sent fault low (between late plain));
   why = λ late plain. stopped_for (FailsToGive sql params (Some size) (state g first) (state g new)) fault (why late plain);
   ok = λ late plain. tt;
   stays = stays;
-  outlet = record { kept = tt; cause = λ is. absurd (not_writer fault (fault_is (Unit {0}) (stopped_by fault) Writer is)); others = λ _. same };
+  outlet = record { kept = tt; cause = λ is. absurd (asked_failed fault is); others = λ _. same };
+  there = asked_there fault;
 }
-
--- the error that is told of a query
-told : (sql : List ℕ) (params : Row) (at new : State) (e : Error) → FailsToQuery sql params at new e → FailsToAsk sql params at new (fault_for e)
-told sql params at new e failed = (e, inl failed, refl)
 
 -- ---- before the first row
 
 -- no query began
-pub not_begun : {S X : Type 0} (g : Ghosts S) (sql : List ℕ) (params : Row) (old new : Held S) (size : ℕ) (taken : Option (List ℕ)) (are : ℕ) (result : Result X Error) (error : Error) (fault : BlockFault)
-    → 0 < size → fault ≡ stopped_by (fault_for error) → OnErr result (IsRefused g sql params old result new) → result ≡ Err error
-    → EndsSending g sql params old new size taken taken are are (Err fault)
+pub not_begun : {S X : Type 0} (g : Ghosts S) (sql : List ℕ) (params : Row) (old new : Held S) (size : ℕ) (taken : Option (List ℕ)) (are : ℕ) (result : Result X Error) (error : Error) (fault : StoreFault)
+    → 0 < size → fault ≡ fault_for error → OnErr result (IsRefused g sql params old result new) → result ≡ Err error
+    → EndsSending g sql params old new size taken taken are are (Err (stream_fault_for fault))
 not_begun {X = X} g sql params old new size taken are result error fault some of left is =
     let it : IsRefused g sql params old result new = subst (λ (r : Result X Error). OnErr r (IsRefused g sql params old result new)) is left in
-    subst (λ (f : BlockFault). EndsSending g sql params old new size taken taken are are (Err f)) (sym of)
-    (stopped g sql params old new size taken taken are are [] (fault_for error) some (Appends-nil taken) refl
+    stopped g sql params old new size taken taken are are [] fault some (Appends-nil taken) refl
     (λ late plain. record { given = []; begins = inl refl; sends = refl })
-    (λ late plain. query_failed (told sql params (state g old) (state g new) error (subst (λ (r : Result X Error). IfErr r (FailsToQuery sql params (state g old) (state g new))) is (it.err late))))
-    (refused_stays g sql params old new result error it is))
+    (λ late plain. query_failed (error, inl (subst (λ (r : Result X Error). IfErr r (FailsToQuery sql params (state g old) (state g new))) is (it.err late)), of))
+    (refused_stays g sql params old new result error it is)
 
 all_left : (size : ℕ) → size + 0 ≡ size
 all_left size = omega arith
@@ -123,12 +116,20 @@ one_longer given row count is = length-append given (row ∷ []) ∙ ap (λ n. n
 more_than : (left sent all size more : ℕ) → left < more → left + sent ≡ size → all ≡ sent + more → size < all
 more_than left sent all size more over is sum = omega arith
 
+-- not for want of the file
+cut_there : (fault : StreamFault) (old next : Option (List ℕ)) (bytes : List ℕ) → GivesSized old next bytes (Err fault) → fails (Unit {0}) fault ≢ fails (Unit {0}) NoSuchFile
+cut_there Writer old next bytes gave e = cc
+cut_there Store old next bytes gave e = cc
+cut_there Memory old next bytes gave e = cc
+cut_there NoSuchFile old next bytes gave e = gave
+
 -- why a row was not sent
-cut_why : (sql : List ℕ) (params : Row) (first new : State) (size left : ℕ) (sent : List ℕ) (given : List Row) (it : Row) (fault : BlockFault) (old next : Option (List ℕ))
-    → GivesRow old next (blob_of it) (Err fault) → (fails ℕ fault ≡ fails ℕ Store → (¬ (IsBytesValue (column it 2))) ⊎ (left < length (blob_of it)))
+cut_why : (sql : List ℕ) (params : Row) (first new : State) (size left : ℕ) (sent : List ℕ) (given : List Row) (it : Row) (fault : StreamFault) (old next : Option (List ℕ))
+    → GivesSized old next (blob_of it) (Err fault) → (fails ℕ fault ≡ fails ℕ Store → (¬ (IsBytesValue (column it 2))) ⊎ (left < length (blob_of it)))
     → left + length sent ≡ size → sent ≡ joined given → Begins sql params first (given ++ it ∷ []) → IsStoppedBy (FailsToGive sql params (Some size) first new) fault
 cut_why sql params first new size left sent given it Writer old next gave refused counted is begins = tt
 cut_why sql params first new size left sent given it Memory old next gave refused counted is begins = absurd gave
+cut_why sql params first new size left sent given it NoSuchFile old next gave refused counted is begins = absurd gave
 cut_why sql params first new size left sent given it Store old next gave refused counted is begins = unread given it begins (go (refused refl)) refl
   where
     go : (¬ (IsBytesValue (column it 2))) ⊎ (left < length (blob_of it)) → (¬ (IsBytesValue (column it 2))) ⊎ (size < length (joined (given ++ it ∷ [])))
@@ -177,15 +178,17 @@ module _ {S : Type 0} {g : Ghosts S} {sql : List ℕ} {params : Row} {first : He
         let x = was.shown (earlier late) plain in record { given = x.0; begins = inr (begun g sql params first old.conn.now x.0 x.1 x.2); sends = x.3 }
 
     -- it was not given
-    pub ends_failed : (error : Error) → result ≡ Err error → (fault : BlockFault) → fault ≡ stopped_by (fault_for error)
-        → EndsSending g sql params first new.conn.now size start taken were are (Err fault)
+    pub ends_failed : (error : Error) → result ≡ Err error → (fault : StoreFault) → fault ≡ fault_for error
+        → EndsSending g sql params first new.conn.now size start taken were are (Err (stream_fault_for fault))
     ends_failed error is fault of =
-        subst (λ (f : BlockFault). EndsSending g sql params first new.conn.now size start taken were are (Err f)) (sym of)
-        (stopped g sql params first new.conn.now size start taken were are was.sent (fault_for error) (low was) was.appended was.same between
+        stopped g sql params first new.conn.now size start taken were are was.sent fault (low was) was.appended was.same between
         (λ late plain. let x = was.shown (earlier late) plain in
-        query_failed (told sql params (state g first) (state g new.conn.now) error
-        (fails_from sql params (state g first) (state g old.conn.now) (state g new.conn.now) error plain x.2 (commits_none was.stays plain) ((rw is at (moved.err late)) sql params x.0 x.1))))
-        stays)
+        query_failed (
+          error,
+          inl (fails_from sql params (state g first) (state g old.conn.now) (state g new.conn.now) error plain x.2 (commits_none was.stays plain) ((rw is at (moved.err late)) sql params x.0 x.1)),
+          of,
+        ))
+        stays
 
     -- there is none
     pub ends_short : result ≡ Ok None → EndsSending g sql params first new.conn.now size start taken were are (Err Store)
@@ -197,7 +200,7 @@ module _ {S : Type 0} {g : Ghosts S} {sql : List ℕ} {params : Row} {first : He
 
     module _ (it : Bor Row) (is : result ≡ Ok (Some it)) (next : Option (List ℕ)) (later : ℕ) where
       -- it was not sent, or in part
-      pub ends_cut : (fault : BlockFault) → GivesRow taken next (blob_of it.now) (Err fault)
+      pub ends_cut : (fault : StreamFault) → GivesSized taken next (blob_of it.now) (Err fault)
           → (fails ℕ fault ≡ fails ℕ Store → (¬ (IsBytesValue (column it.now 2))) ⊎ (left < length (blob_of it.now)))
           → BlamesOutlet Writer are later (fails ℕ fault)
           → EndsSending g sql params first new.conn.now size start next were later (Err fault)
@@ -214,6 +217,7 @@ module _ {S : Type 0} {g : Ghosts S} {sql : List ℕ} {params : Row} {first : He
           cause = λ e. subst (λ (n : ℕ). HasRisen n later) was.same (blames.cause (ap (fails ℕ) (fault_is (Unit {0}) fault Writer e)));
           others = λ not. blames.others (λ e. not (ap (fails (Unit {0})) (fault_is ℕ fault Writer e))) ∙ was.same;
         };
+        there = cut_there fault taken next (blob_of it.now) gave;
       }
 
       module _ (n : ℕ) (gave : GivesSized taken next (blob_of it.now) (Ok n)) (fits : n ≤ left) (kept : later ≡ are) where
@@ -232,6 +236,7 @@ module _ {S : Type 0} {g : Ghosts S} {sql : List ℕ} {params : Row} {first : He
           ok = λ late plain. (more it is late plain).5;
           stays = stays;
           outlet = record { kept = kept ∙ was.same; cause = λ e. absurd (no_fault (Unit {0}) tt Writer e); others = λ _. kept ∙ was.same };
+          there = no_fault (Unit {0}) tt NoSuchFile;
         }
 
         -- it was sent, and is not the last

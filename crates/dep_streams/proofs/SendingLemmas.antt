@@ -14,12 +14,12 @@ use Rattle.dep_streams.proofs.ShownFrom.{shown_from}
 use Rattle.dep_streams.specs.Causes.{FailsToGive}
 use Rattle.dep_streams.specs.Causes.FailsToGive.{query_failed, too_few, unread, uncounted}
 use Rattle.sqlite.proofs.Callers.{IsPlain, unchanged_then}
-use Rattle.dep_streams.specs.declared.fault.BlockFault.{BlockFault}
-use Rattle.dep_streams.specs.declared.fault.BlockFault.TheVariants.{Writer, Store, Memory}
+use Rattle.dep_types.specs.StoreFaults.{stream_fault_for}
+use Rattle.dep_types.specs.declared.stream_fault.StreamFault.{StreamFault}
+use Rattle.dep_types.specs.declared.stream_fault.StreamFault.TheVariants.{Writer, Store, Memory, NoSuchFile}
 use Rattle.dep_types.specs.declared.store_fault.StoreFault.{StoreFault}
 use Rattle.dep_types.specs.declared.store_fault.StoreFault.TheVariants as store
-use Rattle.dep_streams.specs.Faults.{stopped_by}
-use Rattle.dep_streams.specs.Sent.{blob_of, joined, GivesRow, StopsBetween, SendsSized}
+use Rattle.dep_streams.specs.Sent.{blob_of, joined, GivesSized, StopsBetween, SendsSized}
 
 -- what begins an answer begins one of the first state
 pub begins_from : (sql : List ℕ) (params : Row) (first old : State) (rows : List Row) → IsUnchanged first old → Begins sql params old rows → Begins sql params first rows
@@ -45,12 +45,12 @@ joined_more sent given row sends = ap (λ l. l ++ blob_of row) sends ∙ sym (jo
 never_late : (sql : List ℕ) (params : Row) (old new : State) (e : Error) → IsPlain (understood old.now.schema sql) → IsTooLate sql params old new e → ⊥
 never_late sql params old new e plain late = let none = (subst IsPlain late.1.is plain).0 in let never : false ≡ true = rw none at late.2 in cc
 
-pub stops_sized : (sql : List ℕ) (params : Row) (old : State) (size : ℕ) (sent : List ℕ) (fault : StoreFault) → length sent < size → StopsBetween sql params old sent → SendsSized sql params old size sent (Err (stopped_by fault))
+pub stops_sized : (sql : List ℕ) (params : Row) (old : State) (size : ℕ) (sent : List ℕ) (fault : StoreFault) → length sent < size → StopsBetween sql params old sent → SendsSized sql params old size sent (Err (stream_fault_for fault))
 stops_sized sql params old size sent store.Store low h = (h, low)
 stops_sized sql params old size sent store.Memory low h = (h, low)
 
-pub cut_sized : (sql : List ℕ) (params : Row) (old : State) (size : ℕ) (start held next : Option (List ℕ)) (sent : List ℕ) (row : Row) (Clean Plain : Type 0) (fault : BlockFault)
-    → Appends start held sent → GivesRow held next (blob_of row) (Err fault) → length sent < size
+pub cut_sized : (sql : List ℕ) (params : Row) (old : State) (size : ℕ) (start held next : Option (List ℕ)) (sent : List ℕ) (row : Row) (Clean Plain : Type 0) (fault : StreamFault)
+    → Appends start held sent → GivesSized held next (blob_of row) (Err fault) → length sent < size
     → (Clean → Plain → (given : List Row) × Begins sql params old given × Begins sql params old (given ++ row ∷ []) × (sent ≡ joined given))
     → (more : List ℕ) × Appends start next more × (Clean → Plain → SendsSized sql params old size more (Err fault))
 cut_sized sql params old size start held next sent row Clean Plain Writer before took low h = (
@@ -64,6 +64,7 @@ cut_sized sql params old size start held next sent row Clean Plain Store before 
   λ clean plain. let x = h clean plain in (record { given = x.0; begins = inr x.1; sends = x.3 }, low),
 )
 cut_sized sql params old size start held next sent row Clean Plain Memory before took low h = absurd took
+cut_sized sql params old size start held next sent row Clean Plain NoSuchFile before took low h = absurd took
 
 some_less : (left sent size : ℕ) → 0 < left → left + sent ≡ size → sent < size
 some_less left sent size some is = omega arith

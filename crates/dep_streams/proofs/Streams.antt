@@ -1,5 +1,5 @@
 -- What was sent of the content of a file.
-use Rattle.std.proofs.Common.{◌≡◌, ◌≢◌, ◌⊎◌, inl, inr, ℕ, ◌+◌, ◌<◌, pos, true, cond, List, [], ◌∷◌, ◌++◌, length, filter, Option, Some, None, Ok, Err, refl, sym, ap, subst, ◌∙◌, append-nil, append_assoc, length-append, is_eq, arith}
+use Rattle.std.proofs.Common.{◌≡◌, ◌≢◌, ◌⊎◌, inl, inr, ℕ, ◌+◌, ◌<◌, pos, true, cond, List, [], ◌∷◌, ◌++◌, length, filter, Option, Some, None, Result, Ok, Err, refl, sym, ap, subst, ◌∙◌, append-nil, append_assoc, length-append, is_eq, arith}
 use Rattle.std.specs.Prelude.{option_map, option_and_then}
 use Rattle.std.specs.List.{flat_map}
 use Rattle.std.specs.FinMap as finmap
@@ -15,8 +15,8 @@ use Rattle.dep_tables.specs.Tables.{Tables}
 use Rattle.dep_tables.specs.declared.owner.BlockOwner.TheVariants as owner
 use Rattle.dep_streams.specs.Sent as sent
 use Rattle.dep_streams.specs.Sent.{blob_of, BeginsBlocks, SendsBlocks}
-use Rattle.dep_streams.specs.declared.fault.BlockFault.{BlockFault}
-use Rattle.dep_streams.specs.declared.fault.BlockFault.TheVariants as blocks_fault
+use Rattle.dep_types.specs.declared.stream_fault.StreamFault.{StreamFault}
+use Rattle.dep_types.specs.declared.stream_fault.StreamFault.TheVariants.{Writer, Store, Memory, NoSuchFile}
 use Rattle.dep_row_maps.specs.Owned.{placed}
 use Rattle.dep_row_maps.specs.Stored.{block_seen, block_rows, part_rows, blocks_of, file_stored, is_file_of}
 use Rattle.dep_row_maps.specs.TablesAre.{TablesAre, files_at, joined}
@@ -26,8 +26,7 @@ use Rattle.dep_row_maps.proofs.Blocks.{blocks-sorted}
 use Rattle.dep_row_maps.proofs.Whole.{file_found_at}
 use Rattle.dep_streams.specs.declared.sizes.FileSize.{FileSize}
 use Rattle.dep_streams.specs.Sizes.{size_values, shown_size}
-use Rattle.dep_types.specs.Streams.{HasNoFile, IsStreamed}
-use Rattle.dep_streams.specs.Faults.{fault_of_blocks}
+use Rattle.dep_types.specs.Streams.{HasContent, HasNoFile, IsPartOfContent, IsStreamed}
 use Rattle.sqlite.specs.Given.{IsPlain}
 use Rattle.sqlite.specs.Listing.{understood}
 use Rattle.dep_types.specs.declared.store_fault.StoreFault.{StoreFault}
@@ -108,36 +107,35 @@ none_after xs (y ∷ ys) e = absurd (let len = length-append xs (y ∷ ys) in om
 more_after : (xs ys : List ℕ) → length xs < length (xs ++ ys) → ys ≢ []
 more_after xs ys h e = let len = ap length (ap (λ l. xs ++ l) e ∙ append-nil xs) in omega (arith, h, len)
 
-pub all_sent : (t : Tables) (s : State) (f size : ℕ) (bytes : List ℕ) (done x : Unit {0}) → TablesAre t s → IsSized s f size → SendsBlocks (filter (is_block_of (owner.File f)) t.blocks) size bytes (Ok done) → IsStreamed {X = Unit {0}} s f bytes (Ok x)
-all_sent t s f size bytes done x h z h2 = record { object = z.object; file = z.file; held = z.held; is = go h2.0 }
+all_sent : (t : Tables) (s : State) (f size : ℕ) (bytes : List ℕ) → TablesAre t s → IsSized s f size → (bytes ≡ []) ⊎ BeginsBlocks (filter (is_block_of (owner.File f)) t.blocks) bytes
+    → length bytes ≡ size → HasContent s f bytes
+all_sent t s f size bytes h z sent whole_size = record { object = z.object; file = z.file; held = z.held; is = go sent }
   where
+    empty : (xs : List ℕ) → length xs ≡ 0 → xs ≡ []
+    empty [] e = refl
+    empty (y ∷ ys) e = absurd (omega arith)
+
     go : (bytes ≡ []) ⊎ BeginsBlocks (filter (is_block_of (owner.File f)) t.blocks) bytes → z.file.content ≡ bytes
-    go (inl none) = empty z.file.content (sym z.sized ∙ sym h2.1 ∙ ap length none) ∙ sym none
-      where
-        empty : (xs : List ℕ) → length xs ≡ 0 → xs ≡ []
-        empty [] e = refl
-        empty (y ∷ ys) e = absurd (omega arith)
+    go (inl none) = empty z.file.content (sym z.sized ∙ sym whole_size ∙ ap length none) ∙ sym none
     go (inr b) =
         let whole = begun t s z.object f z.file bytes h z.held b in
-        whole ∙ ap (λ l. bytes ++ l) (none_after bytes b.rest (sym (ap length whole) ∙ sym z.sized ∙ sym h2.1)) ∙ append-nil bytes
+        whole ∙ ap (λ l. bytes ++ l) (none_after bytes b.rest (sym (ap length whole) ∙ sym z.sized ∙ sym whole_size)) ∙ append-nil bytes
 
-pub some_sent : (t : Tables) (s : State) (f size : ℕ) (bytes : List ℕ) (fault : BlockFault) → TablesAre t s → IsSized s f size → SendsBlocks (filter (is_block_of (owner.File f)) t.blocks) size bytes (Err fault) → IsStreamed {X = Unit {0}} s f bytes (Err (fault_of_blocks fault))
-some_sent t s f size bytes blocks_fault.Writer h z b =
+some_sent : (t : Tables) (s : State) (f size : ℕ) (bytes : List ℕ) → TablesAre t s → IsSized s f size → (bytes ≡ []) ⊎ BeginsBlocks (filter (is_block_of (owner.File f)) t.blocks) bytes
+    → length bytes < size → (bytes ≡ []) ⊎ IsPartOfContent s f bytes
+some_sent t s f size bytes h z (inl none) less = inl none
+some_sent t s f size bytes h z (inr begins) less =
+    let whole = begun t s z.object f z.file bytes h z.held begins in
+    inr (record { whole = z.file.content; has = record { object = z.object; file = z.file; held = z.held; is = refl }; front = record { rest = begins.rest; joined = whole; short = more_after bytes begins.rest (subst (λ n. length bytes < n) (z.sized ∙ ap length whole) less) } })
+
+pub streamed : (t : Tables) (s : State) (f size : ℕ) (bytes : List ℕ) (result : Result (Unit {0}) StreamFault) → TablesAre t s → IsSized s f size
+    → SendsBlocks (filter (is_block_of (owner.File f)) t.blocks) size bytes result → IsStreamed s f bytes result
+streamed t s f size bytes (Ok done) h z sent = all_sent t s f size bytes h z sent.0 sent.1
+streamed t s f size bytes (Err Writer) h z b =
     record { whole = z.file.content; has = record { object = z.object; file = z.file; held = z.held; is = refl }; front = record { rest = b.0.rest; joined = begun t s z.object f z.file bytes h z.held b.0; short = b.1 } }
-some_sent t s f size bytes blocks_fault.Store h z b = short b.0
-  where
-    short : (bytes ≡ []) ⊎ BeginsBlocks (filter (is_block_of (owner.File f)) t.blocks) bytes → IsStreamed {X = Unit {0}} s f bytes (Err (fault_of_blocks blocks_fault.Store))
-    short (inl none) = inl none
-    short (inr begins) =
-        let whole = begun t s z.object f z.file bytes h z.held begins in
-        inr (record { whole = z.file.content; has = record { object = z.object; file = z.file; held = z.held; is = refl }; front = record { rest = begins.rest; joined = whole; short = more_after bytes begins.rest (subst (λ n. length bytes < n) (z.sized ∙ ap length whole) b.1) } })
-some_sent t s f size bytes blocks_fault.Memory h z b = short b.0
-  where
-    short : (bytes ≡ []) ⊎ BeginsBlocks (filter (is_block_of (owner.File f)) t.blocks) bytes → IsStreamed {X = Unit {0}} s f bytes (Err (fault_of_blocks blocks_fault.Memory))
-    short (inl none) = inl none
-    short (inr begins) =
-        let whole = begun t s z.object f z.file bytes h z.held begins in
-        inr (record { whole = z.file.content; has = record { object = z.object; file = z.file; held = z.held; is = refl }; front = record { rest = begins.rest; joined = whole; short = more_after bytes begins.rest (subst (λ n. length bytes < n) (z.sized ∙ ap length whole) b.1) } })
+streamed t s f size bytes (Err Store) h z sent = some_sent t s f size bytes h z sent.0 sent.1
+streamed t s f size bytes (Err Memory) h z sent = some_sent t s f size bytes h z sent.0 sent.1
+streamed t s f size bytes (Err NoSuchFile) h z sent = absurd sent
 
 -- what hinders the blocks, where all was as at first
 pub blocks_from : (o : BlockOwner) (size : Option ℕ) (first old new : db.State) (fault : StoreFault) → IsPlain (understood first.now.schema blocks_of_text) → IsUnchanged first old → db.Survives first old (λ _. ⊥)

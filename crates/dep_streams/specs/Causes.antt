@@ -20,7 +20,6 @@ use Rattle.dep_tables.specs.declared.sha256s.FileSha256.{FileSha256}
 use Rattle.dep_tables.specs.declared.sha512s.FileSha512.{FileSha512}
 use Rattle.dep_types.specs.declared.stream_fault.StreamFault.{StreamFault}
 use Rattle.dep_streams.specs.Faults.{IsStoppedBy, IsStreamStoppedBy}
-use Rattle.dep_streams.specs.declared.fault.BlockFault.{BlockFault}
 use Rattle.dep_streams.specs.Fixity.{HasFixity, IsKeptSha512, number_if_damaged}
 use Rattle.dep_streams.specs.Sha512s.{next_file_text, IsFileAfter, IsReached, IsValueAfter}
 use Rattle.dep_streams.specs.Sent.{joined}
@@ -47,7 +46,7 @@ pub data FailsToGive (sql : List ℕ) (params : Row) (size : Option ℕ) (old ne
       → fault ≡ Store → FailsToGive sql params size old new fault
 
 -- why they were not all sent, where the outlet did not fail
-abbrev pub FailsToSend : List ℕ → Row → ℕ → State → State → BlockFault → Type 0
+abbrev pub FailsToSend : List ℕ → Row → ℕ → State → State → StreamFault → Type 0
 FailsToSend sql params size old new = IsStoppedBy (FailsToGive sql params (Some size) old new)
 
 -- why the blocks of an owner were not all read
@@ -58,7 +57,7 @@ pub data FailsToGiveBlocks (o : BlockOwner) (size : Option ℕ) (old new : State
       → FailsToGiveBlocks o size old new fault
 
 -- why they were not sent, where the outlet did not fail
-abbrev pub FailsToSendBlocks : BlockOwner → ℕ → State → State → BlockFault → Type 0
+abbrev pub FailsToSendBlocks : BlockOwner → ℕ → State → State → StreamFault → Type 0
 FailsToSendBlocks o size old new = IsStoppedBy (FailsToGiveBlocks o (Some size) old new)
 
 -- why the size of a file was not told

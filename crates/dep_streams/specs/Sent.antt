@@ -13,9 +13,8 @@ use Rattle.dep_tables.specs.declared.owner.BlockOwner.{BlockOwner}
 use Rattle.dep_types.specs.State as types
 use Rattle.dep_types.specs.Streams.{IsStreamed}
 use Rattle.dep_types.specs.declared.stream_fault.StreamFault.{StreamFault}
+use Rattle.dep_types.specs.declared.stream_fault.StreamFault.TheVariants.{Writer, Store, Memory, NoSuchFile}
 use Rattle.dep_row_maps.specs.TablesAre.{TablesAre}
-use Rattle.dep_streams.specs.declared.fault.BlockFault.{BlockFault}
-use Rattle.dep_streams.specs.declared.fault.BlockFault.TheVariants.{Writer, Store, Memory}
 
 -- the bytes of a value that is a blob
 abbrev pub blob_in : Value → List ℕ
@@ -30,12 +29,6 @@ blob_of row = blob_in (column row 2)
 abbrev pub joined : List Row → List ℕ
 joined [] = []
 joined (row ∷ rows) = blob_of row ++ joined rows
-
-abbrev pub GivesRow : Option (List ℕ) → Option (List ℕ) → List ℕ → Result (Unit {0}) BlockFault → Type 0
-GivesRow old new bytes (Ok done) = Appends old new bytes
-GivesRow old new bytes (Err Writer) = TakesPart old new bytes
-GivesRow old new bytes (Err Store) = new ≡ old
-GivesRow old new bytes (Err Memory) = ⊥
 
 -- these are the first rows of an answer, all of whose bytes were sent
 pub record StopsBetween (sql : List ℕ) (params : Row) (old : State) (sent : List ℕ) : Type 0 where
@@ -52,12 +45,16 @@ pub record StopsWithin (sql : List ℕ) (params : Row) (old : State) (sent : Lis
   pub short : IsProperPrefix part (blob_of row)
   pub sends : sent ≡ joined given ++ part
 
-abbrev pub GivesSized : Option (List ℕ) → Option (List ℕ) → List ℕ → Result ℕ BlockFault → Type 0
+-- what the outlet took of the bytes of one row, and how many they are
+abbrev pub GivesSized : Option (List ℕ) → Option (List ℕ) → List ℕ → Result ℕ StreamFault → Type 0
 GivesSized old new bytes (Ok n) = Appends old new bytes × (n ≡ length bytes)
-GivesSized old new bytes (Err fault) = GivesRow old new bytes (Err fault)
+GivesSized old new bytes (Err Writer) = TakesPart old new bytes
+GivesSized old new bytes (Err Store) = new ≡ old
+GivesSized old new bytes (Err Memory) = ⊥
+GivesSized old new bytes (Err NoSuchFile) = ⊥
 
 -- the first rows of an answer, up to so many bytes
-abbrev pub SendsSized : List ℕ → Row → State → ℕ → List ℕ → Result (Unit {0}) BlockFault → Type 0
+abbrev pub SendsSized : List ℕ → Row → State → ℕ → List ℕ → Result (Unit {0}) StreamFault → Type 0
 SendsSized sql params old size sent (Ok done) = StopsBetween sql params old sent
     × (length sent ≡ size)
 SendsSized sql params old size sent (Err Writer) = StopsWithin sql params old sent
@@ -65,6 +62,7 @@ SendsSized sql params old size sent (Err Store) = StopsBetween sql params old se
     × (length sent < size)
 SendsSized sql params old size sent (Err Memory) = StopsBetween sql params old sent
     × (length sent < size)
+SendsSized sql params old size sent (Err NoSuchFile) = ⊥
 
 -- the bytes begin those of these stored blocks, by part and place
 pub record BeginsBlocks (stored : List Row) (sent : List ℕ) : Type 0 where
@@ -75,7 +73,7 @@ pub record BeginsBlocks (stored : List Row) (sent : List ℕ) : Type 0 where
 
 -- So many bytes of the blocks, by part and place; fewer where the store failed, and where the outlet failed
 -- the first bytes and not all.
-abbrev pub SendsBlocks : List Row → ℕ → List ℕ → Result (Unit {0}) BlockFault → Type 0
+abbrev pub SendsBlocks : List Row → ℕ → List ℕ → Result (Unit {0}) StreamFault → Type 0
 SendsBlocks stored size sent (Ok done) = ((sent ≡ []) ⊎ BeginsBlocks stored sent)
     × (length sent ≡ size)
 SendsBlocks stored size sent (Err Writer) = (h : BeginsBlocks stored sent) × (h.rest ≢ [])
@@ -83,9 +81,10 @@ SendsBlocks stored size sent (Err Store) = ((sent ≡ []) ⊎ BeginsBlocks store
     × (length sent < size)
 SendsBlocks stored size sent (Err Memory) = ((sent ≡ []) ⊎ BeginsBlocks stored sent)
     × (length sent < size)
+SendsBlocks stored size sent (Err NoSuchFile) = ⊥
 
 -- the same of an owner's blocks in the tables that are seen
-abbrev pub SendsBlocksOf : BlockOwner → ℕ → Result (Unit {0}) BlockFault → State → List ℕ → Type 0
+abbrev pub SendsBlocksOf : BlockOwner → ℕ → Result (Unit {0}) StreamFault → State → List ℕ → Type 0
 SendsBlocksOf o size result s sent =
     SendsBlocks (filter (is_block_of o) (tables_of s).blocks) size sent result
 

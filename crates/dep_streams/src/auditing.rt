@@ -14,7 +14,7 @@ use dep_manifest::{KeptDigests, note_damaged};
 use dep_tables::{BlockOwner, FileSha256};
 use dep_types::StoreFault;
 use sqlite::{Alter, Connection};
-use std::alloc::{AllocError, Global};
+use std::alloc::Global;
 
 /// What an audit of files found.
 #[derive(Drop)]
@@ -47,17 +47,12 @@ fn find_fixity<S: Alter, W: Watch>(
     ensures same { ReadsOver IsOurs S.Store connection.old connection.new result }
     ensures stays { StaysOver IsOurs S.Store connection.old connection.new }
 {
-    let kept_sha512 = match find_sha512(connection, BlockOwner::File(file)) {
-        Ok(kept_sha512) => kept_sha512,
-        Err(fault) => return Err(fault),
-    };
-    match hash_blocks(connection, BlockOwner::File(file), watch) {
-        Ok(digests) => Ok(FileFixity {
-            kept_sha512,
-            digests,
-        }),
-        Err(fault) => Err(fault),
-    }
+    let kept_sha512 = find_sha512(connection, BlockOwner::File(file))?;
+    let digests = hash_blocks(connection, BlockOwner::File(file), watch)?;
+    Ok(FileFixity {
+        kept_sha512,
+        digests,
+    })
 }
 
 // Notes the number of the file where its bytes have other digests.
@@ -74,18 +69,13 @@ fn keep_damaged<S: Alter, W: Watch>(
     ensures same { ReadsOver IsOurs S.Store connection.old connection.new result }
     ensures stays { StaysOver IsOurs S.Store connection.old connection.new }
 {
-    let found = match find_fixity(connection, row.file, watch) {
-        Ok(found) => found,
-        Err(fault) => return Err(fault),
-    };
+    let found = find_fixity(connection, row.file, watch)?;
     let kept = KeptDigests {
         sha256: row.value,
         sha512: found.kept_sha512,
     };
-    match note_damaged(damaged, row.file, &kept, &found.digests) {
-        Ok(()) => Ok(()),
-        Err(AllocError) => Err(StoreFault::Memory),
-    }
+    note_damaged(damaged, row.file, &kept, &found.digests)?;
+    Ok(())
 }
 
 /// Checks files by the SHA-256 and the SHA-512 of the bytes that stand in the tables: those of all blocks that name the
@@ -109,10 +99,7 @@ pub fn audit_files<S: Alter, W: Watch>(
 {
     let mut damaged = Vec::new(alloc);
     'files: for row in files {
-        match keep_damaged(connection, &mut damaged, row, watch) {
-            Ok(()) => {}
-            Err(fault) => return Err(fault),
-        }
+        keep_damaged(connection, &mut damaged, row, watch)?;
     }
     Ok(Audit {
         checked: files.len() as u64,

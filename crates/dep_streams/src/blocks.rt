@@ -1,16 +1,16 @@
 //! The blocks of an owner, sent one at a time.
 
+ghost use Rattle.std.specs.Prelude.{◌≢◌, Err};
 ghost use Rattle.dep_tables.specs.Tables.{IsOurs};
 ghost use Rattle.dep_streams.specs.Clauses.{StaysOver, LeavesOver, FailsOver, GivesOver};
 ghost use Rattle.dep_streams.specs.Faults.{BlamesOutlet};
 ghost use Rattle.dep_streams.specs.Sent.{SendsBlocksOf};
 ghost use Rattle.dep_streams.specs.Causes.{FailsToSendBlocks};
 
-use crate::fault::BlockFault;
 use crate::query::blocks_query;
 use crate::sending::stream_sized;
 use dep_tables::{BlockOwner, is_storable_owner, owner_params};
-use dep_types::Outlet;
+use dep_types::{Outlet, StreamFault};
 use sqlite::{Alter, Connection};
 
 /// Sends the blocks of an owner, by part and place, up to so many bytes in all. It holds one block at
@@ -20,20 +20,21 @@ pub fn stream_blocks<S: Alter, O: Outlet>(
     owner: BlockOwner,
     size: u64,
     out: &mut O,
-) -> Result<(), BlockFault>
+) -> Result<(), StreamFault>
     ensures streams { GivesOver IsOurs S.Store connection.old connection.new
         (O.taken out.old) (O.taken out.new) (SendsBlocksOf owner size result) }
     ensures why { FailsOver IsOurs S.Store connection.old connection.new result
         (FailsToSendBlocks owner size) }
     ensures ok { LeavesOver IsOurs S.Store connection.old connection.new result }
     ensures stays { StaysOver IsOurs S.Store connection.old connection.new }
-    ensures outlet { BlamesOutlet BlockFault.Writer (O.failures out.old) (O.failures out.new) result }
+    ensures outlet { BlamesOutlet StreamFault.Writer (O.failures out.old) (O.failures out.new) result }
+    ensures there { result ≢ Err StreamFault.NoSuchFile }
 {
     if size == 0 {
         return Ok(());
     }
     if !is_storable_owner(owner) {
-        return Err(BlockFault::Store);
+        return Err(StreamFault::Store);
     }
     stream_sized(connection, blocks_query(), &owner_params(owner), size, out)
 }

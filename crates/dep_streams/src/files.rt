@@ -31,10 +31,7 @@ fn only(rows: &[Row]) -> Result<Option<u64>, StoreFault>
 {
     match rows {
         [] => Ok(None),
-        [row] => match number_at(row, 0) {
-            Ok(file) => Ok(Some(file)),
-            Err(_) => Err(StoreFault::Store),
-        },
+        [row] => number_at(row, 0).map(Some).map_err(|_| StoreFault::Store),
         _ => Err(StoreFault::Store),
     }
 }
@@ -53,12 +50,11 @@ pub(crate) fn next_file<S: Alter>(
     if after >= LIMIT {
         return Err(StoreFault::Store);
     }
-    let asked = connection.query_all(
-        "SELECT file FROM files WHERE file > ?1 ORDER BY file LIMIT 1",
-        &after_param(after),
-    );
-    match asked {
-        Ok(rows) => only(rows.as_slice()),
-        Err(error) => Err(fault_of(error)),
-    }
+    let rows = connection
+        .query_all(
+            "SELECT file FROM files WHERE file > ?1 ORDER BY file LIMIT 1",
+            &after_param(after),
+        )
+        .map_err(|error| fault_of(error))?;
+    only(rows.as_slice())
 }

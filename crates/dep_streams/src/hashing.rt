@@ -51,22 +51,16 @@ fn hash_rows<S: Alter, W: Watch>(
     ensures stays { StaysOver (OnlyShows sql.now) S.Store connection.old connection.new }
 {
     let mut hasher = Hasher::new();
+    // With `map_err` no proof would know what a failure leaves of the connection.
     let mut rows = match connection.query(sql, params) {
         Ok(rows) => rows,
         Err(error) => return Err(fault_of(error)),
     };
     'rows: for _ in 0..u64::MAX {
-        let next = match rows.next() {
-            Ok(next) => next,
-            Err(error) => return Err(fault_of(error)),
-        };
-        let Some(row) = next else {
+        let Some(row) = rows.next().map_err(|error| fault_of(error))? else {
             return Ok(hasher.finish());
         };
-        match hash_row(row, &mut hasher, watch) {
-            Ok(()) => {}
-            Err(fault) => return Err(fault),
-        }
+        hash_row(row, &mut hasher, watch)?;
     }
     Err(StoreFault::Store)
 }

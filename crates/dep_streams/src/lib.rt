@@ -4,7 +4,6 @@
 
 mod auditing;
 mod blocks;
-mod fault;
 mod files;
 mod hashing;
 mod loading;
@@ -18,7 +17,6 @@ mod watch;
 
 pub use auditing::{Audit, audit_files};
 pub use blocks::stream_blocks;
-pub use fault::BlockFault;
 pub use loading::load_content;
 pub use streaming::stream_content;
 pub use upgrading::hash_files;

@@ -1,6 +1,6 @@
 //! The rows of a query of blocks, sent one at a time.
 
-ghost use Rattle.std.specs.Prelude.{◌≡◌, ◌⊎◌, ◌≤◌, ◌<◌, IfOk, Err, length};
+ghost use Rattle.std.specs.Prelude.{◌≡◌, ◌≢◌, ◌⊎◌, ◌≤◌, ◌<◌, IfOk, Err, length};
 ghost use Rattle.sqlite.specs.Values.{bound};
 ghost use Rattle.sqlite.specs.Order.{column};
 ghost use Rattle.dep_tables.specs.Rows.{IsBytesValue};
@@ -9,32 +9,28 @@ ghost use Rattle.dep_streams.specs.Causes.{FailsToSend};
 ghost use Rattle.dep_streams.specs.Faults.{BlamesOutlet};
 ghost use Rattle.dep_streams.specs.Sent.{blob_of, GivesSized, SendsSized};
 
-use crate::fault::{BlockFault, block_fault_of};
-use dep_types::Outlet;
+use dep_tables::fault_of;
+use dep_types::{Outlet, StreamFault};
 use sqlite::types::ValueRef;
 use sqlite::{Alter, Connection, Row};
 
 /// Sends the bytes of a block, if it has no more than so many bytes, and answers how many it has.
-fn give_sized<O: Outlet>(row: &Row, most: u64, out: &mut O) -> Result<u64, BlockFault>
+fn give_sized<O: Outlet>(row: &Row, most: u64, out: &mut O) -> Result<u64, StreamFault>
     ensures gives { GivesSized (O.taken out.old) (O.taken out.new) (blob_of row.now) result }
     ensures fits { IfOk result (λ n. n ≤ most) }
-    ensures refused { result ≡ Err BlockFault.Store
+    ensures refused { result ≡ Err StreamFault.Store
         → (¬ (IsBytesValue (column row.now 2))) ⊎ (most < length (blob_of row.now)) }
-    ensures outlet { BlamesOutlet BlockFault.Writer (O.failures out.old) (O.failures out.new) result }
+    ensures outlet { BlamesOutlet StreamFault.Writer (O.failures out.old) (O.failures out.new) result }
 {
-    match row.get_ref(2) {
-        Ok(ValueRef::Blob(bytes)) => {
-            let size = bytes.len() as u64;
-            if size > most {
-                return Err(BlockFault::Store);
-            }
-            match out.write(bytes) {
-                Ok(()) => Ok(size),
-                Err(_) => Err(BlockFault::Writer),
-            }
-        }
-        _ => Err(BlockFault::Store),
+    let Ok(ValueRef::Blob(bytes)) = row.get_ref(2) else {
+        return Err(StreamFault::Store);
+    };
+    let size = bytes.len() as u64;
+    if size > most {
+        return Err(StreamFault::Store);
     }
+    out.write(bytes)?;
+    Ok(size)
 }
 
 /// Sends the bytes of each block that a query shows, up to so many bytes in all. It holds one row at a time.
@@ -44,7 +40,7 @@ pub(crate) fn stream_sized<S: Alter, O: Outlet>(
     params: &[ValueRef<'_>],
     size: u64,
     out: &mut O,
-) -> Result<(), BlockFault>
+) -> Result<(), StreamFault>
     requires { 0 < size }
     ensures streams { GivesOver (OnlyShows sql.now) S.Store connection.old connection.new
         (O.taken out.old) (O.taken out.new)
@@ -53,28 +49,23 @@ pub(crate) fn stream_sized<S: Alter, O: Outlet>(
         (FailsToSend sql.now (bound params.now) size) }
     ensures ok { ReadsOver (OnlyShows sql.now) S.Store connection.old connection.new result }
     ensures stays { StaysOver (OnlyShows sql.now) S.Store connection.old connection.new }
-    ensures outlet { BlamesOutlet BlockFault.Writer (O.failures out.old) (O.failures out.new) result }
+    ensures outlet { BlamesOutlet StreamFault.Writer (O.failures out.old) (O.failures out.new) result }
+    ensures there { result ≢ Err StreamFault.NoSuchFile }
 {
     let mut left = size;
+    // With `map_err` no proof would know what a failure leaves of the connection.
     let mut rows = match connection.query(sql, params) {
         Ok(rows) => rows,
-        Err(error) => return Err(block_fault_of(error)),
+        Err(error) => return Err(StreamFault::from(fault_of(error))),
     };
     'rows: for _ in 0..u64::MAX {
-        let next = match rows.next() {
-            Ok(next) => next,
-            Err(error) => return Err(block_fault_of(error)),
+        let Some(row) = rows.next().map_err(|error| fault_of(error))? else {
+            return Err(StreamFault::Store);
         };
-        let Some(row) = next else {
-            return Err(BlockFault::Store);
-        };
-        match give_sized(row, left, out) {
-            Ok(n) => left -= n,
-            Err(fault) => return Err(fault),
-        }
+        left -= give_sized(row, left, out)?;
         if left == 0 {
             return Ok(());
         }
     }
-    Err(BlockFault::Store)
+    Err(StreamFault::Store)
 }

@@ -26,10 +26,7 @@ fn value_in(row: &Row) -> Result<[u8; 64], StoreFault>
     let Ok(ValueRef::Blob(bytes)) = row.get_ref(0) else {
         return Err(StoreFault::Store);
     };
-    match <[u8; 64]>::try_from(bytes) {
-        Ok(value) => Ok(value),
-        Err(_) => Err(StoreFault::Store),
-    }
+    <[u8; 64]>::try_from(bytes).map_err(|_| StoreFault::Store)
 }
 
 fn only(rows: &[Row]) -> Result<Option<[u8; 64]>, StoreFault>
@@ -39,10 +36,7 @@ fn only(rows: &[Row]) -> Result<Option<[u8; 64]>, StoreFault>
 {
     match rows {
         [] => Ok(None),
-        [row] => match value_in(row) {
-            Ok(value) => Ok(Some(value)),
-            Err(fault) => Err(fault),
-        },
+        [row] => value_in(row).map(Some),
         _ => Err(StoreFault::Store),
     }
 }
@@ -63,12 +57,11 @@ pub(crate) fn find_sha512<S: Alter>(
     if !is_storable_owner(owner) {
         return Err(StoreFault::Store);
     }
-    let asked = connection.query_all(
-        "SELECT value FROM sha512s WHERE kind = ?1 AND owner = ?2",
-        &owner_params(owner),
-    );
-    match asked {
-        Ok(rows) => only(rows.as_slice()),
-        Err(error) => Err(fault_of(error)),
-    }
+    let rows = connection
+        .query_all(
+            "SELECT value FROM sha512s WHERE kind = ?1 AND owner = ?2",
+            &owner_params(owner),
+        )
+        .map_err(|error| fault_of(error))?;
+    only(rows.as_slice())
 }

@@ -49,10 +49,7 @@ fn only(rows: &[Row]) -> Result<Option<FileSize>, StoreFault>
 {
     match rows {
         [] => Ok(None),
-        [row] => match size_in(row) {
-            Ok(found) => Ok(Some(found)),
-            Err(_) => Err(StoreFault::Store),
-        },
+        [row] => size_in(row).map(Some).map_err(|_| StoreFault::Store),
         _ => Err(StoreFault::Store),
     }
 }
@@ -72,12 +69,11 @@ pub(crate) fn find_size<S: Alter>(
     if file >= LIMIT {
         return Err(StoreFault::Store);
     }
-    let asked = connection.query_all(
-        "SELECT object, size FROM files WHERE file = ?1",
-        &key_param(file),
-    );
-    match asked {
-        Ok(rows) => only(rows.as_slice()),
-        Err(error) => Err(fault_of(error)),
-    }
+    let rows = connection
+        .query_all(
+            "SELECT object, size FROM files WHERE file = ?1",
+            &key_param(file),
+        )
+        .map_err(|error| fault_of(error))?;
+    only(rows.as_slice())
 }

@@ -27,20 +27,12 @@ fn next_value<S: Alter, W: Watch>(
     ensures same { ReadsOver IsKnown S.Store connection.old connection.new result }
     ensures stays { StaysOver IsKnown S.Store connection.old connection.new }
 {
-    let found = match next_file(connection, after) {
-        Ok(found) => found,
-        Err(fault) => return Err(fault),
-    };
-    let Some(file) = found else {
+    let Some(file) = next_file(connection, after)? else {
         return Ok(None);
     };
-    match hash_blocks(connection, BlockOwner::File(file), watch) {
-        Ok(digests) => {
-            let value = digests.sha512;
-            Ok(Some(FileSha512 { file, value }))
-        }
-        Err(fault) => Err(fault),
-    }
+    let digests = hash_blocks(connection, BlockOwner::File(file), watch)?;
+    let value = digests.sha512;
+    Ok(Some(FileSha512 { file, value }))
 }
 
 /// The SHA-512 of each file whose number is above 0, by ascending number: of the bytes of all blocks that name the file,
@@ -61,17 +53,11 @@ pub fn hash_files<S: Alter, W: Watch>(
     let mut values = Vec::new(alloc);
     let mut last = 0;
     'files: for _ in 0..u64::MAX {
-        let next = match next_value(connection, last, watch) {
-            Ok(next) => next,
-            Err(fault) => return Err(fault),
-        };
-        let Some(value) = next else {
+        let Some(value) = next_value(connection, last, watch)? else {
             return Ok(values);
         };
         last = value.file;
-        if values.push(value).is_err() {
-            return Err(StoreFault::Memory);
-        }
+        values.push(value)?;
     }
     Err(StoreFault::Store)
 }

@@ -13,6 +13,7 @@ use Rattle.dep_streams.specs.Fixity.{HasFixity, KeepsDamaged, number_if_damaged}
 use Rattle.dep_streams.specs.declared.auditing.FileFixity.{FileFixity}
 use Rattle.dep_streams.proofs.Stills.{IsStill, ours_still, stays_itself, stays_then, still_left, still_then, tables_still}
 use Rattle.dep_streams.proofs.Digests.{one_more, zip_more}
+use Rattle.dep_streams.proofs.Told.{passed_on}
 use Rattle.dep_streams.proofs.auditing.audit_files.Goals as goal
 
 abbrev its : State → FileSha256 → FileFixity → Type 0
@@ -39,7 +40,7 @@ files-preserved g c =
     let mid = state g.S.Store now in
     let new = state g.S.Store c.keep_damaged.new.connection in
     let inv = c.files.invariant in
-    let kept = c.in-Ok.ensures in
+    let kept = c.in_ok-keep_damaged.ensures in
     let earlier = kept.stays.honest in
     let still : HasCleanDisk mid → IsOurs old → IsStill old mid = λ clean ours. still_left g.S.Store first now (inv.1 clean ours) in (
       stays_then inv.0 still (ours_still old mid) kept.stays,
@@ -83,16 +84,17 @@ returns g c =
       stays = inv.0;
     }
 
-pub returns-in-Err : goal.returns-in-Err
-returns-in-Err g c =
+pub returns-in_err-keep_damaged : goal.returns-in_err-keep_damaged
+returns-in_err-keep_damaged g c =
     let first = c.args.connection.now in
     let now = c.files.connection in
     let old = state g.S.Store first in
     let mid = state g.S.Store now in
     let inv = c.files.invariant in
-    let told = c.in-Err.ensures in
+    let told = c.in_err-keep_damaged.ensures in
     let still : HasCleanDisk mid → IsOurs old → IsStill old mid = λ clean ours. still_left g.S.Store first now (inv.1 clean ours) in
-    record {
+    let passed = passed_on c.from_residual.result c.in_err-keep_damaged.field-0.0 c.from_residual.ensures.1 in
+    rw passed record {
       audits = λ clean ours. tt;
       cause = λ clean ours.
           let so_far = still (told.stays.honest clean) ours in

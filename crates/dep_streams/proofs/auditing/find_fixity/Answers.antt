@@ -10,29 +10,31 @@ use Rattle.dep_streams.specs.Fixity.{AreDigestsOf}
 use Rattle.dep_streams.proofs.KnownTables.{blocks_plain}
 use Rattle.dep_streams.proofs.Stills.{IsStill, commits_none, known_still, ours_known, stays_then, still_same}
 use Rattle.dep_streams.proofs.Streams.{blocks_from}
+use Rattle.dep_streams.proofs.Told.{passed_on}
 use Rattle.dep_streams.proofs.auditing.find_fixity.Goals as goal
 
 known_then : (a b : State) → IsStill a b → IsOurs a → IsKnown b
 known_then a b still ours = known_still a b still (ours_known a ours)
 
 -- the SHA-512 that is kept was not told
-pub returns-in-Err : goal.returns-in-Err
-returns-in-Err g c =
-    let told = c.in-Err.ensures in
-    record {
+pub returns-in_err-kept_sha512 : goal.returns-in_err-kept_sha512
+returns-in_err-kept_sha512 g c =
+    let told = c.in_err-kept_sha512.ensures in
+    let passed = passed_on c.from_residual.result c.in_err-kept_sha512.field-0.0 c.from_residual.ensures.1 in
+    rw passed record {
       ok = λ clean ours. tt;
       cause = λ clean ours. no_sha512 (told.cause clean);
       same = λ clean ours. tt;
       stays = told.stays;
     }
 
-pub returns-in-Ok-hash_blocks : goal.returns-in-Ok-hash_blocks
-returns-in-Ok-hash_blocks g c =
+pub returns : goal.returns
+returns g c =
     let old = state g.S.Store c.args.connection.now in
     let mid = state g.S.Store c.find_sha512.new.connection in
     let new = state g.S.Store c.hash_blocks.new.connection in
-    let first = c.in-Ok.ensures in
-    let second = c.in-Ok-hash_blocks.ensures in
+    let first = c.in_ok-kept_sha512.ensures in
+    let second = c.in_ok-digests.ensures in
     let known : IsUnchanged old mid → IsOurs old → IsKnown mid = λ same. known_then old mid (still_same old mid same) in
     record {
       ok = λ clean ours.
@@ -40,7 +42,7 @@ returns-in-Ok-hash_blocks g c =
           let same = first.same before ours in
           record {
             kept = first.ok before ours;
-            digests = subst (λ (t : Tables). AreDigestsOf t (owner.File c.args.file) c.in-Ok-hash_blocks.digests) (same_tables old mid same)
+            digests = subst (λ (t : Tables). AreDigestsOf t (owner.File c.args.file) c.in_ok-digests.digests) (same_tables old mid same)
                 (second.hashes clean (known same ours));
           };
       cause = λ clean ours. tt;
@@ -49,20 +51,22 @@ returns-in-Ok-hash_blocks g c =
     }
 
 -- the blocks were not all read
-pub returns-in-Err-hash_blocks : goal.returns-in-Err-hash_blocks
-returns-in-Err-hash_blocks g c =
+pub returns-in_err-digests : goal.returns-in_err-digests
+returns-in_err-digests g c =
     let old = state g.S.Store c.args.connection.now in
     let mid = state g.S.Store c.find_sha512.new.connection in
     let new = state g.S.Store c.hash_blocks.new.connection in
-    let first = c.in-Ok.ensures in
-    let second = c.in-Err-hash_blocks.ensures in
-    record {
+    let first = c.in_ok-kept_sha512.ensures in
+    let second = c.in_err-digests.ensures in
+    let fault = c.in_err-digests.field-0.0 in
+    let passed = passed_on c.from_residual-in_err-digests.result fault c.from_residual-in_err-digests.ensures.1 in
+    rw passed record {
       ok = λ clean ours. tt;
       cause = λ clean ours.
           let before = second.stays.honest clean in
           let same = first.same before ours in
-          no_blocks c.in-Ok.kept_sha512 (first.ok before ours)
-          (blocks_from (owner.File c.args.file) None old mid new c.in-Err-hash_blocks.fault (blocks_plain old (ours_known old ours)) same (commits_none first.stays ours)
+          no_blocks c.in_ok-kept_sha512.kept_sha512 (first.ok before ours)
+          (blocks_from (owner.File c.args.file) None old mid new fault (blocks_plain old (ours_known old ours)) same (commits_none first.stays ours)
           (second.cause clean (known_then old mid (still_same old mid same) ours)));
       same = λ clean ours. tt;
       stays = stays_then first.stays (λ clean ours. still_same old mid (first.same clean ours)) (known_then old mid) second.stays;

@@ -1,29 +1,33 @@
 use Rattle.std.proofs.Common.{refl}
 use Rattle.dep_streams.specs.Causes.FailsToCheck.{not_found, not_noted}
+use Rattle.dep_types.specs.declared.store_fault.StoreFault.TheVariants.{Memory}
+use Rattle.dep_streams.proofs.Told.{passed_on}
 use Rattle.dep_streams.proofs.auditing.keep_damaged.Goals as goal
 
-pub returns-in-Err : goal.returns-in-Err
-returns-in-Err g c =
-    let told = c.in-Err.ensures in
-    record { notes = λ clean ours. tt; cause = λ clean ours. not_found (told.cause clean ours); same = λ clean ours. tt; stays = told.stays }
+pub returns-in_err-found : goal.returns-in_err-found
+returns-in_err-found g c =
+    let told = c.in_err-found.ensures in
+    let passed = passed_on c.from_residual.result c.in_err-found.field-0.0 c.from_residual.ensures.1 in
+    rw passed record { notes = λ clean ours. tt; cause = λ clean ours. not_found (told.cause clean ours); same = λ clean ours. tt; stays = told.stays }
 
-pub returns-in-Ok-note_damaged : goal.returns-in-Ok-note_damaged
-returns-in-Ok-note_damaged g c =
-    let told = c.in-Ok.ensures in
+pub returns : goal.returns
+returns g c =
+    let told = c.in_ok-found.ensures in
     record {
-      notes = λ clean ours. record { found = c.in-Ok.found; its = told.ok clean ours; noted = c.in-Ok-note_damaged.ensures.ok };
+      notes = λ clean ours. record { found = c.in_ok-found.found; its = told.ok clean ours; noted = c.in_ok-note_damaged.ensures.ok };
       cause = λ clean ours. tt;
       same = told.same;
       stays = told.stays;
     }
 
 -- there was no memory to note it
-pub returns-in-Err-note_damaged : goal.returns-in-Err-note_damaged
-returns-in-Err-note_damaged g c =
-    let told = c.in-Ok.ensures in
-    record {
+pub returns-in_err-note_damaged : goal.returns-in_err-note_damaged
+returns-in_err-note_damaged g c =
+    let told = c.in_ok-found.ensures in
+    let passed = passed_on c.from_residual-in_err-note_damaged.result Memory c.from_residual-in_err-note_damaged.ensures.1 in
+    rw passed record {
       notes = λ clean ours. tt;
-      cause = λ clean ours. not_noted c.in-Ok.found (told.ok clean ours) c.in-Err-note_damaged.ensures.damaged refl;
+      cause = λ clean ours. not_noted c.in_ok-found.found (told.ok clean ours) c.in_err-note_damaged.ensures.damaged refl;
       same = λ clean ours. tt;
       stays = told.stays;
     }

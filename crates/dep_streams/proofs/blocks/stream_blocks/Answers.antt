@@ -6,12 +6,12 @@ use Rattle.dep_tables.specs.Tables.{IsOurs}
 use Rattle.dep_tables.specs.Texts.{blocks_of_text}
 use Rattle.dep_tables.proofs.Leading.{plain_here}
 use Rattle.dep_tables.proofs.Results.{ok_then, if_err, not_storable}
-use Rattle.dep_streams.specs.declared.fault.BlockFault.TheVariants.{Writer}
+use Rattle.dep_types.specs.declared.stream_fault.StreamFault.TheVariants.{Writer, NoSuchFile}
 use Rattle.dep_tables.specs.Rows.{owner_values}
 use Rattle.dep_streams.specs.Causes.{FailsToGive, FailsToGiveBlocks}
 use Rattle.dep_streams.specs.Causes.FailsToGiveBlocks.{no_owner, not_given}
 use Rattle.dep_streams.specs.Clauses.{OnlyShows}
-use Rattle.dep_streams.proofs.FaultsTold.{none_stopped, store_stopped, stopped_more}
+use Rattle.dep_streams.proofs.FaultsTold.{none_failed, store_stopped, store_there, stopped_more}
 use Rattle.dep_streams.proofs.OrderedBlocks.{sends_owner, owner_is}
 use Rattle.dep_streams.proofs.Stills.{stays_itself, stays_of}
 use Rattle.dep_files.proofs.Results.{some_where}
@@ -33,6 +33,7 @@ returns g c =
       ok = λ clean ours. ok_then c.stream_sized.result (sent.ok clean (shows old ours)) (λ same. inr same);
       stays = stays_of (shows old) sent.stays;
       outlet = sent.outlet;
+      there = sent.there;
     }
 
 pub returns-then-size-eq0 : goal.returns-then-size-eq0
@@ -41,7 +42,8 @@ returns-then-size-eq0 g c = record {
   why = λ clean ours. tt;
   ok = λ clean ours. inl refl;
   stays = stays_itself c.args.connection.now;
-  outlet = record { kept = refl; cause = λ e. absurd (none_stopped tt Writer e); others = λ _. refl };
+  outlet = record { kept = refl; cause = λ e. absurd (none_failed tt Writer e); others = λ _. refl };
+  there = none_failed tt NoSuchFile;
 }
 
 pub returns-then-not-is_storable_owner : goal.returns-then-not-is_storable_owner
@@ -51,4 +53,5 @@ returns-then-not-is_storable_owner g c = record {
   ok = λ clean ours. tt;
   stays = stays_itself c.args.connection.now;
   outlet = record { kept = tt; cause = λ e. absurd (store_stopped e); others = λ _. refl };
+  there = store_there;
 }

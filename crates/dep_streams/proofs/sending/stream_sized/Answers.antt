@@ -1,16 +1,18 @@
 use Rattle.std.proofs.Common.{◌∙◌, refl, sym, subst, rules, Ok, Err, Some, None}
 use Rattle.sqlite.specs.Values.{bound}
-use Rattle.dep_streams.specs.declared.fault.BlockFault.TheVariants.{Store}
+use Rattle.dep_types.specs.declared.stream_fault.StreamFault.TheVariants.{Store}
 use Rattle.dep_streams.proofs.NextRow.{answered}
 use Rattle.dep_streams.proofs.RowsSent.{EndsSending, not_begun, none_sent, one_more, ends_failed, ends_short, ends_cut, ends_whole, ends_uncounted}
+use Rattle.dep_types.specs.StoreFaults.{stream_fault_for}
+use Rattle.dep_streams.proofs.Told.{IsToldAs, was_error, passed_on}
 use Rattle.dep_streams.proofs.sending.stream_sized.Goals as goal
 
 pub returns-in-Err : goal.returns-in-Err
 returns-in-Err g c =
     let it = not_begun g.S.Store c.args.sql.now (bound c.args.params.now) c.args.connection.now c.query.follows.lender-at-none c.args.size
-    (g.O.Outlet.taken c.args.out.now) (g.O.Outlet.failures c.args.out.now) c.query.result c.in-Err.error c.block_fault_of.result
-    c.requires c.block_fault_of.ensures c.query.follows.holds-at-none c.in-Err.is in
-    record { streams = it.streams; why = it.why; ok = it.ok; stays = it.stays; outlet = it.outlet }
+    (g.O.Outlet.taken c.args.out.now) (g.O.Outlet.failures c.args.out.now) c.query.result c.in-Err.error c.fault_of.result
+    c.requires c.fault_of.ensures c.query.follows.holds-at-none c.in-Err.is in
+    rw c.from.ensures record { streams = it.streams; why = it.why; ok = it.ok; stays = it.stays; outlet = it.outlet; there = it.there }
 
 pub rows-init : goal.rows-init
 rows-init g c = (
@@ -22,27 +24,31 @@ rows-init g c = (
 pub rows-preserved : goal.rows-preserved
 rows-preserved g c =
     let moved = c.next.follows.holds-at-none in
-    let gave = c.in-Ok-give_sized.ensures in (
+    let gave = c.in_ok-left.ensures in (
       moved.same_reference ∙ c.rows.invariant.0,
       one_more c.rows.rows c.next.follows.lender-at-none c.next.result moved c.rows.invariant.1
-          c.in-Some.row (answered c.next.result c.in-Ok-next.next (Some c.in-Some.row) c.in-Ok-next.is c.in-Some.is)
+          c.in-Some.row (answered c.next.result c.in_ok-row.field-0 (Some c.in-Some.row) (search rules) c.in-Some.is)
           (g.O.Outlet.taken c.give_sized.new.out) (g.O.Outlet.failures c.give_sized.new.out)
-          c.in-Ok-give_sized.n gave.gives gave.fits gave.outlet.kept (search rules),
+          c.in_ok-left.field-0 gave.gives gave.fits gave.outlet.kept (search rules),
     )
 
-pub returns-in-Err-next : goal.returns-in-Err-next
-returns-in-Err-next g c =
+pub returns-in_err-row : goal.returns-in_err-row
+returns-in_err-row g c =
     let moved = c.next.follows.holds-at-none in
     let now = c.next.follows.lender-at-none in
     let names = sym (moved.same_reference ∙ c.rows.invariant.0 ∙ c.in-Ok.ensures.same_reference) in
-    let back = sym (c.connection-in-Err-next-1.given.1 names ∙ c.drop-rows.ensures) in
+    let back = sym (c.connection-in_err-row-1.given.1 names ∙ c.drop-rows.ensures) in
+    let fault = c.in_err-row.field-0.0 in
+    let told : IsToldAs c.next.result fault = search rules in
+    let failed = was_error c.next.result fault told in
     let it = subst
     (λ h. EndsSending g.S.Store c.args.sql.now (bound c.args.params.now) c.args.connection.now h c.args.size
     (g.O.Outlet.taken c.args.out.now) (g.O.Outlet.taken c.rows.out) (g.O.Outlet.failures c.args.out.now) (g.O.Outlet.failures c.rows.out)
-    (Err c.block_fault_of-in-Err-next.result))
+    (Err (stream_fault_for fault)))
     back
-    (ends_failed c.rows.rows now c.next.result moved c.rows.invariant.1 c.in-Err-next.error c.in-Err-next.is c.block_fault_of-in-Err-next.result c.block_fault_of-in-Err-next.ensures) in
-    record { streams = it.streams; why = it.why; ok = it.ok; stays = it.stays; outlet = it.outlet }
+    (ends_failed c.rows.rows now c.next.result moved c.rows.invariant.1 failed.0 failed.1 fault failed.2) in
+    let passed = passed_on c.from_residual.result (stream_fault_for fault) c.from_residual.ensures.1 in
+    rw passed record { streams = it.streams; why = it.why; ok = it.ok; stays = it.stays; outlet = it.outlet; there = it.there }
 
 pub returns-in_default : goal.returns-in_default
 returns-in_default g c =
@@ -55,26 +61,28 @@ returns-in_default g c =
     (g.O.Outlet.taken c.args.out.now) (g.O.Outlet.taken c.rows.out) (g.O.Outlet.failures c.args.out.now) (g.O.Outlet.failures c.rows.out)
     (Err Store))
     back
-    (ends_short c.rows.rows now c.next.result moved c.rows.invariant.1 (answered c.next.result c.in-Ok-next.next None c.in-Ok-next.is c.in_default.is)) in
-    record { streams = it.streams; why = it.why; ok = it.ok; stays = it.stays; outlet = it.outlet }
+    (ends_short c.rows.rows now c.next.result moved c.rows.invariant.1 (answered c.next.result c.in_ok-row.field-0 None (search rules) c.in_default.is)) in
+    record { streams = it.streams; why = it.why; ok = it.ok; stays = it.stays; outlet = it.outlet; there = it.there }
 
-pub returns-in-Err-give_sized : goal.returns-in-Err-give_sized
-returns-in-Err-give_sized g c =
+pub returns-in_err-left : goal.returns-in_err-left
+returns-in_err-left g c =
     let moved = c.next.follows.holds-at-none in
     let now = c.next.follows.lender-at-none in
     let names = sym (moved.same_reference ∙ c.rows.invariant.0 ∙ c.in-Ok.ensures.same_reference) in
-    let back = sym (c.connection-in-Err-give_sized-1.given.1 names ∙ c.drop-rows-in-Err-give_sized.ensures) in
-    let gave = c.in-Err-give_sized.ensures in
+    let back = sym (c.connection-in_err-left-1.given.1 names ∙ c.drop-rows-in_err-left.ensures) in
+    let gave = c.in_err-left.ensures in
+    let fault = c.in_err-left.field-0.0 in
     let it = subst
     (λ h. EndsSending g.S.Store c.args.sql.now (bound c.args.params.now) c.args.connection.now h c.args.size
     (g.O.Outlet.taken c.args.out.now) (g.O.Outlet.taken c.give_sized.new.out) (g.O.Outlet.failures c.args.out.now) (g.O.Outlet.failures c.give_sized.new.out)
-    (Err c.in-Err-give_sized.fault))
+    (Err fault))
     back
     (ends_cut c.rows.rows now c.next.result moved c.rows.invariant.1
-    c.in-Some.row (answered c.next.result c.in-Ok-next.next (Some c.in-Some.row) c.in-Ok-next.is c.in-Some.is)
+    c.in-Some.row (answered c.next.result c.in_ok-row.field-0 (Some c.in-Some.row) (search rules) c.in-Some.is)
     (g.O.Outlet.taken c.give_sized.new.out) (g.O.Outlet.failures c.give_sized.new.out)
-    c.in-Err-give_sized.fault gave.gives gave.refused gave.outlet) in
-    record { streams = it.streams; why = it.why; ok = it.ok; stays = it.stays; outlet = it.outlet }
+    fault gave.gives gave.refused gave.outlet) in
+    let passed = passed_on c.from_residual-in_err-left.result fault c.from_residual-in_err-left.ensures.1 in
+    rw passed record { streams = it.streams; why = it.why; ok = it.ok; stays = it.stays; outlet = it.outlet; there = it.there }
 
 pub returns-then-left-eq0 : goal.returns-then-left-eq0
 returns-then-left-eq0 g c =
@@ -82,17 +90,17 @@ returns-then-left-eq0 g c =
     let now = c.next.follows.lender-at-none in
     let names = sym (moved.same_reference ∙ c.rows.invariant.0 ∙ c.in-Ok.ensures.same_reference) in
     let back = sym (c.connection-then-left-eq0-1.given.1 names ∙ c.drop-rows-then-left-eq0.ensures) in
-    let gave = c.in-Ok-give_sized.ensures in
+    let gave = c.in_ok-left.ensures in
     let it = subst
     (λ h. EndsSending g.S.Store c.args.sql.now (bound c.args.params.now) c.args.connection.now h c.args.size
     (g.O.Outlet.taken c.args.out.now) (g.O.Outlet.taken c.give_sized.new.out) (g.O.Outlet.failures c.args.out.now) (g.O.Outlet.failures c.give_sized.new.out)
     (Ok tt))
     back
     (ends_whole c.rows.rows now c.next.result moved c.rows.invariant.1
-    c.in-Some.row (answered c.next.result c.in-Ok-next.next (Some c.in-Some.row) c.in-Ok-next.is c.in-Some.is)
+    c.in-Some.row (answered c.next.result c.in_ok-row.field-0 (Some c.in-Some.row) (search rules) c.in-Some.is)
     (g.O.Outlet.taken c.give_sized.new.out) (g.O.Outlet.failures c.give_sized.new.out)
-    c.in-Ok-give_sized.n gave.gives gave.fits gave.outlet.kept c.if-left-eq0.true) in
-    record { streams = it.streams; why = it.why; ok = it.ok; stays = it.stays; outlet = it.outlet }
+    c.in_ok-left.field-0 gave.gives gave.fits gave.outlet.kept c.if-left-eq0.true) in
+    record { streams = it.streams; why = it.why; ok = it.ok; stays = it.stays; outlet = it.outlet; there = it.there }
 
 -- no more rows can be counted
 pub returns : goal.returns
@@ -104,4 +112,4 @@ returns g c =
     (g.O.Outlet.taken c.args.out.now) (g.O.Outlet.taken c.rows.out) (g.O.Outlet.failures c.args.out.now) (g.O.Outlet.failures c.rows.out)
     (Err Store))
     back (ends_uncounted c.rows.rows.conn.now c.rows.invariant.1 c.rows-test.false) in
-    record { streams = it.streams; why = it.why; ok = it.ok; stays = it.stays; outlet = it.outlet }
+    record { streams = it.streams; why = it.why; ok = it.ok; stays = it.stays; outlet = it.outlet; there = it.there }

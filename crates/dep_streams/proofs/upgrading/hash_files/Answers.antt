@@ -1,4 +1,4 @@
-use Rattle.std.proofs.Common.{◌≡◌, true, not, is_ok, ◌+◌, inl, inr, refl, sym, ap, subst, ◌∙◌, arith}
+use Rattle.std.proofs.Common.{◌≡◌, true, is_ok, rules, ◌+◌, inl, inr, refl, sym, subst, arith}
 use Rattle.sqlite.specs.Held.{state}
 use Rattle.dep_tables.specs.Tables.{Tables, tables_of}
 use Rattle.dep_streams.specs.Causes.FailsToFindFile.{no_number}
@@ -7,6 +7,8 @@ use Rattle.dep_streams.specs.Sha512s.{IsValueAfter}
 use Rattle.dep_streams.proofs.Stills.{known_still, stays_itself, stays_then, still_itself, still_same, still_then, tables_still}
 use Rattle.dep_streams.proofs.KnownTables.{known_files_ordered}
 use Rattle.dep_streams.proofs.Valued.{AreValuesTo, no_values, one_more, all_valued}
+use Rattle.dep_types.specs.declared.store_fault.StoreFault.TheVariants.{Memory}
+use Rattle.dep_streams.proofs.Told.{passed_on}
 use Rattle.dep_streams.proofs.upgrading.hash_files.Goals as goal
 
 pub files-init : goal.files-init
@@ -23,15 +25,15 @@ files-preserved g c =
     let mid = state g.S.Store c.files.connection in
     let new = state g.S.Store c.next_value.new.connection in
     let inv = c.files.invariant in
-    let told = c.in-Ok.ensures in
+    let told = c.in_ok-value.ensures in
     let earlier = told.stays.honest in
-    let pushed : is_ok c.push.result ≡ true = c.is_err.ensures.negation ∙ ap not c.if-is_err.false in (
+    let pushed : is_ok c.push.result ≡ true = search rules in (
       stays_then inv.0 inv.1 (known_still old mid) told.stays,
       λ clean known. let still = inv.1 (earlier clean) known in still_same old new (still_then old mid new still (told.same clean (known_still old mid still known))),
       λ clean known.
           let before = earlier clean in
           let still = inv.1 before known in
-          let next = subst (λ (t : Tables). IsValueAfter t c.files.last c.in-Ok.next) (tables_still old mid still) (told.ok clean (known_still old mid still known)) in
+          let next = subst (λ (t : Tables). IsValueAfter t c.files.last c.in_ok-value.field-0) (tables_still old mid still) (told.ok clean (known_still old mid still known)) in
           let some = subst (IsValueAfter (tables_of old) c.files.last) c.in-Some.is next in
           subst (λ vs. AreValuesTo (tables_of old) vs c.in-Some.value.file (c.files.counter + 1)) (sym (rw pushed at c.push.ensures.items))
           (one_more (tables_of old) c.files.values.items c.files.last c.files.counter c.in-Some.value (known_files_ordered old known) (inv.2 before known) some),
@@ -44,13 +46,13 @@ returns-in_default g c =
     let mid = state g.S.Store c.files.connection in
     let new = state g.S.Store c.next_value.new.connection in
     let inv = c.files.invariant in
-    let told = c.in-Ok.ensures in
+    let told = c.in_ok-value.ensures in
     let earlier = told.stays.honest in
     record {
       hashes = λ clean known.
           let before = earlier clean in
           let still = inv.1 before known in
-          let next = subst (λ (t : Tables). IsValueAfter t c.files.last c.in-Ok.next) (tables_still old mid still) (told.ok clean (known_still old mid still known)) in
+          let next = subst (λ (t : Tables). IsValueAfter t c.files.last c.in_ok-value.field-0) (tables_still old mid still) (told.ok clean (known_still old mid still known)) in
           all_valued (tables_of old) c.files.values.items c.files.last c.files.counter (inv.2 before known) (subst (IsValueAfter (tables_of old) c.files.last) c.in_default.is next);
       cause = λ clean known. tt;
       ok = λ clean known. let still = inv.1 (earlier clean) known in still_then old mid new still (told.same clean (known_still old mid still known));
@@ -58,31 +60,33 @@ returns-in_default g c =
     }
 
 -- one could not be kept
-pub returns-then-is_err : goal.returns-then-is_err
-returns-then-is_err g c =
+pub returns-in_err-push : goal.returns-in_err-push
+returns-in_err-push g c =
     let old = state g.S.Store c.args.connection.now in
     let mid = state g.S.Store c.files.connection in
     let inv = c.files.invariant in
-    let told = c.in-Ok.ensures in
-    record {
+    let told = c.in_ok-value.ensures in
+    let passed = passed_on c.from_residual-in_err-push.result Memory c.from_residual-in_err-push.ensures.1 in
+    rw passed record {
       hashes = λ clean known. tt;
       cause = λ clean known.
           let before = told.stays.honest clean in
           let still = inv.1 before known in
-          let next = subst (λ (t : Tables). IsValueAfter t c.files.last c.in-Ok.next) (tables_still old mid still) (told.ok clean (known_still old mid still known)) in
+          let next = subst (λ (t : Tables). IsValueAfter t c.files.last c.in_ok-value.field-0) (tables_still old mid still) (told.ok clean (known_still old mid still known)) in
           (c.files.last, (inv.2 before known).reached, inr (c.in-Some.value, subst (IsValueAfter (tables_of old) c.files.last) c.in-Some.is next, refl));
       ok = λ clean known. tt;
       stays = stays_then inv.0 inv.1 (known_still old mid) told.stays;
     }
 
 -- one was not found, or not hashed
-pub returns-in-Err : goal.returns-in-Err
-returns-in-Err g c =
+pub returns-in_err-value : goal.returns-in_err-value
+returns-in_err-value g c =
     let old = state g.S.Store c.args.connection.now in
     let mid = state g.S.Store c.files.connection in
     let inv = c.files.invariant in
-    let told = c.in-Err.ensures in
-    record {
+    let told = c.in_err-value.ensures in
+    let passed = passed_on c.from_residual.result c.in_err-value.field-0.0 c.from_residual.ensures.1 in
+    rw passed record {
       hashes = λ clean known. tt;
       cause = λ clean known.
           let before = told.stays.honest clean in

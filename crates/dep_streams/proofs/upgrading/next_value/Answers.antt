@@ -10,19 +10,21 @@ use Rattle.dep_streams.specs.Sha512s.{IsFileAfter}
 use Rattle.dep_streams.proofs.KnownTables.{blocks_plain}
 use Rattle.dep_streams.proofs.Stills.{commits_none, known_still, stays_then, still_same}
 use Rattle.dep_streams.proofs.Streams.{blocks_from}
+use Rattle.dep_streams.proofs.Told.{passed_on}
 use Rattle.dep_streams.proofs.upgrading.next_value.Goals as goal
 
 -- the file was not told
-pub returns-in-Err : goal.returns-in-Err
-returns-in-Err g c =
-    let told = c.in-Err.ensures in
-    record { ok = λ clean known. tt; cause = λ clean known. no_file (told.cause clean); same = λ clean known. tt; stays = told.stays }
+pub returns-in_err-file : goal.returns-in_err-file
+returns-in_err-file g c =
+    let told = c.in_err-file.ensures in
+    let passed = passed_on c.from_residual.result c.in_err-file.field-0.0 c.from_residual.ensures.1 in
+    rw passed record { ok = λ clean known. tt; cause = λ clean known. no_file (told.cause clean); same = λ clean known. tt; stays = told.stays }
 
 -- there is none
 pub returns-in_default : goal.returns-in_default
 returns-in_default g c =
     let old = state g.S.Store c.args.connection.now in
-    let told = c.in-Ok.ensures in
+    let told = c.in_ok-file.ensures in
     record {
       ok = λ clean known. (subst (IsFileAfter (tables_of old) c.args.after) c.in_default.is (told.ok clean known), tt);
       cause = λ clean known. tt;
@@ -30,21 +32,21 @@ returns-in_default g c =
       stays = told.stays;
     }
 
-pub returns-in-Ok-hash_blocks : goal.returns-in-Ok-hash_blocks
-returns-in-Ok-hash_blocks g c =
+pub returns : goal.returns
+returns g c =
     let old = state g.S.Store c.args.connection.now in
     let mid = state g.S.Store c.next_file.new.connection in
     let new = state g.S.Store c.hash_blocks.new.connection in
-    let first = c.in-Ok.ensures in
-    let second = c.in-Ok-hash_blocks.ensures in
+    let first = c.in_ok-file.ensures in
+    let second = c.in_ok-digests.ensures in
     record {
       ok = λ clean known.
           let before = second.stays.honest clean in
           let same = first.same before known in (
             subst (IsFileAfter (tables_of old) c.args.after) c.in-Some.is (first.ok before known),
             (
-              c.in-Ok-hash_blocks.digests,
-              subst (λ (t : Tables). AreDigestsOf t (owner.File c.in-Some.file) c.in-Ok-hash_blocks.digests) (same_tables old mid same) (second.hashes clean (known_still old mid (still_same old mid same) known)),
+              c.in_ok-digests.digests,
+              subst (λ (t : Tables). AreDigestsOf t (owner.File c.in-Some.file) c.in_ok-digests.digests) (same_tables old mid same) (second.hashes clean (known_still old mid (still_same old mid same) known)),
               refl,
             ),
           );
@@ -56,20 +58,22 @@ returns-in-Ok-hash_blocks g c =
     }
 
 -- its blocks were not all read
-pub returns-in-Err-hash_blocks : goal.returns-in-Err-hash_blocks
-returns-in-Err-hash_blocks g c =
+pub returns-in_err-digests : goal.returns-in_err-digests
+returns-in_err-digests g c =
     let old = state g.S.Store c.args.connection.now in
     let mid = state g.S.Store c.next_file.new.connection in
     let new = state g.S.Store c.hash_blocks.new.connection in
-    let first = c.in-Ok.ensures in
-    let second = c.in-Err-hash_blocks.ensures in
-    record {
+    let first = c.in_ok-file.ensures in
+    let second = c.in_err-digests.ensures in
+    let fault = c.in_err-digests.field-0.0 in
+    let passed = passed_on c.from_residual-in_err-digests.result fault c.from_residual-in_err-digests.ensures.1 in
+    rw passed record {
       ok = λ clean known. tt;
       cause = λ clean known.
           let before = second.stays.honest clean in
           let same = first.same before known in
           no_blocks c.in-Some.file (subst (IsFileAfter (tables_of old) c.args.after) c.in-Some.is (first.ok before known))
-          (blocks_from (owner.File c.in-Some.file) None old mid new c.in-Err-hash_blocks.fault (blocks_plain old known) same (commits_none first.stays known)
+          (blocks_from (owner.File c.in-Some.file) None old mid new fault (blocks_plain old known) same (commits_none first.stays known)
           (second.cause clean (known_still old mid (still_same old mid same) known)));
       same = λ clean known. tt;
       stays = stays_then first.stays (λ clean known. still_same old mid (first.same clean known)) (known_still old mid) second.stays;
