@@ -43,6 +43,15 @@ pub state_back : (old new : db.State) (s : State) → IsBackAt old new → IsTru
 state_back old new s back is_open stands =
     record { tables = stands.tables; stands = tables_back old new stands.tables back is_open stands.stands; means = stands.means }
 
+-- what then changed nothing leaves it so
+pub back_on_ok : {A E : Type 0} (old mid new : db.State) (r : Result A E) → (IsTrue new.is_open → HasCleanDisk new) → IsBackAt old mid
+    → (HasCleanDisk new → OnOk r (db.IsUnchanged mid new)) → OnOk r (IsBackAt old new)
+back_on_ok old mid new (Ok answer) clean back same = λ is_open.
+    let it = same (clean is_open) in
+    let was = back it.0.was_open in
+    (was.0, it.0.now_is ∙ was.1, it.0.committed_is ∙ was.2, it.0.mode ∙ was.3)
+back_on_ok old mid new (Err e) clean back same = tt
+
 by_cause : (old new : db.State) (cause : StoreError) → SqliteFailure code.Closed ≡ store_error cause → db.HasCause old new ⊥ cause → IsTrue old.is_open → ⊥
 by_cause old new OutOfMemory e has is_open = cc e
 by_cause old new Io e has is_open = cc e

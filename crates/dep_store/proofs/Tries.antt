@@ -1,5 +1,5 @@
 -- What a call on a store comes to, as those who serve it see it, from what it makes of the tables.
-use Rattle.std.proofs.Common.{◌≡◌, ℕ, inl, inr, Result, Ok, Err, OnOk, OnErr, IfOk, IsTrue, sym, subst, arith}
+use Rattle.std.proofs.Common.{◌≡◌, ℕ, inl, inr, Result, Ok, Err, IsErr, OnOk, OnErr, IfOk, IsTrue, sym, subst, arith}
 use Rattle.sqlite.specs.State as db
 use Rattle.sqlite.specs.State.{HasCleanDisk, Survives}
 use Rattle.dep_types.specs.State.{State}
@@ -58,6 +58,11 @@ fails_keeping old new settled back survives fault = record {
   was_open = λ is_open. (back is_open).0;
   stop = λ clean s at always image h. let l = leaves_still old new s (settled at.stands.is_open) at survives clean image h in (l.0, l.1, inl l.2);
 }
+
+pub failed_keeping : {A E : Type 0} (old new : db.State) (r : Result A E) → IsErr r → (IsTrue old.is_open → IsSettled old) → IsBackAt old new → Survives old new (λ _. ⊥)
+    → KeepsState (shown_by old) (shown_by new) r
+failed_keeping old new (Ok answer) failed settled back survives = absurd (cc failed)
+failed_keeping old new (Err fault) failed settled back survives = fails_keeping old new settled back survives fault
 
 -- all was given back
 pub leaves_only : (old new : db.State) → Survives old new (λ _. ⊥) → LeavesOnly old new

@@ -10,6 +10,7 @@ mod hashing;
 mod lines;
 mod reading;
 mod remembering;
+mod sending;
 mod showing;
 mod source;
 mod store;

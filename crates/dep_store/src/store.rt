@@ -28,14 +28,15 @@ use crate::auditing::audit_object;
 use crate::hashing::hash_running;
 use crate::reading::{find_next, view_object};
 use crate::remembering::{Remembered, still_known, tell_open};
+use crate::sending::stream_if_open;
 use crate::showing::{perform_if_open, recalled, show_service};
 use crate::ticking::advance;
 use dep_answers::{Performed, Service};
 use dep_decisions::Operation;
 use dep_moment::Moment;
-use dep_schema::{OpenFault, check_open};
+use dep_schema::OpenFault;
 use dep_staging::RunningHashes;
-use dep_streams::{Audit, Watch, stream_content};
+use dep_streams::{Audit, Watch};
 use dep_types::{Config, ObjectView, Outlet, StoreFault, StreamFault};
 use dep_upgrading::open_tables;
 use sqlite::{Alter, Connection};
@@ -214,12 +215,10 @@ impl<S: Alter> Store<S> {
         if !self.connection.is_autocommit() {
             return Err(StreamFault::Store);
         }
-        self.remembered = None;
-        match check_open(&mut self.connection) {
-            Ok(()) => stream_content(&mut self.connection, file, out),
-            Err(StoreFault::Store) => Err(StreamFault::Store),
-            Err(StoreFault::Memory) => Err(StreamFault::Memory),
-        }
+        let remembered = mem::replace(&mut self.remembered, None);
+        stream_if_open(&mut self.connection, file, out)?;
+        self.remembered = remembered;
+        Ok(())
     }
 
     /// The object of this number, if there is one, with its metadata and its files.

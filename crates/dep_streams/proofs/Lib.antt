@@ -14,3 +14,4 @@ pub mod KnownTables
 pub mod Walks
 pub mod Valued
 pub mod Upgraded
+pub mod Queries

@@ -9,11 +9,11 @@ use Rattle.sqlite.specs.Held.{Held, state}
 use Rattle.sqlite.specs.Next.{HasMoved}
 use Rattle.sqlite.specs.declared.error.Error.{Error}
 use Rattle.sqlite.specs.declared.rows.stream.Rows.{Rows}
-use Rattle.sqlite.proofs.Callers.{begun_plain, unchanged_then}
+use Rattle.sqlite.proofs.Callers.{unchanged_then}
 use Rattle.sqlite.proofs.StateLemmas.{survives_weaker}
 use Rattle.sqlite_trees.specs.declared.store.Store.{Ghosts}
-use Rattle.dep_streams.specs.Clauses.{OnlyShows, StaysOver}
-use Rattle.dep_streams.proofs.Stills.{clean_was, left_open, shown_open, stays_asked, stays_refused, stays_then, still_same}
+use Rattle.dep_streams.specs.Clauses.{OnlyReads, StaysOver}
+use Rattle.dep_streams.proofs.Stills.{begun_reads, clean_was, left_open, shown_open, stays_asked, stays_refused, stays_then, still_same}
 
 -- what a call of `next` answered, by what its Ok holds
 pub answered : (result : Result (Option (Bor Row)) Error) (next was : Option (Bor Row)) → result ≡ Ok next → next ≡ was → result ≡ Ok was
@@ -23,19 +23,19 @@ answered result next was is same = is ∙ ap (λ (x : Option (Bor Row)). Ok x) s
 
 module _ {S : Type 0} (g : Ghosts S) (sql : List ℕ) (params : Row) (old new : Held S) where
   -- the query began
-  pub begun_stays : (HasCleanDisk (state g new) → HasBegun g sql params old new) → (old.in_transaction ≡ false → new.in_transaction ≡ false)
-      → Survives (state g old) (state g new) (CommitsShowing sql params (state g old)) → StaysOver (OnlyShows sql) g old new
-  begun_stays begun mode survives = stays_asked sql params (λ plain. plain)
-      (λ late. open_at (begun late)) (λ late plain. inl (begun_plain g sql params old new plain (begun late)).1) mode survives
+  pub begun_stays : {P : State → Type 0} → (P (state g old) → OnlyReads sql (state g old)) → (HasCleanDisk (state g new) → HasBegun g sql params old new) → (old.in_transaction ≡ false → new.in_transaction ≡ false)
+      → Survives (state g old) (state g new) (CommitsShowing sql params (state g old)) → StaysOver P g old new
+  begun_stays reads begun mode survives = stays_asked sql params reads
+      (λ late. open_at (begun late)) (λ late ours. inl (begun_reads g sql params old new (reads ours) (begun late)).1) mode survives
     where
       open_at : HasBegun g sql params old new → IsTrue (state g new).is_open → IsTrue (state g old).is_open
       open_at (inl none) is_open = none.1.0.was_open
       open_at (inr all) is_open = shown_open sql params (state g old) (state g new) _ all.1
 
   -- it was refused
-  pub refused_stays : {X : Type 0} (result : Result X Error) (error : Error) → IsRefused g sql params old result new → result ≡ Err error
-      → StaysOver (OnlyShows sql) g old new
-  refused_stays {X} result error it is = stays_refused sql params error (λ plain. plain) failed it.mode it.survives
+  pub refused_stays : {P : State → Type 0} → (P (state g old) → OnlyReads sql (state g old)) → {X : Type 0} (result : Result X Error) (error : Error) → IsRefused g sql params old result new → result ≡ Err error
+      → StaysOver P g old new
+  refused_stays reads {X} result error it is = stays_refused sql params error reads failed it.mode it.survives
     where
       failed : HasCleanDisk (state g new) → FailsToQuery sql params (state g old) (state g new) error
       failed late = subst (λ (r : Result X Error). IfErr r (FailsToQuery sql params (state g old) (state g new))) is (it.err late)

@@ -16,7 +16,7 @@ use Rattle.sqlite_trees.specs.declared.store.Store.{Ghosts}
 use Rattle.dep_streams.specs.Sent.{blob_of, joined}
 use Rattle.dep_streams.specs.Clauses.{OnlyShows, StaysOver, TellsSeen, ReadsOver, FailsOver}
 use Rattle.dep_streams.proofs.NextRow.{clean_before, refused_stays, stays_on, unchanged_on}
-use Rattle.dep_streams.proofs.Stills.{commits_none}
+use Rattle.dep_streams.proofs.Stills.{commits_none, reads_if_plain}
 use Rattle.dep_streams.proofs.SendingLemmas.{begins_from, fails_from, joined_push}
 use Rattle.dep_types.specs.declared.store_fault.StoreFault.{StoreFault}
 use Rattle.dep_types.specs.declared.store_fault.StoreFault.TheVariants.{Store}
@@ -49,7 +49,7 @@ not_begun {X = X} g sql params old new result error fault left is of =
       hashes = λ late plain. tt;
       cause = λ late plain. query_failed (error, inl (subst (λ (r : Result X Error). IfErr r (FailsToQuery sql params (state g old) (state g new))) is (it.err late)), of);
       same = λ late plain. tt;
-      stays = refused_stays g sql params old new result error it is;
+      stays = refused_stays g sql params old new (reads_if_plain _) result error it is;
     }
 
 module _ {S : Type 0} (g : Ghosts S) (old new : Rows S g) (result : Result (Option (Bor Row)) Error) (moved : HasMoved g old result new) where

@@ -1,5 +1,5 @@
 -- Calls of which each leaves the tables as they are.
-use Rattle.std.proofs.Common.{◌≡◌, ◌⊎◌, inl, inr, ◌∙◌, ◌≤◌, ℕ, List, Option, Some, None, false, refl, IsTrue, sym, ap, subst, arith}
+use Rattle.std.proofs.Common.{◌≡◌, ◌⊎◌, inl, inr, ◌∙◌, ◌≤◌, ℕ, List, [], Option, Some, None, Result, Ok, Err, false, refl, IsTrue, sym, ap, subst, arith}
 use Rattle.sqlite.specs.Order.{Row}
 use Rattle.sqlite.specs.Clock.{timed}
 use Rattle.sqlite.specs.State.{State, HasCleanDisk, IsUnchanged, IsRolledBack, Survives, FailsToQuery, Shown, ShowsRows, CommitsShowing}
@@ -7,18 +7,46 @@ use Rattle.sqlite.specs.Tree.{Trees}
 use Rattle.sqlite_schema.specs.declared.command.Returning.{Returning}
 use Rattle.sqlite.specs.Held.{Held, state}
 use Rattle.sqlite.specs.declared.error.Error.{Error}
-use Rattle.sqlite.proofs.Callers.{unchanged_then, never_commits}
+use Rattle.sqlite.proofs.Callers.{IsPlain, unchanged_then}
+use Rattle.sqlite.specs.Given.{HasBegun, HasGiven, Returns}
+use Rattle.sqlite_resolve.specs.declared.compiled.Compiled.{Compiled}
+use Rattle.sqlite_resolve.specs.declared.error.CompileError.{CompileError}
 use Rattle.sqlite.proofs.StateLemmas.{survives_then, survives_weaker, unchanged}
 use Rattle.sqlite_trees.specs.declared.store.Store.{Ghosts}
-use Rattle.dep_statements.proofs.Asked.{asks_leave, shown_unchanged}
-use Rattle.dep_tables.specs.Clauses.{CommitsNothing, IsPlainIn}
+use Rattle.dep_statements.proofs.Asked.{asks_leave}
+use Rattle.dep_tables.specs.Clauses.{CommitsNothing}
 use Rattle.dep_tables.specs.Schema.{our_schema}
 use Rattle.dep_tables.specs.Tables.{tables_in, tables_of, HasTablesOf, IsOurs, HasOurTables, IsKnown}
 use Rattle.dep_row_maps.proofs.Causes.{survives_itself}
-use Rattle.dep_streams.specs.Clauses.{StaysOver}
+use Rattle.dep_streams.specs.Clauses.{OnlyReads, ShowsNoWrite, StaysOver}
 use Rattle.dep_streams.specs.Reading.{IsKept}
 
 -- ---- one query
+
+pub reads_if_plain : (r : Result Compiled CompileError) → IsPlain r → ShowsNoWrite r
+reads_if_plain (Ok c) plain = plain.0
+reads_if_plain (Err e) plain = tt
+
+never_some : (r : Result Compiled CompileError) → ShowsNoWrite r → Returns r → ⊥
+never_some (Ok c) none some = let told = rw none at some in cc
+never_some (Err e) none some = some
+
+-- a text that shows no rows of a write changes nothing, whatever the schema is
+pub shown_reads : (sql : List ℕ) (params : Row) (old new : State) → OnlyReads sql old → (rows : List Row) → Shown sql params old new rows → IsUnchanged old new
+unfolding Shown
+shown_reads sql params old new reads rows h =
+    let none = subst ShowsNoWrite h.1.is reads in
+    (subst (ShowsRows old new sql h.0 (timed params h.0.formats h.1.now) rows) none h.2).3
+
+commits_unread : (sql : List ℕ) (params : Row) (s : State) (db : Trees) → OnlyReads sql s → ¬ CommitsShowing sql params s db
+unfolding CommitsShowing
+commits_unread sql params s db reads h = never_some (Ok h.0) (subst ShowsNoWrite h.1.is reads) h.2
+
+-- one that begins has given no row
+pub begun_reads : {S : Type 0} (g : Ghosts S) (sql : List ℕ) (params : Row) (old new : Held S) → OnlyReads sql (state g old) → HasBegun g sql params old new
+    → HasGiven g sql params new [] × IsUnchanged (state g old) (state g new)
+begun_reads g sql params old new reads (inl h) = h
+begun_reads g sql params old new reads (inr h) = absurd (never_some _ reads h.0)
 
 -- what shows rows was open
 pub shown_open : (sql : List ℕ) (params : Row) (old new : State) (rows : List Row) → Shown sql params old new rows → IsTrue old.is_open
@@ -128,34 +156,34 @@ module _ {S : Type 0} {P : State → Type 0} {g : Ghosts S} where
         (λ late db other ours. other (next (still (second.honest late) ours) ours)) first.survives second.survives;
   }
 
-  -- a query that may commit what it shows of a write, where it only shows
-  pub stays_asked : (sql : List ℕ) (params : Row) {a b : Held S} → (P (state g a) → IsPlainIn (state g a) sql)
+  -- a query that may commit what it shows of a write, where it shows none
+  pub stays_asked : (sql : List ℕ) (params : Row) {a b : Held S} → (P (state g a) → OnlyReads sql (state g a))
       → (HasCleanDisk (state g b) → IsTrue (state g b).is_open → IsTrue (state g a).is_open)
       → (HasCleanDisk (state g b) → P (state g a) → IsUnchanged (state g a) (state g b) ⊎ IsRolledBack (state g a) (state g b))
       → ((state g a).in_transaction ≡ false → (state g b).in_transaction ≡ false)
       → Survives (state g a) (state g b) (CommitsShowing sql params (state g a)) → StaysOver P g a b
-  stays_asked sql params {a} {b} plain was_open left mode survives = record {
+  stays_asked sql params {a} {b} reads was_open left mode survives = record {
     honest = clean_was (state g a) (state g b) (CommitsShowing sql params (state g a)) survives;
     was_open = was_open;
     mode = mode;
     kept = λ late ours is_open. left late ours;
-    survives = survives_weaker (state g a) (state g b) _ _ (λ _ db commits ours. never_commits sql params (state g a) db (plain ours) commits) survives;
+    survives = survives_weaker (state g a) (state g b) _ _ (λ _ db commits ours. commits_unread sql params (state g a) db (reads ours) commits) survives;
   }
 
   -- all of its rows were shown
-  pub stays_shown : (sql : List ℕ) (params : Row) {a b : Held S} (rows : List Row) → (P (state g a) → IsPlainIn (state g a) sql)
+  pub stays_shown : (sql : List ℕ) (params : Row) {a b : Held S} (rows : List Row) → (P (state g a) → OnlyReads sql (state g a))
       → (HasCleanDisk (state g b) → Shown sql params (state g a) (state g b) rows)
       → ((state g a).in_transaction ≡ false → (state g b).in_transaction ≡ false)
       → Survives (state g a) (state g b) (CommitsShowing sql params (state g a)) → StaysOver P g a b
-  stays_shown sql params {a} {b} rows plain shown = stays_asked sql params plain (λ late _. shown_open sql params (state g a) (state g b) rows (shown late))
-      (λ late ours. inl (shown_unchanged sql params (state g a) (state g b) (plain ours) rows (shown late)))
+  stays_shown sql params {a} {b} rows reads shown = stays_asked sql params reads (λ late _. shown_open sql params (state g a) (state g b) rows (shown late))
+      (λ late ours. inl (shown_reads sql params (state g a) (state g b) (reads ours) rows (shown late)))
 
   -- it failed
-  pub stays_refused : (sql : List ℕ) (params : Row) {a b : Held S} (e : Error) → (P (state g a) → IsPlainIn (state g a) sql)
+  pub stays_refused : (sql : List ℕ) (params : Row) {a b : Held S} (e : Error) → (P (state g a) → OnlyReads sql (state g a))
       → (HasCleanDisk (state g b) → FailsToQuery sql params (state g a) (state g b) e)
       → ((state g a).in_transaction ≡ false → (state g b).in_transaction ≡ false)
       → Survives (state g a) (state g b) (CommitsShowing sql params (state g a)) → StaysOver P g a b
-  stays_refused sql params {a} {b} e plain failed = stays_asked sql params plain (λ late. left_open (state g a) (state g b) (left late)) (λ late ours. left late)
+  stays_refused sql params {a} {b} e reads failed = stays_asked sql params reads (λ late. left_open (state g a) (state g b) (left late)) (λ late ours. left late)
     where
       left : HasCleanDisk (state g b) → IsUnchanged (state g a) (state g b) ⊎ IsRolledBack (state g a) (state g b)
       left late = asks_leave sql params (state g a) (state g b) e (inl (failed late))

@@ -1,9 +1,12 @@
 -- What the clauses of a call say that reads the tables over a connection.
-use Rattle.std.specs.Prelude.{◌≡◌, ◌⊎◌, ℕ, List, false, IsTrue, Option, Result, IfOk, IfErr, OnOk}
+use Rattle.std.specs.Prelude.{◌≡◌, ◌⊎◌, ⊤, ℕ, List, false, IsTrue, Option, None, Result, Ok, Err, IfOk, IfErr, OnOk}
 use Rattle.std.specs.Io.KnownBytes.{Appends}
 use Rattle.sqlite_trees.specs.declared.store.Store.{Ghosts}
 use Rattle.sqlite.specs.State.{State, HasCleanDisk, IsUnchanged, Survives}
 use Rattle.sqlite.specs.Held.{Held, state}
+use Rattle.sqlite.specs.Listing.{understood}
+use Rattle.sqlite_resolve.specs.declared.compiled.Compiled.{Compiled}
+use Rattle.sqlite_resolve.specs.declared.error.CompileError.{CompileError}
 use Rattle.dep_tables.specs.Clauses.{IsPlainIn}
 use Rattle.dep_tables.specs.Tables.{Tables, tables_of}
 use Rattle.dep_streams.specs.Reading.{IsKept}
@@ -11,6 +14,19 @@ use Rattle.dep_streams.specs.Reading.{IsKept}
 -- the text is a query that only shows, by the schema that is seen
 abbrev pub OnlyShows : List ℕ → State → Type 0
 OnlyShows sql s = IsPlainIn s sql
+
+-- a statement that is understood shows no rows of a write
+abbrev pub ShowsNoWrite : Result Compiled CompileError → Type 0
+ShowsNoWrite (Ok c) = c.returning ≡ None
+ShowsNoWrite (Err e) = ⊤
+
+-- the same of a text, by the schema that is seen, whether it is understood or not
+abbrev pub OnlyReads : List ℕ → State → Type 0
+OnlyReads sql s = ShowsNoWrite (understood s.now.schema sql)
+
+-- whatever the tables are
+abbrev pub AnyTables : State → Type 0
+AnyTables s = ⊤
 
 module _ {S : Type 0} (are_ours : State → Type 0) (g : Ghosts S) (old new : Held S) where
   -- what every call keeps that only reads tables that are ours, whatever it answers

@@ -4,7 +4,7 @@ ghost use Rattle.std.specs.Prelude.{◌≡◌, ◌≢◌, ◌⊎◌, ◌≤◌, 
 ghost use Rattle.sqlite.specs.Values.{bound};
 ghost use Rattle.sqlite.specs.Order.{column};
 ghost use Rattle.dep_tables.specs.Rows.{IsBytesValue};
-ghost use Rattle.dep_streams.specs.Clauses.{OnlyShows, StaysOver, ReadsOver, FailsOver, GivesOver};
+ghost use Rattle.dep_streams.specs.Clauses.{OnlyReads, OnlyShows, StaysOver, ReadsOver, FailsOver, GivesOver};
 ghost use Rattle.dep_streams.specs.Causes.{FailsToSend};
 ghost use Rattle.dep_streams.specs.Faults.{BlamesOutlet};
 ghost use Rattle.dep_streams.specs.Sent.{blob_of, GivesSized, SendsSized};
@@ -47,8 +47,8 @@ pub(crate) fn stream_sized<S: Alter, O: Outlet>(
         (λ s sent. SendsSized sql.now (bound params.now) s size sent result) }
     ensures why { FailsOver (OnlyShows sql.now) S.Store connection.old connection.new result
         (FailsToSend sql.now (bound params.now) size) }
-    ensures ok { ReadsOver (OnlyShows sql.now) S.Store connection.old connection.new result }
-    ensures stays { StaysOver (OnlyShows sql.now) S.Store connection.old connection.new }
+    ensures ok { ReadsOver (OnlyReads sql.now) S.Store connection.old connection.new result }
+    ensures stays { StaysOver (OnlyReads sql.now) S.Store connection.old connection.new }
     ensures outlet { BlamesOutlet StreamFault.Writer (O.failures out.old) (O.failures out.new) result }
     ensures there { result ≢ Err StreamFault.NoSuchFile }
 {

@@ -13,6 +13,7 @@ use Rattle.dep_streams.specs.Causes.FailsToGiveBlocks.{no_owner, not_given}
 use Rattle.dep_streams.specs.Clauses.{OnlyShows}
 use Rattle.dep_streams.proofs.FaultsTold.{none_failed, store_stopped, store_there, stopped_more}
 use Rattle.dep_streams.proofs.OrderedBlocks.{sends_owner, owner_is}
+use Rattle.dep_streams.proofs.Queries.{blocks_read}
 use Rattle.dep_streams.proofs.Stills.{stays_itself, stays_of}
 use Rattle.dep_files.proofs.Results.{some_where}
 use Rattle.dep_streams.proofs.blocks.stream_blocks.Goals as goal
@@ -30,8 +31,8 @@ returns g c =
       streams = (it.0, it.1, λ clean ours. sends_owner old c.args.owner c.args.size it.0 c.stream_sized.result ours (it.2 clean (shows old ours)));
       why = λ clean ours. if_err c.stream_sized.result (sent.why clean (shows old ours))
           (λ fault. stopped_more (FailsToGive blocks_of_text (owner_values c.args.owner) (Some c.args.size) old new) (FailsToGiveBlocks c.args.owner (Some c.args.size) old new) fault (λ of it. not_given it));
-      ok = λ clean ours. ok_then c.stream_sized.result (sent.ok clean (shows old ours)) (λ same. inr same);
-      stays = stays_of (shows old) sent.stays;
+      ok = λ clean any. ok_then c.stream_sized.result (sent.ok clean (blocks_read old)) (λ same. inr same);
+      stays = stays_of (λ any. blocks_read old) sent.stays;
       outlet = sent.outlet;
       there = sent.there;
     }

@@ -7,7 +7,7 @@ use Rattle.dep_tables.specs.Rows.{IsNumberRow}
 use Rattle.dep_tables.proofs.Results.{if_ok, if_then, if_err, err_then}
 use Rattle.dep_streams.specs.Causes.FailsToFindFile.{not_told}
 use Rattle.dep_streams.proofs.KnownTables.{files_plain, nexts_file}
-use Rattle.dep_streams.proofs.Stills.{stays_shown, stays_refused}
+use Rattle.dep_streams.proofs.Stills.{reads_if_plain, stays_shown, stays_refused}
 use Rattle.dep_streams.proofs.Told.{IsToldAs, fails_to_ask, was_error}
 use Rattle.dep_streams.proofs.files.next_file.Goals as goal
 
@@ -22,7 +22,7 @@ returns g c =
       cause = λ clean. if_err c.only.result c.only.ensures.refused
           (λ fault it. not_told (inr (_, rw (asked, c.after_param.ensures) at (c.query_all.ensures.ok clean), subst (λ rows. IsFaultAt ⊥ (AtMostOne IsNumberRow) rows fault) c.as_slice.ensures.value it)));
       same = λ clean known. if_ok c.only.result (shown_unchanged _ _ old new (files_plain old known) _ (rw asked at (c.query_all.ensures.ok clean)));
-      stays = stays_shown _ _ _ (files_plain old) (λ clean. rw asked at (c.query_all.ensures.ok clean)) c.query_all.ensures.mode c.query_all.ensures.survives;
+      stays = stays_shown _ _ _ (λ known. reads_if_plain _ (files_plain old known)) (λ clean. rw asked at (c.query_all.ensures.ok clean)) c.query_all.ensures.mode c.query_all.ensures.survives;
     }
 
 pub returns-in_err-rows-clause-cause : goal.returns-in_err-rows-clause-cause
@@ -35,4 +35,4 @@ pub returns-in_err-rows-clause-stays : goal.returns-in_err-rows-clause-stays
 returns-in_err-rows-clause-stays g c =
     let told : IsToldAs c.query_all.result c.in_err-rows.field-0.0 = search rules in
     let failed = was_error c.query_all.result c.in_err-rows.field-0.0 told in
-    stays_refused _ _ failed.0 (files_plain (state g.S.Store c.args.connection.now)) (λ clean. rw failed.1 at (c.query_all.ensures.err clean)) c.query_all.ensures.mode c.query_all.ensures.survives
+    stays_refused _ _ failed.0 (λ known. reads_if_plain _ (files_plain (state g.S.Store c.args.connection.now) known)) (λ clean. rw failed.1 at (c.query_all.ensures.err clean)) c.query_all.ensures.mode c.query_all.ensures.survives

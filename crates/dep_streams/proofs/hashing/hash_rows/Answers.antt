@@ -3,6 +3,7 @@ use Rattle.sqlite.specs.Held.{state}
 use Rattle.sqlite.specs.Values.{bound}
 use Rattle.sqlite.proofs.Callers.{begun_plain, given_begin}
 use Rattle.dep_streams.proofs.NextRow.{answered, begun_stays, clean_before}
+use Rattle.dep_streams.proofs.Stills.{reads_if_plain}
 use Rattle.dep_streams.proofs.SendingLemmas.{begins_from}
 use Rattle.dep_streams.specs.Causes.FailsToGive.{uncounted}
 use Rattle.dep_types.specs.declared.store_fault.StoreFault.TheVariants.{Store}
@@ -22,7 +23,7 @@ rows-init g c =
     let old = c.args.connection.now in
     let begun = c.in-Ok.rows.conn.now in (
       refl,
-      begun_stays g.S.Store c.args.sql.now (bound c.args.params.now) old begun made.begun made.mode made.survives,
+      begun_stays g.S.Store c.args.sql.now (bound c.args.params.now) old begun (reads_if_plain _) made.begun made.mode made.survives,
       λ clean plain.
           let none = begun_plain g.S.Store c.args.sql.now (bound c.args.params.now) old begun plain (made.begun clean) in
           ([], none.0, none.1, c.new-hasher.ensures, refl),

@@ -9,7 +9,7 @@ use Rattle.dep_tables.proofs.Leading.{plain_here}
 use Rattle.dep_tables.proofs.Results.{if_ok, if_then, if_err, err_then}
 use Rattle.dep_tables.proofs.Sha512sTable.{finds_sha512, find_is}
 use Rattle.dep_streams.specs.Causes.FailsToFindSha512.{not_told}
-use Rattle.dep_streams.proofs.Stills.{stays_shown, stays_refused}
+use Rattle.dep_streams.proofs.Stills.{reads_if_plain, stays_shown, stays_refused}
 use Rattle.dep_streams.proofs.Told.{IsToldAs, fails_to_ask, was_error}
 use Rattle.dep_streams.proofs.sha512s.find_sha512.Goals as goal
 
@@ -24,7 +24,7 @@ returns g c =
       cause = λ clean. if_err c.only.result c.only.ensures.refused
           (λ fault it. not_told (inr (_, rw (asked, c.owner_params.ensures) at (c.query_all.ensures.ok clean), subst (λ rows. IsFaultAt ⊥ (AtMostOne IsSha512Row) rows fault) c.as_slice.ensures.value it)));
       same = λ clean ours. if_ok c.only.result (shown_unchanged _ _ old new (plain_here old find_sha512_text ours find_is.plain) _ (rw asked at (c.query_all.ensures.ok clean)));
-      stays = stays_shown _ _ _ (λ ours. plain_here old find_sha512_text ours find_is.plain) (λ clean. rw asked at (c.query_all.ensures.ok clean)) c.query_all.ensures.mode c.query_all.ensures.survives;
+      stays = stays_shown _ _ _ (λ ours. reads_if_plain _ (plain_here old find_sha512_text ours find_is.plain)) (λ clean. rw asked at (c.query_all.ensures.ok clean)) c.query_all.ensures.mode c.query_all.ensures.survives;
     }
 
 pub returns-in_err-rows-clause-cause : goal.returns-in_err-rows-clause-cause
@@ -37,5 +37,5 @@ pub returns-in_err-rows-clause-stays : goal.returns-in_err-rows-clause-stays
 returns-in_err-rows-clause-stays g c =
     let told : IsToldAs c.query_all.result c.in_err-rows.field-0.0 = search rules in
     let failed = was_error c.query_all.result c.in_err-rows.field-0.0 told in
-    stays_refused _ _ failed.0 (λ ours. plain_here (state g.S.Store c.args.connection.now) find_sha512_text ours find_is.plain) (λ clean. rw failed.1 at (c.query_all.ensures.err clean))
+    stays_refused _ _ failed.0 (λ ours. reads_if_plain _ (plain_here (state g.S.Store c.args.connection.now) find_sha512_text ours find_is.plain)) (λ clean. rw failed.1 at (c.query_all.ensures.err clean))
     c.query_all.ensures.mode c.query_all.ensures.survives

@@ -1,14 +1,13 @@
 use Rattle.std.proofs.Common.{◌≡◌, Ok, inl, inr, ap, subst, map, ◌∙◌, rules}
 use Rattle.dep_statements.specs.Rows.{columns_from}
 use Rattle.sqlite.specs.Held.{state}
-use Rattle.dep_statements.proofs.Asked.{shown_unchanged}
 use Rattle.dep_tables.proofs.Results.{if_ok, if_then, if_err, err_then}
-use Rattle.dep_tables.proofs.Leading.{plain_here}
 use Rattle.dep_tables.specs.Clauses.{AtMostOne, IsFaultAt}
-use Rattle.dep_streams.specs.Sizes.{IsSizeRow, find_size_text}
+use Rattle.dep_streams.specs.Sizes.{IsSizeRow}
 use Rattle.dep_streams.specs.Causes.FailsToFindSize.{not_told}
-use Rattle.dep_streams.proofs.SizeFound.{find_is, finds_size}
-use Rattle.dep_streams.proofs.Stills.{stays_shown, stays_refused}
+use Rattle.dep_streams.proofs.SizeFound.{finds_size}
+use Rattle.dep_streams.proofs.Stills.{shown_reads, stays_shown, stays_refused}
+use Rattle.dep_streams.proofs.Queries.{size_reads}
 use Rattle.dep_streams.proofs.Told.{IsToldAs, fails_to_ask, was_error}
 use Rattle.dep_streams.proofs.sizes.find_size.Goals as goal
 
@@ -22,8 +21,8 @@ returns g c =
           (λ found read. finds_size old new c.args.file found _ ours (rw (asked, c.key_param.ensures) at (c.query_all.ensures.ok clean)) (read ∙ ap (map (columns_from 0 2)) c.as_slice.ensures.value));
       cause = λ clean. if_err c.only.result c.only.ensures.refused
           (λ fault it. not_told (inr (_, rw (asked, c.key_param.ensures) at (c.query_all.ensures.ok clean), subst (λ rows. IsFaultAt ⊥ (AtMostOne IsSizeRow) rows fault) c.as_slice.ensures.value it)));
-      same = λ clean ours. if_ok c.only.result (shown_unchanged _ _ old new (plain_here old find_size_text ours find_is.plain) _ (rw asked at (c.query_all.ensures.ok clean)));
-      stays = stays_shown _ _ _ (λ ours. plain_here old find_size_text ours find_is.plain) (λ clean. rw asked at (c.query_all.ensures.ok clean)) c.query_all.ensures.mode c.query_all.ensures.survives;
+      same = λ clean any. if_ok c.only.result (shown_reads _ _ old new (size_reads old) _ (rw asked at (c.query_all.ensures.ok clean)));
+      stays = stays_shown _ _ _ (λ any. size_reads old) (λ clean. rw asked at (c.query_all.ensures.ok clean)) c.query_all.ensures.mode c.query_all.ensures.survives;
     }
 
 pub returns-in_err-rows-clause-cause : goal.returns-in_err-rows-clause-cause
@@ -36,4 +35,4 @@ pub returns-in_err-rows-clause-stays : goal.returns-in_err-rows-clause-stays
 returns-in_err-rows-clause-stays g c =
     let told : IsToldAs c.query_all.result c.in_err-rows.field-0.0 = search rules in
     let failed = was_error c.query_all.result c.in_err-rows.field-0.0 told in
-    stays_refused _ _ failed.0 (λ ours. plain_here (state g.S.Store c.args.connection.now) find_size_text ours find_is.plain) (λ clean. rw failed.1 at (c.query_all.ensures.err clean)) c.query_all.ensures.mode c.query_all.ensures.survives
+    stays_refused _ _ failed.0 (λ any. size_reads (state g.S.Store c.args.connection.now)) (λ clean. rw failed.1 at (c.query_all.ensures.err clean)) c.query_all.ensures.mode c.query_all.ensures.survives
