@@ -20,8 +20,5 @@ pub(crate) fn touched(view: &View) -> Result<ObjectRow, StoreFault>
     ensures told { IfOk result (λ row. view.now.object ≡ Some row) }
     ensures absent { IfErr result (λ _. view.now.object ≡ None) }
 {
-    match view.object {
-        Some(row) => Ok(row),
-        None => Err(StoreFault::Store),
-    }
+    view.object.ok_or(StoreFault::Store)
 }

@@ -54,7 +54,7 @@ fn row_of(
         → IfErr result (λ fault. fault ≡ Memory) }
 {
     let extent = extent_of(change, new.source, index)?;
-    new_row(change, numbers, new, extent)
+    Ok(new_row(change, numbers, new, extent)?)
 }
 
 // The rows of the files of a new object, under the next numbers in their order.
@@ -73,9 +73,7 @@ fn new_rows(change: &Change<'_>, object: u64, files: &[NewFile]) -> Result<FileR
             file: change.view.next.file + index as u64,
         };
         let row = row_of(change, numbers, new, index)?;
-        if rows.push(row).is_err() {
-            return Err(StoreFault::Memory);
-        }
+        rows.push(row)?;
     }
     Ok(FileRows::new(rows))
 }

@@ -12,3 +12,4 @@ mod uploads;
 
 pub use carrying::carry_out;
 pub use created::created_view;
+pub use new_files::copied_behalf;

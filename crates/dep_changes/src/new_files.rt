@@ -2,7 +2,6 @@
 
 ghost use Rattle.std.specs.Prelude.{◌≡◌, ◌≢◌, ⊤, ℕ, [], length, slice_get, Some, None, IfOk, IfErr, IsTrue};
 ghost use Rattle.dep_types.specs.State.{Upload};
-ghost use Rattle.dep_types.specs.declared.store_fault.StoreFault.TheVariants.{Memory};
 ghost use Rattle.dep_types.specs.Rows.{upload_row};
 ghost use Rattle.dep_types.specs.Numbers.{has_room};
 ghost use Rattle.dep_types.specs.Uploads.{assembled};
@@ -27,7 +26,7 @@ use dep_operations::{UploadState, UploadView, View};
 use dep_staging::assemble;
 use dep_tables::Statements;
 use dep_types::{FileRow, StoreFault, Text, UploadRow};
-use std::alloc::Global;
+use std::alloc::{AllocError, Global};
 
 /// The numbers of a file and of its object.
 #[derive(Clone, Copy)]
@@ -43,22 +42,12 @@ pub(crate) struct Extent {
     pub(crate) digests: Digests,
 }
 
-fn copied(alloc: Global, text: &Text) -> Result<Text, StoreFault>
-    ensures told { IfOk result (λ copied. copied ≡ text.now) }
-    ensures cause { IfErr result (λ fault. fault ≡ Memory) }
-{
-    match Text::copied(alloc, text.as_str()) {
-        Ok(copied) => Ok(copied),
-        Err(_) => Err(StoreFault::Memory),
-    }
-}
-
-fn copied_behalf(alloc: Global, behalf: &Option<Text>) -> Result<Option<Text>, StoreFault>
-    ensures told { IfOk result (λ copied. copied ≡ behalf.now) }
-    ensures cause { IfErr result (λ fault. fault ≡ Memory) }
+/// A copy of the name of the person on whose behalf a file is deposited, if it is on anyone's.
+pub fn copied_behalf(alloc: Global, behalf: &Option<Text>) -> Result<Option<Text>, AllocError>
+    ensures { IfOk result (λ copied. copied ≡ behalf.now) }
 {
     match behalf {
-        Some(text) => Ok(Some(copied(alloc, text)?)),
+        Some(name) => Ok(Some(Text::copied(alloc, name.as_str())?)),
         None => Ok(None),
     }
 }
@@ -78,15 +67,14 @@ pub(crate) fn new_row(
     numbers: FileNumbers,
     new: &NewFile,
     extent: Extent,
-) -> Result<FileRow, StoreFault>
-    ensures told { IfOk result (λ row. row ≡ new_row change.now numbers new.now extent) }
-    ensures cause { IfErr result (λ fault. fault ≡ Memory) }
+) -> Result<FileRow, AllocError>
+    ensures { IfOk result (λ row. row ≡ new_row change.now numbers new.now extent) }
 {
     Ok(FileRow {
         file: numbers.file,
         object: numbers.object,
-        name: copied(change.alloc, &new.name)?,
-        media: copied(change.alloc, &new.media)?,
+        name: Text::copied(change.alloc, new.name.as_str())?,
+        media: Text::copied(change.alloc, new.media.as_str())?,
         size: extent.size,
         tag: change.view.next.change,
         deposited: change.view.clock,
@@ -142,13 +130,11 @@ pub(crate) fn whole_upload(view: &View, index: usize) -> Result<WholeUpload, Sto
     let UploadState::Live(live) = &views[index].state else {
         return Err(StoreFault::Store);
     };
-    match live.digests {
-        Some(digests) => Ok(WholeUpload {
-            row: live.row,
-            digests,
-        }),
-        None => Err(StoreFault::Store),
-    }
+    let digests = live.digests.ok_or(StoreFault::Store)?;
+    Ok(WholeUpload {
+        row: live.row,
+        digests,
+    })
 }
 
 // A file of the bytes of an upload, which goes.

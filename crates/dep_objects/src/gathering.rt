@@ -22,16 +22,6 @@ struct NamedTexts {
     texts: Vec<Text>,
 }
 
-fn keep(metadata: &mut Metadata, last: NamedTexts) -> Result<(), StoreFault>
-    ensures told { IfOk result (λ _. metadata.new ≡ closed metadata.old (Some last)) }
-    ensures cause { IfErr result (λ fault. fault ≡ Memory) }
-{
-    match metadata.insert(last.name, TextList::from_vec(last.texts)) {
-        Ok(()) => Ok(()),
-        Err(_) => Err(StoreFault::Memory),
-    }
-}
-
 // Begins another name. It is a fault of the store where the name was there before, as rows of a name
 // stand together.
 fn begin(alloc: Global, metadata: &Metadata, row: MetadataRow) -> Result<NamedTexts, StoreFault>
@@ -44,9 +34,7 @@ fn begin(alloc: Global, metadata: &Metadata, row: MetadataRow) -> Result<NamedTe
         return Err(StoreFault::Store);
     }
     let mut texts = Vec::new(alloc);
-    if texts.push(row.value).is_err() {
-        return Err(StoreFault::Memory);
-    }
+    texts.push(row.value)?;
     Ok(NamedTexts {
         name: row.name,
         texts,
@@ -68,12 +56,10 @@ fn gather(
 {
     if let Some(mut last) = last {
         if last.name.as_str() == row.name.as_str() {
-            if last.texts.push(row.value).is_err() {
-                return Err(StoreFault::Memory);
-            }
+            last.texts.push(row.value)?;
             return Ok(last);
         }
-        keep(metadata, last)?;
+        metadata.insert(last.name, TextList::from_vec(last.texts))?;
     }
     begin(alloc, metadata, row)
 }
@@ -89,7 +75,7 @@ fn gathered(alloc: Global, rows: Vec<MetadataRow>) -> Result<Metadata, StoreFaul
         last = Some(gather(alloc, &mut metadata, last, row)?);
     }
     if let Some(last) = last {
-        keep(&mut metadata, last)?;
+        metadata.insert(last.name, TextList::from_vec(last.texts))?;
     }
     Ok(metadata)
 }

@@ -4,7 +4,6 @@ ghost use Rattle.std.specs.Prelude.{◌≡◌, ◌≢◌, ◌+◌, ◌<◌, ◌�
 ghost use Rattle.std.specs.FinMap as map;
 ghost use Rattle.dep_types.specs.State.{Object};
 ghost use Rattle.dep_types.specs.MetadataEntries.{name_and_texts};
-ghost use Rattle.dep_types.specs.declared.store_fault.StoreFault.TheVariants.{Memory};
 ghost use Rattle.dep_tables.specs.Clauses.{StaysWithin};
 ghost use Rattle.dep_row_maps.specs.Owned.{placed, put_each};
 ghost use Rattle.dep_row_maps.specs.Stored.{is_of, text_row, text_values, texts_in};
@@ -16,7 +15,7 @@ ghost use Rattle.dep_objects.specs.Texts.{rows_beside, with_more, HavePlaces, Ha
 use crate::gathering::load_metadata;
 use dep_tables::{LIMIT, MetadataRow, Statements, delete_metadata, insert_metadata};
 use dep_types::{Metadata, MetadataEntry, StoreFault, Text};
-use std::alloc::Global;
+use std::alloc::{AllocError, Global};
 
 fn text_row(
     alloc: Global,
@@ -24,21 +23,14 @@ fn text_row(
     name: &Text,
     place: u64,
     value: &Text,
-) -> Result<MetadataRow, StoreFault>
-    ensures told { IfOk result (λ row. row ≡ text_row object name.now place value.now) }
-    ensures cause { IfErr result (λ fault. fault ≡ Memory) }
+) -> Result<MetadataRow, AllocError>
+    ensures { IfOk result (λ row. row ≡ text_row object name.now place value.now) }
 {
-    let Ok(name) = Text::copied(alloc, name.as_str()) else {
-        return Err(StoreFault::Memory);
-    };
-    let Ok(value) = Text::copied(alloc, value.as_str()) else {
-        return Err(StoreFault::Memory);
-    };
     Ok(MetadataRow {
         object,
-        name,
+        name: Text::copied(alloc, name.as_str())?,
         place,
-        value,
+        value: Text::copied(alloc, value.as_str())?,
     })
 }
 

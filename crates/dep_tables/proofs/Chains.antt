@@ -1,12 +1,12 @@
 -- One call on a transaction after another.
-use Rattle.std.proofs.Common.{◌≡◌, ◌⊎◌, ℕ, List, inl, inr, IsTrue, Result, Ok, Err, OnOk, OnErr, IsErr, refl, sym, subst, ◌∙◌, arith}
+use Rattle.std.proofs.Common.{◌≡◌, ◌⊎◌, ℕ, List, inl, inr, IsTrue, Result, Ok, Err, OnOk, IsErr, refl, sym, subst, ◌∙◌, arith}
 use Rattle.std.specs.Prelude.{⊤}
 use Rattle.std.proofs.lemmas.Result.{IfOk-from_err, on_err_weaker}
 use Rattle.sqlite.specs.State.{State, HasCleanDisk, KeepsCommit, IsUnchanged, IsRolledBack, Survives}
 use Rattle.sqlite.proofs.StateLemmas.{survives_then}
 use Rattle.sqlite.proofs.InsideLemmas.{keeps_then}
 use Rattle.sqlite.proofs.Callers.{unchanged_then}
-use Rattle.dep_tables.specs.Clauses.{StaysWithin, RunsWithin, ReadsWithin, MayReadWithin, AsksWithin, IsPlainIn}
+use Rattle.dep_tables.specs.Clauses.{StaysWithin, ReadsWithin, MayReadWithin, AsksWithin, IsPlainIn}
 use Rattle.dep_tables.specs.Tables.{IsOurs, HasOurTables}
 use Rattle.dep_tables.proofs.Results.{if_ok, if_failed, ok_then, failed_as}
 
@@ -212,6 +212,3 @@ module _ {T L A E : Type 0} (lenders : T → L) (state : T → State) (tx : T) w
     same = λ clean ours. tt;
     err = λ clean inside ours is_open. inl (unchanged_itself (state tx) is_open);
   }
-
-  pub runs_refused : (e : E) → RunsWithin {A = A} lenders state tx tx (Err e)
-  runs_refused e = record { stays = stays_put (Err e); err = λ clean inside is_open. inl (unchanged_itself (state tx) is_open) }

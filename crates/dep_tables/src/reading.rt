@@ -75,10 +75,7 @@ fn at_most_one<R: FromRow>(rows: &[Row]) -> Result<Option<R>, StoreFault>
 {
     match rows {
         [] => Ok(None),
-        [row] if has_kinds(row, R::kinds()) => match R::from_row(row) {
-            Ok(read) => Ok(Some(read)),
-            Err(error) => Err(fault_of(error)),
-        },
+        [row] if has_kinds(row, R::kinds()) => Ok(Some(R::from_row(row).map_err(fault_of)?)),
         _ => Err(StoreFault::Store),
     }
 }
@@ -94,13 +91,8 @@ fn all<R: FromRow + Drop>(alloc: Global, rows: &[Row]) -> Result<Vec<R>, StoreFa
     }
     let mut found = Vec::new(alloc);
     'rows: for row in rows {
-        let read = match R::from_row(row) {
-            Ok(read) => read,
-            Err(error) => return Err(fault_of(error)),
-        };
-        if found.push(read).is_err() {
-            return Err(StoreFault::Memory);
-        }
+        let read = R::from_row(row).map_err(fault_of)?;
+        found.push(read)?;
     }
     Ok(found)
 }

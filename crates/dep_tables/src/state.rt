@@ -108,8 +108,5 @@ pub fn read_state<T: Statements>(tx: &mut T) -> Result<StateRow, StoreFault>
         "SELECT clock, next_object, next_file, next_upload, next_change FROM state WHERE id = 1",
         &[],
     )?;
-    match found {
-        Some(row) => Ok(row),
-        None => Err(StoreFault::Store),
-    }
+    found.ok_or(StoreFault::Store)
 }

@@ -67,10 +67,7 @@ pub(crate) fn digest_at<const N: usize>(row: &Row, at: usize) -> Result<[u8; N],
     let ValueRef::Blob(bytes) = row.get_ref(at)? else {
         return Err(Error::InvalidColumnIndex(at));
     };
-    match <[u8; N]>::try_from(bytes) {
-        Ok(digest) => Ok(digest),
-        Err(_) => Err(Error::InvalidColumnIndex(at)),
-    }
+    <[u8; N]>::try_from(bytes).map_err(|_| Error::InvalidColumnIndex(at))
 }
 
 /// A digest that `digest_or_null` wrote. It takes no memory.

@@ -1,28 +1,24 @@
 //! The segments of an upload, by their rows.
 
-ghost use Rattle.std.specs.Prelude.{◌≡◌, ◌≢◌, ◌<◌, ◌^◌, ℕ, [], IfOk, IfErr, IsTrue, map};
+ghost use Rattle.std.specs.Prelude.{◌≡◌, ◌≢◌, ◌<◌, ◌^◌, ℕ, [], IfOk, OnErr, IsTrue, map};
 ghost use Rattle.dep_types.specs.State.{State, Upload};
 ghost use Rattle.dep_types.specs.Uploads.{is_complete};
-ghost use Rattle.dep_types.specs.declared.store_fault.StoreFault.TheVariants.{Memory};
 ghost use Rattle.dep_row_maps.specs.Laws.{HasSegmentsWithin};
 ghost use Rattle.dep_staging.specs.Found.{IsLiveAs};
 
 use dep_operations::Numbers;
 use dep_staging::StagedUpload;
 use dep_tables::SegmentRow;
-use dep_types::StoreFault;
-use std::alloc::Global;
+use std::alloc::{AllocError, Global};
 
 /// The numbers of these segments, in their order.
-pub(crate) fn numbers_of(alloc: Global, segments: &[SegmentRow]) -> Result<Numbers, StoreFault>
+pub(crate) fn numbers_of(alloc: Global, segments: &[SegmentRow]) -> Result<Numbers, AllocError>
     ensures ok { IfOk result (λ numbers. numbers ≡ map (λ segment. segment.number) segments.now) }
-    ensures cause { IfErr result (λ fault. (segments.now ≢ []) × (fault ≡ Memory)) }
+    ensures err { OnErr result (segments.now ≢ []) }
 {
     let mut numbers = Vec::new(alloc);
     for segment in segments {
-        if numbers.push(segment.number).is_err() {
-            return Err(StoreFault::Memory);
-        }
+        numbers.push(segment.number)?;
     }
     Ok(Numbers::from_vec(numbers))
 }

@@ -1,4 +1,4 @@
-use Rattle.std.proofs.Common.{◌≡◌, ◌<◌, ◌+◌, ◌++◌, ◌∷◌, [], List, length, slice_get, take, Some, refl, sym, ap, ◌∙◌, arith}
+use Rattle.std.proofs.Common.{◌≡◌, ◌<◌, ◌+◌, ◌++◌, ◌∷◌, [], List, length, slice_get, take, is_err, Some, refl, sym, ap, ◌∙◌, arith}
 use Rattle.std.proofs.lemmas.Option.{slice_get_read}
 use Rattle.std.proofs.lemmas.List.{take_all}
 use Rattle.dep_types.specs.Rows.{file_row}
@@ -26,7 +26,7 @@ files-preserved c s numbers sources =
     let row : c.in_ok-row.row ≡ file_row n (s.next.file + i) (file_from s content x) =
     c.in_ok-row.ensures.told s (numbers, sources.0 i x at) ∙ ap (λ (k : Counters). file_row n (k.file + i) (file_from s content x)) numbers.1 in
     let before = c.files.rows.items in
-    let grown = pushed c.push.result c.push.new.self.items (before ++ c.in_ok-row.row ∷ []) before (sym c.is_err.ensures.value ∙ c.if-is_err.false) c.push.ensures.items in
+    let grown = pushed c.push.result c.push.new.self.items (before ++ c.in_ok-row.row ∷ []) before (ap is_err c.in_ok-push.was) c.push.ensures.items in
     grown
     ∙ ap (λ (l : List FileRow). l ++ c.in_ok-row.row ∷ []) (c.files.invariant s numbers sources)
     ∙ ap (λ (r : FileRow). rows_added s content n s.next.file (take i files) ++ r ∷ []) row

@@ -1,5 +1,6 @@
 use Rattle.std.proofs.lemmas.Result.{IfOk-from_err}
 use Rattle.std.specs.Prelude.{⊤}
+use Rattle.dep_types.specs.declared.store_fault.StoreFault.TheVariants.{Memory}
 use Rattle.dep_row_maps.specs.Causes.{FailsByStatement, FailsHolding}
 use Rattle.dep_row_maps.specs.Causes.FailsHolding.{memory}
 use Rattle.dep_row_maps.proofs.Causes.{fails_first, if_err_is}
@@ -31,14 +32,14 @@ returns-clause-keeps g c = c.assemble.ensures.keeps
 
 pub returns-in_err-row-clause-cause : goal.returns-in_err-row-clause-cause
 returns-in_err-row-clause-cause g c u storable clean inside =
-    if_err_is _ c.from_residual-in_err-row.result c.in_err-row.field-0.0 c.from_residual-in_err-row.ensures.1
-    (fails_first g.T.Statements.state c.args.tx.now c.args.tx.now (FailsHolding ⊤) _ (memory tt c.in_err-row.ensures.cause))
+    if_err_is _ c.from_residual-in_err-row.result Memory c.from_residual-in_err-row.ensures.1
+    (fails_first g.T.Statements.state c.args.tx.now c.args.tx.now (FailsHolding ⊤) _ (memory tt refl))
 
 pub returns-clause-cause : goal.returns-clause-cause
 returns-clause-cause g c u storable clean inside =
     let whole = storable.3 in
     let upload = whole_fits c.in_ok-upload.upload.row whole.upload whole.it whole.fits (c.in_ok-upload.ensures.told whole.upload whole.it whole.told).0 in
-    let fits = new_row_fits c.args.change.now storable.0 c.args.numbers c.args.new.now _ c.in_ok-row.row storable.1 storable.2 upload.size c.in_ok-row.ensures.told in
+    let fits = new_row_fits c.args.change.now storable.0 c.args.numbers c.args.new.now _ c.in_ok-row.row storable.1 storable.2 upload.size c.in_ok-row.ensures in
     caused_among g.T.Statements.state FailsByStatement (FailsHolding ⊤) (by_statement ⊤) c.assemble.result c.args.tx.now c.assemble.new.tx (c.assemble.ensures.cause (upload, fits) clean inside)
 
 pub returns-clause-map : goal.returns-clause-map
@@ -51,7 +52,7 @@ returns-clause-map g c u o clean inside ours s are told =
     let it = source.upload in
     let is = c.in_ok-upload.ensures.told u it source.seen_so in
     let file : File = made_file s new (assembled it) in
-    let row_is = made_row c.args.change.now s numbers new _ (assembled it) c.in_ok-row.row c.in_ok-row.ensures.told told.0.0 (ap (λ (w : UploadRow). w.size) is.0 ∙ sym source.whole.size, is.1) in
+    let row_is = made_row c.args.change.now s numbers new _ (assembled it) c.in_ok-row.row c.in_ok-row.ensures told.0.0 (ap (λ (w : UploadRow). w.size) is.0 ∙ sym source.whole.size, is.1) in
     subst (λ (found : Option Upload). OnOk c.assemble.result (SeesState (g.T.Statements.state c.assemble.new.tx) (deposited s numbers.object o numbers.file (made_file s new (option_map_or assembled found [])) u))) (sym source.there)
     (done_as (λ (n f w : ℕ). OnOk c.assemble.result (SeesState (g.T.Statements.state c.assemble.new.tx) (deposited s n o f file w))) s numbers.object numbers.file u o it file c.in_ok-row.row up.row row_is is.0 there source.there
     (λ at_object at_upload upload_is same. c.assemble.ensures.map clean inside ours s are o it file at_object at_upload source.whole.segments upload_is same refl))

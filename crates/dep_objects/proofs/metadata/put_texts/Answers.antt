@@ -1,4 +1,4 @@
-use Rattle.std.proofs.Common.{◌<◌, ◌≡◌, ◌+◌, length, take, get_or, ap, ◌∙◌, Ok, arith}
+use Rattle.std.proofs.Common.{◌<◌, ◌≡◌, ◌+◌, length, take, get_or, ap, ◌∙◌, Ok, arith, refl}
 use Rattle.std.proofs.lemmas.List.{take_all}
 use Rattle.dep_statements.specs.Rows.{put_next}
 use Rattle.dep_tables.proofs.Chains.{clean_before, stays_err, stays_ok, stays_then}
@@ -6,6 +6,7 @@ use Rattle.dep_tables.specs.Rows.{metadata_values}
 use Rattle.dep_tables.specs.Tables.{tables_of}
 use Rattle.dep_objects.proofs.Appending.{one_more_text}
 use Rattle.std.proofs.Common.{◌≢◌, [], subst, sym}
+use Rattle.dep_types.specs.declared.store_fault.StoreFault.TheVariants.{Memory}
 use Rattle.dep_row_maps.specs.Causes.{FailsHolding}
 use Rattle.dep_row_maps.specs.Causes.FailsHolding.{memory, statement}
 use Rattle.dep_row_maps.specs.Causes.FailsByStatement.{metadata_added}
@@ -31,7 +32,7 @@ texts-preserved g c =
             ours = leads.ours;
             rows = one_more_text (tables_of old) (tables_of mid) (tables_of new) c.args.object c.args.entry.now.name c.args.start c.texts.place c.args.entry.now.texts c.texts.text-index c.text-item.result within
                 (c.text-item.is ∙ ap (λ xs. get_or xs c.texts.text-index c.text-item.result) inv.3) inv.2 was.rows
-                (leads.rows ∙ ap (λ row. record (tables_of mid) { metadata = put_next (metadata_values row) (tables_of mid).metadata }) c.in_ok-text_row.ensures.told);
+                (leads.rows ∙ ap (λ row. record (tables_of mid) { metadata = put_next (metadata_values row) (tables_of mid).metadata }) c.in_ok-text_row.ensures);
           },
       next_place,
       inv.3,
@@ -51,8 +52,8 @@ returns-in_err-text_row-clause-cause g c storable clean inside =
     let inv = c.texts.invariant in
     let texts = c.args.entry.now.texts in
     let within : c.texts.text-index < length texts = omega (arith, ap length inv.3, c.texts-test.true) in
-    if_err_is _ c.from_residual.result c.in_err-text_row.field-0.0 c.from_residual.ensures.1
-    (fails_then g.T.Statements.state c.args.tx.now c.texts.tx c.texts.tx inv.0.survives (FailsHolding (texts ≢ [])) _ (memory (has_some texts c.texts.text-index within) c.in_err-text_row.ensures.cause))
+    if_err_is _ c.from_residual.result Memory c.from_residual.ensures.1
+    (fails_then g.T.Statements.state c.args.tx.now c.texts.tx c.texts.tx inv.0.survives (FailsHolding (texts ≢ [])) _ (memory (has_some texts c.texts.text-index within) refl))
 
 pub returns-in_err-insert_metadata-clause-cause : goal.returns-in_err-insert_metadata-clause-cause
 returns-in_err-insert_metadata-clause-cause g c storable clean inside =
@@ -60,6 +61,6 @@ returns-in_err-insert_metadata-clause-cause g c storable clean inside =
     let texts = c.args.entry.now.texts in
     let within : c.texts.text-index < length texts = omega (arith, ap length inv.3, c.texts-test.true) in
     let before = clean_before c.insert_metadata.ensures.keeps.stays clean in
-    let fits : IsStorableMetadata c.in_ok-text_row.field-0 = subst IsStorableMetadata (sym c.in_ok-text_row.ensures.told) (record { object = storable.0; place = omega (arith, storable.1, inv.2, within) }) in
+    let fits : IsStorableMetadata c.in_ok-text_row.field-0 = subst IsStorableMetadata (sym c.in_ok-text_row.ensures) (record { object = storable.0; place = omega (arith, storable.1, inv.2, within) }) in
     if_err_is _ c.from_residual-in_err-insert_metadata.result c.in_err-insert_metadata.field-0.0 c.from_residual-in_err-insert_metadata.ensures.1
     (fails_then g.T.Statements.state c.args.tx.now c.texts.tx c.insert_metadata.new.tx inv.0.survives (FailsHolding (texts ≢ [])) _ (statement (metadata_added _ (c.in_err-insert_metadata.ensures.cause fits clean (inv.0.inside before inside)))))

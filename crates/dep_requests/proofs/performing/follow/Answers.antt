@@ -27,7 +27,7 @@ returns-in_ok-shown-in-Do-clause-map g c clean within ours s are sound fit rules
     c.delivery_at-delivery.ensures.clock c.delivery_at-delivery.ensures.bare c.delivery_at-delivery.ensures.closes in
     let ruling = subst (λ (r : Ruling). IsRuling config s op r) c.in-Do.is rules.ruling in
     let carried = c.in_ok-shown-in-Do.ensures.map clean within ours s are config sound fit rules ruling in
-    accepted_then config s op (SeesState (g.T.Statements.state c.see.new.tx)) c.delivery_at-delivery.result _ c.accept-performed.result fit sound ruling.0 way carried c.accept-performed.ensures
+    accepted_then config s op (SeesState (g.T.Statements.state c.see.new.tx)) c.delivery_at-delivery.result _ c.accept.result fit sound ruling.0 way carried c.accept.ensures
 
 pub returns-in-Refuse-clause-ours : goal.returns-in-Refuse-clause-ours
 returns-in-Refuse-clause-ours g c clean within ours = if_ok c.refuse.result ours
@@ -36,7 +36,7 @@ pub returns-in-Refuse-clause-stays : goal.returns-in-Refuse-clause-stays
 returns-in-Refuse-clause-stays g c = stays_put g.T.Statements.lenders g.T.Statements.state c.args.tx.now c.refuse.result
 
 pub returns-in_ok-shown-in-Do-clause-ours : goal.returns-in_ok-shown-in-Do-clause-ours
-returns-in_ok-shown-in-Do-clause-ours g c clean within ours = if_ok c.accept-performed.result (c.in_ok-shown-in-Do.ensures.ours clean within ours)
+returns-in_ok-shown-in-Do-clause-ours g c clean within ours = if_ok c.accept.result (c.in_ok-shown-in-Do.ensures.ours clean within ours)
 
 pub returns-in_ok-shown-in-Do-clause-stays : goal.returns-in_ok-shown-in-Do-clause-stays
 returns-in_ok-shown-in-Do-clause-stays g c = stays_ok c.in_ok-shown-in-Do.ensures.stays
@@ -49,4 +49,4 @@ returns-in-Refuse-clause-unchanged g c only is_open clean ours = if_ok c.refuse.
 
 pub returns-in_ok-shown-in-Do-clause-unchanged : goal.returns-in_ok-shown-in-Do-clause-unchanged
 returns-in_ok-shown-in-Do-clause-unchanged g c only is_open clean ours =
-    if_ok c.accept-performed.result (c.in_ok-shown-in-Do.ensures.unchanged (subst (λ (r : Ruling). OnlyReads r) c.in-Do.is only) is_open clean ours)
+    if_ok c.accept.result (c.in_ok-shown-in-Do.ensures.unchanged (subst (λ (r : Ruling). OnlyReads r) c.in-Do.is only) is_open clean ours)

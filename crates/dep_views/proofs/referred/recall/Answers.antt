@@ -8,10 +8,10 @@ use Rattle.dep_row_maps.proofs.Causes.{fails_among, fails_first, if_err_is}
 use Rattle.dep_tables.proofs.Chains.{may_err, may_read}
 use Rattle.dep_views.proofs.referred.recall.Goals as goal
 
-pub returns-in-Ok-clause-map : goal.returns-in-Ok-clause-map
-returns-in-Ok-clause-map g c clean inside ours s are sound known =
+pub returns-clause-map : goal.returns-clause-map
+returns-clause-map g c clean inside ours s are sound known =
     let it = c.in_ok-found.ensures.map clean inside ours s are sound known.running in
-    (it, record { referred = known_more s c.args.known.now.referred c.insert.new.self c.args.upload c.in_ok-found.found it known.referred (λ q. c.in-Ok.ensures.updates.0 q); running = known.running })
+    (it, record { referred = known_more s c.args.known.now.referred c.insert.new.self c.args.upload c.in_ok-found.found it known.referred (λ q. c.in_ok-insert.ensures.updates.0 q); running = known.running })
 
 pub returns-in_err-found-clause-cause : goal.returns-in_err-found-clause-cause
 returns-in_err-found-clause-cause g c clean inside ours s are sound storable =
@@ -19,9 +19,10 @@ returns-in_err-found-clause-cause g c clean inside ours s are sound storable =
     (fails_among g.T.Statements.state c.args.tx.now c.load_referred.new.tx FailsByStatement (FailsHolding ⊤) (λ at now fault failed. statement failed) _
     (c.in_err-found.ensures.cause clean inside ours s are sound storable))
 
-pub returns-in-Err-clause-cause : goal.returns-in-Err-clause-cause
-returns-in-Err-clause-cause g c clean inside ours s are sound storable =
-    fails_first g.T.Statements.state c.args.tx.now c.load_referred.new.tx (FailsHolding ⊤) Memory (memory tt refl)
+pub returns-in_err-insert-clause-cause : goal.returns-in_err-insert-clause-cause
+returns-in_err-insert-clause-cause g c clean inside ours s are sound storable =
+    if_err_is _ c.from_residual-in_err-insert.result Memory c.from_residual-in_err-insert.ensures.1
+    (fails_first g.T.Statements.state c.args.tx.now c.load_referred.new.tx (FailsHolding ⊤) _ (memory tt refl))
 
 pub returns-in_err-found-clause-keeps : goal.returns-in_err-found-clause-keeps
 returns-in_err-found-clause-keeps g c = may_err c.from_residual.ensures.0 (may_read c.in_err-found.ensures.keeps)

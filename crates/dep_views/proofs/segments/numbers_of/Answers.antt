@@ -1,6 +1,7 @@
-use Rattle.std.proofs.Common.{◌∙◌, ◌++◌, [], ◌∷◌, map, get_or, refl, sym, ap}
+use Rattle.std.proofs.Common.{◌∙◌, ◌++◌, [], ◌∷◌, map, get_or, is_err, sym, ap}
 use Rattle.std.proofs.lemmas.List.{map_more, take_all}
 use Rattle.dep_tables.specs.declared.segments.SegmentRow.{SegmentRow}
+use Rattle.dep_tables.proofs.Results.{if_failed}
 use Rattle.dep_objects.proofs.Named.{pushed}
 use Rattle.dep_views.proofs.Causes.{not_empty}
 use Rattle.dep_views.proofs.segments.numbers_of.Goals as goal
@@ -13,7 +14,7 @@ loop-segment-preserved c =
     let none : SegmentRow = record { upload = 0; number = 0; size = 0 } in
     let number = (get_or xs i none).number in
     let before = c.loop-segment.numbers.items in
-    let grown = pushed c.push.result c.push.new.self.items (before ++ number ∷ []) before (sym c.is_err.ensures.value ∙ c.if-is_err.false) c.push.ensures.items in
+    let grown = pushed c.push.result c.push.new.self.items (before ++ number ∷ []) before (ap is_err c.in_ok-push.was) c.push.ensures.items in
     grown ∙ ap (λ l. l ++ number ∷ []) c.loop-segment.invariant ∙ sym (map_more f xs i none c.loop-segment-test.true)
 
 pub returns-clause-ok : goal.returns-clause-ok
@@ -21,5 +22,5 @@ returns-clause-ok c =
     let f = λ (row : SegmentRow). row.number in
     c.from_vec.ensures ∙ c.loop-segment.invariant ∙ ap (map f) (take_all c.loop-segment.segment-index c.args.segments.now c.loop-segment-test.false)
 
-pub returns-then-is_err-clause-cause : goal.returns-then-is_err-clause-cause
-returns-then-is_err-clause-cause c = (not_empty c.args.segments.now c.loop-segment.segment-index c.loop-segment-test.true, refl)
+pub returns-in_err-push-clause-err : goal.returns-in_err-push-clause-err
+returns-in_err-push-clause-err c = if_failed c.from_residual.result (not_empty c.args.segments.now c.loop-segment.segment-index c.loop-segment-test.true)

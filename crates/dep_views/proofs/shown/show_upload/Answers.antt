@@ -1,4 +1,5 @@
-use Rattle.std.proofs.Common.{ap, subst, map, ◌∙◌}
+use Rattle.std.proofs.Common.{refl, ap, subst, map, ◌∙◌}
+use Rattle.dep_types.specs.declared.store_fault.StoreFault.TheVariants.{Memory}
 use Rattle.dep_staging.specs.Found.{IsFound}
 use Rattle.dep_staging.specs.declared.loading.FoundRow.TheVariants.{TimedOut, Unknown}
 use Rattle.dep_views.proofs.Shows.{no_upload_shown, upload_shown}
@@ -32,10 +33,9 @@ returns-in_err-staged-clause-cause g c clean inside ours s are storable =
 pub returns-in_err-numbers_of-in-Live-clause-cause : goal.returns-in_err-numbers_of-in-Live-clause-cause
 returns-in_err-numbers_of-in-Live-clause-cause g c clean inside ours s are storable =
     let it = subst (IsFound s c.args.upload) c.in-Live.is (c.in_ok-staged.ensures.map clean ours s are) in
-    let why = c.in_err-numbers_of-in-Live.ensures.cause in
-    if_err_is _ c.from_residual-in_err-numbers_of-in-Live.result c.in_err-numbers_of-in-Live.field-0.0 c.from_residual-in_err-numbers_of-in-Live.ensures.1
+    if_err_is _ c.from_residual-in_err-numbers_of-in-Live.result Memory c.from_residual-in_err-numbers_of-in-Live.ensures.1
     (fails_first g.T.Statements.state c.args.tx.now c.load_upload.new.tx (FailsHolding (HasSegments s c.args.upload)) _
-    (memory (has_segments s c.args.upload c.in-Live.staged it (λ none. why.0 (c.as_slice.ensures.value ∙ none))) why.1))
+    (memory (has_segments s c.args.upload c.in-Live.staged it (λ none. c.in_err-numbers_of-in-Live.ensures.err (c.as_slice.ensures.value ∙ none))) refl))
 
 pub returns-in_err-staged-clause-keeps : goal.returns-in_err-staged-clause-keeps
 returns-in_err-staged-clause-keeps g c = reads_err c.from_residual.ensures.0 c.in_err-staged.ensures.keeps

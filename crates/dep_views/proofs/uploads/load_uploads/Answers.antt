@@ -1,4 +1,4 @@
-use Rattle.std.proofs.Common.{IsTrue, Ok, ◌≡◌, ◌≢◌, refl, ◌∙◌, ◌++◌, [], ◌∷◌, map, take, get_or, sym, ap}
+use Rattle.std.proofs.Common.{IsTrue, Ok, ◌≡◌, ◌≢◌, refl, ◌∙◌, ◌++◌, [], ◌∷◌, map, take, get_or, is_err, sym, ap}
 use Rattle.std.proofs.lemmas.List.{map_more, take_all}
 use Rattle.std.proofs.lemmas.List.Elements.{All-get_or}
 use Rattle.dep_types.specs.declared.store_fault.StoreFault.TheVariants.{Memory}
@@ -30,7 +30,7 @@ uploads-preserved g c =
           let n = get_or xs c.uploads.upload-index 0 in
           let view : UploadView = record { upload = n; state = c.in_ok-state.state } in
           let viewed : view ≡ f n = λ i. record { upload = n; state = it.0 i } in
-          let grown = pushed c.push.result c.push.new.self.items (c.uploads.views.items ++ view ∷ []) c.uploads.views.items (sym c.is_err.ensures.value ∙ c.if-is_err.false) c.push.ensures.items in
+          let grown = pushed c.push.result c.push.new.self.items (c.uploads.views.items ++ view ∷ []) c.uploads.views.items (ap is_err c.in_ok-push.was) c.push.ensures.items in
           (it.1, grown ∙ ap (λ l. l ++ view ∷ []) so_far.1 ∙ ap (λ v. map f (take c.uploads.upload-index xs) ++ v ∷ []) viewed ∙ sym (map_more f xs c.uploads.upload-index 0 c.uploads-test.true)),
     )
 
@@ -42,8 +42,8 @@ returns-clause-map g c is_open clean inside ours s are sound running =
 pub returns-in_err-state-clause-keeps : goal.returns-in_err-state-clause-keeps
 returns-in_err-state-clause-keeps g c = may_err c.from_residual.ensures.0 (may_then c.uploads.invariant.0 c.load_state.ensures.keeps)
 
-pub returns-then-is_err-clause-keeps : goal.returns-then-is_err-clause-keeps
-returns-then-is_err-clause-keeps g c = may_ok (may_then c.uploads.invariant.0 c.in_ok-state.ensures.keeps)
+pub returns-in_err-push-clause-keeps : goal.returns-in_err-push-clause-keeps
+returns-in_err-push-clause-keeps g c = may_ok (may_then c.uploads.invariant.0 c.in_ok-state.ensures.keeps)
 
 pub returns-in_err-state-clause-cause : goal.returns-in_err-state-clause-cause
 returns-in_err-state-clause-cause g c is_open clean inside ours s are sound storable =
@@ -60,9 +60,10 @@ returns-in_err-state-clause-cause g c is_open clean inside ours s are sound stor
     (c.in_err-state.ensures.cause clean (inv.0.stays.inside before inside) (still_ours (g.T.Statements.state old) (g.T.Statements.state mid) same ours) s
     (still_seen (g.T.Statements.state old) (g.T.Statements.state mid) s same are) sound small))
 
-pub returns-then-is_err-clause-cause : goal.returns-then-is_err-clause-cause
-returns-then-is_err-clause-cause g c is_open clean inside ours s are sound storable =
-    fails_first g.T.Statements.state c.args.tx.now c.load_state.new.tx (FailsHolding (c.args.uploads.now ≢ [])) Memory (memory (not_empty c.args.uploads.now c.uploads.upload-index c.uploads-test.true) refl)
+pub returns-in_err-push-clause-cause : goal.returns-in_err-push-clause-cause
+returns-in_err-push-clause-cause g c is_open clean inside ours s are sound storable =
+    if_err_is _ c.from_residual-in_err-push.result Memory c.from_residual-in_err-push.ensures.1
+    (fails_first g.T.Statements.state c.args.tx.now c.load_state.new.tx (FailsHolding (c.args.uploads.now ≢ [])) _ (memory (not_empty c.args.uploads.now c.uploads.upload-index c.uploads-test.true) refl))
 
 pub returns-clause-keeps : goal.returns-clause-keeps
 returns-clause-keeps g c = may_ok c.uploads.invariant.0
