@@ -5,6 +5,8 @@ use Rattle.std.specs.declared.net.ip_addr.IpAddr.{IpAddr}
 use Rattle.json.specs.Json.{Json}
 use Rattle.json.specs.Find.{as_bool, as_object, as_str}
 use Rattle.json.specs.Strict.{keys}
+use Rattle.json.specs.declared.error.Error.{Error}
+use Rattle.json.specs.declared.error.Error.TheVariants.{OutOfMemory}
 use Rattle.dep_types.specs.Base.{IsBase}
 use Rattle.dep_types.specs.Maps.{◌>>=◌}
 use Rattle.dep_configuration.specs.Fields.{wanted_of}
@@ -80,3 +82,8 @@ IsFirstFault e j =
 -- why a text is refused, of which this is the value
 abbrev pub IsRefused : ConfigurationFault → Option Json → Type 0
 IsRefused e document = (e ≡ Memory) ⊎ MatchOption document (e ≡ Malformed) (IsFirstFault e)
+
+-- an error of the text as JSON
+abbrev pub fault_of_json : Error → ConfigurationFault
+fault_of_json OutOfMemory = Memory
+fault_of_json _ = Malformed

@@ -16,7 +16,7 @@ use crate::values::{address, base, filled_text, flag, number, optional_number, t
 use dep_types::{
     Config, ConfigFault, GREATEST_MAX_ASSEMBLED, GREATEST_MAX_SEGMENTS, GREATEST_MAX_UPLOAD, Text,
 };
-use json::{Error, Scratch, Value};
+use json::{Scratch, Value};
 use std::alloc::{AllocError, Global};
 use std::net::IpAddr;
 
@@ -66,11 +66,7 @@ impl Configuration {
         ensures refused { IfErr result (λ e. IsRefused e (document text.now)) }
     {
         let mut scratch = Scratch::new(alloc);
-        let value = match Value::parse(alloc, text, &mut scratch) {
-            Ok(value) => value,
-            Err(Error::OutOfMemory) => return Err(ConfigurationFault::Memory),
-            Err(_) => return Err(ConfigurationFault::Malformed),
-        };
+        let value = Value::parse(alloc, text, &mut scratch)?;
         read_value(alloc, &value)
     }
 }
@@ -82,13 +78,8 @@ fn read_value(alloc: Global, value: &Value<'_>) -> Result<Configuration, Configu
     check_names(alloc, value)?;
     check_fields(value)?;
     let configuration = configuration_in(alloc, value)?;
-    match check_config(alloc, &configuration.config) {
-        Ok(()) => Ok(configuration),
-        Err(fault) => {
-            drop(configuration);
-            Err(fault)
-        }
-    }
+    check_config(alloc, &configuration.config)?;
+    Ok(configuration)
 }
 
 // Whether a server can be set up so, which has its limits.

@@ -1,4 +1,6 @@
 //! Why a configuration is refused.
+ghost use Rattle.std.specs.Prelude.{◌≡◌};
+
 use crate::field::Field;
 use std::alloc::AllocError;
 use std::error::Error;
@@ -48,12 +50,24 @@ impl fmt::Display for ConfigurationFault {
 impl Error for ConfigurationFault {}
 
 impl From<AllocError> for ConfigurationFault {
-    ghost use Rattle.std.specs.Prelude.{◌≡◌};
     ghost use Rattle.dep_configuration.specs.declared.fault.ConfigurationFault.TheVariants.{Memory};
 
     ghost from_gives = { λ _ e. e ≡ Memory };
 
     fn from(_error: AllocError) -> ConfigurationFault {
         ConfigurationFault::Memory
+    }
+}
+
+impl From<json::Error> for ConfigurationFault {
+    ghost use Rattle.dep_configuration.specs.Faults.{fault_of_json};
+
+    ghost from_gives = { λ error e. e ≡ fault_of_json error };
+
+    fn from(error: json::Error) -> ConfigurationFault {
+        match error {
+            json::Error::OutOfMemory => ConfigurationFault::Memory,
+            _ => ConfigurationFault::Malformed,
+        }
     }
 }

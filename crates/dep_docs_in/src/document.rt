@@ -7,21 +7,14 @@ ghost use Rattle.dep_docs_in.specs.Faults.{GivesBy};
 ghost use Rattle.std.specs.Option.{option_copied, option_map_or};
 
 use crate::fault::DocFault;
-use serde_json::{Category, Value};
+use serde_json::Value;
 use std::alloc::Global;
 
 /// The value that a content is (RFC 8259), nested at most 127 deep. Of members with one name the last stays.
-#[tactic(auto, unfolding(crate::specs::Documents::document))]
 pub(crate) fn document(alloc: Global, content: &[u8]) -> Result<Value, DocFault>
     ensures { GivesBy view result (document content.now) }
 {
-    match Value::from_slice(alloc, content) {
-        Ok(value) => Ok(value),
-        Err(error) => match error.classify() {
-            Category::Memory => Err(DocFault::Memory),
-            _ => Err(DocFault::Malformed),
-        },
-    }
+    Ok(Value::from_slice(alloc, content)?)
 }
 
 /// Whether `@type` is absent, or this name.

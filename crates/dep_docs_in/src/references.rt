@@ -12,11 +12,11 @@ use crate::fault::DocFault;
 use crate::reference::{DEFAULT_MEDIA, Pointed, Reference, References};
 use dep_fixity::{DigestList, read_digest_field};
 use dep_octets::positive_decimal;
-use dep_params::{Disposition, ParamFault, read_disposition};
+use dep_params::{Disposition, read_disposition};
 use dep_types::{Config, GREATEST_NUMBER, Text, is_media};
 use serde_json::Value;
 use std::alloc::Global;
-use url::{ParseError, Url};
+use url::Url;
 
 /// Reads a document of references (SWORD 3.0, by-reference deposit): an object of JSON whose `@type` is absent or
 /// `ByReference`, with entries under `byReferenceFiles`, at least one. Each entry has in `@id` a URL and in
@@ -83,11 +83,8 @@ fn target_of(alloc: Global, config: &Config, entry: &Value) -> Result<Pointed, D
     let Some(text) = text_of(entry, "@id") else {
         return Err(DocFault::Malformed);
     };
-    match Url::parse(alloc, text) {
-        Ok(url) => Ok(pointed_by(config, url.as_str().as_bytes())),
-        Err(ParseError::OutOfMemory | ParseError::Overflow) => Err(DocFault::Memory),
-        Err(_) => Err(DocFault::Malformed),
-    }
+    let url = Url::parse(alloc, text)?;
+    Ok(pointed_by(config, url.as_str().as_bytes()))
 }
 
 // An upload of this server, or elsewhere, by the text of a URL.
@@ -126,13 +123,8 @@ fn name_of(alloc: Global, entry: &Value) -> Result<Text, DocFault>
     let Some(text) = text_of(entry, "contentDisposition") else {
         return Err(DocFault::Malformed);
     };
-    match read_disposition(alloc, text.as_bytes()) {
-        Ok(disposition) => attachment_name(alloc, &disposition),
-        Err(ParamFault::Malformed) => Err(DocFault::Malformed),
-        Err(ParamFault::Repeated) => Err(DocFault::Malformed),
-        Err(ParamFault::Memory) => Err(DocFault::Memory),
-        Err(ParamFault::NoName) => unreachable!(),
-    }
+    let disposition = read_disposition(alloc, text.as_bytes())?;
+    attachment_name(alloc, &disposition)
 }
 
 // The file name that an attachment gives.
@@ -142,11 +134,7 @@ fn attachment_name(alloc: Global, disposition: &Disposition) -> Result<Text, Doc
     if disposition.form() != b"attachment".as_slice() {
         return Err(DocFault::Malformed);
     }
-    match disposition.file_name(alloc) {
-        Ok(name) => Ok(Text::new(name)),
-        Err(ParamFault::NoName) => Err(DocFault::Malformed),
-        Err(_) => Err(DocFault::Memory),
-    }
+    Ok(Text::new(disposition.file_name(alloc)?))
 }
 
 // The media type of an entry, or the one of unknown bytes.
@@ -217,8 +205,5 @@ fn digest_in(value: &Value) -> Result<DigestList, DocFault>
     let Some(text) = value.as_str() else {
         return Err(DocFault::Malformed);
     };
-    match read_digest_field(text.as_bytes()) {
-        Ok(digest) => Ok(digest),
-        Err(_) => Err(DocFault::Malformed),
-    }
+    Ok(read_digest_field(text.as_bytes())?)
 }

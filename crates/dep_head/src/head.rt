@@ -50,6 +50,29 @@ impl fmt::Display for HeadFault {
 
 impl Error for HeadFault {}
 
+impl From<AllocError> for HeadFault {
+    ghost use Rattle.dep_head.specs.declared.head.HeadFault.TheVariants.{Memory};
+
+    ghost from_gives = { λ _ fault. fault ≡ Memory };
+
+    fn from(_error: AllocError) -> HeadFault {
+        HeadFault::Memory
+    }
+}
+
+impl From<UriError> for HeadFault {
+    ghost use Rattle.dep_head.specs.Faults.{head_fault_for};
+
+    ghost from_gives = { λ error fault. fault ≡ head_fault_for error };
+
+    fn from(error: UriError) -> HeadFault {
+        match error {
+            UriError::Invalid(_) => HeadFault::NotAHead,
+            UriError::OutOfMemory => HeadFault::Memory,
+        }
+    }
+}
+
 /// The head of a request, which keeps a copy of its text.
 #[derive(Drop)]
 pub struct Head {
@@ -145,12 +168,8 @@ pub fn read_head(alloc: Global, text: &[u8]) -> Result<Head, HeadFault>
         return Err(HeadFault::NotAHead);
     }
     let path = read_path(alloc, spans.path.of(text))?;
-    let Ok(fields) = Vec::from_slice(alloc, fields) else {
-        return Err(HeadFault::Memory);
-    };
-    let Ok(text) = Vec::from_slice(alloc, text) else {
-        return Err(HeadFault::Memory);
-    };
+    let fields = Vec::from_slice(alloc, fields)?;
+    let text = Vec::from_slice(alloc, text)?;
     Ok(Head {
         text,
         method: spans.method,
@@ -166,15 +185,8 @@ fn read_path(alloc: Global, target: &[u8]) -> Result<String, HeadFault>
         × (string_bytes path ≡ uri_path uri)) }
     ensures refused { result ≡ Err HeadFault.NotAHead → (uri : Uri) → ¬ Spells target.now uri }
 {
-    let path = match Uri::from_bytes(alloc, target) {
-        Ok(uri) => String::from_str(alloc, uri.path()),
-        Err(UriError::Invalid(_)) => return Err(HeadFault::NotAHead),
-        Err(UriError::OutOfMemory) => return Err(HeadFault::Memory),
-    };
-    match path {
-        Ok(path) => Ok(path),
-        Err(AllocError) => Err(HeadFault::Memory),
-    }
+    let uri = Uri::from_bytes(alloc, target)?;
+    Ok(String::from_str(alloc, uri.path())?)
 }
 
 // HTTP/1.1 has exactly one Host field, and HTTP/1.0 at most one (RFC 9112, section 3.2).

@@ -31,8 +31,6 @@ pub fn note_damaged(
     if kept.sha256 == digests.sha256 && kept.sha512 == Some(digests.sha512) {
         return Ok(());
     }
-    match damaged.push(file) {
-        Ok(()) => Ok(()),
-        Err(_) => Err(AllocError),
-    }
+    damaged.push(file)?;
+    Ok(())
 }

@@ -130,10 +130,7 @@ impl Work {
     {
         let behind = &self.buffer.as_slice()[head_length..];
         let come = behind.len().min(size);
-        let Ok(content) = Vec::from_slice(self.alloc, &behind[..come]) else {
-            drop(head);
-            return Err(AllocError);
-        };
+        let content = Vec::from_slice(self.alloc, &behind[..come])?;
         if come == size {
             return Ok(self.take_plain(head_length + size, head, content));
         }

@@ -49,10 +49,8 @@ impl Routes {
     /// The routes. Memory is taken here alone.
     pub fn new(alloc: Global) -> Result<Routes, AllocError> {
         let mut router = Router::new(alloc);
-        match add_routes(&mut router) {
-            Ok(()) => Ok(Routes { router }),
-            Err(_) => Err(AllocError),
-        }
+        add_routes(&mut router).map_err(|_| AllocError)?;
+        Ok(Routes { router })
     }
 
     /// The resource that a path names, whatever the method. The path has no query, and is compared byte by byte:

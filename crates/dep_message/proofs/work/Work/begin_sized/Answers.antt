@@ -1,17 +1,20 @@
 use Rattle.std.proofs.Common.{◌≤◌, ◌<◌, ◌∙◌, length, take, drop, ap, arith}
 use Rattle.std.proofs.lemmas.List.{length-take-le, take_all}
+use Rattle.std.proofs.lemmas.Result.{err_from_is_err_and}
 use Rattle.dep_message.proofs.Slices.{come_is}
 use Rattle.dep_message.proofs.Keeping.{unchanged, takes_request, waits_behind, keeps_apart}
 use Rattle.dep_message.proofs.work.Work.begin_sized.Goals as goal
 
-pub returns-in_default : goal.returns-in_default
-returns-in_default c = unchanged c.args.self.now c.args.head_length c.args.head _ c.requires.fresh c.requires.within c.requires.begun
+pub returns-in_err-content : goal.returns-in_err-content
+returns-in_err-content c =
+    let p = err_from_is_err_and c.from_residual.result c.from_residual.ensures.1 in
+    rw (p.1) (unchanged c.args.self.now c.args.head_length c.args.head _ c.requires.fresh c.requires.within c.requires.begun)
 
 pub returns-then-come-size : goal.returns-then-come-size
 returns-then-come-size c =
     let buffer = c.args.self.now.buffer in
     let n = c.args.head_length in
-    let part = come_is buffer c.as_slice.result.now n c.args.size c.min-come.result c.in-Ok.content.items c.as_slice.ensures c.min-come.ensures c.in-Ok.ensures.items in
+    let part = come_is buffer c.as_slice.result.now n c.args.size c.min-come.result c.in_ok-content.content.items c.as_slice.ensures c.min-come.ensures c.in_ok-content.ensures.items in
     let full : c.args.size ≤ length (drop n buffer) = omega (arith, part.0, c.if-come-size.true) in
     rw c.take_plain.ensures.whole
     (takes_request c.args.self.now.limit c.args.self.now.continued buffer n c.args.size _ _ c.take_plain.new.self c.requires.within c.requires.begun
@@ -21,7 +24,7 @@ pub returns : goal.returns
 returns c =
     let buffer = c.args.self.now.buffer in
     let n = c.args.head_length in
-    let part = come_is buffer c.as_slice.result.now n c.args.size c.min-come.result c.in-Ok.content.items c.as_slice.ensures c.min-come.ensures c.in-Ok.ensures.items in
+    let part = come_is buffer c.as_slice.result.now n c.args.size c.min-come.result c.in_ok-content.content.items c.as_slice.ensures c.min-come.ensures c.in_ok-content.ensures.items in
     let less : length (drop n buffer) < c.args.size = omega (arith, part.0, c.if-come-size.false) in
     let all : length (drop n buffer) ≤ c.min-come.result = omega (arith, part.0) in
     let place = c.keep_place.ensures in (

@@ -1,6 +1,7 @@
 use Rattle.std.proofs.Common.{◌≡◌, ◌∙◌, ℕ, List, true, sym, ap}
 use Rattle.std.proofs.lemmas.Str.{IsUtf8-from_is_utf8}
 use Rattle.std.specs.Str.{is_utf8}
+use Rattle.std.specs.Result.{is_ok}
 use Rattle.dep_types.specs.Names.{is_good_name}
 use Rattle.dep_params.proofs.Runs.{and_both}
 use Rattle.dep_params.proofs.Extended.{same_told}
@@ -21,5 +22,5 @@ pub returns-clause-unnamed : goal.returns-clause-unnamed
 returns-clause-unnamed c = λ h name is.
     let told = c.in_ok-name.name.items in
     let good : is_good_name told ≡ true = ap (λ (n : List ℕ). is_good_name n) (sym c.deref.ensures.value) ∙ sym c.is_good_name.ensures ∙ c.if-not-is_good_name.false in
-    let ok = c.in-Err.ensures.succeeds (IsUtf8-from_is_utf8 told (utf8_of told good)) in
-    cc ok
+    let ok = c.from_utf8.ensures.succeeds (IsUtf8-from_is_utf8 told (utf8_of told good)) in
+    cc (sym (ap is_ok h) ∙ c.map_err.ensures.variant ∙ ok)
