@@ -14,8 +14,8 @@ use Rattle.sqlite_resolve.specs.declared.error.CompileError.TheVariants.{NoSuchT
 use Rattle.sqlite_resolve.specs.Lowering.{Checked, and_then}
 use Rattle.sqlite_resolve.specs.Compile.{first, command, returning, timed, meaning, planned, with_command, compiled, small}
 use Rattle.sqlite_tied.specs.Compute.{everything}
-use Rattle.sqlite.specs.State.{State}
-use Rattle.dep_tables.specs.Texts.{blocks_of_text}
+use Rattle.dep_tables.specs.Texts.{blocks_of_text, find_sha512_text}
+use Rattle.dep_streams.specs.Sha512s.{next_file_text}
 use Rattle.dep_streams.specs.Clauses.{OnlyReads, ShowsNoWrite}
 use Rattle.dep_streams.specs.Sizes.{find_size_text}
 
@@ -90,16 +90,30 @@ blocks_query : IsQuery blocks_of_text
 unfolding first everything
 blocks_query = record { parsed = _; is = refl; select = _; selects = refl; untimed = refl }
 
--- so it shows no rows of a write in any state
-query_reads : (sql : List ℕ) → IsQuery sql → (s : State) → OnlyReads sql s
-query_reads sql query s = either (understood s.now.schema sql) refl
+-- so it shows no rows of a write
+query_reads : (sql : List ℕ) → IsQuery sql → OnlyReads sql
+query_reads sql query schema = either (understood schema sql) refl
   where
-    either : (r : Checked Compiled) → understood s.now.schema sql ≡ r → ShowsNoWrite r
-    either (Ok c) is = (understood_quiet s.now.schema sql query c is).0
+    either : (r : Checked Compiled) → understood schema sql ≡ r → ShowsNoWrite r
+    either (Ok c) is = (understood_quiet schema sql query c is).0
     either (Err e) is = tt
 
-pub size_reads : (s : State) → OnlyReads find_size_text s
+pub size_reads : OnlyReads find_size_text
 size_reads = query_reads find_size_text size_query
 
-pub blocks_read : (s : State) → OnlyReads blocks_of_text s
+pub blocks_read : OnlyReads blocks_of_text
 blocks_read = query_reads blocks_of_text blocks_query
+
+sha512_query : IsQuery find_sha512_text
+unfolding first everything
+sha512_query = record { parsed = _; is = refl; select = _; selects = refl; untimed = refl }
+
+pub sha512_reads : OnlyReads find_sha512_text
+sha512_reads = query_reads find_sha512_text sha512_query
+
+files_query : IsQuery next_file_text
+unfolding first everything
+files_query = record { parsed = _; is = refl; select = _; selects = refl; untimed = refl }
+
+pub files_read : OnlyReads next_file_text
+files_read = query_reads next_file_text files_query

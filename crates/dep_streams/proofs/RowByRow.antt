@@ -14,9 +14,8 @@ use Rattle.sqlite.specs.declared.error.Error.{Error}
 use Rattle.sqlite.specs.declared.rows.stream.Rows.{Rows}
 use Rattle.sqlite_trees.specs.declared.store.Store.{Ghosts}
 use Rattle.dep_streams.specs.Sent.{blob_of, joined}
-use Rattle.dep_streams.specs.Clauses.{OnlyShows, StaysOver, TellsSeen, ReadsOver, FailsOver}
+use Rattle.dep_streams.specs.Clauses.{OnlyReads, OnlyShows, StaysOver, TellsSeen, ReadsOver, FailsOver}
 use Rattle.dep_streams.proofs.NextRow.{clean_before, refused_stays, stays_on, unchanged_on}
-use Rattle.dep_streams.proofs.Stills.{commits_none, reads_if_plain}
 use Rattle.dep_streams.proofs.SendingLemmas.{begins_from, fails_from, joined_push}
 use Rattle.dep_types.specs.declared.store_fault.StoreFault.{StoreFault}
 use Rattle.dep_types.specs.declared.store_fault.StoreFault.TheVariants.{Store}
@@ -37,19 +36,17 @@ Hashed g sql params first now count hasher =
 pub record EndsHashing {S : Type 0} (g : Ghosts S) (sql : List ℕ) (params : Row) (first new : Held S) (result : Result Digests StoreFault) : Type 0 where
   pub hashes : TellsSeen (OnlyShows sql) g first new result (HashesShown sql params)
   pub cause : FailsOver (OnlyShows sql) g first new result (FailsToGive sql params None)
-  pub same : ReadsOver (OnlyShows sql) g first new result
-  pub stays : StaysOver (OnlyShows sql) g first new
+  pub reads : ReadsOver g first new result
 
 -- no query began
-pub not_begun : {S X : Type 0} (g : Ghosts S) (sql : List ℕ) (params : Row) (old new : Held S) (result : Result X Error) (error : Error) (fault : StoreFault)
+pub not_begun : {S X : Type 0} (g : Ghosts S) (sql : List ℕ) (params : Row) → OnlyReads sql → (old new : Held S) (result : Result X Error) (error : Error) (fault : StoreFault)
     → OnErr result (IsRefused g sql params old result new) → result ≡ Err error → fault ≡ fault_for error → EndsHashing g sql params old new (Err fault)
-not_begun {X = X} g sql params old new result error fault left is of =
+not_begun {X = X} g sql params reads old new result error fault left is of =
     let it : IsRefused g sql params old result new = subst (λ (r : Result X Error). OnErr r (IsRefused g sql params old result new)) is left in
     record {
       hashes = λ late plain. tt;
       cause = λ late plain. query_failed (error, inl (subst (λ (r : Result X Error). IfErr r (FailsToQuery sql params (state g old) (state g new))) is (it.err late)), of);
-      same = λ late plain. tt;
-      stays = refused_stays g sql params old new (reads_if_plain _) result error it is;
+      reads = record { stays = refused_stays g sql params old new reads result error it is; same = λ late. tt };
     }
 
 module _ {S : Type 0} (g : Ghosts S) (old new : Rows S g) (result : Result (Option (Bor Row)) Error) (moved : HasMoved g old result new) where
@@ -92,19 +89,18 @@ module _ {S : Type 0} (g : Ghosts S) (old new : Rows S g) (result : Result (Opti
         unread was.0 row.now (begins_from sql params first (state g new.conn.now) (was.0 ++ row.now ∷ []) (unchanged first (Some row) is late was.2)
         (given_begin g sql params new.conn.now (was.0 ++ row.now ∷ []) ((rw is at (moved.ok late)) sql params was.0 was.1))) (inl none.0) none.1
 
-  module _ (sql : List ℕ) (params : Row) (first : Held S) (count : ℕ) (hasher : Hasher) (before : StaysOver (OnlyShows sql) g first old.conn.now)
-      (was : HasCleanDisk (state g old.conn.now) → OnlyShows sql (state g first) → Hashed g sql params (state g first) old.conn.now count hasher) where
-    pub stays : StaysOver (OnlyShows sql) g first new.conn.now
-    stays = stays_on g old new result moved first before (λ late plain. (was late plain).2)
+  module _ (sql : List ℕ) (params : Row) (first : Held S) (count : ℕ) (hasher : Hasher) (before : StaysOver g first old.conn.now)
+      (was : HasCleanDisk (state g old.conn.now) → Hashed g sql params (state g first) old.conn.now count hasher) where
+    pub stays : StaysOver g first new.conn.now
+    stays = stays_on g old new result moved first before (λ late. (was late).2)
 
     -- all rows were hashed
     pub ends_whole : result ≡ Ok None → (digests : Digests) → ((message : List ℕ) → Holds hasher message → digests ≡ digests_of message)
         → EndsHashing g sql params first new.conn.now (Ok digests)
     ends_whole is digests made = record {
-      hashes = λ late plain. hashed_all sql params (state g first) count hasher (was (earlier late) plain) late is plain digests made;
+      hashes = λ late plain. hashed_all sql params (state g first) count hasher (was (earlier late)) late is plain digests made;
       cause = λ late plain. tt;
-      same = λ late plain. unchanged (state g first) None is late (was (earlier late) plain).2;
-      stays = stays;
+      reads = record { stays = stays; same = λ late. unchanged (state g first) None is late (was (earlier late)).2 };
     }
 
     -- one was not given
@@ -112,9 +108,8 @@ module _ {S : Type 0} (g : Ghosts S) (old new : Rows S g) (result : Result (Opti
         → EndsHashing g sql params first new.conn.now (Err fault)
     ends_failed error is fault of = record {
       hashes = λ late plain. tt;
-      cause = λ late plain. why_failed sql params (state g first) count hasher (was (earlier late) plain) late error is fault of plain (commits_none before plain);
-      same = λ late plain. tt;
-      stays = stays;
+      cause = λ late plain. why_failed sql params (state g first) count hasher (was (earlier late)) late error is fault of plain before.survives;
+      reads = record { stays = stays; same = λ late. tt };
     }
 
     -- one has no bytes
@@ -122,7 +117,6 @@ module _ {S : Type 0} (g : Ghosts S) (old new : Rows S g) (result : Result (Opti
         → EndsHashing g sql params first new.conn.now (Err fault)
     ends_refused row is fault none = record {
       hashes = λ late plain. tt;
-      cause = λ late plain. why_refused sql params (state g first) count hasher (was (earlier late) plain) late row is fault none;
-      same = λ late plain. tt;
-      stays = stays;
+      cause = λ late plain. why_refused sql params (state g first) count hasher (was (earlier late)) late row is fault none;
+      reads = record { stays = stays; same = λ late. tt };
     }

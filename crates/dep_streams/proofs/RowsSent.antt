@@ -27,7 +27,7 @@ use Rattle.dep_types.specs.declared.stream_fault.StreamFault.{StreamFault}
 use Rattle.dep_types.specs.declared.stream_fault.StreamFault.TheVariants.{Writer, Store, Memory, NoSuchFile}
 use Rattle.dep_streams.proofs.NextRow as row
 use Rattle.dep_streams.proofs.NextRow.{begun_stays, refused_stays}
-use Rattle.dep_streams.proofs.Stills.{begun_reads, commits_none, reads_if_plain}
+use Rattle.dep_streams.proofs.Stills.{begun_reads}
 use Rattle.dep_streams.proofs.ShownFrom.{shown_from}
 use Rattle.dep_streams.proofs.FaultsTold.{asked_failed, asked_there, stopped_for}
 use Rattle.dep_streams.proofs.SendingLemmas.{all_sent, begins_from, cut_sized, fails_from, joined_more, less_left, some_left, stops_sized}
@@ -36,8 +36,7 @@ use Rattle.dep_streams.proofs.SendingLemmas.{all_sent, begins_from, cut_sized, f
 pub record EndsSending {S : Type 0} (g : Ghosts S) (sql : List ℕ) (params : Row) (first new : Held S) (size : ℕ) (start taken : Option (List ℕ)) (were are : ℕ) (result : Result (Unit {0}) StreamFault) : Type 0 where
   pub streams : GivesOver (OnlyShows sql) g first new start taken (λ s sent. SendsSized sql params s size sent result)
   pub why : FailsOver (OnlyShows sql) g first new result (FailsToSend sql params size)
-  pub ok : ReadsOver (OnlyReads sql) g first new result
-  pub stays : StaysOver (OnlyReads sql) g first new
+  pub reads : ReadsOver g first new result
   pub outlet : BlamesOutlet Writer were are result
   pub there : result ≢ Err NoSuchFile
 
@@ -47,9 +46,9 @@ pub record HasSent {S : Type 0} (g : Ghosts S) (sql : List ℕ) (params : Row) (
   pub sent : List ℕ
   pub counted : left + length sent ≡ size
   pub appended : Appends start taken sent
-  pub shown : HasCleanDisk (state g now) → OnlyReads sql (state g first)
+  pub shown : HasCleanDisk (state g now)
       → (given : List Row) × HasGiven g sql params now given × IsUnchanged (state g first) (state g now) × (sent ≡ joined given) × (length given ≡ count)
-  pub stays : StaysOver (OnlyReads sql) g first now
+  pub stays : StaysOver g first now
   pub same : are ≡ were
 
 -- ---- faults
@@ -68,12 +67,11 @@ stopped : {S : Type 0} (g : Ghosts S) (sql : List ℕ) (params : Row) (first new
     → length sent < size → Appends start taken sent → are ≡ were
     → (HasCleanDisk (state g new) → OnlyShows sql (state g first) → StopsBetween sql params (state g first) sent)
     → (HasCleanDisk (state g new) → OnlyShows sql (state g first) → FailsToGive sql params (Some size) (state g first) (state g new) fault)
-    → StaysOver (OnlyReads sql) g first new → EndsSending g sql params first new size start taken were are (Err (stream_fault_for fault))
+    → StaysOver g first new → EndsSending g sql params first new size start taken were are (Err (stream_fault_for fault))
 stopped g sql params first new size start taken were are sent fault low appended same between why stays = record {
   streams = (sent, appended, λ late plain. stops_sized sql params (state g first) size sent fault low (between late plain));
   why = λ late plain. stopped_for (FailsToGive sql params (Some size) (state g first) (state g new)) fault (why late plain);
-  ok = λ late plain. tt;
-  stays = stays;
+  reads = record { stays = stays; same = λ late. tt };
   outlet = record { kept = tt; cause = λ is. absurd (asked_failed fault is); others = λ _. same };
   there = asked_there fault;
 }
@@ -81,30 +79,30 @@ stopped g sql params first new size start taken were are sent fault low appended
 -- ---- before the first row
 
 -- no query began
-pub not_begun : {S X : Type 0} (g : Ghosts S) (sql : List ℕ) (params : Row) (old new : Held S) (size : ℕ) (taken : Option (List ℕ)) (are : ℕ) (result : Result X Error) (error : Error) (fault : StoreFault)
+pub not_begun : {S X : Type 0} (g : Ghosts S) (sql : List ℕ) (params : Row) → OnlyReads sql → (old new : Held S) (size : ℕ) (taken : Option (List ℕ)) (are : ℕ) (result : Result X Error) (error : Error) (fault : StoreFault)
     → 0 < size → fault ≡ fault_for error → OnErr result (IsRefused g sql params old result new) → result ≡ Err error
     → EndsSending g sql params old new size taken taken are are (Err (stream_fault_for fault))
-not_begun {X = X} g sql params old new size taken are result error fault some of left is =
+not_begun {X = X} g sql params reads old new size taken are result error fault some of left is =
     let it : IsRefused g sql params old result new = subst (λ (r : Result X Error). OnErr r (IsRefused g sql params old result new)) is left in
     stopped g sql params old new size taken taken are are [] fault some (Appends-nil taken) refl
     (λ late plain. record { given = []; begins = inl refl; sends = refl })
     (λ late plain. query_failed (error, inl (subst (λ (r : Result X Error). IfErr r (FailsToQuery sql params (state g old) (state g new))) is (it.err late)), of))
-    (refused_stays g sql params old new (λ reads. reads) result error it is)
+    (refused_stays g sql params old new reads result error it is)
 
 all_left : (size : ℕ) → size + 0 ≡ size
 all_left size = omega arith
 
 -- one began, and nothing was sent
-pub none_sent : {S : Type 0} (g : Ghosts S) (sql : List ℕ) (params : Row) (old new : Held S) (size : ℕ) (taken : Option (List ℕ)) (are : ℕ)
+pub none_sent : {S : Type 0} (g : Ghosts S) (sql : List ℕ) (params : Row) → OnlyReads sql → (old new : Held S) (size : ℕ) (taken : Option (List ℕ)) (are : ℕ)
     → 0 < size → (HasCleanDisk (state g new) → HasBegun g sql params old new) → (old.in_transaction ≡ false → new.in_transaction ≡ false)
     → Survives (state g old) (state g new) (CommitsShowing sql params (state g old)) → HasSent g sql params old new size size 0 taken taken are are
-none_sent g sql params old new size taken are some begun mode survives = record {
+none_sent g sql params reads old new size taken are some begun mode survives = record {
   some = some;
   sent = [];
   counted = all_left size;
   appended = Appends-nil taken;
-  shown = λ clean reads. let none = begun_reads g sql params old new reads (begun clean) in ([], none.0, none.1, refl, refl);
-  stays = begun_stays g sql params old new (λ reads. reads) begun mode survives;
+  shown = λ clean. let none = begun_reads g sql params old new reads (begun clean) in ([], none.0, none.1, refl, refl);
+  stays = begun_stays g sql params old new reads begun mode survives;
   same = refl;
 }
 
@@ -147,23 +145,23 @@ module _ {S : Type 0} {g : Ghosts S} {sql : List ℕ} {params : Row} {first : He
   -- no more rows can be counted
   pub ends_uncounted : (now : Held S) → HasSent g sql params first now size left count start taken were are → 2 ^ 64 - 1 ≤ count → EndsSending g sql params first now size start taken were are (Err Store)
   ends_uncounted now was full = stopped g sql params first now size start taken were are was.sent store.Store (low was) was.appended was.same
-      (λ late plain. let x = was.shown late (reads_if_plain _ plain) in record { given = x.0; begins = inr (begun g sql params first now x.0 x.1 x.2); sends = x.3 })
-      (λ late plain. let x = was.shown late (reads_if_plain _ plain) in uncounted x.0 (begun g sql params first now x.0 x.1 x.2) (subst (λ n. 2 ^ 64 - 1 ≤ n) (sym x.4) full) refl) was.stays
+      (λ late plain. let x = was.shown late in record { given = x.0; begins = inr (begun g sql params first now x.0 x.1 x.2); sends = x.3 })
+      (λ late plain. let x = was.shown late in uncounted x.0 (begun g sql params first now x.0 x.1 x.2) (subst (λ n. 2 ^ 64 - 1 ≤ n) (sym x.4) full) refl) was.stays
 
   module _ (old new : Rows S g) (result : Result (Option (Bor Row)) Error) (moved : HasMoved g old result new)
       (was : HasSent g sql params first old.conn.now size left count start taken were are) where
     earlier : HasCleanDisk (state g new.conn.now) → HasCleanDisk (state g old.conn.now)
     earlier = row.clean_before g old new result moved
 
-    stays : StaysOver (OnlyReads sql) g first new.conn.now
-    stays = row.stays_on g old new result moved first was.stays (λ late reads. (was.shown late reads).2)
+    stays : StaysOver g first new.conn.now
+    stays = row.stays_on g old new result moved first was.stays (λ late. (was.shown late).2)
 
     -- the rows before this one, and it
-    more : (it : Bor Row) → result ≡ Ok (Some it) → HasCleanDisk (state g new.conn.now) → OnlyReads sql (state g first)
+    more : (it : Bor Row) → result ≡ Ok (Some it) → HasCleanDisk (state g new.conn.now)
         → (given : List Row) × HasGiven g sql params old.conn.now given × IsUnchanged (state g first) (state g old.conn.now) × (was.sent ≡ joined given)
         × HasGiven g sql params new.conn.now (given ++ it.now ∷ []) × IsUnchanged (state g first) (state g new.conn.now) × (length given ≡ count)
-    more it is late reads =
-        let x = was.shown (earlier late) reads in (
+    more it is late =
+        let x = was.shown (earlier late) in (
           x.0,
           x.1,
           x.2,
@@ -175,17 +173,17 @@ module _ {S : Type 0} {g : Ghosts S} {sql : List ℕ} {params : Row} {first : He
 
     between : HasCleanDisk (state g new.conn.now) → OnlyShows sql (state g first) → StopsBetween sql params (state g first) was.sent
     between late plain =
-        let x = was.shown (earlier late) (reads_if_plain _ plain) in record { given = x.0; begins = inr (begun g sql params first old.conn.now x.0 x.1 x.2); sends = x.3 }
+        let x = was.shown (earlier late) in record { given = x.0; begins = inr (begun g sql params first old.conn.now x.0 x.1 x.2); sends = x.3 }
 
     -- it was not given
     pub ends_failed : (error : Error) → result ≡ Err error → (fault : StoreFault) → fault ≡ fault_for error
         → EndsSending g sql params first new.conn.now size start taken were are (Err (stream_fault_for fault))
     ends_failed error is fault of =
         stopped g sql params first new.conn.now size start taken were are was.sent fault (low was) was.appended was.same between
-        (λ late plain. let x = was.shown (earlier late) (reads_if_plain _ plain) in
+        (λ late plain. let x = was.shown (earlier late) in
         query_failed (
           error,
-          inl (fails_from sql params (state g first) (state g old.conn.now) (state g new.conn.now) error plain x.2 (commits_none was.stays (reads_if_plain _ plain)) ((rw is at (moved.err late)) sql params x.0 x.1)),
+          inl (fails_from sql params (state g first) (state g old.conn.now) (state g new.conn.now) error plain x.2 was.stays.survives ((rw is at (moved.err late)) sql params x.0 x.1)),
           of,
         ))
         stays
@@ -194,7 +192,7 @@ module _ {S : Type 0} {g : Ghosts S} {sql : List ℕ} {params : Row} {first : He
     pub ends_short : result ≡ Ok None → EndsSending g sql params first new.conn.now size start taken were are (Err Store)
     ends_short is =
         stopped g sql params first new.conn.now size start taken were are was.sent store.Store (low was) was.appended was.same between
-        (λ late plain. let x = was.shown (earlier late) (reads_if_plain _ plain) in
+        (λ late plain. let x = was.shown (earlier late) in
         too_few x.0 (shown_from sql params (state g first) (state g old.conn.now) (state g new.conn.now) x.0 x.2 plain ((rw is at (moved.ok late)) sql params x.0 x.1))
         (subst (λ (l : List ℕ). length l < size) x.3 (low was)) refl) stays
 
@@ -206,12 +204,11 @@ module _ {S : Type 0} {g : Ghosts S} {sql : List ℕ} {params : Row} {first : He
           → EndsSending g sql params first new.conn.now size start next were later (Err fault)
       ends_cut fault gave refused blames = record {
         streams = cut_sized sql params (state g first) size start taken next was.sent it.now (HasCleanDisk (state g new.conn.now)) (OnlyShows sql (state g first)) fault was.appended gave (low was)
-            (λ late plain. let x = more it is late (reads_if_plain _ plain) in (x.0, begun g sql params first old.conn.now x.0 x.1 x.2, begun g sql params first new.conn.now (x.0 ++ it.now ∷ []) x.4 x.5, x.3));
+            (λ late plain. let x = more it is late in (x.0, begun g sql params first old.conn.now x.0 x.1 x.2, begun g sql params first new.conn.now (x.0 ++ it.now ∷ []) x.4 x.5, x.3));
         why = λ late plain.
-            let x = more it is late (reads_if_plain _ plain) in
+            let x = more it is late in
             cut_why sql params (state g first) (state g new.conn.now) size left was.sent x.0 it.now fault _ _ gave refused was.counted x.3 (begun g sql params first new.conn.now (x.0 ++ it.now ∷ []) x.4 x.5);
-        ok = λ late plain. tt;
-        stays = stays;
+        reads = record { stays = stays; same = λ late. tt };
         outlet = record {
           kept = tt;
           cause = λ e. subst (λ (n : ℕ). HasRisen n later) was.same (blames.cause (ap (fails ℕ) (fault_is (Unit {0}) fault Writer e)));
@@ -227,14 +224,13 @@ module _ {S : Type 0} {g : Ghosts S} {sql : List ℕ} {params : Row} {first : He
           streams = (
             was.sent ++ blob_of it.now,
             Appends-trans start taken next was.sent (blob_of it.now) was.appended gave.0,
-            λ late plain. let x = more it is late (reads_if_plain _ plain) in (
+            λ late plain. let x = more it is late in (
               record { given = x.0 ++ it.now ∷ []; begins = inr (begun g sql params first new.conn.now (x.0 ++ it.now ∷ []) x.4 x.5); sends = joined_more was.sent x.0 it.now x.3 },
               all_sent left n size was.sent (blob_of it.now) none fits gave.1 was.counted,
             ),
           );
           why = λ late plain. tt;
-          ok = λ late reads. (more it is late reads).5;
-          stays = stays;
+          reads = record { stays = stays; same = λ late. (more it is late).5 };
           outlet = record { kept = kept ∙ was.same; cause = λ e. absurd (no_fault (Unit {0}) tt Writer e); others = λ _. kept ∙ was.same };
           there = no_fault (Unit {0}) tt NoSuchFile;
         }
@@ -246,7 +242,7 @@ module _ {S : Type 0} {g : Ghosts S} {sql : List ℕ} {params : Row} {first : He
           sent = was.sent ++ blob_of it.now;
           counted = less_left left n size was.sent (blob_of it.now) fits gave.1 was.counted;
           appended = Appends-trans start taken next was.sent (blob_of it.now) was.appended gave.0;
-          shown = λ late reads. let x = more it is late reads in (x.0 ++ it.now ∷ [], x.4, x.5, joined_more was.sent x.0 it.now x.3, one_longer x.0 it.now count x.6);
+          shown = λ late. let x = more it is late in (x.0 ++ it.now ∷ [], x.4, x.5, joined_more was.sent x.0 it.now x.3, one_longer x.0 it.now count x.6);
           stays = stays;
           same = kept ∙ was.same;
         }

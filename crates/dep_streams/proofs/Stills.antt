@@ -7,14 +7,13 @@ use Rattle.sqlite.specs.Tree.{Trees}
 use Rattle.sqlite_schema.specs.declared.command.Returning.{Returning}
 use Rattle.sqlite.specs.Held.{Held, state}
 use Rattle.sqlite.specs.declared.error.Error.{Error}
-use Rattle.sqlite.proofs.Callers.{IsPlain, unchanged_then}
+use Rattle.sqlite.proofs.Callers.{unchanged_then}
 use Rattle.sqlite.specs.Given.{HasBegun, HasGiven, Returns}
 use Rattle.sqlite_resolve.specs.declared.compiled.Compiled.{Compiled}
 use Rattle.sqlite_resolve.specs.declared.error.CompileError.{CompileError}
 use Rattle.sqlite.proofs.StateLemmas.{survives_then, survives_weaker, unchanged}
 use Rattle.sqlite_trees.specs.declared.store.Store.{Ghosts}
 use Rattle.dep_statements.proofs.Asked.{asks_leave}
-use Rattle.dep_tables.specs.Clauses.{CommitsNothing}
 use Rattle.dep_tables.specs.Schema.{our_schema}
 use Rattle.dep_tables.specs.Tables.{tables_in, tables_of, HasTablesOf, IsOurs, HasOurTables, IsKnown}
 use Rattle.dep_row_maps.proofs.Causes.{survives_itself}
@@ -23,30 +22,26 @@ use Rattle.dep_streams.specs.Reading.{IsKept}
 
 -- ---- one query
 
-pub reads_if_plain : (r : Result Compiled CompileError) → IsPlain r → ShowsNoWrite r
-reads_if_plain (Ok c) plain = plain.0
-reads_if_plain (Err e) plain = tt
-
 never_some : (r : Result Compiled CompileError) → ShowsNoWrite r → Returns r → ⊥
 never_some (Ok c) none some = let told = rw none at some in cc
 never_some (Err e) none some = some
 
 -- a text that shows no rows of a write changes nothing, whatever the schema is
-pub shown_reads : (sql : List ℕ) (params : Row) (old new : State) → OnlyReads sql old → (rows : List Row) → Shown sql params old new rows → IsUnchanged old new
+pub shown_reads : (sql : List ℕ) (params : Row) (old new : State) → OnlyReads sql → (rows : List Row) → Shown sql params old new rows → IsUnchanged old new
 unfolding Shown
 shown_reads sql params old new reads rows h =
-    let none = subst ShowsNoWrite h.1.is reads in
+    let none = subst ShowsNoWrite h.1.is (reads old.now.schema) in
     (subst (ShowsRows old new sql h.0 (timed params h.0.formats h.1.now) rows) none h.2).3
 
-commits_unread : (sql : List ℕ) (params : Row) (s : State) (db : Trees) → OnlyReads sql s → ¬ CommitsShowing sql params s db
+commits_unread : (sql : List ℕ) (params : Row) (s : State) (db : Trees) → OnlyReads sql → ¬ CommitsShowing sql params s db
 unfolding CommitsShowing
-commits_unread sql params s db reads h = never_some (Ok h.0) (subst ShowsNoWrite h.1.is reads) h.2
+commits_unread sql params s db reads h = never_some (Ok h.0) (subst ShowsNoWrite h.1.is (reads s.now.schema)) h.2
 
 -- one that begins has given no row
-pub begun_reads : {S : Type 0} (g : Ghosts S) (sql : List ℕ) (params : Row) (old new : Held S) → OnlyReads sql (state g old) → HasBegun g sql params old new
+pub begun_reads : {S : Type 0} (g : Ghosts S) (sql : List ℕ) (params : Row) (old new : Held S) → OnlyReads sql → HasBegun g sql params old new
     → HasGiven g sql params new [] × IsUnchanged (state g old) (state g new)
 begun_reads g sql params old new reads (inl h) = h
-begun_reads g sql params old new reads (inr h) = absurd (never_some _ reads h.0)
+begun_reads g sql params old new reads (inr h) = absurd (never_some _ (reads old.schema) h.0)
 
 -- what shows rows was open
 pub shown_open : (sql : List ℕ) (params : Row) (old new : State) (rows : List Row) → Shown sql params old new rows → IsTrue old.is_open
@@ -120,70 +115,55 @@ known_still a b still (its, known, ours) = (its, known, subst (HasTablesOf its) 
 
 -- ---- what each call keeps
 
-module _ {S : Type 0} {P : State → Type 0} {g : Ghosts S} where
+module _ {S : Type 0} {g : Ghosts S} where
   -- nothing was asked
-  pub stays_itself : (now : Held S) → StaysOver P g now now
+  pub stays_itself : (now : Held S) → StaysOver g now now
   stays_itself now = record {
     honest = λ late. late;
     was_open = λ late is_open. is_open;
     mode = λ outside. outside;
-    kept = λ late ours is_open. inl (unchanged (state g now) is_open);
-    survives = survives_weaker (state g now) (state g now) _ _ (λ _ db none. absurd none) (survives_itself (state g now));
-  }
-
-  pub commits_none : {a b : Held S} → StaysOver P g a b → P (state g a) → CommitsNothing (state g a) (state g b)
-  commits_none {a} {b} stays ours = survives_weaker (state g a) (state g b) _ _ (λ _ db other. other ours) stays.survives
-
-  -- the same of fewer tables
-  pub stays_of : {Q : State → Type 0} {a b : Held S} → (Q (state g a) → P (state g a)) → StaysOver P g a b → StaysOver Q g a b
-  stays_of {a = a} {b} fewer stays = record {
-    honest = stays.honest;
-    was_open = stays.was_open;
-    mode = stays.mode;
-    kept = λ late ours. stays.kept late (fewer ours);
-    survives = survives_weaker (state g a) (state g b) _ _ (λ _ db other ours. other (fewer ours)) stays.survives;
+    kept = λ late is_open. inl (unchanged (state g now) is_open);
+    survives = survives_itself (state g now);
   }
 
   -- a call behind others that changed nothing
-  pub stays_then : {Q : State → Type 0} {a b c : Held S} → StaysOver P g a b → (HasCleanDisk (state g b) → P (state g a) → IsStill (state g a) (state g b))
-      → (IsStill (state g a) (state g b) → P (state g a) → Q (state g b)) → StaysOver Q g b c → StaysOver P g a c
-  stays_then {a = a} {b} {c} first still next second = record {
+  pub stays_then : {a b c : Held S} → StaysOver g a b → (HasCleanDisk (state g b) → IsStill (state g a) (state g b)) → StaysOver g b c → StaysOver g a c
+  stays_then {a = a} {b} {c} first still second = record {
     honest = λ late. first.honest (second.honest late);
     was_open = λ late is_open. first.was_open (second.honest late) (second.was_open late is_open);
     mode = λ outside. second.mode (first.mode outside);
-    kept = λ late ours. let so_far = still (second.honest late) ours in kept_then (state g a) (state g b) (state g c) so_far (second.kept late (next so_far ours));
-    survives = survives_then (state g a) (state g b) (state g c) _ _ _ (λ _ db other. other)
-        (λ late db other ours. other (next (still (second.honest late) ours) ours)) first.survives second.survives;
+    kept = λ late. kept_then (state g a) (state g b) (state g c) (still (second.honest late)) (second.kept late);
+    survives = survives_then (state g a) (state g b) (state g c) _ _ _ (λ _ db none. none) (λ late db none. none) first.survives second.survives;
   }
 
   -- a query that may commit what it shows of a write, where it shows none
-  pub stays_asked : (sql : List ℕ) (params : Row) {a b : Held S} → (P (state g a) → OnlyReads sql (state g a))
+  pub stays_asked : (sql : List ℕ) (params : Row) {a b : Held S} → OnlyReads sql
       → (HasCleanDisk (state g b) → IsTrue (state g b).is_open → IsTrue (state g a).is_open)
-      → (HasCleanDisk (state g b) → P (state g a) → IsUnchanged (state g a) (state g b) ⊎ IsRolledBack (state g a) (state g b))
+      → (HasCleanDisk (state g b) → IsUnchanged (state g a) (state g b) ⊎ IsRolledBack (state g a) (state g b))
       → ((state g a).in_transaction ≡ false → (state g b).in_transaction ≡ false)
-      → Survives (state g a) (state g b) (CommitsShowing sql params (state g a)) → StaysOver P g a b
+      → Survives (state g a) (state g b) (CommitsShowing sql params (state g a)) → StaysOver g a b
   stays_asked sql params {a} {b} reads was_open left mode survives = record {
     honest = clean_was (state g a) (state g b) (CommitsShowing sql params (state g a)) survives;
     was_open = was_open;
     mode = mode;
-    kept = λ late ours is_open. left late ours;
-    survives = survives_weaker (state g a) (state g b) _ _ (λ _ db commits ours. commits_unread sql params (state g a) db (reads ours) commits) survives;
+    kept = λ late is_open. left late;
+    survives = survives_weaker (state g a) (state g b) _ _ (λ _ db commits. commits_unread sql params (state g a) db reads commits) survives;
   }
 
   -- all of its rows were shown
-  pub stays_shown : (sql : List ℕ) (params : Row) {a b : Held S} (rows : List Row) → (P (state g a) → OnlyReads sql (state g a))
+  pub stays_shown : (sql : List ℕ) (params : Row) {a b : Held S} (rows : List Row) → OnlyReads sql
       → (HasCleanDisk (state g b) → Shown sql params (state g a) (state g b) rows)
       → ((state g a).in_transaction ≡ false → (state g b).in_transaction ≡ false)
-      → Survives (state g a) (state g b) (CommitsShowing sql params (state g a)) → StaysOver P g a b
+      → Survives (state g a) (state g b) (CommitsShowing sql params (state g a)) → StaysOver g a b
   stays_shown sql params {a} {b} rows reads shown = stays_asked sql params reads (λ late _. shown_open sql params (state g a) (state g b) rows (shown late))
-      (λ late ours. inl (shown_reads sql params (state g a) (state g b) (reads ours) rows (shown late)))
+      (λ late. inl (shown_reads sql params (state g a) (state g b) reads rows (shown late)))
 
   -- it failed
-  pub stays_refused : (sql : List ℕ) (params : Row) {a b : Held S} (e : Error) → (P (state g a) → OnlyReads sql (state g a))
+  pub stays_refused : (sql : List ℕ) (params : Row) {a b : Held S} (e : Error) → OnlyReads sql
       → (HasCleanDisk (state g b) → FailsToQuery sql params (state g a) (state g b) e)
       → ((state g a).in_transaction ≡ false → (state g b).in_transaction ≡ false)
-      → Survives (state g a) (state g b) (CommitsShowing sql params (state g a)) → StaysOver P g a b
-  stays_refused sql params {a} {b} e reads failed = stays_asked sql params reads (λ late. left_open (state g a) (state g b) (left late)) (λ late ours. left late)
+      → Survives (state g a) (state g b) (CommitsShowing sql params (state g a)) → StaysOver g a b
+  stays_refused sql params {a} {b} e reads failed = stays_asked sql params reads (λ late. left_open (state g a) (state g b) (left late)) left
     where
       left : HasCleanDisk (state g b) → IsUnchanged (state g a) (state g b) ⊎ IsRolledBack (state g a) (state g b)
       left late = asks_leave sql params (state g a) (state g b) e (inl (failed late))

@@ -5,6 +5,7 @@ use Rattle.sqlite_trees.specs.declared.store.Store.{Ghosts}
 use Rattle.sqlite.specs.State.{State, HasCleanDisk, IsUnchanged, Survives}
 use Rattle.sqlite.specs.Held.{Held, state}
 use Rattle.sqlite.specs.Listing.{understood}
+use Rattle.sqlite.specs.Schema.{Schema}
 use Rattle.sqlite_resolve.specs.declared.compiled.Compiled.{Compiled}
 use Rattle.sqlite_resolve.specs.declared.error.CompileError.{CompileError}
 use Rattle.dep_tables.specs.Clauses.{IsPlainIn}
@@ -20,16 +21,12 @@ abbrev pub ShowsNoWrite : Result Compiled CompileError → Type 0
 ShowsNoWrite (Ok c) = c.returning ≡ None
 ShowsNoWrite (Err e) = ⊤
 
--- the same of a text, by the schema that is seen, whether it is understood or not
-abbrev pub OnlyReads : List ℕ → State → Type 0
-OnlyReads sql s = ShowsNoWrite (understood s.now.schema sql)
+-- the same of a text by any schema, whether it is understood or not
+abbrev pub OnlyReads : List ℕ → Type 0
+OnlyReads sql = (schema : Schema) → ShowsNoWrite (understood schema sql)
 
--- whatever the tables are
-abbrev pub AnyTables : State → Type 0
-AnyTables s = ⊤
-
-module _ {S : Type 0} (are_ours : State → Type 0) (g : Ghosts S) (old new : Held S) where
-  -- what every call keeps that only reads tables that are ours, whatever it answers
+module _ {S : Type 0} (g : Ghosts S) (old new : Held S) where
+  -- what every call keeps that only reads, whatever the tables are, and whatever it answers
   pub record StaysOver : Type 0 where
     -- no fault of the disk is forgotten
     pub honest : HasCleanDisk (state g new) → HasCleanDisk (state g old)
@@ -37,10 +34,22 @@ module _ {S : Type 0} (are_ours : State → Type 0) (g : Ghosts S) (old new : He
     pub was_open : HasCleanDisk (state g new) → IsTrue (state g new).is_open
         → IsTrue (state g old).is_open
     pub mode : (state g old).in_transaction ≡ false → (state g new).in_transaction ≡ false
-    -- Where they are ours, nothing is changed, but that a failure may end a transaction as it began; and a crash leaves
-    -- nothing that it did not leave before.
-    pub kept : HasCleanDisk (state g new) → are_ours (state g old) → IsKept (state g old) (state g new)
-    pub survives : Survives (state g old) (state g new) (λ _. are_ours (state g old) → ⊥)
+    -- Nothing is changed, but that a failure may end a transaction as it began; and a crash leaves nothing that it did
+    -- not leave before.
+    pub kept : HasCleanDisk (state g new) → IsKept (state g old) (state g new)
+    pub survives : Survives (state g old) (state g new) (λ _. ⊥)
+
+module _ {S A E : Type 0} (g : Ghosts S) (old new : Held S) (result : Result A E) where
+  -- and an Ok changes nothing at all
+  pub record ReadsOver : Type 0 where
+    pub stays : StaysOver g old new
+    pub same : HasCleanDisk (state g new) → OnOk result (IsUnchanged (state g old) (state g new))
+
+  -- the same of a call that may ask nothing
+  pub record LeavesOver : Type 0 where
+    pub stays : StaysOver g old new
+    pub same : HasCleanDisk (state g new)
+        → OnOk result ((new ≡ old) ⊎ IsUnchanged (state g old) (state g new))
 
 module _ {S A E : Type 0} (are_ours : State → Type 0) (g : Ghosts S) (old new : Held S)
     (result : Result A E) where
@@ -52,16 +61,6 @@ module _ {S A E : Type 0} (are_ours : State → Type 0) (g : Ghosts S) (old new 
   -- the same of the tables
   abbrev pub TellsOver : (Tables → A → Type 0) → Type 0
   TellsOver told = TellsSeen (λ s. told (tables_of s))
-
-  -- there an Ok changes nothing
-  abbrev pub ReadsOver : Type 0
-  ReadsOver = HasCleanDisk (state g new) → are_ours (state g old)
-      → OnOk result (IsUnchanged (state g old) (state g new))
-
-  -- the same of a call that may ask nothing at all
-  abbrev pub LeavesOver : Type 0
-  LeavesOver = HasCleanDisk (state g new) → are_ours (state g old)
-      → OnOk result ((new ≡ old) ⊎ IsUnchanged (state g old) (state g new))
 
   -- there a failure has this cause
   abbrev pub FailsOver : (State → State → E → Type 0) → Type 0

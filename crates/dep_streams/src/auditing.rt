@@ -2,7 +2,7 @@
 
 ghost use Rattle.sqlite.specs.Held.{state};
 ghost use Rattle.dep_tables.specs.Tables.{IsOurs};
-ghost use Rattle.dep_streams.specs.Clauses.{StaysOver, TellsOver, ReadsOver, LeavesOver, FailsOver};
+ghost use Rattle.dep_streams.specs.Clauses.{TellsOver, ReadsOver, LeavesOver, FailsOver};
 ghost use Rattle.dep_streams.specs.Fixity.{HasFixity, IsAudited, KeepsDamaged};
 ghost use Rattle.dep_streams.specs.Causes.{FailsToFindFixity, FailsToCheck, FailsToAudit};
 
@@ -44,8 +44,7 @@ fn find_fixity<S: Alter, W: Watch>(
         (λ t. HasFixity t file) }
     ensures cause { FailsOver IsOurs S.Store connection.old connection.new result
         (FailsToFindFixity file) }
-    ensures same { ReadsOver IsOurs S.Store connection.old connection.new result }
-    ensures stays { StaysOver IsOurs S.Store connection.old connection.new }
+    ensures reads { ReadsOver S.Store connection.old connection.new result }
 {
     let kept_sha512 = find_sha512(connection, BlockOwner::File(file))?;
     let digests = hash_blocks(connection, BlockOwner::File(file), watch)?;
@@ -66,8 +65,7 @@ fn keep_damaged<S: Alter, W: Watch>(
         (λ t _. KeepsDamaged t row.now damaged.old.items damaged.new.items) }
     ensures cause { FailsOver IsOurs S.Store connection.old connection.new result
         (FailsToCheck row.now) }
-    ensures same { ReadsOver IsOurs S.Store connection.old connection.new result }
-    ensures stays { StaysOver IsOurs S.Store connection.old connection.new }
+    ensures reads { ReadsOver S.Store connection.old connection.new result }
 {
     let found = find_fixity(connection, row.file, watch)?;
     let kept = KeptDigests {
@@ -94,8 +92,7 @@ pub fn audit_files<S: Alter, W: Watch>(
         (λ t. IsAudited t files.now) }
     ensures cause { FailsOver IsOurs S.Store connection.old connection.new result
         (FailsToAudit (state S.Store) files.now) }
-    ensures ok { LeavesOver IsOurs S.Store connection.old connection.new result }
-    ensures stays { StaysOver IsOurs S.Store connection.old connection.new }
+    ensures leaves { LeavesOver S.Store connection.old connection.new result }
 {
     let mut damaged = Vec::new(alloc);
     'files: for row in files {

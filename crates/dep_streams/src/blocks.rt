@@ -2,7 +2,7 @@
 
 ghost use Rattle.std.specs.Prelude.{◌≢◌, Err};
 ghost use Rattle.dep_tables.specs.Tables.{IsOurs};
-ghost use Rattle.dep_streams.specs.Clauses.{AnyTables, StaysOver, LeavesOver, FailsOver, GivesOver};
+ghost use Rattle.dep_streams.specs.Clauses.{LeavesOver, FailsOver, GivesOver};
 ghost use Rattle.dep_streams.specs.Faults.{BlamesOutlet};
 ghost use Rattle.dep_streams.specs.Sent.{SendsBlocksOf};
 ghost use Rattle.dep_streams.specs.Causes.{FailsToSendBlocks};
@@ -25,8 +25,7 @@ pub fn stream_blocks<S: Alter, O: Outlet>(
         (O.taken out.old) (O.taken out.new) (SendsBlocksOf owner size result) }
     ensures why { FailsOver IsOurs S.Store connection.old connection.new result
         (FailsToSendBlocks owner size) }
-    ensures ok { LeavesOver AnyTables S.Store connection.old connection.new result }
-    ensures stays { StaysOver AnyTables S.Store connection.old connection.new }
+    ensures leaves { LeavesOver S.Store connection.old connection.new result }
     ensures outlet { BlamesOutlet StreamFault.Writer (O.failures out.old) (O.failures out.new) result }
     ensures there { result ≢ Err StreamFault.NoSuchFile }
 {

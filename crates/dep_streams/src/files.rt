@@ -8,7 +8,7 @@ ghost use Rattle.dep_statements.specs.Rows.{columns_from};
 ghost use Rattle.dep_tables.specs.Clauses.{AtMostOne, IsFaultAt};
 ghost use Rattle.dep_tables.specs.Rows.{IsNumberRow};
 ghost use Rattle.dep_tables.specs.Tables.{IsKnown};
-ghost use Rattle.dep_streams.specs.Clauses.{StaysOver, TellsOver, ReadsOver, FailsFor};
+ghost use Rattle.dep_streams.specs.Clauses.{TellsOver, ReadsOver, FailsFor};
 ghost use Rattle.dep_streams.specs.Sha512s.{IsFileAfter};
 ghost use Rattle.dep_streams.specs.Causes.{FailsToFindFile};
 
@@ -44,8 +44,7 @@ pub(crate) fn next_file<S: Alter>(
     ensures ok { TellsOver IsKnown S.Store connection.old connection.new result
         (λ t. IsFileAfter t after) }
     ensures cause { FailsFor S.Store connection.old connection.new result (FailsToFindFile after) }
-    ensures same { ReadsOver IsKnown S.Store connection.old connection.new result }
-    ensures stays { StaysOver IsKnown S.Store connection.old connection.new }
+    ensures reads { ReadsOver S.Store connection.old connection.new result }
 {
     if after >= LIMIT {
         return Err(StoreFault::Store);

@@ -7,7 +7,7 @@ ghost use Rattle.dep_fixity.specs.Fixity.{Holds};
 ghost use Rattle.dep_types.specs.declared.store_fault.StoreFault.TheVariants.{Store};
 ghost use Rattle.dep_tables.specs.Rows.{IsBytesValue};
 ghost use Rattle.dep_tables.specs.Tables.{IsKnown};
-ghost use Rattle.dep_streams.specs.Clauses.{OnlyShows, StaysOver, TellsSeen, TellsOver, ReadsOver, FailsOver};
+ghost use Rattle.dep_streams.specs.Clauses.{OnlyReads, OnlyShows, TellsSeen, TellsOver, ReadsOver, FailsOver};
 ghost use Rattle.dep_streams.specs.Sent.{blob_of};
 ghost use Rattle.dep_streams.specs.Fixity.{AreDigestsOf, HashesShown};
 ghost use Rattle.dep_streams.specs.Causes.{FailsToGive, FailsToGiveBlocks};
@@ -43,12 +43,12 @@ fn hash_rows<S: Alter, W: Watch>(
     params: &[ValueRef<'_>],
     watch: &mut W,
 ) -> Result<Digests, StoreFault>
+    requires { OnlyReads sql.now }
     ensures hashes { TellsSeen (OnlyShows sql.now) S.Store connection.old connection.new result
         (HashesShown sql.now (bound params.now)) }
     ensures cause { FailsOver (OnlyShows sql.now) S.Store connection.old connection.new result
         (FailsToGive sql.now (bound params.now) None) }
-    ensures same { ReadsOver (OnlyShows sql.now) S.Store connection.old connection.new result }
-    ensures stays { StaysOver (OnlyShows sql.now) S.Store connection.old connection.new }
+    ensures reads { ReadsOver S.Store connection.old connection.new result }
 {
     let mut hasher = Hasher::new();
     // With `map_err` no proof would know what a failure leaves of the connection.
@@ -77,8 +77,7 @@ pub(crate) fn hash_blocks<S: Alter, W: Watch>(
         (λ t. AreDigestsOf t owner) }
     ensures cause { FailsOver IsKnown S.Store connection.old connection.new result
         (FailsToGiveBlocks owner None) }
-    ensures same { ReadsOver IsKnown S.Store connection.old connection.new result }
-    ensures stays { StaysOver IsKnown S.Store connection.old connection.new }
+    ensures reads { ReadsOver S.Store connection.old connection.new result }
 {
     if !is_storable_owner(owner) {
         return Err(StoreFault::Store);

@@ -1,7 +1,7 @@
 //! The content of a file as a whole.
 
 ghost use Rattle.dep_tables.specs.Tables.{IsOurs};
-ghost use Rattle.dep_streams.specs.Clauses.{AnyTables, StaysOver, TellsOver, FailsOver};
+ghost use Rattle.dep_streams.specs.Clauses.{StaysOver, TellsOver, FailsOver};
 ghost use Rattle.dep_streams.specs.Reading.{IsLoadedFrom};
 ghost use Rattle.dep_streams.specs.Causes.{FailsToLoad};
 
@@ -22,7 +22,7 @@ pub fn load_content<S: Alter>(
         (IsLoadedFrom file) }
     ensures cause { FailsOver IsOurs S.Store connection.old connection.new result
         (FailsToLoad file) }
-    ensures stays { StaysOver AnyTables S.Store connection.old connection.new }
+    ensures stays { StaysOver S.Store connection.old connection.new }
 {
     let mut out = Through::new(Vec::new(alloc));
     match stream_content(connection, file, &mut out) {

@@ -4,7 +4,7 @@ ghost use Rattle.std.specs.Prelude.{◌≡◌, ◌≢◌, ◌⊎◌, ◌≤◌, 
 ghost use Rattle.sqlite.specs.Values.{bound};
 ghost use Rattle.sqlite.specs.Order.{column};
 ghost use Rattle.dep_tables.specs.Rows.{IsBytesValue};
-ghost use Rattle.dep_streams.specs.Clauses.{OnlyReads, OnlyShows, StaysOver, ReadsOver, FailsOver, GivesOver};
+ghost use Rattle.dep_streams.specs.Clauses.{OnlyReads, OnlyShows, ReadsOver, FailsOver, GivesOver};
 ghost use Rattle.dep_streams.specs.Causes.{FailsToSend};
 ghost use Rattle.dep_streams.specs.Faults.{BlamesOutlet};
 ghost use Rattle.dep_streams.specs.Sent.{blob_of, GivesSized, SendsSized};
@@ -41,14 +41,14 @@ pub(crate) fn stream_sized<S: Alter, O: Outlet>(
     size: u64,
     out: &mut O,
 ) -> Result<(), StreamFault>
-    requires { 0 < size }
+    requires some { 0 < size }
+    requires query { OnlyReads sql.now }
     ensures streams { GivesOver (OnlyShows sql.now) S.Store connection.old connection.new
         (O.taken out.old) (O.taken out.new)
         (λ s sent. SendsSized sql.now (bound params.now) s size sent result) }
     ensures why { FailsOver (OnlyShows sql.now) S.Store connection.old connection.new result
         (FailsToSend sql.now (bound params.now) size) }
-    ensures ok { ReadsOver (OnlyReads sql.now) S.Store connection.old connection.new result }
-    ensures stays { StaysOver (OnlyReads sql.now) S.Store connection.old connection.new }
+    ensures reads { ReadsOver S.Store connection.old connection.new result }
     ensures outlet { BlamesOutlet StreamFault.Writer (O.failures out.old) (O.failures out.new) result }
     ensures there { result ≢ Err StreamFault.NoSuchFile }
 {

@@ -9,7 +9,7 @@ ghost use Rattle.dep_types.specs.declared.store_fault.StoreFault.TheVariants.{St
 ghost use Rattle.dep_tables.specs.Clauses.{AtMostOne, IsFaultAt};
 ghost use Rattle.dep_tables.specs.Rows.{HasAt, IsDigestValue, IsSha512Row};
 ghost use Rattle.dep_tables.specs.Tables.{IsOurs};
-ghost use Rattle.dep_streams.specs.Clauses.{StaysOver, TellsOver, ReadsOver, FailsFor};
+ghost use Rattle.dep_streams.specs.Clauses.{TellsOver, ReadsOver, FailsFor};
 ghost use Rattle.dep_streams.specs.Fixity.{IsKeptSha512};
 ghost use Rattle.dep_streams.specs.Causes.{FailsToFindSha512};
 
@@ -51,8 +51,7 @@ pub(crate) fn find_sha512<S: Alter>(
         (λ t. IsKeptSha512 t owner) }
     ensures cause { FailsFor S.Store connection.old connection.new result
         (FailsToFindSha512 owner) }
-    ensures same { ReadsOver IsOurs S.Store connection.old connection.new result }
-    ensures stays { StaysOver IsOurs S.Store connection.old connection.new }
+    ensures reads { ReadsOver S.Store connection.old connection.new result }
 {
     if !is_storable_owner(owner) {
         return Err(StoreFault::Store);

@@ -7,7 +7,7 @@ ghost use Rattle.sqlite.specs.declared.types.Value.TheVariants.{Int};
 ghost use Rattle.dep_statements.specs.Rows.{columns_from};
 ghost use Rattle.dep_tables.specs.Tables.{IsOurs};
 ghost use Rattle.dep_tables.specs.Clauses.{AtMostOne, IsFaultAt};
-ghost use Rattle.dep_streams.specs.Clauses.{AnyTables, StaysOver, TellsOver, ReadsOver, FailsFor};
+ghost use Rattle.dep_streams.specs.Clauses.{TellsOver, ReadsOver, FailsFor};
 ghost use Rattle.dep_streams.specs.Sizes.{IsSizeRow, IsSizeOf, size_values};
 ghost use Rattle.dep_streams.specs.Causes.{FailsToFindSize};
 
@@ -63,8 +63,7 @@ pub(crate) fn find_size<S: Alter>(
     ensures ok { TellsOver IsOurs S.Store connection.old connection.new result
         (λ t. IsSizeOf t file) }
     ensures cause { FailsFor S.Store connection.old connection.new result (FailsToFindSize file) }
-    ensures same { ReadsOver AnyTables S.Store connection.old connection.new result }
-    ensures stays { StaysOver AnyTables S.Store connection.old connection.new }
+    ensures reads { ReadsOver S.Store connection.old connection.new result }
 {
     if file >= LIMIT {
         return Err(StoreFault::Store);

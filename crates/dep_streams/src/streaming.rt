@@ -1,7 +1,7 @@
 //! The content of a file, sent one block at a time, outside a transaction.
 
 ghost use Rattle.dep_tables.specs.Tables.{IsOurs};
-ghost use Rattle.dep_streams.specs.Clauses.{AnyTables, StaysOver, ReadsOver, FailsOver, GivesOver};
+ghost use Rattle.dep_streams.specs.Clauses.{ReadsOver, FailsOver, GivesOver};
 ghost use Rattle.dep_streams.specs.Faults.{BlamesOutlet};
 ghost use Rattle.dep_streams.specs.Sent.{SendsFile};
 ghost use Rattle.dep_streams.specs.Causes.{FailsToSendFile};
@@ -23,8 +23,7 @@ pub fn stream_content<S: Alter, O: Outlet>(
         (O.taken out.old) (O.taken out.new) (SendsFile file result) }
     ensures why { FailsOver IsOurs S.Store connection.old connection.new result
         (FailsToSendFile file) }
-    ensures ok { ReadsOver AnyTables S.Store connection.old connection.new result }
-    ensures stays { StaysOver AnyTables S.Store connection.old connection.new }
+    ensures reads { ReadsOver S.Store connection.old connection.new result }
     ensures outlet { BlamesOutlet StreamFault.Writer (O.failures out.old) (O.failures out.new) result }
 {
     let Some(found) = find_size(connection, file)? else {

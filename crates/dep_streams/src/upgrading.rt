@@ -2,7 +2,7 @@
 
 ghost use Rattle.sqlite.specs.Held.{state};
 ghost use Rattle.dep_tables.specs.Tables.{IsKnown};
-ghost use Rattle.dep_streams.specs.Clauses.{StaysOver, TellsOver, ReadsOver, FailsOver};
+ghost use Rattle.dep_streams.specs.Clauses.{TellsOver, ReadsOver, FailsOver};
 ghost use Rattle.dep_streams.specs.Sha512s.{IsValueAfter, AreValuesOf};
 ghost use Rattle.dep_streams.specs.Causes.{FailsToHashNext, FailsToHashFiles};
 
@@ -24,8 +24,7 @@ fn next_value<S: Alter, W: Watch>(
         (λ t. IsValueAfter t after) }
     ensures cause { FailsOver IsKnown S.Store connection.old connection.new result
         (FailsToHashNext after) }
-    ensures same { ReadsOver IsKnown S.Store connection.old connection.new result }
-    ensures stays { StaysOver IsKnown S.Store connection.old connection.new }
+    ensures reads { ReadsOver S.Store connection.old connection.new result }
 {
     let Some(file) = next_file(connection, after)? else {
         return Ok(None);
@@ -47,8 +46,7 @@ pub fn hash_files<S: Alter, W: Watch>(
         (λ t values. AreValuesOf t values.items) }
     ensures cause { FailsOver IsKnown S.Store connection.old connection.new result
         (FailsToHashFiles (state S.Store)) }
-    ensures ok { ReadsOver IsKnown S.Store connection.old connection.new result }
-    ensures stays { StaysOver IsKnown S.Store connection.old connection.new }
+    ensures reads { ReadsOver S.Store connection.old connection.new result }
 {
     let mut values = Vec::new(alloc);
     let mut last = 0;

@@ -30,7 +30,7 @@ abbrev row_failed : {row : FileSha256} {old new : State} {fault : StoreFault} �
 row_failed {row} {old} {new} {fault} failed = row
 
 pub files-init : goal.files-init
-files-init g c = (stays_itself c.args.connection.now, λ clean ours. inl refl, λ clean ours. ([], tt, c.new-damaged.ensures.items))
+files-init g c = (stays_itself c.args.connection.now, λ clean. inl refl, λ clean ours. ([], tt, c.new-damaged.ensures.items))
 
 pub files-preserved : goal.files-preserved
 files-preserved g c =
@@ -41,12 +41,12 @@ files-preserved g c =
     let new = state g.S.Store c.keep_damaged.new.connection in
     let inv = c.files.invariant in
     let kept = c.in_ok-keep_damaged.ensures in
-    let earlier = kept.stays.honest in
-    let still : HasCleanDisk mid → IsOurs old → IsStill old mid = λ clean ours. still_left g.S.Store first now (inv.1 clean ours) in (
-      stays_then inv.0 still (ours_still old mid) kept.stays,
-      λ clean ours. let so_far = still (earlier clean) ours in inr (still_then old mid new so_far (kept.same clean (ours_still old mid so_far ours))),
+    let earlier = kept.reads.stays.honest in
+    let still : HasCleanDisk mid → IsStill old mid = λ clean. still_left g.S.Store first now (inv.1 clean) in (
+      stays_then inv.0 still kept.reads.stays,
+      λ clean. inr (still_then old mid new (still (earlier clean)) (kept.reads.same clean)),
       λ clean ours.
-          let so_far = still (earlier clean) ours in
+          let so_far = still (earlier clean) in
           let done = inv.2 (earlier clean) ours in
           let noted = kept.notes clean (ours_still old mid so_far ours) in
           let row : FileSha256 = row_noted noted in
@@ -80,8 +80,7 @@ returns g c =
             damaged = done.2 ∙ ap (λ (l : List FileSha256). flat_map number_of (zip l done.0)) whole;
           };
       cause = λ clean ours. tt;
-      ok = inv.1;
-      stays = inv.0;
+      leaves = record { stays = inv.0; same = inv.1 };
     }
 
 pub returns-in_err-keep_damaged : goal.returns-in_err-keep_damaged
@@ -92,14 +91,13 @@ returns-in_err-keep_damaged g c =
     let mid = state g.S.Store now in
     let inv = c.files.invariant in
     let told = c.in_err-keep_damaged.ensures in
-    let still : HasCleanDisk mid → IsOurs old → IsStill old mid = λ clean ours. still_left g.S.Store first now (inv.1 clean ours) in
+    let still : HasCleanDisk mid → IsStill old mid = λ clean. still_left g.S.Store first now (inv.1 clean) in
     let passed = passed_on c.from_residual.result c.in_err-keep_damaged.field-0.0 c.from_residual.ensures.1 in
     rw passed record {
       audits = λ clean ours. tt;
       cause = λ clean ours.
-          let so_far = still (told.stays.honest clean) ours in
+          let so_far = still (told.reads.stays.honest clean) in
           let failed = told.cause clean (ours_still old mid so_far ours) in
           (row_failed failed, Contains-get_or c.args.files.now c.files.row-index _ c.files-test.true, now, so_far.now_is, failed);
-      ok = λ clean ours. tt;
-      stays = stays_then inv.0 still (ours_still old mid) told.stays;
+      leaves = record { stays = stays_then inv.0 still told.reads.stays; same = λ clean. tt };
     }

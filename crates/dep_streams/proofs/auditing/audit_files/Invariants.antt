@@ -14,7 +14,7 @@ invariant-files g l =
     let old = state g.S.Store l.fn.connection in
     let now = state g.S.Store l.connection in
     let done = take l.row-index l.files in
-    StaysOver IsOurs g.S.Store l.fn.connection l.connection
-    × (HasCleanDisk now → IsOurs old → (l.connection ≡ l.fn.connection) ⊎ IsUnchanged old now)
+    StaysOver g.S.Store l.fn.connection l.connection
+    × (HasCleanDisk now → (l.connection ≡ l.fn.connection) ⊎ IsUnchanged old now)
     × (HasCleanDisk now → IsOurs old → (found : List FileFixity) × AllZip (λ row its. HasFixity (tables_of old) row.file its) done found
     × (l.damaged.items ≡ flat_map (λ p. number_if_damaged p.0 p.1) (zip done found)))

@@ -8,7 +8,7 @@ use Rattle.dep_tables.specs.declared.owner.BlockOwner.TheVariants as owner
 use Rattle.dep_streams.specs.Causes.FailsToFindFixity.{no_sha512, no_blocks}
 use Rattle.dep_streams.specs.Fixity.{AreDigestsOf}
 use Rattle.dep_streams.proofs.KnownTables.{blocks_plain}
-use Rattle.dep_streams.proofs.Stills.{IsStill, commits_none, known_still, ours_known, stays_then, still_same}
+use Rattle.dep_streams.proofs.Stills.{IsStill, known_still, ours_known, stays_then, still_same}
 use Rattle.dep_streams.proofs.Streams.{blocks_from}
 use Rattle.dep_streams.proofs.Told.{passed_on}
 use Rattle.dep_streams.proofs.auditing.find_fixity.Goals as goal
@@ -24,8 +24,7 @@ returns-in_err-kept_sha512 g c =
     rw passed record {
       ok = λ clean ours. tt;
       cause = λ clean ours. no_sha512 (told.cause clean);
-      same = λ clean ours. tt;
-      stays = told.stays;
+      reads = record { stays = told.reads.stays; same = λ clean. tt };
     }
 
 pub returns : goal.returns
@@ -38,16 +37,18 @@ returns g c =
     let known : IsUnchanged old mid → IsOurs old → IsKnown mid = λ same. known_then old mid (still_same old mid same) in
     record {
       ok = λ clean ours.
-          let before = second.stays.honest clean in
-          let same = first.same before ours in
+          let before = second.reads.stays.honest clean in
+          let same = first.reads.same before in
           record {
             kept = first.ok before ours;
             digests = subst (λ (t : Tables). AreDigestsOf t (owner.File c.args.file) c.in_ok-digests.digests) (same_tables old mid same)
                 (second.hashes clean (known same ours));
           };
       cause = λ clean ours. tt;
-      same = λ clean ours. let same = first.same (second.stays.honest clean) ours in unchanged_then old mid new same (second.same clean (known same ours));
-      stays = stays_then first.stays (λ clean ours. still_same old mid (first.same clean ours)) (known_then old mid) second.stays;
+      reads = record {
+        stays = stays_then first.reads.stays (λ clean. still_same old mid (first.reads.same clean)) second.reads.stays;
+        same = λ clean. unchanged_then old mid new (first.reads.same (second.reads.stays.honest clean)) (second.reads.same clean);
+      };
     }
 
 -- the blocks were not all read
@@ -63,11 +64,10 @@ returns-in_err-digests g c =
     rw passed record {
       ok = λ clean ours. tt;
       cause = λ clean ours.
-          let before = second.stays.honest clean in
-          let same = first.same before ours in
+          let before = second.reads.stays.honest clean in
+          let same = first.reads.same before in
           no_blocks c.in_ok-kept_sha512.kept_sha512 (first.ok before ours)
-          (blocks_from (owner.File c.args.file) None old mid new fault (blocks_plain old (ours_known old ours)) same (commits_none first.stays ours)
+          (blocks_from (owner.File c.args.file) None old mid new fault (blocks_plain old (ours_known old ours)) same first.reads.stays.survives
           (second.cause clean (known_then old mid (still_same old mid same) ours)));
-      same = λ clean ours. tt;
-      stays = stays_then first.stays (λ clean ours. still_same old mid (first.same clean ours)) (known_then old mid) second.stays;
+      reads = record { stays = stays_then first.reads.stays (λ clean. still_same old mid (first.reads.same clean)) second.reads.stays; same = λ clean. tt };
     }

@@ -8,7 +8,7 @@ pub returns-in_err-found : goal.returns-in_err-found
 returns-in_err-found g c =
     let told = c.in_err-found.ensures in
     let passed = passed_on c.from_residual.result c.in_err-found.field-0.0 c.from_residual.ensures.1 in
-    rw passed record { notes = λ clean ours. tt; cause = λ clean ours. not_found (told.cause clean ours); same = λ clean ours. tt; stays = told.stays }
+    rw passed record { notes = λ clean ours. tt; cause = λ clean ours. not_found (told.cause clean ours); reads = record { stays = told.reads.stays; same = λ clean. tt } }
 
 pub returns : goal.returns
 returns g c =
@@ -16,8 +16,7 @@ returns g c =
     record {
       notes = λ clean ours. record { found = c.in_ok-found.found; its = told.ok clean ours; noted = c.in_ok-note_damaged.ensures.ok };
       cause = λ clean ours. tt;
-      same = told.same;
-      stays = told.stays;
+      reads = record { stays = told.reads.stays; same = told.reads.same };
     }
 
 -- there was no memory to note it
@@ -28,6 +27,5 @@ returns-in_err-note_damaged g c =
     rw passed record {
       notes = λ clean ours. tt;
       cause = λ clean ours. not_noted c.in_ok-found.found (told.ok clean ours) c.in_err-note_damaged.ensures.damaged refl;
-      same = λ clean ours. tt;
-      stays = told.stays;
+      reads = record { stays = told.reads.stays; same = λ clean. tt };
     }

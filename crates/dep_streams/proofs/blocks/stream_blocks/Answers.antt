@@ -1,4 +1,4 @@
-use Rattle.std.proofs.Common.{Some, inl, inr, refl, sym, []}
+use Rattle.std.proofs.Common.{Some, inl, inr, refl, sym, [], subst}
 use Rattle.std.proofs.KnownBytes.{Appends-nil}
 use Rattle.sqlite.specs.Held.{state}
 use Rattle.sqlite.specs.State.{State}
@@ -10,11 +10,11 @@ use Rattle.dep_types.specs.declared.stream_fault.StreamFault.TheVariants.{Writer
 use Rattle.dep_tables.specs.Rows.{owner_values}
 use Rattle.dep_streams.specs.Causes.{FailsToGive, FailsToGiveBlocks}
 use Rattle.dep_streams.specs.Causes.FailsToGiveBlocks.{no_owner, not_given}
-use Rattle.dep_streams.specs.Clauses.{OnlyShows}
+use Rattle.dep_streams.specs.Clauses.{OnlyReads, OnlyShows}
 use Rattle.dep_streams.proofs.FaultsTold.{none_failed, store_stopped, store_there, stopped_more}
 use Rattle.dep_streams.proofs.OrderedBlocks.{sends_owner, owner_is}
 use Rattle.dep_streams.proofs.Queries.{blocks_read}
-use Rattle.dep_streams.proofs.Stills.{stays_itself, stays_of}
+use Rattle.dep_streams.proofs.Stills.{stays_itself}
 use Rattle.dep_files.proofs.Results.{some_where}
 use Rattle.dep_streams.proofs.blocks.stream_blocks.Goals as goal
 
@@ -31,8 +31,7 @@ returns g c =
       streams = (it.0, it.1, λ clean ours. sends_owner old c.args.owner c.args.size it.0 c.stream_sized.result ours (it.2 clean (shows old ours)));
       why = λ clean ours. if_err c.stream_sized.result (sent.why clean (shows old ours))
           (λ fault. stopped_more (FailsToGive blocks_of_text (owner_values c.args.owner) (Some c.args.size) old new) (FailsToGiveBlocks c.args.owner (Some c.args.size) old new) fault (λ of it. not_given it));
-      ok = λ clean any. ok_then c.stream_sized.result (sent.ok clean (blocks_read old)) (λ same. inr same);
-      stays = stays_of (λ any. blocks_read old) sent.stays;
+      leaves = record { stays = sent.reads.stays; same = λ clean. ok_then c.stream_sized.result (sent.reads.same clean) (λ same. inr same) };
       outlet = sent.outlet;
       there = sent.there;
     }
@@ -41,8 +40,7 @@ pub returns-then-size-eq0 : goal.returns-then-size-eq0
 returns-then-size-eq0 g c = record {
   streams = ([], Appends-nil _, λ clean ours. (inl refl, sym c.if-size-eq0.true));
   why = λ clean ours. tt;
-  ok = λ clean ours. inl refl;
-  stays = stays_itself c.args.connection.now;
+  leaves = record { stays = stays_itself c.args.connection.now; same = λ clean. inl refl };
   outlet = record { kept = refl; cause = λ e. absurd (none_failed tt Writer e); others = λ _. refl };
   there = none_failed tt NoSuchFile;
 }
@@ -51,8 +49,10 @@ pub returns-then-not-is_storable_owner : goal.returns-then-not-is_storable_owner
 returns-then-not-is_storable_owner g c = record {
   streams = ([], Appends-nil _, λ clean ours. (inl refl, some_where c.args.size c.if-size-eq0.false));
   why = λ clean ours. no_owner (λ storable. not_storable c.is_storable_owner.result c.if-not-is_storable_owner.true c.is_storable_owner.ensures.1 storable) refl;
-  ok = λ clean ours. tt;
-  stays = stays_itself c.args.connection.now;
+  leaves = record { stays = stays_itself c.args.connection.now; same = λ clean. tt };
   outlet = record { kept = tt; cause = λ e. absurd (store_stopped e); others = λ _. refl };
   there = store_there;
 }
+
+pub stream_sized-requires-clause-query : goal.stream_sized-requires-clause-query
+stream_sized-requires-clause-query g c = subst OnlyReads (sym c.blocks_query.ensures) blocks_read

@@ -1,9 +1,11 @@
-use Rattle.std.proofs.Common.{refl}
+use Rattle.std.proofs.Common.{refl, subst, sym}
 use Rattle.sqlite.specs.Held.{state}
 use Rattle.dep_tables.proofs.Results.{if_then, if_err, not_storable}
 use Rattle.dep_streams.specs.Causes.FailsToGiveBlocks.{no_owner, not_given}
 use Rattle.dep_streams.proofs.KnownTables.{blocks_plain, blocks_in_order}
-use Rattle.dep_streams.proofs.Stills.{stays_itself, stays_of}
+use Rattle.dep_streams.specs.Clauses.{OnlyReads}
+use Rattle.dep_streams.proofs.Queries.{blocks_read}
+use Rattle.dep_streams.proofs.Stills.{stays_itself}
 use Rattle.dep_streams.proofs.hashing.hash_blocks.Goals as goal
 
 pub returns : goal.returns
@@ -15,14 +17,15 @@ returns g c =
       hashes = λ clean known. if_then c.hash_rows.result (told.hashes clean (blocks_plain old known))
           (λ digests it. record { rows = it.rows; ordered = blocks_in_order old o known it.rows it.shown; are = it.are });
       cause = λ clean known. if_err c.hash_rows.result (told.cause clean (blocks_plain old known)) (λ fault it. not_given it);
-      same = λ clean known. told.same clean (blocks_plain old known);
-      stays = stays_of (blocks_plain old) told.stays;
+      reads = told.reads;
     }
 
 pub returns-then-not-is_storable_owner : goal.returns-then-not-is_storable_owner
 returns-then-not-is_storable_owner g c = record {
   hashes = λ clean known. tt;
   cause = λ clean known. no_owner (λ storable. not_storable c.is_storable_owner.result c.if-not-is_storable_owner.true c.is_storable_owner.ensures.1 storable) refl;
-  same = λ clean known. tt;
-  stays = stays_itself c.args.connection.now;
+  reads = record { stays = stays_itself c.args.connection.now; same = λ clean. tt };
 }
+
+pub hash_rows-requires : goal.hash_rows-requires
+hash_rows-requires g c = subst OnlyReads (sym c.blocks_query.ensures) blocks_read

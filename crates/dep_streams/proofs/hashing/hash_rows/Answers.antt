@@ -1,9 +1,9 @@
 use Rattle.std.proofs.Common.{◌≤◌, ◌-◌, ◌^◌, [], refl, sym, subst, Ok, Err, Some, None, ◌∙◌, rules}
 use Rattle.sqlite.specs.Held.{state}
 use Rattle.sqlite.specs.Values.{bound}
-use Rattle.sqlite.proofs.Callers.{begun_plain, given_begin}
+use Rattle.sqlite.proofs.Callers.{given_begin}
 use Rattle.dep_streams.proofs.NextRow.{answered, begun_stays, clean_before}
-use Rattle.dep_streams.proofs.Stills.{reads_if_plain}
+use Rattle.dep_streams.proofs.Stills.{begun_reads}
 use Rattle.dep_streams.proofs.SendingLemmas.{begins_from}
 use Rattle.dep_streams.specs.Causes.FailsToGive.{uncounted}
 use Rattle.dep_types.specs.declared.store_fault.StoreFault.TheVariants.{Store}
@@ -13,9 +13,9 @@ use Rattle.dep_streams.proofs.hashing.hash_rows.Goals as goal
 
 pub returns-in-Err : goal.returns-in-Err
 returns-in-Err g c =
-    let ended = not_begun g.S.Store c.args.sql.now (bound c.args.params.now) c.args.connection.now c.query.follows.lender-at-none
+    let ended = not_begun g.S.Store c.args.sql.now (bound c.args.params.now) c.requires c.args.connection.now c.query.follows.lender-at-none
     c.query.result c.in-Err.error c.fault_of.result c.query.follows.holds-at-none c.in-Err.is c.fault_of.ensures in
-    record { hashes = ended.hashes; cause = ended.cause; same = ended.same; stays = ended.stays }
+    record { hashes = ended.hashes; cause = ended.cause; reads = ended.reads }
 
 pub rows-init : goal.rows-init
 rows-init g c =
@@ -23,9 +23,9 @@ rows-init g c =
     let old = c.args.connection.now in
     let begun = c.in-Ok.rows.conn.now in (
       refl,
-      begun_stays g.S.Store c.args.sql.now (bound c.args.params.now) old begun (reads_if_plain _) made.begun made.mode made.survives,
-      λ clean plain.
-          let none = begun_plain g.S.Store c.args.sql.now (bound c.args.params.now) old begun plain (made.begun clean) in
+      begun_stays g.S.Store c.args.sql.now (bound c.args.params.now) old begun c.requires made.begun made.mode made.survives,
+      λ clean.
+          let none = begun_reads g.S.Store c.args.sql.now (bound c.args.params.now) old begun c.requires (made.begun clean) in
           ([], none.0, none.1, c.new-hasher.ensures, refl),
     )
 
@@ -38,9 +38,9 @@ rows-preserved g c =
     let inv = c.rows.invariant in (
       moved.same_reference ∙ inv.0,
       stays g.S.Store c.rows.rows now c.next.result moved c.args.sql.now (bound c.args.params.now) first c.rows.counter c.rows.hasher inv.1 inv.2,
-      λ late plain.
+      λ late.
           hashed_more g.S.Store c.rows.rows now c.next.result moved c.args.sql.now (bound c.args.params.now) (state g.S.Store first) c.rows.counter c.rows.hasher
-          (inv.2 (clean_before g.S.Store c.rows.rows now c.next.result moved late) plain) late c.in-Some.row c.hash_row.new.hasher some c.in_ok-hash_row.ensures.holds,
+          (inv.2 (clean_before g.S.Store c.rows.rows now c.next.result moved late)) late c.in-Some.row c.hash_row.new.hasher some c.in_ok-hash_row.ensures.holds,
     )
 
 pub returns-in_default : goal.returns-in_default
@@ -53,7 +53,7 @@ returns-in_default g c =
     let ended = subst (λ h. EndsHashing g.S.Store c.args.sql.now (bound c.args.params.now) first h (Ok c.finish.result)) same
     (ends_whole g.S.Store c.rows.rows now c.next.result c.next.follows.holds-at-none c.args.sql.now (bound c.args.params.now) first
     c.rows.counter c.rows.hasher c.rows.invariant.1 c.rows.invariant.2 none c.finish.result c.finish.ensures) in
-    record { hashes = ended.hashes; cause = ended.cause; same = ended.same; stays = ended.stays }
+    record { hashes = ended.hashes; cause = ended.cause; reads = ended.reads }
 
 pub returns-in_err-row : goal.returns-in_err-row
 returns-in_err-row g c =
@@ -68,7 +68,7 @@ returns-in_err-row g c =
     (ends_failed g.S.Store c.rows.rows now c.next.result c.next.follows.holds-at-none c.args.sql.now (bound c.args.params.now) first
     c.rows.counter c.rows.hasher c.rows.invariant.1 c.rows.invariant.2 failed.0 failed.1 fault failed.2) in
     let passed = passed_on c.from_residual.result fault c.from_residual.ensures.1 in
-    rw passed record { hashes = ended.hashes; cause = ended.cause; same = ended.same; stays = ended.stays }
+    rw passed record { hashes = ended.hashes; cause = ended.cause; reads = ended.reads }
 
 pub returns-in_err-hash_row : goal.returns-in_err-hash_row
 returns-in_err-hash_row g c =
@@ -82,7 +82,7 @@ returns-in_err-hash_row g c =
     (ends_refused g.S.Store c.rows.rows now c.next.result c.next.follows.holds-at-none c.args.sql.now (bound c.args.params.now) first
     c.rows.counter c.rows.hasher c.rows.invariant.1 c.rows.invariant.2 c.in-Some.row some fault c.in_err-hash_row.ensures.refused) in
     let passed = passed_on c.from_residual-in_err-hash_row.result fault c.from_residual-in_err-hash_row.ensures.1 in
-    rw passed record { hashes = ended.hashes; cause = ended.cause; same = ended.same; stays = ended.stays }
+    rw passed record { hashes = ended.hashes; cause = ended.cause; reads = ended.reads }
 
 -- no more rows can be counted
 pub returns : goal.returns
@@ -92,10 +92,9 @@ returns g c =
     let same = sym (c.connection-2-1.given.1 names ∙ c.drop-rows-2.ensures) in
     let ended = subst (λ h. EndsHashing g.S.Store c.args.sql.now (bound c.args.params.now) first h (Err Store)) same (record {
       hashes = λ late plain. tt;
-      cause = λ late plain. let x = c.rows.invariant.2 late plain in
+      cause = λ late plain. let x = c.rows.invariant.2 late in
           uncounted x.0 (begins_from c.args.sql.now (bound c.args.params.now) (state g.S.Store first) (state g.S.Store c.rows.rows.conn.now) x.0 x.2
           (given_begin g.S.Store c.args.sql.now (bound c.args.params.now) c.rows.rows.conn.now x.0 x.1)) (subst (λ n. 2 ^ 64 - 1 ≤ n) (sym x.4) c.rows-test.false) refl;
-      same = λ late plain. tt;
-      stays = c.rows.invariant.1;
+      reads = record { stays = c.rows.invariant.1; same = λ late. tt };
     }) in
-    record { hashes = ended.hashes; cause = ended.cause; same = ended.same; stays = ended.stays }
+    record { hashes = ended.hashes; cause = ended.cause; reads = ended.reads }

@@ -2,7 +2,7 @@ use Rattle.std.proofs.Common.{◌≡◌}
 use Rattle.sqlite.specs.State.{HasCleanDisk}
 use Rattle.sqlite.specs.Held.{state}
 use Rattle.sqlite.specs.Values.{bound}
-use Rattle.dep_streams.specs.Clauses.{OnlyShows, StaysOver}
+use Rattle.dep_streams.specs.Clauses.{StaysOver}
 use Rattle.dep_streams.proofs.RowByRow.{Hashed}
 use Rattle.dep_streams.proofs.hashing.hash_rows.Given as goal
 
@@ -12,5 +12,5 @@ invariant-rows g l =
     let old = l.fn.connection in
     let now = l.rows.conn.now in
     (l.rows.conn.ghost_name ≡ l.initial.rows.conn.ghost_name)
-    × StaysOver (OnlyShows l.sql) g.S.Store old now
-    × (HasCleanDisk (state g.S.Store now) → OnlyShows l.sql (state g.S.Store old) → Hashed g.S.Store l.sql (bound l.params) (state g.S.Store old) now l.counter l.hasher)
+    × StaysOver g.S.Store old now
+    × (HasCleanDisk (state g.S.Store now) → Hashed g.S.Store l.sql (bound l.params) (state g.S.Store old) now l.counter l.hasher)

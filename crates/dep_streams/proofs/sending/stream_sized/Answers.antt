@@ -9,16 +9,16 @@ use Rattle.dep_streams.proofs.sending.stream_sized.Goals as goal
 
 pub returns-in-Err : goal.returns-in-Err
 returns-in-Err g c =
-    let it = not_begun g.S.Store c.args.sql.now (bound c.args.params.now) c.args.connection.now c.query.follows.lender-at-none c.args.size
+    let it = not_begun g.S.Store c.args.sql.now (bound c.args.params.now) c.requires.query c.args.connection.now c.query.follows.lender-at-none c.args.size
     (g.O.Outlet.taken c.args.out.now) (g.O.Outlet.failures c.args.out.now) c.query.result c.in-Err.error c.fault_of.result
-    c.requires c.fault_of.ensures c.query.follows.holds-at-none c.in-Err.is in
-    rw c.from.ensures record { streams = it.streams; why = it.why; ok = it.ok; stays = it.stays; outlet = it.outlet; there = it.there }
+    c.requires.some c.fault_of.ensures c.query.follows.holds-at-none c.in-Err.is in
+    rw c.from.ensures record { streams = it.streams; why = it.why; reads = it.reads; outlet = it.outlet; there = it.there }
 
 pub rows-init : goal.rows-init
 rows-init g c = (
   refl,
-  none_sent g.S.Store c.args.sql.now (bound c.args.params.now) c.args.connection.now c.in-Ok.rows.conn.now c.args.size
-      (g.O.Outlet.taken c.args.out.now) (g.O.Outlet.failures c.args.out.now) c.requires c.in-Ok.ensures.begun c.in-Ok.ensures.mode c.in-Ok.ensures.survives,
+  none_sent g.S.Store c.args.sql.now (bound c.args.params.now) c.requires.query c.args.connection.now c.in-Ok.rows.conn.now c.args.size
+      (g.O.Outlet.taken c.args.out.now) (g.O.Outlet.failures c.args.out.now) c.requires.some c.in-Ok.ensures.begun c.in-Ok.ensures.mode c.in-Ok.ensures.survives,
 )
 
 pub rows-preserved : goal.rows-preserved
@@ -48,7 +48,7 @@ returns-in_err-row g c =
     back
     (ends_failed c.rows.rows now c.next.result moved c.rows.invariant.1 failed.0 failed.1 fault failed.2) in
     let passed = passed_on c.from_residual.result (stream_fault_for fault) c.from_residual.ensures.1 in
-    rw passed record { streams = it.streams; why = it.why; ok = it.ok; stays = it.stays; outlet = it.outlet; there = it.there }
+    rw passed record { streams = it.streams; why = it.why; reads = it.reads; outlet = it.outlet; there = it.there }
 
 pub returns-in_default : goal.returns-in_default
 returns-in_default g c =
@@ -62,7 +62,7 @@ returns-in_default g c =
     (Err Store))
     back
     (ends_short c.rows.rows now c.next.result moved c.rows.invariant.1 (answered c.next.result c.in_ok-row.field-0 None (search rules) c.in_default.is)) in
-    record { streams = it.streams; why = it.why; ok = it.ok; stays = it.stays; outlet = it.outlet; there = it.there }
+    record { streams = it.streams; why = it.why; reads = it.reads; outlet = it.outlet; there = it.there }
 
 pub returns-in_err-left : goal.returns-in_err-left
 returns-in_err-left g c =
@@ -82,7 +82,7 @@ returns-in_err-left g c =
     (g.O.Outlet.taken c.give_sized.new.out) (g.O.Outlet.failures c.give_sized.new.out)
     fault gave.gives gave.refused gave.outlet) in
     let passed = passed_on c.from_residual-in_err-left.result fault c.from_residual-in_err-left.ensures.1 in
-    rw passed record { streams = it.streams; why = it.why; ok = it.ok; stays = it.stays; outlet = it.outlet; there = it.there }
+    rw passed record { streams = it.streams; why = it.why; reads = it.reads; outlet = it.outlet; there = it.there }
 
 pub returns-then-left-eq0 : goal.returns-then-left-eq0
 returns-then-left-eq0 g c =
@@ -100,7 +100,7 @@ returns-then-left-eq0 g c =
     c.in-Some.row (answered c.next.result c.in_ok-row.field-0 (Some c.in-Some.row) (search rules) c.in-Some.is)
     (g.O.Outlet.taken c.give_sized.new.out) (g.O.Outlet.failures c.give_sized.new.out)
     c.in_ok-left.field-0 gave.gives gave.fits gave.outlet.kept c.if-left-eq0.true) in
-    record { streams = it.streams; why = it.why; ok = it.ok; stays = it.stays; outlet = it.outlet; there = it.there }
+    record { streams = it.streams; why = it.why; reads = it.reads; outlet = it.outlet; there = it.there }
 
 -- no more rows can be counted
 pub returns : goal.returns
@@ -112,4 +112,4 @@ returns g c =
     (g.O.Outlet.taken c.args.out.now) (g.O.Outlet.taken c.rows.out) (g.O.Outlet.failures c.args.out.now) (g.O.Outlet.failures c.rows.out)
     (Err Store))
     back (ends_uncounted c.rows.rows.conn.now c.rows.invariant.1 c.rows-test.false) in
-    record { streams = it.streams; why = it.why; ok = it.ok; stays = it.stays; outlet = it.outlet; there = it.there }
+    record { streams = it.streams; why = it.why; reads = it.reads; outlet = it.outlet; there = it.there }

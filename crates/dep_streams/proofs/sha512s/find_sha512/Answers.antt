@@ -1,4 +1,5 @@
 use Rattle.std.proofs.Common.{◌≡◌, Ok, inl, inr, ap, subst, map, ◌∙◌, rules}
+use Rattle.std.proofs.lemmas.Result.{IfOk-from_err}
 use Rattle.sqlite.specs.Held.{state}
 use Rattle.dep_statements.specs.Rows.{columns_from}
 use Rattle.dep_statements.proofs.Asked.{shown_unchanged}
@@ -9,7 +10,8 @@ use Rattle.dep_tables.proofs.Leading.{plain_here}
 use Rattle.dep_tables.proofs.Results.{if_ok, if_then, if_err, err_then}
 use Rattle.dep_tables.proofs.Sha512sTable.{finds_sha512, find_is}
 use Rattle.dep_streams.specs.Causes.FailsToFindSha512.{not_told}
-use Rattle.dep_streams.proofs.Stills.{reads_if_plain, stays_shown, stays_refused}
+use Rattle.dep_streams.proofs.Stills.{shown_reads, stays_shown, stays_refused}
+use Rattle.dep_streams.proofs.Queries.{sha512_reads}
 use Rattle.dep_streams.proofs.Told.{IsToldAs, fails_to_ask, was_error}
 use Rattle.dep_streams.proofs.sha512s.find_sha512.Goals as goal
 
@@ -23,8 +25,10 @@ returns g c =
           (λ found read. finds_sha512 (λ b. b) old new c.args.owner found ours (_, rw (asked, c.owner_params.ensures) at (c.query_all.ensures.ok clean), read ∙ ap (map (columns_from 0 1)) c.as_slice.ensures.value));
       cause = λ clean. if_err c.only.result c.only.ensures.refused
           (λ fault it. not_told (inr (_, rw (asked, c.owner_params.ensures) at (c.query_all.ensures.ok clean), subst (λ rows. IsFaultAt ⊥ (AtMostOne IsSha512Row) rows fault) c.as_slice.ensures.value it)));
-      same = λ clean ours. if_ok c.only.result (shown_unchanged _ _ old new (plain_here old find_sha512_text ours find_is.plain) _ (rw asked at (c.query_all.ensures.ok clean)));
-      stays = stays_shown _ _ _ (λ ours. reads_if_plain _ (plain_here old find_sha512_text ours find_is.plain)) (λ clean. rw asked at (c.query_all.ensures.ok clean)) c.query_all.ensures.mode c.query_all.ensures.survives;
+      reads = record {
+        stays = stays_shown _ _ _ sha512_reads (λ clean. rw asked at (c.query_all.ensures.ok clean)) c.query_all.ensures.mode c.query_all.ensures.survives;
+        same = λ clean. if_ok c.only.result (shown_reads _ _ old new sha512_reads _ (rw asked at (c.query_all.ensures.ok clean)));
+      };
     }
 
 pub returns-in_err-rows-clause-cause : goal.returns-in_err-rows-clause-cause
@@ -33,9 +37,11 @@ returns-in_err-rows-clause-cause g c clean =
     err_then c.from_residual.result c.from_residual.ensures.1
     (λ fault is. not_told (inl (fails_to_ask _ _ _ _ c.query_all.result c.in_err-rows.field-0.0 fault told is (rw c.owner_params.ensures at (c.query_all.ensures.err clean)))))
 
-pub returns-in_err-rows-clause-stays : goal.returns-in_err-rows-clause-stays
-returns-in_err-rows-clause-stays g c =
+pub returns-in_err-rows-clause-reads : goal.returns-in_err-rows-clause-reads
+returns-in_err-rows-clause-reads g c =
     let told : IsToldAs c.query_all.result c.in_err-rows.field-0.0 = search rules in
     let failed = was_error c.query_all.result c.in_err-rows.field-0.0 told in
-    stays_refused _ _ failed.0 (λ ours. reads_if_plain _ (plain_here (state g.S.Store c.args.connection.now) find_sha512_text ours find_is.plain)) (λ clean. rw failed.1 at (c.query_all.ensures.err clean))
-    c.query_all.ensures.mode c.query_all.ensures.survives
+    record {
+      stays = stays_refused _ _ failed.0 sha512_reads (λ clean. rw failed.1 at (c.query_all.ensures.err clean)) c.query_all.ensures.mode c.query_all.ensures.survives;
+      same = λ clean. IfOk-from_err c.from_residual.result _ c.from_residual.ensures.0;
+    }

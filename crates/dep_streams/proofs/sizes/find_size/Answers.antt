@@ -1,5 +1,6 @@
 use Rattle.std.proofs.Common.{◌≡◌, Ok, inl, inr, ap, subst, map, ◌∙◌, rules}
 use Rattle.dep_statements.specs.Rows.{columns_from}
+use Rattle.std.proofs.lemmas.Result.{IfOk-from_err}
 use Rattle.sqlite.specs.Held.{state}
 use Rattle.dep_tables.proofs.Results.{if_ok, if_then, if_err, err_then}
 use Rattle.dep_tables.specs.Clauses.{AtMostOne, IsFaultAt}
@@ -21,8 +22,10 @@ returns g c =
           (λ found read. finds_size old new c.args.file found _ ours (rw (asked, c.key_param.ensures) at (c.query_all.ensures.ok clean)) (read ∙ ap (map (columns_from 0 2)) c.as_slice.ensures.value));
       cause = λ clean. if_err c.only.result c.only.ensures.refused
           (λ fault it. not_told (inr (_, rw (asked, c.key_param.ensures) at (c.query_all.ensures.ok clean), subst (λ rows. IsFaultAt ⊥ (AtMostOne IsSizeRow) rows fault) c.as_slice.ensures.value it)));
-      same = λ clean any. if_ok c.only.result (shown_reads _ _ old new (size_reads old) _ (rw asked at (c.query_all.ensures.ok clean)));
-      stays = stays_shown _ _ _ (λ any. size_reads old) (λ clean. rw asked at (c.query_all.ensures.ok clean)) c.query_all.ensures.mode c.query_all.ensures.survives;
+      reads = record {
+        stays = stays_shown _ _ _ size_reads (λ clean. rw asked at (c.query_all.ensures.ok clean)) c.query_all.ensures.mode c.query_all.ensures.survives;
+        same = λ clean. if_ok c.only.result (shown_reads _ _ old new size_reads _ (rw asked at (c.query_all.ensures.ok clean)));
+      };
     }
 
 pub returns-in_err-rows-clause-cause : goal.returns-in_err-rows-clause-cause
@@ -31,8 +34,11 @@ returns-in_err-rows-clause-cause g c clean =
     err_then c.from_residual.result c.from_residual.ensures.1
     (λ fault is. not_told (inl (fails_to_ask _ _ _ _ c.query_all.result c.in_err-rows.field-0.0 fault told is (rw c.key_param.ensures at (c.query_all.ensures.err clean)))))
 
-pub returns-in_err-rows-clause-stays : goal.returns-in_err-rows-clause-stays
-returns-in_err-rows-clause-stays g c =
+pub returns-in_err-rows-clause-reads : goal.returns-in_err-rows-clause-reads
+returns-in_err-rows-clause-reads g c =
     let told : IsToldAs c.query_all.result c.in_err-rows.field-0.0 = search rules in
     let failed = was_error c.query_all.result c.in_err-rows.field-0.0 told in
-    stays_refused _ _ failed.0 (λ any. size_reads (state g.S.Store c.args.connection.now)) (λ clean. rw failed.1 at (c.query_all.ensures.err clean)) c.query_all.ensures.mode c.query_all.ensures.survives
+    record {
+      stays = stays_refused _ _ failed.0 size_reads (λ clean. rw failed.1 at (c.query_all.ensures.err clean)) c.query_all.ensures.mode c.query_all.ensures.survives;
+      same = λ clean. IfOk-from_err c.from_residual.result _ c.from_residual.ensures.0;
+    }

@@ -13,7 +13,7 @@ use Rattle.dep_tables.specs.Texts.{blocks_of_text}
 use Rattle.dep_tables.proofs.Leading.{plain_here}
 use Rattle.dep_tables.proofs.Results.{ok_then, if_err}
 use Rattle.dep_streams.proofs.OrderedBlocks.{owner_is}
-use Rattle.dep_streams.proofs.Stills.{commits_none, stays_then, still_left, still_same}
+use Rattle.dep_streams.proofs.Stills.{stays_then, still_left, still_same}
 use Rattle.dep_streams.proofs.FaultsTold.{no_file_failed, asked_failed, none_streamed, told_for, stopped_then}
 use Rattle.dep_streams.proofs.Told.{passed_on}
 use Rattle.dep_files.proofs.Results.{same_tables}
@@ -29,8 +29,7 @@ returns-in_err-found g c =
     rw passed record {
       streams = ([], Appends-nil _, λ clean ours s are. none_streamed s c.args.file fault);
       why = λ clean ours. told_for (FailsToStream c.args.file _ _) fault (no_size (failed.cause clean));
-      ok = λ clean ours. tt;
-      stays = failed.stays;
+      reads = record { stays = failed.reads.stays; same = λ clean. tt };
       outlet = record { kept = tt; cause = λ e. absurd (asked_failed fault e); others = λ _. refl };
     }
 
@@ -45,8 +44,7 @@ returns-in_default g c =
         λ clean ours s are. (refl, subst (SizeTold s c.args.file) c.in_default.is (size_told (tables_of old) s c.args.file c.in_ok-found.field-0 are ours.trees.ordered.1.1.1.1.0 (sized.ok clean ours))),
       );
       why = λ clean ours. tt;
-      ok = λ clean ours. tt;
-      stays = sized.stays;
+      reads = record { stays = sized.reads.stays; same = λ clean. tt };
       outlet = record { kept = tt; cause = λ e. absurd (no_file_failed e); others = λ _. refl };
     }
 
@@ -58,27 +56,29 @@ returns g c =
     let size = c.in-Some.found.size in
     let sized = c.in_ok-found.ensures in
     let sent = c.stream_blocks.ensures in
-    let before = sent.stays.honest in
+    let before = sent.leaves.stays.honest in
     record {
       streams = (
         sent.streams.0,
         sent.streams.1,
         λ clean ours s are.
-            let same = sized.same (before clean) tt in
+            let same = sized.reads.same (before clean) in
             let told = subst (SizeTold s c.args.file) c.in-Some.is (size_told (tables_of old) s c.args.file c.in_ok-found.field-0 are ours.trees.ordered.1.1.1.1.0 (sized.ok (before clean) ours)) in
             let sends = subst (λ (t : Tables). SendsBlocks (filter (is_block_of (owner.File c.args.file)) t.blocks) size sent.streams.0 c.stream_blocks.result) (same_tables old mid same) (sent.streams.2 clean (still_ours old mid same ours)) in
             streamed (tables_of old) s c.args.file size sent.streams.0 c.stream_blocks.result are told sends,
       );
       why = λ clean ours.
-          let same = sized.same (before clean) tt in
+          let same = sized.reads.same (before clean) in
           let row = sym (rw c.in-Some.is at (sized.ok (before clean) ours)) in
           if_err c.stream_blocks.result (sent.why clean (still_ours old mid same ours))
           (λ fault. stopped_then (FailsToGiveBlocks (owner.File c.args.file) (Some size) mid new) (FailsToStream c.args.file old new) fault
-          (λ of it. no_blocks c.in-Some.found row (blocks_from (owner.File c.args.file) (Some size) old mid new of (plain_here old blocks_of_text ours owner_is.plain) same (commits_none sized.stays tt) it)));
-      ok = λ clean any.
-          let same = sized.same (before clean) tt in
-          ok_then c.stream_blocks.result (sent.ok clean tt)
-          (λ left. unchanged_then old mid new same ((still_left g.S.Store c.find_size.new.connection c.stream_blocks.new.connection left).unchanged same.0.is_open));
-      stays = stays_then sized.stays (λ clean any. still_same old mid (sized.same clean tt)) (λ _ _. tt) sent.stays;
+          (λ of it. no_blocks c.in-Some.found row (blocks_from (owner.File c.args.file) (Some size) old mid new of (plain_here old blocks_of_text ours owner_is.plain) same sized.reads.stays.survives it)));
+      reads = record {
+        stays = stays_then sized.reads.stays (λ clean. still_same old mid (sized.reads.same clean)) sent.leaves.stays;
+        same = λ clean.
+            let same = sized.reads.same (before clean) in
+            ok_then c.stream_blocks.result (sent.leaves.same clean)
+            (λ left. unchanged_then old mid new same ((still_left g.S.Store c.find_size.new.connection c.stream_blocks.new.connection left).unchanged same.0.is_open));
+      };
       outlet = sent.outlet;
     }

@@ -15,7 +15,7 @@ pub files-init : goal.files-init
 files-init g c =
     let now = state g.S.Store c.args.connection.now in (
       stays_itself c.args.connection.now,
-      λ clean known. still_itself now,
+      λ clean. still_itself now,
       λ clean known. subst (λ vs. AreValuesTo (tables_of now) vs 0 0) (sym c.new-values.ensures.items) (no_values (tables_of now)),
     )
 
@@ -26,13 +26,13 @@ files-preserved g c =
     let new = state g.S.Store c.next_value.new.connection in
     let inv = c.files.invariant in
     let told = c.in_ok-value.ensures in
-    let earlier = told.stays.honest in
+    let earlier = told.reads.stays.honest in
     let pushed : is_ok c.push.result ≡ true = search rules in (
-      stays_then inv.0 inv.1 (known_still old mid) told.stays,
-      λ clean known. let still = inv.1 (earlier clean) known in still_same old new (still_then old mid new still (told.same clean (known_still old mid still known))),
+      stays_then inv.0 inv.1 told.reads.stays,
+      λ clean. still_same old new (still_then old mid new (inv.1 (earlier clean)) (told.reads.same clean)),
       λ clean known.
           let before = earlier clean in
-          let still = inv.1 before known in
+          let still = inv.1 before in
           let next = subst (λ (t : Tables). IsValueAfter t c.files.last c.in_ok-value.field-0) (tables_still old mid still) (told.ok clean (known_still old mid still known)) in
           let some = subst (IsValueAfter (tables_of old) c.files.last) c.in-Some.is next in
           subst (λ vs. AreValuesTo (tables_of old) vs c.in-Some.value.file (c.files.counter + 1)) (sym (rw pushed at c.push.ensures.items))
@@ -47,16 +47,15 @@ returns-in_default g c =
     let new = state g.S.Store c.next_value.new.connection in
     let inv = c.files.invariant in
     let told = c.in_ok-value.ensures in
-    let earlier = told.stays.honest in
+    let earlier = told.reads.stays.honest in
     record {
       hashes = λ clean known.
           let before = earlier clean in
-          let still = inv.1 before known in
+          let still = inv.1 before in
           let next = subst (λ (t : Tables). IsValueAfter t c.files.last c.in_ok-value.field-0) (tables_still old mid still) (told.ok clean (known_still old mid still known)) in
           all_valued (tables_of old) c.files.values.items c.files.last c.files.counter (inv.2 before known) (subst (IsValueAfter (tables_of old) c.files.last) c.in_default.is next);
       cause = λ clean known. tt;
-      ok = λ clean known. let still = inv.1 (earlier clean) known in still_then old mid new still (told.same clean (known_still old mid still known));
-      stays = stays_then inv.0 inv.1 (known_still old mid) told.stays;
+      reads = record { stays = stays_then inv.0 inv.1 told.reads.stays; same = λ clean. still_then old mid new (inv.1 (earlier clean)) (told.reads.same clean) };
     }
 
 -- one could not be kept
@@ -70,12 +69,11 @@ returns-in_err-push g c =
     rw passed record {
       hashes = λ clean known. tt;
       cause = λ clean known.
-          let before = told.stays.honest clean in
-          let still = inv.1 before known in
+          let before = told.reads.stays.honest clean in
+          let still = inv.1 before in
           let next = subst (λ (t : Tables). IsValueAfter t c.files.last c.in_ok-value.field-0) (tables_still old mid still) (told.ok clean (known_still old mid still known)) in
           (c.files.last, (inv.2 before known).reached, inr (c.in-Some.value, subst (IsValueAfter (tables_of old) c.files.last) c.in-Some.is next, refl));
-      ok = λ clean known. tt;
-      stays = stays_then inv.0 inv.1 (known_still old mid) told.stays;
+      reads = record { stays = stays_then inv.0 inv.1 told.reads.stays; same = λ clean. tt };
     }
 
 -- one was not found, or not hashed
@@ -89,11 +87,10 @@ returns-in_err-value g c =
     rw passed record {
       hashes = λ clean known. tt;
       cause = λ clean known.
-          let before = told.stays.honest clean in
-          let still = inv.1 before known in
+          let before = told.reads.stays.honest clean in
+          let still = inv.1 before in
           (c.files.last, (inv.2 before known).reached, inl (c.files.connection, still.now_is, told.cause clean (known_still old mid still known)));
-      ok = λ clean known. tt;
-      stays = stays_then inv.0 inv.1 (known_still old mid) told.stays;
+      reads = record { stays = stays_then inv.0 inv.1 told.reads.stays; same = λ clean. tt };
     }
 
 -- So many files would have greater numbers than a table has.
@@ -104,7 +101,6 @@ returns g c =
       hashes = λ clean known. tt;
       cause = λ clean known.
           let so_far = inv.2 clean known in
-          (c.files.last, so_far.reached, inl (c.files.connection, (inv.1 clean known).now_is, no_file (no_number (λ less. omega (arith, less, so_far.few, c.files-test.false)) refl)));
-      ok = λ clean known. tt;
-      stays = inv.0;
+          (c.files.last, so_far.reached, inl (c.files.connection, (inv.1 clean).now_is, no_file (no_number (λ less. omega (arith, less, so_far.few, c.files-test.false)) refl)));
+      reads = record { stays = inv.0; same = λ clean. tt };
     }

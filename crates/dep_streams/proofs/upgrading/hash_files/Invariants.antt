@@ -11,6 +11,6 @@ abbrev pub invariant-files : goal.invariant-files
 invariant-files g l =
     let old = state g.S.Store l.fn.connection in
     let now = state g.S.Store l.connection in
-    StaysOver IsKnown g.S.Store l.fn.connection l.connection
-    × (HasCleanDisk now → IsKnown old → IsStill old now)
+    StaysOver g.S.Store l.fn.connection l.connection
+    × (HasCleanDisk now → IsStill old now)
     × (HasCleanDisk now → IsKnown old → AreValuesTo (tables_of old) l.values.items l.last l.counter)

@@ -8,7 +8,7 @@ use Rattle.dep_streams.specs.Causes.FailsToHashNext.{no_file, no_blocks}
 use Rattle.dep_streams.specs.Fixity.{AreDigestsOf}
 use Rattle.dep_streams.specs.Sha512s.{IsFileAfter}
 use Rattle.dep_streams.proofs.KnownTables.{blocks_plain}
-use Rattle.dep_streams.proofs.Stills.{commits_none, known_still, stays_then, still_same}
+use Rattle.dep_streams.proofs.Stills.{known_still, stays_then, still_same}
 use Rattle.dep_streams.proofs.Streams.{blocks_from}
 use Rattle.dep_streams.proofs.Told.{passed_on}
 use Rattle.dep_streams.proofs.upgrading.next_value.Goals as goal
@@ -18,7 +18,7 @@ pub returns-in_err-file : goal.returns-in_err-file
 returns-in_err-file g c =
     let told = c.in_err-file.ensures in
     let passed = passed_on c.from_residual.result c.in_err-file.field-0.0 c.from_residual.ensures.1 in
-    rw passed record { ok = λ clean known. tt; cause = λ clean known. no_file (told.cause clean); same = λ clean known. tt; stays = told.stays }
+    rw passed record { ok = λ clean known. tt; cause = λ clean known. no_file (told.cause clean); reads = record { stays = told.reads.stays; same = λ clean. tt } }
 
 -- there is none
 pub returns-in_default : goal.returns-in_default
@@ -28,8 +28,7 @@ returns-in_default g c =
     record {
       ok = λ clean known. (subst (IsFileAfter (tables_of old) c.args.after) c.in_default.is (told.ok clean known), tt);
       cause = λ clean known. tt;
-      same = told.same;
-      stays = told.stays;
+      reads = record { stays = told.reads.stays; same = told.reads.same };
     }
 
 pub returns : goal.returns
@@ -41,8 +40,8 @@ returns g c =
     let second = c.in_ok-digests.ensures in
     record {
       ok = λ clean known.
-          let before = second.stays.honest clean in
-          let same = first.same before known in (
+          let before = second.reads.stays.honest clean in
+          let same = first.reads.same before in (
             subst (IsFileAfter (tables_of old) c.args.after) c.in-Some.is (first.ok before known),
             (
               c.in_ok-digests.digests,
@@ -51,10 +50,10 @@ returns g c =
             ),
           );
       cause = λ clean known. tt;
-      same = λ clean known.
-          let same = first.same (second.stays.honest clean) known in
-          unchanged_then old mid new same (second.same clean (known_still old mid (still_same old mid same) known));
-      stays = stays_then first.stays (λ clean known. still_same old mid (first.same clean known)) (known_still old mid) second.stays;
+      reads = record {
+        stays = stays_then first.reads.stays (λ clean. still_same old mid (first.reads.same clean)) second.reads.stays;
+        same = λ clean. unchanged_then old mid new (first.reads.same (second.reads.stays.honest clean)) (second.reads.same clean);
+      };
     }
 
 -- its blocks were not all read
@@ -70,11 +69,10 @@ returns-in_err-digests g c =
     rw passed record {
       ok = λ clean known. tt;
       cause = λ clean known.
-          let before = second.stays.honest clean in
-          let same = first.same before known in
+          let before = second.reads.stays.honest clean in
+          let same = first.reads.same before in
           no_blocks c.in-Some.file (subst (IsFileAfter (tables_of old) c.args.after) c.in-Some.is (first.ok before known))
-          (blocks_from (owner.File c.in-Some.file) None old mid new fault (blocks_plain old known) same (commits_none first.stays known)
+          (blocks_from (owner.File c.in-Some.file) None old mid new fault (blocks_plain old known) same first.reads.stays.survives
           (second.cause clean (known_still old mid (still_same old mid same) known)));
-      same = λ clean known. tt;
-      stays = stays_then first.stays (λ clean known. still_same old mid (first.same clean known)) (known_still old mid) second.stays;
+      reads = record { stays = stays_then first.reads.stays (λ clean. still_same old mid (first.reads.same clean)) second.reads.stays; same = λ clean. tt };
     }
