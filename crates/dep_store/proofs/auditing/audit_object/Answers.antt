@@ -4,7 +4,7 @@ use Rattle.sqlite.proofs.StateLemmas.{clean_if_open}
 use Rattle.dep_store.specs.Auditing.{IsObjectAudited}
 use Rattle.dep_store.proofs.Audited.{audited_of, none_told}
 use Rattle.dep_store.proofs.Carrying.{tables_kept}
-use Rattle.dep_streams.proofs.Stills.{commits_none, still_left}
+use Rattle.dep_streams.proofs.Stills.{still_left}
 use Rattle.dep_tables.specs.Tables.{Tables}
 use Rattle.dep_tables.proofs.Results.{ok_then}
 use Rattle.dep_schema.specs.Standing.{Stands}
@@ -28,22 +28,22 @@ pub returns : goal.returns
 returns g c =
     let mid = state g.S.Store c.list_files.new.connection in
     let new = state g.S.Store c.audit_files.new.connection in
-    let stays = c.audit_files.ensures.stays in
+    let stays = c.audit_files.ensures.leaves.stays in
     let clean_now = clean_if_open (g.S.Store.view c.audit_files.new.connection.store) (g.met.S.Store.shut_if_dirty c.audit_files.new.connection.store) in
     let told = λ (clean : HasCleanDisk new) (t : Tables) (at : Stands (state g.S.Store c.args.connection.now) t). ok_tells _ _ _ _ c.in_ok-files.ensures.transacts (stays.honest clean) t at in
     record {
       ok = λ clean t at.
           let it = told clean t at in
           audited_of mid new t c.args.object c.in_ok-files.files.items c.audit_files.result it.1 it.0
-          (ok_then c.audit_files.result (c.audit_files.ensures.ok clean it.1.ours)
+          (ok_then c.audit_files.result (c.audit_files.ensures.leaves.same clean)
           (λ left. (still_left g.S.Store c.list_files.new.connection c.audit_files.new.connection left).unchanged it.1.is_open))
           (rw c.as_slice.ensures.value at (c.audit_files.ensures.audits clean it.1.ours));
       still = λ is_open t at.
           let it = told (clean_now is_open) t at in
-          tables_kept mid new t it.1 is_open (stays.kept (clean_now is_open) it.1.ours);
+          tables_kept mid new t it.1 is_open (stays.kept (clean_now is_open));
       honest = λ clean. c.in_ok-files.ensures.transacts.honest (stays.honest clean);
       was_open = λ is_open. c.in_ok-files.ensures.opened (stays.honest (clean_now is_open));
       stop = λ clean t at.
           let it = told clean t at in
-          left_still mid new t (λ trees h. g.met.S.Store.settled c.list_files.new.connection.store trees it.1.is_open h) it.1 (commits_none stays it.1.ours) clean;
+          left_still mid new t (λ trees h. g.met.S.Store.settled c.list_files.new.connection.store trees it.1.is_open h) it.1 stays.survives clean;
     }
