@@ -156,10 +156,7 @@ fn refuse(
     ensures { IfOk result (λ p. (s : State) →
         IsReply s (refused_answer delivery.clock refusal (option_copied allow.entry)) delivery p) }
 {
-    match refused(alloc, refusal, allow, delivery) {
-        Ok(performed) => Ok(performed),
-        Err(AllocError) => Err(StoreFault::Memory),
-    }
+    Ok(refused(alloc, refusal, allow, delivery)?)
 }
 
 // What a request for a resource comes to.

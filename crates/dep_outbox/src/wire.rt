@@ -6,7 +6,7 @@ ghost use Rattle.dep_types.specs.Writing.{TakesPart};
 use crate::socket::{Delivered, Sink};
 use crate::spool::{Spool, SpoolFailed};
 use dep_types::{Outlet, WriteFailed};
-use std::alloc::{AllocError, Global};
+use std::alloc::Global;
 
 /// How many bytes wait in memory at most.
 const MOST_IN_MEMORY: usize = 262_144;
@@ -152,10 +152,7 @@ impl<K: Sink, S: Spool> Wire<K, S> {
         if !self.has_room(bytes) && self.spool.is_empty() && self.flush() == Flushed::Failed {
             return Err(WriteFailed);
         }
-        match self.hold(bytes) {
-            Ok(()) => Ok(()),
-            Err(SpoolFailed) => Err(WriteFailed),
-        }
+        Ok(self.hold(bytes)?)
     }
 
     /// Keeps the bytes behind those that are owed.
@@ -166,11 +163,9 @@ impl<K: Sink, S: Spool> Wire<K, S> {
         ensures sink { self.new.sink ≡ self.old.sink }
         ensures failures { self.new.failures ≡ self.old.failures }
     {
-        if self.spool.is_empty() && self.has_room(bytes) {
-            match self.front.extend_from_slice(bytes) {
-                Ok(()) => return Ok(()),
-                Err(AllocError) => {}
-            }
+        let fits = self.spool.is_empty() && self.has_room(bytes);
+        if fits && self.front.extend_from_slice(bytes).is_ok() {
+            return Ok(());
         }
         self.spool.push(bytes)
     }

@@ -137,19 +137,14 @@ impl<R: Files> Spool for FileSpool<'_, R> {
         if bytes.is_empty() {
             return Ok(());
         }
-        match self.append(bytes) {
-            Ok(()) => Ok(()),
-            Err(_) => Err(SpoolFailed),
-        }
+        self.append(bytes).map_err(|_| SpoolFailed)
     }
 
     fn pull(&mut self, into: &mut Vec<u8>) -> Result<(), SpoolFailed> {
         if self.begin == self.end {
             return Err(SpoolFailed);
         }
-        if self.read_into(into).is_err() {
-            return Err(SpoolFailed);
-        }
+        self.read_into(into).map_err(|_| SpoolFailed)?;
         if self.begin == self.end {
             self.forget_file();
         }

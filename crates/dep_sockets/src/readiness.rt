@@ -1,10 +1,11 @@
 //! What the system tells of sockets, as a host is told of it.
-ghost use Rattle.std.specs.Prelude.{◌≡◌, ◌++◌, IfSome};
+ghost use Rattle.std.specs.Prelude.{◌≡◌, ◌++◌, IfOk, OnOk};
 ghost use Rattle.mio.specs.Events.{items};
 ghost use Rattle.dep_sockets.specs.Readiness.{ready_of, readies_of, has_listener};
 
 use mio::event::Event;
 use mio::{Events, Token};
+use std::alloc::AllocError;
 
 /// A connection whose socket may be ready.
 #[derive(Clone, Copy)]
@@ -16,21 +17,25 @@ pub(crate) struct Ready {
 }
 
 /// Notes the connections that are told as ready behind those that were noted. It answers whether the listener is among
-/// them, or nothing where memory runs out.
-pub(crate) fn note_all(polled: &Events, listener: Token, ready: &mut Vec<Ready>) -> Option<bool>
-    ensures noted { IfSome result (λ _.
-        ready.new.items ≡ ready.old.items ++ readies_of listener.0 (items polled.now)) }
-    ensures told { IfSome result (λ told. told ≡ has_listener listener.0 (items polled.now)) }
+/// them.
+pub(crate) fn note_all(
+    polled: &Events,
+    listener: Token,
+    ready: &mut Vec<Ready>,
+) -> Result<bool, AllocError>
+    ensures noted { OnOk result
+        (ready.new.items ≡ ready.old.items ++ readies_of listener.0 (items polled.now)) }
+    ensures told { IfOk result (λ told. told ≡ has_listener listener.0 (items polled.now)) }
 {
     let mut is_waited_for = false;
     for event in polled {
         if event.token() == listener {
             is_waited_for = true;
-        } else if ready.push(ready_of(event)).is_err() {
-            return None;
+        } else {
+            ready.push(ready_of(event))?;
         }
     }
-    Some(is_waited_for)
+    Ok(is_waited_for)
 }
 
 /// What an event tells of a connection. One whose socket failed or was shut may be read and written, which tells how.

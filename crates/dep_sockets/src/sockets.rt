@@ -9,7 +9,7 @@ use dep_outbox::Wire;
 use dep_program::moment_of;
 use mio::net::{TcpListener, TcpStream};
 use mio::{Interest, Poll, Token};
-use std::alloc::Global;
+use std::alloc::{AllocError, Global};
 use std::fs::Files;
 use std::io;
 use std::io::ErrorKind;
@@ -38,6 +38,17 @@ pub enum SocketFault {
     Memory,
     /// The system doesn't tell what is ready.
     Poll,
+}
+
+impl From<AllocError> for SocketFault {
+    ghost use Rattle.std.specs.Prelude.{◌≡◌};
+    ghost use Rattle.dep_sockets.specs.declared.sockets.SocketFault.TheVariants.{Memory};
+
+    ghost from_gives = { λ _ fault. fault ≡ Memory };
+
+    fn from(_error: AllocError) -> SocketFault {
+        SocketFault::Memory
+    }
 }
 
 /// What is told next.
@@ -114,23 +125,30 @@ impl<'a, R: Files + Net + Clock> Sockets<'a, R> {
         self.remaining == 0 && Rc::strong_count(&self.open) == 1
     }
 
-    /// Waits until a socket is ready, or only looks where something is to be done. It answers whether it could.
-    fn wait(&mut self, is_busy: bool) -> bool {
-        let nap = Duration::from_secs(if is_busy { 0 } else { NAP });
-        if self.poll.poll(&mut self.polled, Some(nap)).is_err() {
-            self.fault = Some(SocketFault::Poll);
+    /// Waits, unless it is over. It answers whether it could.
+    fn go_on(&mut self, is_busy: bool) -> bool {
+        if self.is_over() {
             return false;
         }
-        match note_all(&self.polled, LISTENER, &mut self.ready) {
-            Some(is_waited_for) => {
-                self.is_waited_for = self.is_waited_for || is_waited_for;
-                true
-            }
-            None => {
-                self.fault = Some(SocketFault::Memory);
+        match self.wait(is_busy) {
+            Ok(()) => true,
+            Err(fault) => {
+                self.fault = Some(fault);
                 false
             }
         }
+    }
+
+    /// Waits until a socket is ready, or only looks where something is to be done.
+    fn wait(&mut self, is_busy: bool) -> Result<(), SocketFault> {
+        let nap = Duration::from_secs(if is_busy { 0 } else { NAP });
+        self.poll
+            .poll(&mut self.polled, Some(nap))
+            .map_err(|_| SocketFault::Poll)?;
+        if note_all(&self.polled, LISTENER, &mut self.ready)? {
+            self.is_waited_for = true;
+        }
+        Ok(())
     }
 
     /// The next client that waits, if there is a vacancy.
@@ -209,7 +227,7 @@ impl<'a, R: Files + Net + Clock> Events<SocketSource, SocketSink, FileSpool<'a, 
             if let Some(client) = self.let_in(vacancy, count) {
                 return Event::Client(client);
             }
-            if self.is_over() || !self.wait(is_busy || count > 0) {
+            if !self.go_on(is_busy || count > 0) {
                 self.has_ended = true;
                 return Event::End;
             }

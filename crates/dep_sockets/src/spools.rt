@@ -55,9 +55,8 @@ impl<'a, R: Files> Spools<'a, R> {
     pub(crate) fn open(&self) -> io::Result<R::File> {
         for _ in 0..MOST_NAMES {
             match self.open_next() {
-                Ok(file) => return Ok(file),
                 Err(error) if error.kind() == ErrorKind::AlreadyExists => {}
-                Err(error) => return Err(error),
+                opened => return opened,
             }
         }
         Err(ErrorKind::AlreadyExists.into())
