@@ -1,5 +1,5 @@
 -- A segment that was received stays while its upload is there, and an upload's number is never given again.
-use Rattle.std.proofs.Common.{◌≡◌, ◌∙◌, ◌⊎◌, inl, inr, ℕ, ◌<◌, List, Option, Some, None, refl, sym, ap, subst, arith, le_refl, le_trans, lt_of_lt_of_le, le-add_right}
+use Rattle.std.proofs.Common.{◌≡◌, ◌∙◌, ◌⊎◌, inl, inr, ℕ, ◌<◌, List, Option, Some, None, refl, sym, ap, subst, arith, le_refl, le-add_right}
 use Rattle.std.specs.FinMap as map
 use Rattle.dep_types.specs.Maps.{Numbered}
 use Rattle.dep_types.specs.State.{State, Upload, tick, clock_at}
@@ -29,21 +29,12 @@ stays_beside None k new m none j bytes e =
 with_segment_holds : (s : State) (k : ℕ) (new : List ℕ) (u : Upload) → HoldsSegments u (with_segment s k new u)
 with_segment_holds s k new u = stays_beside (map.get u.segments k) k new u.segments refl
 
--- ---- states one after another
+-- ---- nothing changes
 
 pub keeps_segments_refl : (s : State) → KeepsSegments s s
 keeps_segments_refl s = record {
   next = le_refl s.next.upload;
   segments = λ n after e low. (after, e, holds_itself after);
-}
-
-pub keeps_segments_trans : (s t v : State) → KeepsSegments s t → KeepsSegments t v → KeepsSegments s v
-keeps_segments_trans s t v earlier later = record {
-  next = le_trans earlier.next later.next;
-  segments = λ n after e low.
-      let between = later.segments n after e (lt_of_lt_of_le low earlier.next) in
-      let before = earlier.segments n between.0 between.1 low in
-      (before.0, before.1, λ k bytes was. between.2 k bytes (before.2 k bytes was));
 }
 
 -- ---- ticks

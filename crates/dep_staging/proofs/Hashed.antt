@@ -1,6 +1,7 @@
 -- The bytes of segments, block by block.
-use Rattle.std.proofs.Common.{◌≡◌, ℕ, zero, suc, ◌+◌, ◌<◌, T, List, [], ◌∷◌, ◌++◌, length, get_or, take, cond, map, unwrap_or, Option, Some, None, refl, sym, ap, subst, ◌∙◌, nat_cmp, is_eq, append-nil, append_assoc, arith}
+use Rattle.std.proofs.Common.{◌≡◌, ℕ, zero, suc, ◌+◌, ◌<◌, T, List, [], ◌∷◌, ◌++◌, length, get_or, take, cond, map, unwrap_or, Option, Some, None, IfOk, IfErr, refl, sym, ap, subst, ◌∙◌, nat_cmp, is_eq, append-nil, append_assoc, arith}
 use Rattle.std.specs.Prelude.{option_map, slice_get}
+use Rattle.std.specs.Option.{ok_or}
 use Rattle.std.specs.Int.{div_ceil}
 use Rattle.std.specs.List.{flat_map}
 use Rattle.std.specs.FinMap as finmap
@@ -19,19 +20,25 @@ use Rattle.dep_staging.proofs.Entries.{both, passed, above_at}
 
 -- ---- a block
 
-module _ {X : Type 0} (items : X → List ℕ) (s : State) (row : SegmentRow) (bytes : List ℕ) (place : ℕ) (found : Option X) (its : IsSegmentOf s row bytes)
-    (read : option_map items found ≡ slice_get (blocks_of (stored_bytes s row.upload row.number)) place) where
-  of_segment : slice_get (blocks_of bytes) place ≡ option_map items found
-  of_segment = sym (read ∙ ap (λ x. slice_get (blocks_of (unwrap_or x [])) place) its.received)
+module _ {X E : Type 0} (items : X → List ℕ) (s : State) (row : SegmentRow) (place : ℕ) (fault : E) where
+  -- what was read at this place, if anything
+  abbrev IsRead : Option X → Type 0
+  IsRead found = option_map items found ≡ slice_get (blocks_of (stored_bytes s row.upload row.number)) place
 
-  pub block_is : (block : X) → found ≡ Some block → items block ≡ get_or (blocks_of bytes) place []
-  block_is block is = sym (got_by (blocks_of bytes) place (items block) [] (of_segment ∙ ap (option_map items) is))
+  of_segment : (found : Option X) (bytes : List ℕ) → IsRead found → IsSegmentOf s row bytes → slice_get (blocks_of bytes) place ≡ option_map items found
+  of_segment found bytes read its = sym (read ∙ ap (λ x. slice_get (blocks_of (unwrap_or x [])) place) its.received)
+
+  -- a block that was read is the segment's
+  pub block_is : (found : Option X) → IsRead found → IfOk (ok_or found fault) (λ block. (bytes : List ℕ) → IsSegmentOf s row bytes → items block ≡ get_or (blocks_of bytes) place [])
+  block_is None read = tt
+  block_is (Some block) read = λ bytes its. sym (got_by (blocks_of bytes) place (items block) [] (of_segment (Some block) bytes read its))
 
   -- it is there where the segment has so many
-  pub block_there : place < length (blocks_of bytes) → found ≡ None → ⊥
-  block_there within none =
-      let past = past_by (blocks_of bytes) place (of_segment ∙ ap (option_map items) none) in
-      omega (arith, past, within)
+  pub block_there : (P : E → Type 0) (found : Option X) (bytes : List ℕ) → IsRead found → IsSegmentOf s row bytes → place < length (blocks_of bytes) → IfErr (ok_or found fault) P
+  block_there P None bytes read its within =
+      let past = past_by (blocks_of bytes) place (of_segment None bytes read its) in
+      absurd (omega (arith, past, within))
+  block_there P (Some block) bytes read its within = tt
 
 -- so many blocks has the segment
 pub counted : (s : State) (row : SegmentRow) (bytes : List ℕ) → IsSegmentOf s row bytes → div_ceil row.size 65536 ≡ length (blocks_of bytes)

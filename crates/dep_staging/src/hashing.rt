@@ -38,10 +38,7 @@ fn segment_block<T: Statements>(
         (IfErr result (FailsToReadIts segment.now (T.state tx.old) (T.state tx.new)))) }
     ensures keeps { ReadsWithin T.lenders T.state tx.old tx.new result }
 {
-    match stored_block(tx, segment.upload, segment.number, place)? {
-        Some(bytes) => Ok(bytes),
-        None => Err(StoreFault::Store),
-    }
+    stored_block(tx, segment.upload, segment.number, place)?.ok_or(StoreFault::Store)
 }
 
 // Hashes the blocks of a segment from this one on.

@@ -144,13 +144,11 @@ impl RunningHashes {
         Some(self.uploads.remove(due))
     }
 
-    /// Puts one behind the others.
+    /// Puts one behind the others, or drops it where memory is refused.
     pub(crate) fn put(&mut self, run: RunningHash)
         ensures { (s : State) → AreRunning s self.old → IsRunning s run → AreRunning s self.new }
     {
-        if let Err(refused) = self.uploads.push(run) {
-            drop(refused);
-        }
+        let _ = self.uploads.push(run);
     }
 
     fn place_of(&self, upload: u64) -> Option<usize>

@@ -1,6 +1,6 @@
 use Rattle.std.proofs.Common.{subst, sym}
 use Rattle.dep_tables.specs.Tables.{HasOurTables}
-use Rattle.dep_tables.proofs.Chains.{clean_before, stays_ok, stays_then}
+use Rattle.dep_tables.proofs.Chains.{clean_before, stays_err, stays_ok, stays_then}
 use Rattle.dep_changes.proofs.Chains.{ours_then}
 use Rattle.dep_requests.proofs.Stepping.{only_reads, reads_alike, sees_still}
 use Rattle.sqlite.proofs.Callers.{unchanged_then}
@@ -25,6 +25,10 @@ returns-clause-changes g c clean within ours s are sound running =
 
 pub returns-clause-stays : goal.returns-clause-stays
 returns-clause-stays g c = stays_then c.in_ok-ruled.ensures.stays (stays_ok c.in_ok-performed.ensures.stays)
+
+pub returns-in_err-performed-clause-stays : goal.returns-in_err-performed-clause-stays
+returns-in_err-performed-clause-stays g c =
+    stays_err c.from_residual-in_err-performed.ensures.0 (stays_then c.in_ok-ruled.ensures.stays c.in_err-performed.ensures.stays)
 
 pub returns-clause-ours : goal.returns-clause-ours
 returns-clause-ours g c =
