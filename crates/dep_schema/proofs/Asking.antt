@@ -1,11 +1,11 @@
 -- What a query inside a transaction keeps, whatever its text is.
-use Rattle.std.proofs.Common.{◌≡◌, ◌⊎◌, ℕ, List, Result, Err, OnOk, inl, ap, ◌∙◌}
+use Rattle.std.proofs.Common.{◌≡◌, ◌⊎◌, ℕ, List, Result, Ok, Err, IfOk, IfErr, OnOk, OnErr, is_ok, inl, ap, ◌∙◌}
 use Rattle.std.specs.Borrow.{GName, MutBor}
 use Rattle.sqlite_trees.specs.declared.store.Store.{Ghosts}
 use Rattle.sqlite.specs.Order.{Row}
 use Rattle.sqlite.specs.declared.error.Error.{Error}
 use Rattle.sqlite.specs.Held.{Held, state}
-use Rattle.sqlite.specs.State.{HasCleanDisk, Survives, IsUnchanged, Shown, FailsToQuery, IsTooLate}
+use Rattle.sqlite.specs.State.{HasCleanDisk, Survives, IsRolledBack, IsUnchanged, Shown, FailsToQuery, IsTooLate}
 use Rattle.dep_statements.proofs.Asked.{shown_keeps, shown_mode, asks_keep, asks_leave}
 use Rattle.dep_tables.specs.Clauses.{StaysWithin}
 use Rattle.dep_tables.proofs.Chains.{left_whole}
@@ -15,6 +15,9 @@ use Rattle.dep_schema.specs.declared.lending.Lent.{Lent}
 
 module _ {S : Type 0} (g : Ghosts S) (old new : MutBor (Held S)) (same_reference : new.ghost_name ≡ old.ghost_name) (survives : Survives (state g old.now) (state g new.now) (λ _. ⊥)) where
   module _ (sql : List ℕ) (params : Row) where
+    abbrev Failed : Error → Type 0
+    Failed e = FailsToQuery sql params (state g old.now) (state g new.now) e ⊎ IsTooLate sql params (state g old.now) (state g new.now) e
+
     -- it has shown these rows
     pub shown_stays : (rows : List Row) {A E : Type 0} {r : Result A E} → (HasCleanDisk (state g new.now) → Shown sql params (state g old.now) (state g new.now) rows) → StaysOn g old new r
     shown_stays rows {r = r} shown = record {
@@ -28,9 +31,7 @@ module _ {S : Type 0} (g : Ghosts S) (old new : MutBor (Held S)) (same_reference
     }
 
     -- it has failed
-    pub asks_stay : (e : Error) {A E : Type 0} {fault : E}
-        → (HasCleanDisk (state g new.now) → FailsToQuery sql params (state g old.now) (state g new.now) e ⊎ IsTooLate sql params (state g old.now) (state g new.now) e)
-        → StaysOn {A = A} g old new (Err fault)
+    asks_stay : (e : Error) {A E : Type 0} {fault : E} → (HasCleanDisk (state g new.now) → Failed e) → StaysOn {A = A} g old new (Err fault)
     asks_stay e failed = record {
       same_reference = same_reference;
       survives = survives;
@@ -39,9 +40,21 @@ module _ {S : Type 0} (g : Ghosts S) (old new : MutBor (Held S)) (same_reference
       fails = λ clean inside is_open. left_whole (state g old.now) (state g new.now) inside is_open (asks_leave sql params (state g old.now) (state g new.now) e (failed clean));
     }
 
+    -- it has done either, which is told as it is
+    pub asked_stays : {R A E : Type 0} (rows_of : R → List Row) (r : Result R Error) (told : Result A E) → is_ok told ≡ is_ok r
+        → (HasCleanDisk (state g new.now) → IfOk r (λ rows. Shown sql params (state g old.now) (state g new.now) (rows_of rows))) → (HasCleanDisk (state g new.now) → IfErr r Failed) → StaysOn g old new told
+    asked_stays rows_of (Ok rows) told same shown failed = shown_stays (rows_of rows) shown
+    asked_stays rows_of (Err e) (Ok x) same shown failed = absurd (cc)
+    asked_stays rows_of (Err e) (Err fault) same shown failed = asks_stay e failed
+
+    pub asked_leaves : {R A E : Type 0} (r : Result R Error) (told : Result A E) → is_ok told ≡ is_ok r → IfErr r Failed
+        → OnErr told (IsUnchanged (state g old.now) (state g new.now) ⊎ IsRolledBack (state g old.now) (state g new.now))
+    asked_leaves r (Ok x) same failed = tt
+    asked_leaves (Ok rows) (Err fault) same failed = absurd (cc)
+    asked_leaves (Err e) (Err fault) same failed = asks_leave sql params (state g old.now) (state g new.now) e failed
+
     -- it has failed, which may be told as an answer where it has changed nothing
-    pub tells_stay : (e : Error) {A E : Type 0} {r : Result A E}
-        → (HasCleanDisk (state g new.now) → FailsToQuery sql params (state g old.now) (state g new.now) e ⊎ IsTooLate sql params (state g old.now) (state g new.now) e)
+    pub tells_stay : (e : Error) {A E : Type 0} {r : Result A E} → (HasCleanDisk (state g new.now) → Failed e)
         → (HasCleanDisk (state g new.now) → OnOk r (IsUnchanged (state g old.now) (state g new.now))) → StaysOn g old new r
     tells_stay e {r = r} failed same = record {
       same_reference = same_reference;

@@ -12,6 +12,7 @@ use Rattle.sqlite.specs.declared.error.Error.{Error}
 use Rattle.sqlite.specs.declared.transaction.Transaction.{Transaction}
 use Rattle.sqlite_trees.specs.declared.store.Store.{Ghosts}
 use Rattle.dep_types.specs.State.{State}
+use Rattle.dep_types.specs.declared.store_fault.StoreFault.{StoreFault}
 use Rattle.dep_tables.specs.Tables.{Tables, tables_in, tables_of, AreOf, HasTablesOf, HasOurTables, IsOf}
 use Rattle.dep_tables.specs.Clauses.{CommitsNothing, StaysInside}
 use Rattle.dep_schema.specs.Standing.{Holds, HoldsOf, Stands, StandsOf, EndsTransaction}
@@ -21,7 +22,7 @@ use Rattle.sqlite.proofs.StateLemmas.{survives_then}
 use Rattle.dep_schema.proofs.Asking.{LentStays}
 use Rattle.dep_schema.proofs.Transactions.{begins_open, stands_left}
 use Rattle.dep_schema.specs.States.{TablesStandFor, StandsFor, Leaves}
-use Rattle.dep_schema.specs.Transactions.{TransactsTo, Transacts, OnlyTells, IsBackAt, IsGivenBack}
+use Rattle.dep_schema.specs.Transactions.{TransactsTo, Transacts, FailsToEnd, OnlyTells, IsBackAt, IsGivenBack}
 
 -- what a crash leaves while nothing is left to be settled
 abbrev pub IsSettled : db.State → Type 0
@@ -195,19 +196,19 @@ module _ {S : Type 0} (g : Ghosts S) (old inside new : Held S) where
           }
 
       -- its commit failed
-      pub uncommitted : {E : Type 0} (fault : E) (error : Error) → Works → IsMade one two g old inside Makes answer → (HasCleanDisk (state g inside) → IsTrue (state g inside).in_transaction)
-          → (HasCleanDisk (state g new) → FailsToCommit (state g inside) (state g new) error) → Survives (state g inside) (state g new) (λ trees. trees ≡ (state g inside).now.trees)
+      pub uncommitted : (fault : StoreFault) → Works → IsMade one two g old inside Makes answer → (HasCleanDisk (state g inside) → IsTrue (state g inside).in_transaction)
+          → (HasCleanDisk (state g new) → FailsToEnd (state g inside) (state g new) fault) → Survives (state g inside) (state g new) (λ trees. trees ≡ (state g inside).now.trees)
           → (last : Held S) → new ≡ last → TransactsTo one two (state g old) (state g last) (Err fault) Makes
-      uncommitted fault error it made goes_on fails survives last same = subst (λ (h : Held S). TransactsTo one two (state g old) (state g h) (Err fault) Makes) same (record {
+      uncommitted fault it made goes_on fails survives last same = subst (λ (h : Held S). TransactsTo one two (state g old) (state g h) (Err fault) Makes) same (record {
         ok = λ clean t stands. tt;
         err = back_at (λ trees. trees ≡ (state g inside).now.trees) it survives undone;
         honest = was_honest (λ trees. trees ≡ (state g inside).now.trees) it survives;
-        was_open = was_open it survives (λ clean. inr (inl (error, fails clean)));
+        was_open = was_open it survives (λ clean. inr (inl ((fails clean).0, (fails clean).1)));
         stop = left_after it made survives;
       })
         where
           undone : HasCleanDisk (state g new) → IsRolledBack (state g inside) (state g new)
-          undone clean = undone_by_commit (state g inside) (state g new) error (goes_on (clean_inside (λ trees. trees ≡ (state g inside).now.trees) survives clean)) (fails clean)
+          undone clean = undone_by_commit (state g inside) (state g new) (fails clean).0 (goes_on (clean_inside (λ trees. trees ≡ (state g inside).now.trees) survives clean)) (fails clean).1
 
 -- a call on the transaction that was begun, and lent to it, does such work
 module _ {S : Type 0} {begun inside : Lent S} {last : Transaction S} (g : Ghosts S) (old : Held S) where

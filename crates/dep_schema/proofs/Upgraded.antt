@@ -10,8 +10,6 @@ use Rattle.sqlite.specs.Effect.{Database}
 use Rattle.sqlite.specs.State.{State, HasCleanDisk, IsRolledBack, Survives}
 use Rattle.sqlite.specs.Tree.{Trees}
 use Rattle.sqlite.specs.Held.{Held, state}
-use Rattle.sqlite.specs.Steps.{FailsToCommit}
-use Rattle.sqlite.specs.declared.error.Error.{Error}
 use Rattle.sqlite.specs.declared.transaction.Transaction.{Transaction}
 use Rattle.sqlite.proofs.Callers.{survives_begin}
 use Rattle.sqlite.proofs.StateLemmas.{survives_then}
@@ -23,7 +21,6 @@ use Rattle.dep_statements.specs.Adding.{HasCounters, AreFreeFor, Adds}
 use Rattle.dep_tables.specs.Schema.{our_schema, our_tables, older_schema, sha512s_table, files_index, uploads_index}
 use Rattle.dep_tables.specs.Rows.{sha512_values}
 use Rattle.dep_tables.specs.Texts.{insert_sha512_text}
-use Rattle.dep_tables.specs.Faults.{fault_for}
 use Rattle.dep_tables.specs.declared.owner.BlockOwner.TheVariants as owner
 use Rattle.dep_tables.specs.declared.sha512s.FileSha512.{FileSha512}
 use Rattle.dep_tables.specs.Tables.{Tables, tables_of, IsOlder}
@@ -37,6 +34,7 @@ use Rattle.dep_row_maps.specs.Sha512s.{value_rows}
 use Rattle.dep_schema.specs.Beside.{with_tables, AddsIndexes, AreNewNamesFree}
 use Rattle.dep_schema.specs.Standing.{Sees, IsBack, no_schema}
 use Rattle.dep_schema.specs.OpenFaults.{begun}
+use Rattle.dep_schema.specs.Transactions.{FailsToEnd}
 use Rattle.dep_schema.specs.Upgrading.{with_no_sha512s, with_sha512s, FailsToPut, FailsToRewrite, FailsToUpgrade}
 use Rattle.dep_schema.specs.Upgrading.FailsToPut.{no_number, not_put}
 use Rattle.dep_schema.specs.declared.lending.Lent.{Lent}
@@ -190,11 +188,11 @@ module _ {S : Type 0} (g : Ghosts S) (values : List FileSha512) (old : Held S) (
       )
 
   -- its commit failed
-  pub commit_failed : {A E : Type 0} {x : A} (new : Held S) (e : Error) → LentStays {A = A} {E = E} g first inside (Ok x) → HasCleanDisk (state g last.conn.now)
-      → AreNewNamesFree (state g old).now.schema → FailsToCommit (state g last.conn.now) (state g new) e → FailsToUpgrade g old new values (fault_for e)
-  commit_failed new e stays clean free failed =
+  pub commit_failed : {A E : Type 0} {x : A} (new : Held S) (fault : StoreFault) → LentStays {A = A} {E = E} g first inside (Ok x) → HasCleanDisk (state g last.conn.now)
+      → AreNewNamesFree (state g old).now.schema → FailsToEnd (state g last.conn.now) (state g new) fault → FailsToUpgrade g old new values fault
+  commit_failed new fault stays clean free failed =
       let since = subst (λ (h : Held S). CommitsNothing (state g h) (state g last.conn.now)) is (subst (λ (tx : Transaction S). CommitsNothing (state g first.tx.now.conn.now) (state g tx.conn.now)) left stays.survives) in
-      inr (last.conn.now, e, free, survives_begin g old (state g last.conn.now) (λ _. ⊥) since, failed_only (state g last.conn.now) (state g new) e (still_inside g old stays is left clean) failed, refl)
+      inr (last.conn.now, failed.0, free, survives_begin g old (state g last.conn.now) (λ _. ⊥) since, failed_only (state g last.conn.now) (state g new) failed.0 (still_inside g old stays is left clean) failed.1, failed.2)
 
 -- ---- what it leaves, whatever tables there are
 
@@ -205,10 +203,10 @@ module _ {S : Type 0} (g : Ghosts S) (old inside new : Held S) (work : Works g o
       (λ is_open. back g old inside new work.kept survives.clean undone (work.shut is_open) is_open)
 
   -- a commit that failed has ended so too
-  pub commit_back : (e : Error) → Survives (state g inside) (state g new) (λ trees. trees ≡ (state g inside).now.trees) → (HasCleanDisk (state g inside) → IsTrue (state g inside).in_transaction)
-      → (HasCleanDisk (state g new) → FailsToCommit (state g inside) (state g new) e) → IsTrue (state g last).is_open → IsBack (state g old) (state g last)
-  commit_back e survives goes_on fails = subst (λ (h : Held S). IsTrue (state g h).is_open → IsBack (state g old) (state g h)) same
-      (λ is_open. back g old inside new work.kept survives.clean (λ clean. undone_by_commit (state g inside) (state g new) e (goes_on (clean_last (state g inside) (state g new) _ survives clean)) (fails clean)) (work.shut is_open) is_open)
+  pub commit_back : (fault : StoreFault) → Survives (state g inside) (state g new) (λ trees. trees ≡ (state g inside).now.trees) → (HasCleanDisk (state g inside) → IsTrue (state g inside).in_transaction)
+      → (HasCleanDisk (state g new) → FailsToEnd (state g inside) (state g new) fault) → IsTrue (state g last).is_open → IsBack (state g old) (state g last)
+  commit_back fault survives goes_on fails = subst (λ (h : Held S). IsTrue (state g h).is_open → IsBack (state g old) (state g h)) same
+      (λ is_open. back g old inside new work.kept survives.clean (λ clean. undone_by_commit (state g inside) (state g new) (fails clean).0 (goes_on (clean_last (state g inside) (state g new) _ survives clean)) (fails clean).1) (work.shut is_open) is_open)
 
   -- a crash before a commit leaves what it left before
   pub crash_given_up : (P : Trees → Type 0) → CommitsNothing (state g inside) (state g new) → Survives (state g old) (state g last) P

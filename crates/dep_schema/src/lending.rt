@@ -20,16 +20,15 @@ impl<'a, 'b, S: Alter> Statements for Lent<'a, 'b, S> {
     ghost lenders = { λ lent. (lent.tx.ghost_name, lent.tx.now.conn.ghost_name) };
 
     fn run(&mut self, sql: &str, params: &[ValueRef<'_>]) -> Result<(), StoreFault> {
-        match self.tx.execute(sql, params) {
-            Ok(_) => Ok(()),
-            Err(error) => Err(fault_of(error)),
-        }
+        self.tx
+            .execute(sql, params)
+            .map_err(|error| fault_of(error))?;
+        Ok(())
     }
 
     fn ask(&mut self, sql: &str, params: &[ValueRef<'_>]) -> Result<Vec<Row>, StoreFault> {
-        match self.tx.query_all(sql, params) {
-            Ok(rows) => Ok(rows),
-            Err(error) => Err(fault_of(error)),
-        }
+        self.tx
+            .query_all(sql, params)
+            .map_err(|error| fault_of(error))
     }
 }

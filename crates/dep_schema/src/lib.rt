@@ -2,6 +2,7 @@
 //! transaction, and a crash, leave of its tables.
 #![tactic(auto)]
 
+mod committing;
 mod crashes;
 mod indexing;
 mod lending;
@@ -11,6 +12,7 @@ mod performing;
 mod probing;
 mod upgrading;
 
+pub use committing::commit;
 pub use crashes::{began_open, settled};
 pub use lending::Lent;
 pub use opening::{OpenFault, Schema, open};

@@ -13,6 +13,7 @@ ghost use Rattle.dep_schema.specs.Making.{FindsNone, FindsKnown, FindsShown, Mak
 ghost use Rattle.dep_schema.specs.Opening.{StandsKnown, StandsMade, StandsFresh, StandsFound, StandsAdded, WasOpen, SurvivesOpen, OpensBy, RefusesBy};
 ghost use Rattle.dep_schema.specs.OpenFaults.{open_fault_number, told_by, AreVersion, ShowsOrMakes, begun, FailsToOpen, RefusesKnown};
 
+use crate::committing::commit;
 use crate::lending::Lent;
 use crate::making::make_tables;
 use dep_tables::fault_of;
@@ -180,10 +181,8 @@ fn find_or_make<S: Alter>(tx: &mut Transaction<'_, S>) -> Result<u64, OpenFault>
     if let Some(version) = find_format(tx)? {
         return Ok(version);
     }
-    match make_tables(&mut Lent { tx }) {
-        Ok(()) => Ok(2),
-        Err(fault) => Err(OpenFault::from(fault)),
-    }
+    make_tables(&mut Lent { tx })?;
+    Ok(2)
 }
 
 fn prepare<S: Alter>(connection: &mut Connection<S>) -> Result<u64, OpenFault>
@@ -231,10 +230,8 @@ fn prepare<S: Alter>(connection: &mut Connection<S>) -> Result<u64, OpenFault>
 {
     let mut tx = connection.transaction();
     let version = find_or_make(&mut tx)?;
-    match tx.commit() {
-        Ok(()) => Ok(version),
-        Err(error) => Err(OpenFault::from(fault_of(error))),
-    }
+    commit(tx)?;
+    Ok(version)
 }
 
 /// Makes the tables where there is none, in one transaction, and takes a database that has those of version 2 or 1.

@@ -5,13 +5,13 @@ ghost use Rattle.sqlite.specs.Held.{state};
 ghost use Rattle.dep_schema.specs.Performing.{StepsOver, TellsChanges, IsBackUnchanged};
 ghost use Rattle.dep_schema.specs.Transactions.{Transacts};
 
+use crate::committing::commit;
 use crate::lending::Lent;
 use crate::probing::check_open;
 use dep_answers::Service;
 use dep_decisions::Operation;
 use dep_requests::{Done, answer};
 use dep_staging::RunningHashes;
-use dep_tables::fault_of;
 use dep_types::StoreFault;
 use sqlite::{Alter, Connection};
 use std::alloc::Global;
@@ -42,10 +42,8 @@ pub fn perform_request<S: Alter>(
         operation,
     )?;
     if performed.has_changes {
-        return match tx.commit() {
-            Ok(()) => Ok(performed),
-            Err(error) => Err(fault_of(error)),
-        };
+        commit(tx)?;
+        return Ok(performed);
     }
     tx.rollback();
     check_open(connection)?;

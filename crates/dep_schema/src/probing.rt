@@ -22,9 +22,7 @@ pub fn probe<S: Alter>(connection: &mut Connection<S>) -> Result<(), Error>
     ensures survives { Survives (state S.Store connection.old) (state S.Store connection.new) (λ _. ⊥) }
 {
     let _between = connection.is_autocommit();
-    if let Err(error) = connection.prepare("SELECT 1") {
-        return Err(error);
-    }
+    connection.prepare("SELECT 1")?;
     Ok(())
 }
 
@@ -37,8 +35,5 @@ pub fn check_open<S: Alter>(connection: &mut Connection<S>) -> Result<(), StoreF
     ensures mode { (state S.Store connection.new).in_transaction ≡ false }
     ensures survives { Survives (state S.Store connection.old) (state S.Store connection.new) (λ _. ⊥) }
 {
-    match probe(connection) {
-        Ok(()) => Ok(()),
-        Err(error) => Err(fault_of(error)),
-    }
+    probe(connection).map_err(|error| fault_of(error))
 }

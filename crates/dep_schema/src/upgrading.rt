@@ -16,10 +16,11 @@ ghost use Rattle.dep_schema.specs.Texts.{create_sha512s_text};
 ghost use Rattle.dep_schema.specs.Transactions.{TransactsTo};
 ghost use Rattle.dep_schema.specs.Upgrading.{with_no_sha512s, with_sha512s, FailsToExtend, FailsToPut, FailsToRewrite, FailsToUpgrade};
 
+use crate::committing::commit;
 use crate::indexing::create_indexes;
 use crate::lending::Lent;
 use crate::making::SHA512S;
-use dep_tables::{BlockOwner, FileSha512, Statements, fault_of, insert_sha512, write_version};
+use dep_tables::{BlockOwner, FileSha512, Statements, insert_sha512, write_version};
 use dep_types::StoreFault;
 use sqlite::{Alter, Connection};
 
@@ -100,8 +101,6 @@ pub fn upgrade<S: Alter>(
 {
     let mut tx = connection.transaction();
     upgrade_tables(&mut Lent { tx: &mut tx }, values)?;
-    match tx.commit() {
-        Ok(()) => Ok(()),
-        Err(error) => Err(fault_of(error)),
-    }
+    commit(tx)?;
+    Ok(())
 }

@@ -1,5 +1,5 @@
 use Rattle.std.proofs.Common.{◌≡◌, IfSome, Err, inl, inr, ap, refl, rules, subst, sym, ◌∙◌}
-use Rattle.std.proofs.lemmas.Result.{IfOk-from_err}
+use Rattle.std.proofs.lemmas.Result.{IfOk-from_err, err_from_is_err_and}
 use Rattle.sqlite.specs.Effect.{Database}
 use Rattle.sqlite.specs.Held.{state}
 use Rattle.sqlite.specs.State.{HasCleanDisk}
@@ -56,14 +56,14 @@ returns-in-Some g c =
     }
 
 -- where they were made, they were not there
-pub returns-in-Ok : goal.returns-in-Ok
-returns-in-Ok g c =
+pub returns : goal.returns
+returns g c =
     let told = c.in_ok-version.ensures in
     let found = c.in_ok-version.field-0 in
     let last = c.tx-1.given.0 in
     let same : c.make_tables.new.tx.tx.now ≡ last = search rules in
-    let made = rw same at c.in-Ok.ensures in
-    let stays = rw same at (stays_on g.S.Store c.in-Ok.ensures.stays) in
+    let made = rw same at c.in_ok-make_tables.ensures in
+    let stays = rw same at (stays_on g.S.Store c.in_ok-make_tables.ensures.stays) in
     let new = state g.S.Store last.conn.now in
     record {
       empty = λ clean inside empty.
@@ -83,25 +83,27 @@ returns-in-Ok g c =
     }
 
 -- where they were not made, nothing is said of an Ok, and the fault tells no version
-pub returns-in-Err : goal.returns-in-Err
-returns-in-Err g c =
+pub returns-in_err-make_tables : goal.returns-in_err-make_tables
+returns-in_err-make_tables g c =
     let told = c.in_ok-version.ensures in
     let same : c.make_tables.new.tx.tx.now ≡ c.tx-1.given.0 = search rules in
-    let stays = rw same at (stays_on g.S.Store c.in-Err.ensures.stays) in
-    record {
+    let stays = rw same at (stays_on g.S.Store c.in_err-make_tables.ensures.stays) in
+    let fault = c.in_err-make_tables.field-0.0 in
+    let is = err_from_is_err_and c.from_residual-in_err-make_tables.result c.from_residual-in_err-make_tables.ensures.1 in
+    rw is.1 (record {
       empty = λ clean inside empty. tt;
       ours = λ clean known. tt;
-      version = λ clean said. absurd (never_named c.in-Err.fault c.from.result c.from.ensures said);
+      version = λ clean said. absurd (never_named fault is.0 is.2 said);
       gains = λ clean inside lacks. tt;
-      lacking = λ clean said lacks. never_named c.in-Err.fault c.from.result c.from.ensures said;
+      lacking = λ clean said lacks. never_named fault is.0 is.2 said;
       told = λ clean inside.
           let before = clean_before stays clean in
           let last = subst (λ t. HasCleanDisk (state g.S.Store t.conn.now)) (sym same) clean in
-          let failed = subst (λ t. FailsToMake (state g.S.Store) c.find_format.new.tx.conn.now t.conn.now c.in-Err.fault) same
-          (lent_fails g.S.Store _ c.make_tables.new.tx c.in-Err.fault (c.in-Err.ensures.cause last (told.stays.inside before inside))) in
-          inr (c.find_format.new.tx.conn.now, c.in-Err.fault, matched_none _ _ c.in_ok-version.field-0 c.in_default.is (told.told before), told.stays.survives, failed, c.from.ensures);
+          let failed = subst (λ t. FailsToMake (state g.S.Store) c.find_format.new.tx.conn.now t.conn.now fault) same
+          (lent_fails g.S.Store _ c.make_tables.new.tx fault (c.in_err-make_tables.ensures.cause last (told.stays.inside before inside))) in
+          inr (c.find_format.new.tx.conn.now, fault, matched_none _ _ c.in_ok-version.field-0 c.in_default.is (told.told before), told.stays.survives, failed, is.2);
       made = λ clean lacks. tt;
       still = λ clean. tt;
       known = tt;
-      stays = stays_err refl (stays_then {r = Err c.in-Err.fault} told.stays stays);
-    }
+      stays = stays_err refl (stays_then {r = Err fault} told.stays stays);
+    })

@@ -1,5 +1,5 @@
 use Rattle.std.proofs.Common.{◌≡◌, ◌∙◌, inl, inr, IsTrue, refl, subst, rules, ap, Err}
-use Rattle.std.proofs.lemmas.Result.{IfOk-from_err}
+use Rattle.std.proofs.lemmas.Result.{IfOk-from_err, err_from_is_err_and}
 use Rattle.sqlite.specs.Held.{state}
 use Rattle.sqlite.specs.State.{HasCleanDisk}
 use Rattle.sqlite.proofs.Callers.{survives_begin}
@@ -56,12 +56,12 @@ returns-in_err-version g c =
     }
 
 -- where it worked, nothing is said of a fault
-pub returns-in-Ok : goal.returns-in-Ok
-returns-in-Ok g c =
+pub returns : goal.returns
+returns g c =
     let old = c.args.connection.now in
     let last = c.find_or_make.new.tx.conn.now in
     let new = c.connection-2-1.given.0 in
-    let same : c.commit.new.self.0 ≡ new = search rules in
+    let same : c.commit.new.tx.0 ≡ new = search rules in
     let told = c.in_ok-version.ensures in
     let version = c.in_ok-version.version in
     let stays = told.stays in
@@ -69,7 +69,7 @@ returns-in-Ok g c =
     (record { empty = told.empty; ours = told.ours; gains = told.gains; new = told.made; still = told.still; inside = stays.inside; kept = stays.kept; survives = stays.survives }) in
     let shown = subst (λ h. HasCleanDisk (state g.S.Store last) → IsTrue (state g.S.Store h).in_transaction → ShowsOrMakes g.S.Store h version) c.transaction-tx.ensures.begun told.told in
     let ended = subst (λ h. IsCommitted (state g.S.Store last) (state g.S.Store h)) same
-    (record { ended = c.commit.ensures.ended; shows = λ clean. (c.in-Ok.ensures.ok clean).1; survives = c.commit.ensures.survives }) in
+    (record { ended = c.commit.ensures.ended; shows = λ clean. (c.in_ok-commit.ensures.ok clean).0; survives = c.commit.ensures.survives }) in
     record {
       fresh = fresh g.S.Store old last new version made ended;
       found = found g.S.Store old last new version made ended;
@@ -90,34 +90,36 @@ returns-in-Ok g c =
     }
 
 -- a commit that failed is told as no version
-pub returns-in-Err : goal.returns-in-Err
-returns-in-Err g c =
+pub returns-in_err-commit : goal.returns-in_err-commit
+returns-in_err-commit g c =
     let old = c.args.connection.now in
     let last = c.find_or_make.new.tx.conn.now in
     let new = c.connection-2-1.given.0 in
-    let same : c.commit.new.self.0 ≡ new = search rules in
+    let same : c.commit.new.tx.0 ≡ new = search rules in
     let told = c.in_ok-version.ensures in
     let version = c.in_ok-version.version in
     let stays = told.stays in
     let made = subst (λ h. AreMade (state g.S.Store h) (state g.S.Store last) version) c.transaction-tx.ensures.begun
     (record { empty = told.empty; ours = told.ours; gains = told.gains; new = told.made; still = told.still; inside = stays.inside; kept = stays.kept; survives = stays.survives }) in
-    let ended = subst (λ h. IsUncommitted (state g.S.Store last) (state g.S.Store h) c.in-Err.error) same
-    (record { ended = c.commit.ensures.ended; failed = λ clean. c.in-Err.ensures.err clean; survives = c.commit.ensures.survives }) in
-    let undone = fell_back g.S.Store old last new version made c.in-Err.error ended in
-    let tells = c.from.ensures ∙ ap open_fault_for c.fault_of.ensures in
+    let fault = c.in_err-commit.field-0.0 in
+    let ended = subst (λ h. IsUncommitted (state g.S.Store last) (state g.S.Store h) fault) same
+    (record { ended = c.commit.ensures.ended; failed = c.in_err-commit.ensures.err; survives = c.commit.ensures.survives }) in
+    let undone = fell_back g.S.Store old last new version made fault ended in
+    let told = err_from_is_err_and c.from_residual-in_err-commit.result c.from_residual-in_err-commit.ensures.1 in
+    let tells = λ (clean : HasCleanDisk (state g.S.Store new)). told.2 ∙ ap open_fault_for (ended.failed clean).2 in
     let since = survives_begin g.S.Store old (state g.S.Store last) (λ _. ⊥) made.survives in
     let before = clean_last (state g.S.Store last) (state g.S.Store new) _ ended.survives in
-    let failed = λ (clean : HasCleanDisk (state g.S.Store new)). failed_only (state g.S.Store last) (state g.S.Store new) c.in-Err.error (made.inside (before clean) refl) (ended.failed clean) in
-    record {
+    let failed = λ (clean : HasCleanDisk (state g.S.Store new)). failed_only (state g.S.Store last) (state g.S.Store new) (ended.failed clean).0 (made.inside (before clean) refl) (ended.failed clean).1 in
+    rw told.1 (record {
       fresh = λ clean empty. tt;
       found = λ clean its known ours. tt;
       made = λ clean lacks. tt;
       still = λ clean. tt;
       known = tt;
-      version = λ clean said. absurd (never_named c.fault_of.result c.from.result c.from.ensures said);
-      lacking = λ clean said lacks. never_named c.fault_of.result c.from.result c.from.ensures said;
-      told = λ clean. inr (last, c.in-Err.error, (λ lacks. (made.gains (before clean) refl lacks).free), since, failed clean, tells);
-      ours = λ clean known. uncommitted g.S.Store old last new known _ c.in-Err.error (failed clean) tells since ended.survives.counts (before clean);
+      version = λ clean said. absurd (never_named fault told.0 told.2 said);
+      lacking = λ clean said lacks. never_named fault told.0 told.2 said;
+      told = λ clean. inr (last, (ended.failed clean).0, (λ lacks. (made.gains (before clean) refl lacks).free), since, failed clean, tells clean);
+      ours = λ clean known. uncommitted g.S.Store old last new known _ (ended.failed clean).0 (failed clean) (tells clean) since ended.survives.counts (before clean);
       free = λ clean lacks. tt;
       beside = λ clean lacks has. tt;
       left = left g.S.Store old last new made.kept ended.survives.clean undone;
@@ -126,4 +128,4 @@ returns-in-Err g c =
           (clean_if_open (g.S.Store.view new.store) (g.met.S.Store.shut_if_dirty new.store));
       mode = ended.ended;
       crash = crash g.S.Store old last new version made ended.survives;
-    }
+    })

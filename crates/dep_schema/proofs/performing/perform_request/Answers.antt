@@ -1,4 +1,5 @@
 use Rattle.std.proofs.Common.{rules, ◌≡◌, ◌∙◌, false, refl, sym, subst}
+use Rattle.std.proofs.lemmas.Result.{err_from_is_err_and}
 use Rattle.sqlite.specs.State.{Survives}
 use Rattle.dep_schema.specs.Transactions.{IsGivenBack}
 use Rattle.sqlite.proofs.StateLemmas.{clean_if_open}
@@ -20,12 +21,12 @@ returns-in_err-performed-clause-transacts g c =
     gave_up g.S.Store old inside new _ c.from_residual.result c.from_residual.ensures.0 work
     c.drop-tx.ensures.undone c.drop-tx.ensures.survives _ same
 
-pub returns-in-Ok : goal.returns-in-Ok
-returns-in-Ok g c =
+pub returns-then-performed : goal.returns-then-performed
+returns-then-performed g c =
     let old = c.args.connection.now in
     let left : c.answer.new.tx.tx.now ≡ c.tx-2-1.given.0 = search rules in
     let inside = c.tx-2-1.given.0.conn.now in
-    let new = c.commit.new.self.0 in
+    let new = c.commit.new.tx.0 in
     let worked = rw (c.transaction-tx.ensures.begun, left) at c.in_ok-performed.ensures in
     let work = works_within g.S.Store old new c.in_ok-performed.ensures.stays c.transaction-tx.ensures.begun left (λ is_open trees h. g.met.S.Store.settled old.store trees is_open h)
     (clean_if_open (g.S.Store.view new.store) (g.met.S.Store.shut_if_dirty new.store)) in
@@ -33,28 +34,29 @@ returns-in-Ok g c =
     record {
       transacts = committed g.S.Store old inside new _ _ work
           (works g.S.Store old inside c.args.service.now c.args.operation.now c.args.running.now c.in_ok-performed.performed worked.map worked.ours)
-          (λ clean. let ok = c.in-Ok.ensures.ok clean in (ok.1, ok.2, ok.3)) c.commit.ensures.survives _ same;
+          c.in_ok-commit.ensures.ok c.commit.ensures.survives _ same;
       changes = λ clean s stands running. told_inside g.S.Store old inside new _ _ worked.changes c.commit.ensures.survives _ same clean s stands stands.means.sound running;
       back = λ none. cc (sym c.if-performed.true ∙ none);
     }
 
-pub returns-in-Err : goal.returns-in-Err
-returns-in-Err g c =
+pub returns-in_err-commit : goal.returns-in_err-commit
+returns-in_err-commit g c =
     let old = c.args.connection.now in
     let left : c.answer.new.tx.tx.now ≡ c.tx-2-1.given.0 = search rules in
     let inside = c.tx-2-1.given.0.conn.now in
-    let new = c.commit.new.self.0 in
+    let new = c.commit.new.tx.0 in
     let worked = rw (c.transaction-tx.ensures.begun, left) at c.in_ok-performed.ensures in
     let work = works_within g.S.Store old new c.in_ok-performed.ensures.stays c.transaction-tx.ensures.begun left (λ is_open trees h. g.met.S.Store.settled old.store trees is_open h)
     (clean_if_open (g.S.Store.view new.store) (g.met.S.Store.shut_if_dirty new.store)) in
     let same : new ≡ c.connection-then-performed-1.given.0 = search rules in
-    record {
-      transacts = uncommitted g.S.Store old inside new _ c.in_ok-performed.performed _ c.in-Err.error work
+    let told = err_from_is_err_and c.from_residual-in_err-commit.result c.from_residual-in_err-commit.ensures.1 in
+    rw (told.1, told.2) (record {
+      transacts = uncommitted g.S.Store old inside new _ c.in_ok-performed.performed c.in_err-commit.field-0.0 work
           (works g.S.Store old inside c.args.service.now c.args.operation.now c.args.running.now c.in_ok-performed.performed worked.map worked.ours)
-          (still_inside g.S.Store old c.in_ok-performed.ensures.stays c.transaction-tx.ensures.begun left) (λ clean. c.in-Err.ensures.err clean) c.commit.ensures.survives _ same;
+          (still_inside g.S.Store old c.in_ok-performed.ensures.stays c.transaction-tx.ensures.begun left) c.in_err-commit.ensures.err c.commit.ensures.survives _ same;
       changes = λ clean s stands running. tt;
       back = tt;
-    }
+    })
 
 pub returns-in_err-check_open-clause-transacts : goal.returns-in_err-check_open-clause-transacts
 returns-in_err-check_open-clause-transacts g c =

@@ -3,7 +3,7 @@ use Rattle.sqlite.specs.Held.{Held, state}
 use Rattle.sqlite.specs.State.{HasCleanDisk}
 use Rattle.sqlite.specs.declared.transaction.Transaction.{Transaction}
 use Rattle.sqlite.proofs.StateLemmas.{clean_if_open}
-use Rattle.std.proofs.lemmas.Result.{IfOk-from_err}
+use Rattle.std.proofs.lemmas.Result.{IfOk-from_err, err_from_is_err_and}
 use Rattle.dep_schema.proofs.Transacting.{gave_up, committed, uncommitted, works_within, still_inside}
 use Rattle.dep_tables.proofs.Chains.{was_clean}
 use Rattle.dep_tables.proofs.Results.{if_failed}
@@ -37,12 +37,12 @@ returns-in_err-upgrade_tables g c =
       crash = crash_given_up g.S.Store old inside new work _ same _ c.drop-tx.ensures.survives;
     }
 
-pub returns-in-Ok : goal.returns-in-Ok
-returns-in-Ok g c =
+pub returns : goal.returns
+returns g c =
     let old = c.args.connection.now in
     let left : c.upgrade_tables.new.tx.tx.now ≡ c.tx-2-1.given.0 = search rules in
     let inside = c.tx-2-1.given.0.conn.now in
-    let new = c.commit.new.self.0 in
+    let new = c.commit.new.tx.0 in
     let worked = rw (c.transaction-tx.ensures.begun, left) at c.in_ok-upgrade_tables.ensures in
     let work = works_within g.S.Store old new c.in_ok-upgrade_tables.ensures.stays c.transaction-tx.ensures.begun left (λ is_open trees h. g.met.S.Store.settled old.store trees is_open h)
     (clean_if_open (g.S.Store.view new.store) (g.met.S.Store.shut_if_dirty new.store)) in
@@ -51,7 +51,7 @@ returns-in-Ok g c =
       mode = subst (λ (h : Held g.row.S.Denot). (state g.S.Store h).in_transaction ≡ false) same c.commit.ensures.ended;
       upgrades = committed g.S.Store old inside new _ _ work
           (λ clean older. let sees = worked.ok clean refl older in (sees.ours, sees.rows))
-          (λ clean. let ok = c.in-Ok.ensures.ok clean in (ok.1, ok.2, ok.3)) c.commit.ensures.survives _ same;
+          c.in_ok-commit.ensures.ok c.commit.ensures.survives _ same;
       free = subst (λ (h : Held g.row.S.Denot). HasCleanDisk (state g.S.Store h) → AreNewNamesFree (state g.S.Store old).now.schema) same
           (λ clean. worked.free (clean_last (state g.S.Store inside) (state g.S.Store new) _ c.commit.ensures.survives clean) refl);
       cause = λ clean. tt;
@@ -59,29 +59,30 @@ returns-in-Ok g c =
       crash = crash_committing g.S.Store old inside new work _ same _ c.commit.ensures.survives (λ clean. worked.free clean refl);
     }
 
-pub returns-in-Err : goal.returns-in-Err
-returns-in-Err g c =
+pub returns-in_err-commit : goal.returns-in_err-commit
+returns-in_err-commit g c =
     let old = c.args.connection.now in
     let left : c.upgrade_tables.new.tx.tx.now ≡ c.tx-2-1.given.0 = search rules in
     let inside = c.tx-2-1.given.0.conn.now in
-    let new = c.commit.new.self.0 in
+    let new = c.commit.new.tx.0 in
     let worked = rw (c.transaction-tx.ensures.begun, left) at c.in_ok-upgrade_tables.ensures in
     let work = works_within g.S.Store old new c.in_ok-upgrade_tables.ensures.stays c.transaction-tx.ensures.begun left (λ is_open trees h. g.met.S.Store.settled old.store trees is_open h)
     (clean_if_open (g.S.Store.view new.store) (g.met.S.Store.shut_if_dirty new.store)) in
     let same : new ≡ c.connection-2-1.given.0 = search rules in
-    record {
+    let fault = c.in_err-commit.field-0.0 in
+    let told = err_from_is_err_and c.from_residual-in_err-commit.result c.from_residual-in_err-commit.ensures.1 in
+    rw (told.1, told.2) (record {
       mode = subst (λ (h : Held g.row.S.Denot). (state g.S.Store h).in_transaction ≡ false) same c.commit.ensures.ended;
-      upgrades = uncommitted g.S.Store old inside new _ tt _ c.in-Err.error work
+      upgrades = uncommitted g.S.Store old inside new _ tt fault work
           (λ clean older. let sees = worked.ok clean refl older in (sees.ours, sees.rows))
-          (still_inside g.S.Store old c.in_ok-upgrade_tables.ensures.stays c.transaction-tx.ensures.begun left) (λ clean. c.in-Err.ensures.err clean) c.commit.ensures.survives _ same;
+          (still_inside g.S.Store old c.in_ok-upgrade_tables.ensures.stays c.transaction-tx.ensures.begun left) c.in_err-commit.ensures.err c.commit.ensures.survives _ same;
       free = λ clean. tt;
-      cause = subst (λ (h : Held g.row.S.Denot). HasCleanDisk (state g.S.Store h) → FailsToUpgrade g.S.Store old h c.args.values.now c.fault_of.result) same
+      cause = subst (λ (h : Held g.row.S.Denot). HasCleanDisk (state g.S.Store h) → FailsToUpgrade g.S.Store old h c.args.values.now fault) same
           (λ clean.
           let before = clean_last (state g.S.Store inside) (state g.S.Store new) _ c.commit.ensures.survives clean in
-          subst (FailsToUpgrade g.S.Store old new c.args.values.now) (sym c.fault_of.ensures)
-          (commit_failed g.S.Store c.args.values.now old _ c.upgrade_tables.new.tx c.tx-2-1.given.0 c.transaction-tx.ensures.begun left new c.in-Err.error c.in_ok-upgrade_tables.ensures.stays
-          before (worked.free before refl) (c.in-Err.ensures.err clean)));
-      left = commit_back g.S.Store old inside new work _ same c.in-Err.error c.commit.ensures.survives
-          (still_inside g.S.Store old c.in_ok-upgrade_tables.ensures.stays c.transaction-tx.ensures.begun left) (λ clean. c.in-Err.ensures.err clean);
+          commit_failed g.S.Store c.args.values.now old _ c.upgrade_tables.new.tx c.tx-2-1.given.0 c.transaction-tx.ensures.begun left new fault c.in_ok-upgrade_tables.ensures.stays
+          before (worked.free before refl) (c.in_err-commit.ensures.err clean));
+      left = commit_back g.S.Store old inside new work _ same fault c.commit.ensures.survives
+          (still_inside g.S.Store old c.in_ok-upgrade_tables.ensures.stays c.transaction-tx.ensures.begun left) c.in_err-commit.ensures.err;
       crash = crash_committing g.S.Store old inside new work _ same _ c.commit.ensures.survives (λ clean. worked.free clean refl);
-    }
+    })
