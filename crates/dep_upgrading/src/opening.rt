@@ -28,10 +28,7 @@ fn migrate<S: Alter, W: Watch>(
     ensures cause { FailsMigrating S.Store connection.old connection.new result }
     ensures left { FallsBack (state S.Store connection.old) (state S.Store connection.new) result }
 {
-    let values = match hash_files(connection, alloc, watch) {
-        Ok(values) => values,
-        Err(fault) => return Err(fault),
-    };
+    let values = hash_files(connection, alloc, watch)?;
     upgrade(connection, values.as_slice())
 }
 
@@ -65,18 +62,14 @@ pub fn open_tables<S: Alter, W: Watch>(
 {
     let _schema = connection.schema();
     let _between = connection.is_autocommit();
-    match dep_schema::open(connection) {
-        Ok(schema) => {
-            let version = schema.version();
-            let Schema { mut connection, .. } = schema;
-            if version == 2 {
-                return Ok(connection);
-            }
-            match migrate(&mut connection, alloc, watch) {
-                Ok(()) => Ok(connection),
-                Err(fault) => Err((OpenFault::from(fault), connection)),
-            }
-        }
-        Err(refused) => Err(refused),
+    let schema = dep_schema::open(connection)?;
+    let version = schema.version();
+    let Schema { mut connection, .. } = schema;
+    if version == 2 {
+        return Ok(connection);
+    }
+    match migrate(&mut connection, alloc, watch) {
+        Ok(()) => Ok(connection),
+        Err(fault) => Err((OpenFault::from(fault), connection)),
     }
 }

@@ -4,18 +4,21 @@ use Rattle.sqlite.specs.Held.{state}
 use Rattle.sqlite.proofs.StateLemmas.{clean_if_open}
 use Rattle.dep_tables.proofs.Results.{if_err, ok_then}
 use Rattle.dep_streams.proofs.Stills.{commits_none}
+use Rattle.dep_streams.proofs.Told.{passed_on}
 use Rattle.dep_upgrading.proofs.Migrated.{not_computed, was_tried, kept_back, back_behind}
 use Rattle.dep_upgrading.proofs.opening.migrate.Goals as goal
 
 -- the values were not computed
-pub returns-in-Err : goal.returns-in-Err
-returns-in-Err g c =
+pub returns-in_err-values : goal.returns-in_err-values
+returns-in_err-values g c =
     let old = c.args.connection.now in
     let new = c.hash_files.new.connection in
-    let told = c.in-Err.ensures in
+    let told = c.in_err-values.ensures in
+    let fault = c.in_err-values.field-0.0 in
     let shut = clean_if_open (g.S.Store.view new.store) (g.met.S.Store.shut_if_dirty new.store) in
-    record {
-      migrates = not_computed (state g.S.Store old) (state g.S.Store new) (λ is_open trees h. g.met.S.Store.settled old.store trees is_open h) shut c.in-Err.fault told.stays.kept told.stays.honest (λ _. commits_none told.stays);
+    let passed = passed_on c.from_residual.result fault c.from_residual.ensures.1 in
+    rw passed record {
+      migrates = not_computed (state g.S.Store old) (state g.S.Store new) (λ is_open trees h. g.met.S.Store.settled old.store trees is_open h) shut fault told.stays.kept told.stays.honest (λ _. commits_none told.stays);
       mode = told.stays.mode c.requires.settled;
       «open» = λ is_open. told.stays.was_open (shut is_open) is_open;
       free = λ clean was_open. tt;
@@ -28,18 +31,18 @@ returns g c =
     let old = c.args.connection.now in
     let mid = c.hash_files.new.connection in
     let new = c.upgrade.new.connection in
-    let told = c.in-Ok.ensures in
+    let told = c.in_ok-values.ensures in
     let shut = clean_if_open (g.S.Store.view mid.store) (g.met.S.Store.shut_if_dirty mid.store) in
     let tried = rw c.as_slice.ensures.value at c.upgrade.ensures in
     let upgrades = tried.upgrades in
     record {
-      migrates = was_tried (state g.S.Store old) (state g.S.Store mid) (state g.S.Store new) c.in-Ok.values.items c.upgrade.result told.hashes told.ok shut told.stays.honest upgrades;
+      migrates = was_tried (state g.S.Store old) (state g.S.Store mid) (state g.S.Store new) c.in_ok-values.values.items c.upgrade.result told.hashes told.ok shut told.stays.honest upgrades;
       mode = c.upgrade.ensures.mode;
       «open» = λ is_open. let mid_open = upgrades.was_open is_open in told.stays.was_open (shut mid_open) mid_open;
       free = λ clean was_open. ok_then c.upgrade.result (tried.free clean) (λ free. (mid, (λ known. (told.ok (upgrades.honest clean) known).0.now_is), free));
       cause = λ clean was_open known.
           let before = upgrades.honest clean in
-          if_err c.upgrade.result (tried.cause clean) (λ fault failed. inr (mid, told.ok before known, c.in-Ok.values.items, told.hashes before known, failed));
+          if_err c.upgrade.result (tried.cause clean) (λ fault failed. inr (mid, told.ok before known, c.in_ok-values.values.items, told.hashes before known, failed));
       left = λ is_open between known.
           let mid_open = upgrades.was_open is_open in
           let before = shut mid_open in
