@@ -95,10 +95,7 @@ fn clear_metadata<T: Statements>(tx: &mut T, alloc: Global, object: u64) -> Resu
     ensures cause { FailsByOne T.state tx.old tx.new result (IsStorable object) FailsByStatement }
     ensures keeps { ChangesWithin T.lenders T.state tx.old tx.new result }
 {
-    let none = Metadata::new(alloc);
-    let cleared = set_metadata(tx, alloc, object, &none);
-    drop(none);
-    cleared
+    set_metadata(tx, alloc, object, &Metadata::new(alloc))
 }
 
 /// The deposit takes the place of all that the object has.

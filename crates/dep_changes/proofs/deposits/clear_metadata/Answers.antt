@@ -6,7 +6,7 @@ use Rattle.dep_changes.proofs.deposits.clear_metadata.Goals as goal
 
 pub returns-clause-cause : goal.returns-clause-cause
 returns-clause-cause g c fits clean inside =
-    let m = c.new-none.result in
+    let m = c.new.result in
     let held = m ≢ finmap.empty in
-    caused_among g.T.Statements.state (FailsHolding held) FailsByStatement (holding_nothing held (λ some. some c.new-none.ensures)) c.set_metadata-cleared.result c.args.tx.now c.set_metadata-cleared.new.tx
-    (c.set_metadata-cleared.ensures.cause (fits, no_places finmap.empty m c.new-none.ensures) clean inside)
+    caused_among g.T.Statements.state (FailsHolding held) FailsByStatement (holding_nothing held (λ some. some c.new.ensures)) c.set_metadata-2.result c.args.tx.now c.set_metadata-2.new.tx
+    (c.set_metadata-2.ensures.cause (fits, no_places finmap.empty m c.new.ensures) clean inside)
