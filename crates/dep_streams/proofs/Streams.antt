@@ -3,7 +3,7 @@ use Rattle.std.proofs.Common.{◌≡◌, ◌≢◌, ◌⊎◌, inl, inr, ℕ, �
 use Rattle.std.specs.Prelude.{option_map, option_and_then}
 use Rattle.std.specs.List.{flat_map}
 use Rattle.std.specs.FinMap as finmap
-use Rattle.sqlite.specs.State.{IsUnchanged, IsRolledBack, Shown, ShowsRows}
+use Rattle.sqlite.specs.State.{IsUnchanged}
 use Rattle.sqlite.specs.State as db
 use Rattle.sqlite.specs.declared.types.Value.TheVariants.{Int}
 use Rattle.sqlite_value.specs.Order.{Row, column, value_cmp}

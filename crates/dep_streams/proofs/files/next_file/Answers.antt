@@ -2,12 +2,11 @@ use Rattle.std.proofs.Common.{◌≡◌, Ok, inl, inr, ap, subst, map, ◌∙◌
 use Rattle.std.proofs.lemmas.Result.{IfOk-from_err}
 use Rattle.sqlite.specs.Held.{state}
 use Rattle.dep_statements.specs.Rows.{columns_from}
-use Rattle.dep_statements.proofs.Asked.{shown_unchanged}
 use Rattle.dep_tables.specs.Clauses.{AtMostOne, IsFaultAt}
 use Rattle.dep_tables.specs.Rows.{IsNumberRow}
 use Rattle.dep_tables.proofs.Results.{if_ok, if_then, if_err, err_then}
 use Rattle.dep_streams.specs.Causes.FailsToFindFile.{not_told}
-use Rattle.dep_streams.proofs.KnownTables.{files_plain, nexts_file}
+use Rattle.dep_streams.proofs.KnownTables.{nexts_file}
 use Rattle.dep_streams.proofs.Stills.{shown_reads, stays_shown, stays_refused}
 use Rattle.dep_streams.proofs.Queries.{files_read}
 use Rattle.dep_streams.proofs.Told.{IsToldAs, fails_to_ask, was_error}

@@ -2,13 +2,10 @@ use Rattle.std.proofs.Common.{◌≡◌, Ok, inl, inr, ap, subst, map, ◌∙◌
 use Rattle.std.proofs.lemmas.Result.{IfOk-from_err}
 use Rattle.sqlite.specs.Held.{state}
 use Rattle.dep_statements.specs.Rows.{columns_from}
-use Rattle.dep_statements.proofs.Asked.{shown_unchanged}
 use Rattle.dep_tables.specs.Clauses.{AtMostOne, IsFaultAt}
 use Rattle.dep_tables.specs.Rows.{IsSha512Row}
-use Rattle.dep_tables.specs.Texts.{find_sha512_text}
-use Rattle.dep_tables.proofs.Leading.{plain_here}
 use Rattle.dep_tables.proofs.Results.{if_ok, if_then, if_err, err_then}
-use Rattle.dep_tables.proofs.Sha512sTable.{finds_sha512, find_is}
+use Rattle.dep_tables.proofs.Sha512sTable.{finds_sha512}
 use Rattle.dep_streams.specs.Causes.FailsToFindSha512.{not_told}
 use Rattle.dep_streams.proofs.Stills.{shown_reads, stays_shown, stays_refused}
 use Rattle.dep_streams.proofs.Queries.{sha512_reads}
