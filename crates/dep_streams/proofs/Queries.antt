@@ -51,8 +51,7 @@ planned_quiet schema p s selects untimed c is =
     let plan_is : (formats, meant.0) ≡ made.0 = cc in
     let found_is : (run.0, shown.0) ≡ meant.0 = cc in
     let none : shown.0 ≡ None = let told = sym shown.1 ∙ returns_none schema base p.statement s selects in cc in
-    let no_formats : formats ≡ [] = rw selects untimed in
-    (
+    let no_formats : formats ≡ [] = rw selects untimed in (
       ap (λ x. x.returning) (sym compiled_is) ∙ ap (λ plan. plan.1.1) (sym plan_is) ∙ ap (λ found. found.1) (sym found_is) ∙ none,
       ap (λ x. x.formats) (sym compiled_is) ∙ ap (λ plan. plan.0) (sym plan_is) ∙ no_formats,
     )
