@@ -9,8 +9,8 @@ ghost use Rattle.dep_tables.specs.Edits.{AreSha256sOf, IsObjectAfter};
 ghost use Rattle.dep_schema.specs.States.{TablesStandFor};
 ghost use Rattle.dep_schema.specs.Transactions.{Transacts, OnlyTells};
 
-use dep_schema::Lent;
-use dep_tables::{FileSha256, fault_of, next_object, sha256s_of};
+use dep_schema::{Lent, commit};
+use dep_tables::{FileSha256, next_object, sha256s_of};
 use dep_types::{ObjectView, StoreFault};
 use dep_views::load_object_view;
 use sqlite::{Alter, Connection};
@@ -28,10 +28,8 @@ pub(crate) fn view_object<S: Alter>(
 {
     let mut tx = connection.transaction();
     let found = load_object_view(&mut Lent { tx: &mut tx }, alloc, object)?;
-    match tx.commit() {
-        Ok(()) => Ok(found),
-        Err(error) => Err(fault_of(error)),
-    }
+    commit(tx)?;
+    Ok(found)
 }
 
 /// The least number of an object above this one.
@@ -47,10 +45,8 @@ pub(crate) fn find_next<S: Alter>(
 {
     let mut tx = connection.transaction();
     let found = next_object(&mut Lent { tx: &mut tx }, after)?;
-    match tx.commit() {
-        Ok(()) => Ok(found),
-        Err(error) => Err(fault_of(error)),
-    }
+    commit(tx)?;
+    Ok(found)
 }
 
 /// The files of an object by ascending number, each with the SHA-256 that its row keeps.
@@ -67,8 +63,6 @@ pub(crate) fn list_files<S: Alter>(
 {
     let mut tx = connection.transaction();
     let found = sha256s_of(&mut Lent { tx: &mut tx }, alloc, object)?;
-    match tx.commit() {
-        Ok(()) => Ok(found),
-        Err(error) => Err(fault_of(error)),
-    }
+    commit(tx)?;
+    Ok(found)
 }

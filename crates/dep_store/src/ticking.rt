@@ -9,8 +9,7 @@ ghost use Rattle.dep_store.specs.Shut.{FailsIfShut};
 
 use crate::remembering::{Remembered, look};
 use dep_moment::Moment;
-use dep_schema::Lent;
-use dep_tables::fault_of;
+use dep_schema::{Lent, commit};
 use dep_types::{Config, StoreFault};
 use sqlite::{Alter, Connection};
 
@@ -29,10 +28,8 @@ fn move_clock<S: Alter>(
     let mut tx = connection.transaction();
     let moved = dep_staging::tick(&mut Lent { tx: &mut tx }, config, moment)?;
     let clock = Moment::new(moved);
-    match tx.commit() {
-        Ok(()) => Ok(clock),
-        Err(error) => Err(fault_of(error)),
-    }
+    commit(tx)?;
+    Ok(clock)
 }
 
 /// The clock that is remembered, where a tick at this moment changes nothing.

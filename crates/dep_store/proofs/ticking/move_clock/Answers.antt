@@ -1,4 +1,5 @@
 use Rattle.std.proofs.Common.{rules, ◌≡◌}
+use Rattle.std.proofs.lemmas.Result.{err_from_is_err_and}
 use Rattle.sqlite.proofs.StateLemmas.{clean_if_open}
 use Rattle.dep_schema.proofs.Transacting.{gave_up, committed, uncommitted, works_within, still_inside}
 use Rattle.dep_store.proofs.Carrying.{ticks}
@@ -18,12 +19,12 @@ returns-in_err-moved g c =
           c.drop-tx.ensures.undone c.drop-tx.ensures.survives _ same;
     }
 
-pub returns-in-Ok : goal.returns-in-Ok
-returns-in-Ok g c =
+pub returns : goal.returns
+returns g c =
     let old = c.args.connection.now in
     let left : c.tick.new.tx.tx.now ≡ c.tx-2-1.given.0 = search rules in
     let inside = c.tx-2-1.given.0.conn.now in
-    let new = c.commit.new.self.0 in
+    let new = c.commit.new.tx.0 in
     let worked = rw (c.transaction-tx.ensures.begun, left) at c.in_ok-moved.ensures in
     let work = works_within g.S.Store old new c.in_ok-moved.ensures.keeps.stays c.transaction-tx.ensures.begun left (λ is_open trees h. g.met.S.Store.settled old.store trees is_open h)
     (clean_if_open (g.S.Store.view new.store) (g.met.S.Store.shut_if_dirty new.store)) in
@@ -31,21 +32,22 @@ returns-in-Ok g c =
     record {
       transacts = committed g.S.Store old inside new _ _ work
           (ticks g.S.Store old inside c.args.config.now c.args.moment c.in_ok-moved.moved c.new-clock.result c.new-clock.ensures worked.map worked.keeps.ours)
-          (λ clean. let ok = c.in-Ok.ensures.ok clean in (ok.1, ok.2, ok.3)) c.commit.ensures.survives _ same;
+          c.in_ok-commit.ensures.ok c.commit.ensures.survives _ same;
     }
 
-pub returns-in-Err : goal.returns-in-Err
-returns-in-Err g c =
+pub returns-in_err-commit : goal.returns-in_err-commit
+returns-in_err-commit g c =
     let old = c.args.connection.now in
     let left : c.tick.new.tx.tx.now ≡ c.tx-2-1.given.0 = search rules in
     let inside = c.tx-2-1.given.0.conn.now in
-    let new = c.commit.new.self.0 in
+    let new = c.commit.new.tx.0 in
     let worked = rw (c.transaction-tx.ensures.begun, left) at c.in_ok-moved.ensures in
     let work = works_within g.S.Store old new c.in_ok-moved.ensures.keeps.stays c.transaction-tx.ensures.begun left (λ is_open trees h. g.met.S.Store.settled old.store trees is_open h)
     (clean_if_open (g.S.Store.view new.store) (g.met.S.Store.shut_if_dirty new.store)) in
     let same : new ≡ c.connection-2-1.given.0 = search rules in
-    record {
-      transacts = uncommitted g.S.Store old inside new _ c.new-clock.result _ c.in-Err.error work
+    let told = err_from_is_err_and c.from_residual-in_err-commit.result c.from_residual-in_err-commit.ensures.1 in
+    rw (told.1, told.2) (record {
+      transacts = uncommitted g.S.Store old inside new _ c.new-clock.result c.in_err-commit.field-0.0 work
           (ticks g.S.Store old inside c.args.config.now c.args.moment c.in_ok-moved.moved c.new-clock.result c.new-clock.ensures worked.map worked.keeps.ours)
-          (still_inside g.S.Store old c.in_ok-moved.ensures.keeps.stays c.transaction-tx.ensures.begun left) (λ clean. c.in-Err.ensures.err clean) c.commit.ensures.survives _ same;
-    }
+          (still_inside g.S.Store old c.in_ok-moved.ensures.keeps.stays c.transaction-tx.ensures.begun left) c.in_err-commit.ensures.err c.commit.ensures.survives _ same;
+    })
