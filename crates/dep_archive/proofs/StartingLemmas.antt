@@ -3,7 +3,7 @@ use Rattle.std.proofs.Common.{[], ◌∷◌, ◌++◌, sym, subst}
 use Rattle.sqlite.specs.State as db
 use Rattle.dep_types.specs.State.{State}
 use Rattle.dep_types.specs.declared.config.Config.{Config}
-use Rattle.dep_upgrading.specs.Migrating.{OpenLeaves}
+use Rattle.dep_store.specs.Migrating.{OpenLeaves}
 use Rattle.dep_archive.specs.Starting.{OpeningLeaves}
 use Rattle.dep_hub.specs.Records.{Run, stops, stopped, first_world}
 

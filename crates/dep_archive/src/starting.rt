@@ -5,7 +5,7 @@ ghost use Rattle.sqlite.specs.State.{HasCleanDisk};
 ghost use Rattle.dep_types.specs.State.{empty_state};
 ghost use Rattle.dep_types.specs.Config.{IsChecked};
 ghost use Rattle.dep_schema.specs.Standing.{HoldsNone, IsOpenable};
-ghost use Rattle.dep_upgrading.specs.Migrating.{Keeps};
+ghost use Rattle.dep_store.specs.Migrating.{Keeps};
 ghost use Rattle.dep_archive.specs.Starting.{GoesOnFromStop, IsStore, OpeningLeaves, outcome_of_start};
 ghost use Rattle.dep_hub.specs.Standing.{StandsAfter, IsClean, IsHonest};
 ghost use Rattle.dep_archive.specs.Archive.{condition_of};

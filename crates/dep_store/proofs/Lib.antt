@@ -1,3 +1,6 @@
+pub mod Migrated
+pub mod Older
+pub mod Opened
 pub mod Sources
 pub mod Carrying
 pub mod Audited

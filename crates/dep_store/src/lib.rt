@@ -8,6 +8,7 @@ mod auditing;
 mod exporting;
 mod hashing;
 mod lines;
+mod opening;
 mod reading;
 mod remembering;
 mod sending;

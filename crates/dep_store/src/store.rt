@@ -15,8 +15,8 @@ ghost use Rattle.dep_staging.specs.HashedAhead.{AreRunning};
 ghost use Rattle.dep_schema.specs.Standing.{Holds, HoldsOlder, HoldsNone, IsOpenable, Stands};
 ghost use Rattle.dep_schema.specs.States.{StandsFor, IsLeftAs, Leaves};
 ghost use Rattle.dep_schema.specs.Performing.{IsKeptUnchanged};
-ghost use Rattle.dep_upgrading.specs.Causes.{FailsToOpenTables, FindsOrUpgrades};
-ghost use Rattle.dep_upgrading.specs.Migrating.{Keeps, OpenLeaves, OpensOlder, Stood};
+ghost use Rattle.dep_store.specs.Causes.{FailsToOpenTables, FindsOrUpgrades};
+ghost use Rattle.dep_store.specs.Migrating.{Keeps, OpenLeaves, OpensOlder, Stood};
 ghost use Rattle.dep_hub.specs.Shut.{TellsOpen};
 ghost use Rattle.dep_hub.specs.Archives.{Ticks, MakesStep, Streams, Tells, KeepsState, KeepsAll, CountsFailures};
 ghost use Rattle.dep_store.specs.Archive.{condition_of};
@@ -26,6 +26,7 @@ ghost use Rattle.dep_store.specs.Staying.{TablesStay, TellsTables, LeavesOnly, K
 
 use crate::auditing::audit_object;
 use crate::hashing::hash_running;
+use crate::opening::open_tables;
 use crate::reading::{find_next, view_object};
 use crate::remembering::{Remembered, still_known, tell_open};
 use crate::sending::stream_if_open;
@@ -38,7 +39,6 @@ use dep_schema::OpenFault;
 use dep_staging::RunningHashes;
 use dep_streams::{Audit, Watch};
 use dep_types::{Config, ObjectView, Outlet, StoreFault, StreamFault};
-use dep_upgrading::open_tables;
 use sqlite::{Alter, Connection};
 use std::alloc::Global;
 use std::marker::Model;

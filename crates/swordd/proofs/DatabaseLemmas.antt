@@ -15,7 +15,7 @@ use Rattle.dep_schema.proofs.Transacting.{IsSettled, leaves_as_was}
 use Rattle.dep_schema.specs.declared.opening.OpenFault.{OpenFault}
 use Rattle.dep_archive.specs.Archive.{condition_of}
 use Rattle.dep_archive.specs.declared.archive.HashingStore.{HashingStore}
-use Rattle.dep_upgrading.specs.Migrating.{Keeps, OpenLeaves}
+use Rattle.dep_store.specs.Migrating.{Keeps, OpenLeaves}
 use Rattle.dep_archive.specs.Starting.{OpeningLeaves, outcome_of_start}
 use Rattle.dep_archive.specs.declared.starting.StartFault.{StartFault}
 use Rattle.dep_archive.specs.declared.starting.StartFault.TheVariants as fault

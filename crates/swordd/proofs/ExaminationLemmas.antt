@@ -15,8 +15,8 @@ use Rattle.dep_schema.specs.States.{StandsFor, IsLeftAs, Leaves}
 use Rattle.dep_store.specs.Auditing.{IsObjectAudited}
 use Rattle.dep_store.specs.Audits.{Audited, Audits, IsBegun, object_rows}
 use Rattle.dep_schema.proofs.Version.{not_older}
-use Rattle.dep_upgrading.proofs.Opened.{first_means, version_is}
-use Rattle.dep_upgrading.specs.Migrating.{IsUpgraded, OpensOlder}
+use Rattle.dep_store.proofs.Opened.{first_means, version_is}
+use Rattle.dep_store.specs.Migrating.{IsUpgraded, OpensOlder}
 use Rattle.dep_store.proofs.TellLemmas.{stands_still}
 use Rattle.dep_program.specs.declared.outcome.Outcome.{Outcome}
 use Rattle.dep_program.specs.declared.outcome.Outcome.TheVariants.{StoreFault}

@@ -6,7 +6,7 @@ use Rattle.dep_types.specs.Config.{IsChecked}
 use Rattle.dep_types.specs.declared.config.Config.{Config}
 use Rattle.dep_schema.specs.Standing.{HoldsNone, IsBack}
 use Rattle.dep_schema.specs.States.{StandsFor, IsLeftAs, Leaves}
-use Rattle.dep_upgrading.specs.Migrating.{Keeps, OpenLeaves}
+use Rattle.dep_store.specs.Migrating.{Keeps, OpenLeaves}
 use Rattle.dep_hub.specs.Records.{World, Record, Run, first_world, stopped}
 use Rattle.dep_hub.specs.Turns.{ArePieces}
 use Rattle.dep_program.specs.Serves.{Conversation, all_records_of, AreServed}

@@ -8,7 +8,7 @@ use Rattle.dep_types.specs.State.{State, empty_state}
 use Rattle.dep_tables.specs.Tables.{Tables}
 use Rattle.dep_tables.specs.Versions.{our_version, older_version, HasVersion}
 use Rattle.dep_schema.specs.Standing.{Holds, HoldsOlder, HoldsNone, Stands}
-use Rattle.dep_upgrading.specs.Migrating.{IsUpgraded}
+use Rattle.dep_store.specs.Migrating.{IsUpgraded}
 use Rattle.dep_schema.specs.States.{TablesStandFor, IsLeftAs}
 use Rattle.dep_store.specs.Audits.{Audits}
 use Rattle.dep_store.specs.Exports.{Exports}

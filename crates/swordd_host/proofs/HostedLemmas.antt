@@ -13,7 +13,7 @@ use Rattle.dep_schema.specs.Standing.{HoldsNone}
 use Rattle.dep_schema.specs.States.{StandsFor, IsLeftAs}
 use Rattle.dep_schema.specs.declared.opening.OpenFault.{OpenFault}
 use Rattle.dep_schema.proofs.Transacting.{IsSettled, leaves_as_was}
-use Rattle.dep_upgrading.specs.Migrating.{Keeps}
+use Rattle.dep_store.specs.Migrating.{Keeps}
 use Rattle.dep_archive.specs.Archive.{condition_of}
 use Rattle.dep_archive.specs.declared.archive.HashingStore.{HashingStore}
 use Rattle.dep_archive.specs.Starting.{OpeningLeaves, outcome_of_start}

@@ -9,7 +9,7 @@ use Rattle.dep_types.specs.Config.{IsChecked}
 use Rattle.dep_types.specs.declared.config.Config.{Config}
 use Rattle.dep_schema.specs.Standing.{HoldsNone}
 use Rattle.dep_schema.specs.States.{StandsFor, IsLeftAs, Leaves}
-use Rattle.dep_upgrading.specs.Migrating.{Keeps}
+use Rattle.dep_store.specs.Migrating.{Keeps}
 use Rattle.dep_archive.specs.Archive.{condition_of}
 use Rattle.dep_archive.specs.declared.archive.HashingStore.{HashingStore}
 use Rattle.dep_archive.specs.Starting.{OpeningLeaves}

@@ -2,7 +2,7 @@ use Rattle.std.proofs.Common.{ap, refl, sym, subst, ◌∙◌}
 use Rattle.sqlite.specs.Held.{Held, state}
 use Rattle.sqlite.specs.State.{HasCleanDisk}
 use Rattle.dep_types.specs.State.{empty_state}
-use Rattle.dep_upgrading.specs.Migrating.{OpenLeaves}
+use Rattle.dep_store.specs.Migrating.{OpenLeaves}
 use Rattle.dep_schema.specs.States.{StandsFor}
 use Rattle.dep_hub.specs.Records.{first_world}
 use Rattle.dep_archive.specs.declared.archive.HashingStore.{HashingStore}

@@ -1,16 +1,16 @@
 use Rattle.std.proofs.Common.{◌≡◌, ℕ, inl, inr, refl, sym, subst, ◌∙◌, rules, arith}
 use Rattle.sqlite.specs.Held.{state}
 use Rattle.sqlite.proofs.StateLemmas.{clean_if_open}
-use Rattle.dep_upgrading.proofs.Migrated.{ok_states, err_states, stop_states}
+use Rattle.dep_store.proofs.Migrated.{ok_states, err_states, stop_states}
 use Rattle.dep_schema.proofs.Refusing.{clean_last}
 use Rattle.dep_tables.specs.Schema.{our_schema, older_schema}
 use Rattle.dep_tables.specs.Versions.{our_version, HasVersion}
-use Rattle.dep_upgrading.proofs.Opened.{opened_stood, first_means, leaves_opened, is_openable, stood_back}
-use Rattle.dep_upgrading.proofs.Older.{one_left, tells_older, known_since, back_since, had_free, not_upgraded}
+use Rattle.dep_store.proofs.Opened.{opened_stood, first_means, leaves_opened, is_openable, stood_back}
+use Rattle.dep_store.proofs.Older.{one_left, tells_older, known_since, back_since, had_free, not_upgraded}
 use Rattle.dep_schema.specs.OpenFaults.{begun, ShowsOrMakes}
 use Rattle.dep_schema.specs.Standing.{Stands, first_tables}
 use Rattle.dep_streams.proofs.Told.{passed_on}
-use Rattle.dep_upgrading.proofs.opening.open_tables.Goals as goal
+use Rattle.dep_store.proofs.opening.open_tables.Goals as goal
 
 pub returns-then-version-eq2-clause-found : goal.returns-then-version-eq2-clause-found
 returns-then-version-eq2-clause-found g c clean s left =

@@ -16,7 +16,7 @@ use Rattle.dep_schema.specs.Standing.{first_tables, HoldsOf, HoldsNone, StandsOf
 use Rattle.dep_schema.proofs.Again.{sees_trees}
 use Rattle.dep_schema.proofs.Transacting.{IsSettled}
 use Rattle.dep_schema.specs.States.{TablesStandFor, StandsFor, OlderStandsFor, IsLeftAs}
-use Rattle.dep_upgrading.specs.Migrating.{Stood, OpenLeaves}
+use Rattle.dep_store.specs.Migrating.{Stood, OpenLeaves}
 
 -- tables have one version
 pub version_is : (t : Tables) (v w : ℕ) → HasVersion v t → HasVersion w t → v ≡ w

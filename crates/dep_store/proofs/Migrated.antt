@@ -18,7 +18,7 @@ use Rattle.dep_streams.specs.Reading.{IsKept}
 use Rattle.dep_streams.specs.Sha512s.{AreValuesOf}
 use Rattle.dep_streams.proofs.Upgraded.{stand_upgraded}
 use Rattle.dep_schema.specs.States.{TablesStandFor, OlderTablesStandFor, StandsFor, OlderStandsFor, IsLeftAs}
-use Rattle.dep_upgrading.specs.Migrating.{IsUpgraded, Migrates}
+use Rattle.dep_store.specs.Migrating.{IsUpgraded, Migrates}
 
 pub known_older : (d : db.State) (t : Tables) → StandsOlder d t → IsKnown d
 known_older d t stands = (older_schema, inr refl, stands.ours)

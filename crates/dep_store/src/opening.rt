@@ -3,8 +3,8 @@
 ghost use Rattle.std.specs.Prelude.{◌≡◌, IsTrue, IfOk, IfErr, MatchResult, false};
 ghost use Rattle.sqlite.specs.State.{HasCleanDisk};
 ghost use Rattle.sqlite.specs.Held.{state};
-ghost use Rattle.dep_upgrading.specs.Causes.{FailsMigrating, MigratesToFree, OpensFor, RefusesFor};
-ghost use Rattle.dep_upgrading.specs.Migrating.{FallsBack, FindsOlder, FindsState, FindsTables, KeepsState, KeepsTables, Migrates, OfEither, OpenLeaves, RefusesNone, RefusesNoState, StartsEmpty};
+ghost use Rattle.dep_store.specs.Causes.{FailsMigrating, MigratesToFree, OpensFor, RefusesFor};
+ghost use Rattle.dep_store.specs.Migrating.{FallsBack, FindsOlder, FindsState, FindsTables, KeepsState, KeepsTables, Migrates, OfEither, OpenLeaves, RefusesNone, RefusesNoState, StartsEmpty};
 
 use dep_schema::{OpenFault, Schema, upgrade};
 use dep_streams::{Watch, hash_files};
@@ -35,7 +35,7 @@ fn migrate<S: Alter, W: Watch>(
 /// Opens the tables of version 2: those that the database has, those of a new store where it has no table `format`, or
 /// those that its tables of version 1 become, which takes the SHA-512 of each file's bytes as they stand: each block is
 /// read once, and the watch is told of it. After a fault the connection is handed back.
-pub fn open_tables<S: Alter, W: Watch>(
+pub(crate) fn open_tables<S: Alter, W: Watch>(
     alloc: Global,
     connection: Connection<S>,
     watch: &mut W,

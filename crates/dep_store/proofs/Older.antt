@@ -12,7 +12,7 @@ use Rattle.dep_schema.specs.OpenFaults.{begun, ShowsOrMakes, ShowsVersion, Tells
 use Rattle.dep_schema.specs.Standing.{IsBack, IsStill}
 use Rattle.dep_schema.proofs.Upgraded.{new_not_free}
 use Rattle.dep_schema.proofs.Version.{not_older, shows_again}
-use Rattle.dep_upgrading.specs.Causes.{HadFreeNames}
+use Rattle.dep_store.specs.Causes.{HadFreeNames}
 
 pub one_left : (found : ℕ) → IsKnownVersion found → (found ≡ our_version → ⊥) → found ≡ older_version
 one_left found (inl two) other = absurd (other two)
