@@ -1,0 +1,46 @@
+//! What the reply to a request shows, where that is known without a look at the tables.
+
+ghost use Rattle.std.specs.Prelude.{◌≡◌, IfOk, IfErr, IsTrue};
+ghost use Rattle.dep_types.specs.Numbers.{room_for};
+ghost use Rattle.dep_types.specs.State.{State};
+ghost use Rattle.dep_types.specs.declared.store_fault.StoreFault.TheVariants.{Memory};
+ghost use Rattle.dep_decisions.specs.Decisions.{numbers_for};
+ghost use Rattle.dep_changes.specs.Known.{CopiesKnown, known_shown};
+ghost use Rattle.dep_changes.specs.Told.{IsAccepted};
+
+use crate::change::Change;
+use crate::created::created_view;
+use dep_answers::Shown;
+use dep_decisions::Decision;
+use dep_fixity::HashedOctets;
+use dep_operations::View;
+use dep_types::StoreFault;
+use std::alloc::Global;
+
+/// What the reply shows of what was decided, once it is carried out, where all of that is known: a new object. No statement is
+/// run: numbers and digests stand in the view and in the decision. It fails for want of memory alone.
+pub fn known_after(
+    alloc: Global,
+    view: &View,
+    decision: &Decision,
+    content: &HashedOctets,
+) -> Result<Option<Shown>, StoreFault>
+    requires { IsTrue (room_for view.now.next (numbers_for decision.now)) }
+    ensures told { (s : State) → IsAccepted s view.now content.now decision.now
+        → IfOk result (λ known. known ≡ known_shown s content.now decision.now) }
+    ensures cause { (s : State) → IsAccepted s view.now content.now decision.now
+        → IfErr result (λ fault. CopiesKnown decision.now × (fault ≡ Memory)) }
+{
+    let change = Change {
+        alloc,
+        view,
+        content,
+    };
+    match decision {
+        Decision::Create { deposit, ingests } => {
+            let created = created_view(&change, deposit, *ingests)?;
+            Ok(Some(Shown::Object(created)))
+        }
+        _ => Ok(None),
+    }
+}
