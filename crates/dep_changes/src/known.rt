@@ -8,8 +8,9 @@ ghost use Rattle.dep_decisions.specs.Decisions.{numbers_for};
 ghost use Rattle.dep_changes.specs.Known.{CopiesKnown, known_shown};
 ghost use Rattle.dep_changes.specs.Told.{IsAccepted};
 
-use crate::change::Change;
+use crate::change::{Change, touched};
 use crate::created::created_view;
+use crate::objects::{files_changed, texts_changed};
 use dep_answers::Shown;
 use dep_decisions::Decision;
 use dep_fixity::HashedOctets;
@@ -17,8 +18,9 @@ use dep_operations::View;
 use dep_types::StoreFault;
 use std::alloc::Global;
 
-/// What the reply shows of what was decided, once it is carried out, where all of that is known: a new object. No statement is
-/// run: numbers and digests stand in the view and in the decision. It fails for want of memory alone.
+/// What the reply shows of what was decided, once it is carried out, where all of that is known: a new
+/// object, and the row of one whose metadata or files are put in their place. No statement is run: rows,
+/// numbers and digests stand in the view and in the decision. It fails for want of memory alone.
 pub fn known_after(
     alloc: Global,
     view: &View,
@@ -40,6 +42,14 @@ pub fn known_after(
         Decision::Create { deposit, ingests } => {
             let created = created_view(&change, deposit, *ingests)?;
             Ok(Some(Shown::Object(created)))
+        }
+        Decision::SetMetadata { .. } => {
+            let row = touched(view)?;
+            Ok(Some(Shown::ObjectRow(texts_changed(view, row))))
+        }
+        Decision::SetFiles { .. } => {
+            let row = touched(view)?;
+            Ok(Some(Shown::ObjectRow(files_changed(view, row))))
         }
         _ => Ok(None),
     }

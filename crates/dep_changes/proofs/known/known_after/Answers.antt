@@ -1,13 +1,16 @@
 use Rattle.std.proofs.Common.{◌≡◌, Some, ap, subst, sym}
+use Rattle.std.specs.FinMap as finmap
 use Rattle.dep_types.specs.declared.store_fault.StoreFault.TheVariants.{Memory}
 use Rattle.dep_decisions.specs.Decisions.{numbers_for}
+use Rattle.dep_decisions.specs.Effects.{added}
 use Rattle.dep_decisions.specs.declared.decision.Decision.{Decision}
 use Rattle.dep_answers.specs.declared.subject.Shown.TheVariants as shown
 use Rattle.dep_row_maps.proofs.Causes.{if_err_is}
 use Rattle.dep_changes.specs.Known.{CopiesKnown, known_shown}
 use Rattle.dep_changes.specs.Told.{TellsFor}
 use Rattle.dep_changes.proofs.Carried.{numbers_told, room_of_files, told}
-use Rattle.dep_changes.proofs.KnownShown.{created_known}
+use Rattle.dep_changes.proofs.KnownShown.{created_known, files_known, never_told, texts_known}
+use Rattle.dep_changes.proofs.Steps.{files_row, texts_row}
 use Rattle.dep_changes.proofs.known.known_after.Goals as goal
 
 pub created_view-requires : goal.created_view-requires
@@ -31,3 +34,39 @@ returns-in_err-created-in-Create-clause-cause c s it =
     let fault = c.in_err-created-in-Create.field-0.0 in
     if_err_is _ c.from_residual.result fault c.from_residual.ensures.1
     (subst (λ (d : Decision). CopiesKnown d × (fault ≡ Memory)) (sym c.in-Create.is) (c.in_err-created-in-Create.ensures.cause s has.1))
+
+pub returns-in_ok-row-in-SetMetadata-clause-told : goal.returns-in_ok-row-in-SetMetadata-clause-told
+returns-in_ok-row-in-SetMetadata-clause-told c s it =
+    let view = c.args.view.now in
+    let content = c.args.content.now in
+    let n = c.in-SetMetadata.object in
+    let texts = c.in-SetMetadata.metadata in
+    let has = subst (TellsFor view s content) c.in-SetMetadata.is (told s view content c.args.decision.now it) in
+    let numbers = numbers_told s view content c.args.decision.now it in
+    let now = c.texts_changed.result in
+    let is = texts_row s n has.0 view.object has.1.0 c.in_ok-row-in-SetMetadata.row c.in_ok-row-in-SetMetadata.ensures.told view.clock view.next numbers.0 numbers.1 now texts c.texts_changed.ensures in
+    subst (λ (d : Decision). Some (shown.ObjectRow now) ≡ known_shown s content d) (sym c.in-SetMetadata.is) (texts_known s content n has.0 has.1.1 texts now is)
+
+pub returns-in_err-row-in-SetMetadata-clause-cause : goal.returns-in_err-row-in-SetMetadata-clause-cause
+returns-in_err-row-in-SetMetadata-clause-cause c s it =
+    let view = c.args.view.now in
+    let has = subst (TellsFor view s c.args.content.now) c.in-SetMetadata.is (told s view c.args.content.now c.args.decision.now it) in
+    never_told s view c.in-SetMetadata.object has.0 has.1 c.in_err-row-in-SetMetadata.ensures.absent
+
+pub returns-in_ok-row-in-SetFiles-clause-told : goal.returns-in_ok-row-in-SetFiles-clause-told
+returns-in_ok-row-in-SetFiles-clause-told c s it =
+    let view = c.args.view.now in
+    let content = c.args.content.now in
+    let n = c.in-SetFiles.object in
+    let new = c.in-SetFiles.files in
+    let has = subst (TellsFor view s content) c.in-SetFiles.is (told s view content c.args.decision.now it) in
+    let numbers = numbers_told s view content c.args.decision.now it in
+    let now = c.files_changed.result in
+    let is = files_row s n has.0 view.object has.1.0 c.in_ok-row-in-SetFiles.row c.in_ok-row-in-SetFiles.ensures.told view.clock view.next numbers.0 numbers.1 now (added s content new finmap.empty) c.files_changed.ensures in
+    subst (λ (d : Decision). Some (shown.ObjectRow now) ≡ known_shown s content d) (sym c.in-SetFiles.is) (files_known s content n has.0 has.1.1 new now is)
+
+pub returns-in_err-row-in-SetFiles-clause-cause : goal.returns-in_err-row-in-SetFiles-clause-cause
+returns-in_err-row-in-SetFiles-clause-cause c s it =
+    let view = c.args.view.now in
+    let has = subst (TellsFor view s c.args.content.now) c.in-SetFiles.is (told s view c.args.content.now c.args.decision.now it) in
+    never_told s view c.in-SetFiles.object has.0 has.1 c.in_err-row-in-SetFiles.ensures.absent
