@@ -1,5 +1,5 @@
 -- What the state after a decision shows of what is known.
-use Rattle.std.proofs.Common.{◌≡◌, ℕ, Bool, List, Option, Some, None, ap, sym, ◌∙◌}
+use Rattle.std.proofs.Common.{◌≡◌, ℕ, Bool, ◌||◌, List, Option, Some, None, ap, sym, ◌∙◌}
 use Rattle.std.specs.Option.{option_map_or}
 use Rattle.dep_types.specs.Rows.{object_row, object_view}
 use Rattle.dep_types.specs.State.{State, Object as Kept, Texts}
@@ -11,7 +11,7 @@ use Rattle.dep_row_maps.proofs.Lens.{get_here}
 use Rattle.dep_decisions.specs.Effects.{added, at, filled, with_files, with_texts}
 use Rattle.dep_decisions.specs.declared.decision.Deposit.{Deposit}
 use Rattle.dep_decisions.specs.declared.decision.NewFile.{NewFile}
-use Rattle.dep_decisions.specs.declared.decision.Decision.TheVariants.{Create, SetMetadata, SetFiles}
+use Rattle.dep_decisions.specs.declared.decision.Decision.TheVariants.{Create, Replace, SetMetadata, SetFiles}
 use Rattle.dep_answers.specs.declared.subject.Shown.TheVariants as shown
 use Rattle.dep_operations.specs.declared.view.View.{View}
 use Rattle.dep_changes.specs.Known.{known_shown}
@@ -42,6 +42,12 @@ module _ (s : State) (content : List ℕ) (n : ℕ) (o : Kept) (there : finmap.g
 
   pub files_known : (new : List NewFile) (row : ObjectRow) → row ≡ object_row n (with_files s (added s content new finmap.empty) o) → Some (shown.ObjectRow row) ≡ known_shown s content (SetFiles n new)
   files_known new row is = row_after (with_files s (added s content new finmap.empty)) row is
+
+  pub replaced_known : (d : Deposit) (ingests : Bool) (told : ObjectView) → told ≡ object_view n (filled s content d (o.ingested || ingests))
+      → Some (shown.Object told) ≡ known_shown s content (Replace n d ingests)
+  replaced_known d ingests told is =
+      ap (λ (v : ObjectView). Some (shown.Object v)) is
+      ∙ sym (ap (λ (x : Option Kept). Some (option_map_or (λ (y : Kept). shown.Object (object_view n y)) x shown.Nothing)) (at_here s.objects n o (λ (y : Kept). filled s content d (y.ingested || ingests)) there))
 
 -- an object that is told is not absent
 pub never_told : {P : Type 0} (s : State) (view : View) (n : ℕ) (o : Kept) → TellsObject view s n o → view.object ≡ None → P

@@ -4,17 +4,18 @@ use Rattle.dep_types.specs.State.{State}
 use Rattle.dep_types.specs.declared.counters.Counters.{Counters}
 use Rattle.dep_decisions.specs.Effects.{effect_of}
 use Rattle.dep_decisions.specs.declared.decision.Decision.{Decision}
-use Rattle.dep_decisions.specs.declared.decision.Decision.TheVariants.{Create, SetMetadata, SetFiles}
+use Rattle.dep_decisions.specs.declared.decision.Decision.TheVariants.{Create, Replace, SetMetadata, SetFiles}
 use Rattle.dep_answers.specs.Subjects.{shown_at}
 use Rattle.dep_answers.specs.declared.subject.Subject.{Subject}
 use Rattle.dep_answers.specs.declared.subject.Subject.TheVariants.{Object, ObjectRow}
 use Rattle.dep_answers.specs.declared.subject.Shown.{Shown}
 use Rattle.dep_changes.specs.Causes.{HasCopies}
 
--- What is known of a decision once it is carried out: an object that it makes, under the next number, and the row of one
--- that gets other metadata or files alone.
+-- What is known of a decision once it is carried out: an object that it makes, under the next number, or puts in the place
+-- of another, and the row of one that gets other metadata or files alone.
 abbrev pub known_subject : (next : Counters) → Decision → Option Subject
 known_subject next (Create d ingests) = Some (Object next.object)
+known_subject next (Replace n d ingests) = Some (Object n)
 known_subject next (SetMetadata n texts) = Some (ObjectRow n)
 known_subject next (SetFiles n new) = Some (ObjectRow n)
 known_subject next d = None
@@ -26,4 +27,5 @@ known_shown s content d = option_map (shown_at (effect_of s content d)) (known_s
 -- memory is taken for what is shown
 abbrev pub CopiesKnown : Decision → Type 0
 CopiesKnown (Create d ingests) = HasCopies d
+CopiesKnown (Replace n d ingests) = HasCopies d
 CopiesKnown d = ⊥

@@ -1,20 +1,20 @@
-//! What is told of an object that has one deposit alone, which is known without a look at the tables.
+//! What is told of objects that a deposit makes or replaces, which is known without a look at the tables.
 
-ghost use Rattle.std.specs.Prelude.{◌≡◌, ◌≢◌, ℕ, Bool, [], length, IfOk, IfErr, IsOkAnd, IsTrue};
+ghost use Rattle.std.specs.Prelude.{◌≡◌, ◌≢◌, ◌||◌, ℕ, Bool, [], length, IfOk, IfErr, IsOkAnd, IsTrue};
 ghost use Rattle.dep_types.specs.Numbers.{has_room};
 ghost use Rattle.dep_types.specs.Rows.{file_row, object_row, object_view};
-ghost use Rattle.dep_types.specs.State.{State};
+ghost use Rattle.dep_types.specs.State.{State, Object};
 ghost use Rattle.dep_types.specs.declared.store_fault.StoreFault.TheVariants.{Memory};
 ghost use Rattle.dep_decisions.specs.Decisions.{count_of};
 ghost use Rattle.dep_decisions.specs.Effects.{blank, bytes_from, file_from, filled};
 ghost use Rattle.dep_decisions.specs.declared.decision.Deposit.TheVariants.{Files};
 ghost use Rattle.dep_changes.specs.Causes.{HasCopies};
 ghost use Rattle.dep_changes.specs.Changed.{IsExtent, new_rows};
-ghost use Rattle.dep_changes.specs.Told.{AreSources, HasSources, TellsDeposit, TellsNewFile, TellsSource};
+ghost use Rattle.dep_changes.specs.Told.{AreSources, HasSources, TellsDeposit, TellsNewFile, TellsObject, TellsSource};
 
-use crate::change::Change;
+use crate::change::{Change, touched};
 use crate::copies::copied_metadata;
-use crate::deposits::blank_row;
+use crate::deposits::{blank_row, ingested_by};
 use crate::new_files::{Extent, FileNumbers, new_row, whole_upload};
 use dep_decisions::{Deposit, NewFile, Source};
 use dep_types::{FileRow, FileRows, Metadata, ObjectRow, ObjectView, StoreFault};
@@ -128,4 +128,25 @@ pub(crate) fn created_view(
 {
     let view = change.view;
     filled_view(change, blank_row(view, view.next.object, ingests), deposit)
+}
+
+/// What is told of the object that is touched, once the deposit has taken the place of all that it has.
+pub(crate) fn replaced_view(
+    change: &Change<'_>,
+    deposit: &Deposit,
+    ingests: bool,
+) -> Result<ObjectView, StoreFault>
+    requires { IsTrue (has_room change.now.view.now.next.file (count_of deposit.now)) }
+    ensures told { (s : State) (n : ℕ) (o : Object) → TellsDeposit change.now s deposit.now
+        → TellsObject change.now.view.now s n o
+        → IfOk result (λ told. told ≡ object_view n
+        (filled s change.now.content.now deposit.now (o.ingested || ingests))) }
+    ensures cause { (s : State) (n : ℕ) (o : Object)
+        → HasSources s change.now.content.now change.now.view.now.uploads deposit.now
+        → TellsObject change.now.view.now s n o
+        → IfErr result (λ fault. HasCopies deposit.now × (fault ≡ Memory)) }
+{
+    let view = change.view;
+    let row = ingested_by(touched(view)?, ingests);
+    filled_view(change, blank_row(view, row.object, row.ingested), deposit)
 }

@@ -9,7 +9,7 @@ ghost use Rattle.dep_changes.specs.Known.{CopiesKnown, known_shown};
 ghost use Rattle.dep_changes.specs.Told.{IsAccepted};
 
 use crate::change::{Change, touched};
-use crate::created::created_view;
+use crate::created::{created_view, replaced_view};
 use crate::objects::{files_changed, texts_changed};
 use dep_answers::Shown;
 use dep_decisions::Decision;
@@ -18,8 +18,8 @@ use dep_operations::View;
 use dep_types::StoreFault;
 use std::alloc::Global;
 
-/// What the reply shows of what was decided, once it is carried out, where all of that is known: a new
-/// object, and the row of one whose metadata or files are put in their place. No statement is run: rows,
+/// What the reply shows of what was decided, once it is carried out, where all of that is known: an object that is made or
+/// replaced, and the row of one whose metadata or files are put in their place. No statement is run: rows,
 /// numbers and digests stand in the view and in the decision. It fails for want of memory alone.
 pub fn known_after(
     alloc: Global,
@@ -42,6 +42,14 @@ pub fn known_after(
         Decision::Create { deposit, ingests } => {
             let created = created_view(&change, deposit, *ingests)?;
             Ok(Some(Shown::Object(created)))
+        }
+        Decision::Replace {
+            deposit,
+            ingests,
+            ..
+        } => {
+            let replaced = replaced_view(&change, deposit, *ingests)?;
+            Ok(Some(Shown::Object(replaced)))
         }
         Decision::SetMetadata { .. } => {
             let row = touched(view)?;

@@ -137,7 +137,7 @@ module _ (config : Config) (s : State) (op : Operation) (kept : op.target.method
 
   looked_at : (d : Decision) → MakesShown config op op.target.method (shows (effect_of s op.content d).next) (effect_of s op.content d).next d → IsLookedAt d
   looked_at (Create d ingests) makes sub is = let same : subject.Object s.next.object ≡ sub = cc in makes ∙ ap (λ (n : ℕ). subject.Object n) (last s.next.object) ∙ same
-  looked_at (Replace n d ingests) makes sub is = absurd (cc)
+  looked_at (Replace n d ingests) makes sub is = let same : subject.Object n ≡ sub = cc in makes ∙ same
   looked_at (SetMetadata n texts) makes sub is = let same : subject.ObjectRow n ≡ sub = cc in makes kept ∙ same
   looked_at (SetFiles n new) makes sub is = let same : subject.ObjectRow n ≡ sub = cc in makes kept ∙ same
   looked_at (SetFile n f new) makes sub is = absurd (cc)

@@ -9,7 +9,7 @@ use Rattle.dep_row_maps.proofs.Causes.{if_err_is}
 use Rattle.dep_changes.specs.Known.{CopiesKnown, known_shown}
 use Rattle.dep_changes.specs.Told.{TellsFor}
 use Rattle.dep_changes.proofs.Carried.{numbers_told, room_of_files, told}
-use Rattle.dep_changes.proofs.KnownShown.{created_known, files_known, never_told, texts_known}
+use Rattle.dep_changes.proofs.KnownShown.{created_known, files_known, never_told, replaced_known, texts_known}
 use Rattle.dep_changes.proofs.Steps.{files_row, texts_row}
 use Rattle.dep_changes.proofs.known.known_after.Goals as goal
 
@@ -34,6 +34,29 @@ returns-in_err-created-in-Create-clause-cause c s it =
     let fault = c.in_err-created-in-Create.field-0.0 in
     if_err_is _ c.from_residual.result fault c.from_residual.ensures.1
     (subst (λ (d : Decision). CopiesKnown d × (fault ≡ Memory)) (sym c.in-Create.is) (c.in_err-created-in-Create.ensures.cause s has.1))
+
+pub replaced_view-requires : goal.replaced_view-requires
+replaced_view-requires c =
+    room_of_files c.args.view.now.next c.args.decision.now _ (ap (λ (d : Decision). (numbers_for d).file) c.in-Replace.is) c.requires
+
+pub returns-in_ok-replaced-in-Replace-clause-told : goal.returns-in_ok-replaced-in-Replace-clause-told
+returns-in_ok-replaced-in-Replace-clause-told c s it =
+    let view = c.args.view.now in
+    let content = c.args.content.now in
+    let n = c.in-Replace.object in
+    let has = subst (TellsFor view s content) c.in-Replace.is (told s view content c.args.decision.now it) in
+    let are = c.in_ok-replaced-in-Replace.ensures.told s n has.0 (numbers_told s view content c.args.decision.now it, has.2) has.1 in
+    subst (λ (d : Decision). Some (shown.Object c.in_ok-replaced-in-Replace.replaced) ≡ known_shown s content d) (sym c.in-Replace.is)
+    (replaced_known s content n has.0 has.1.1 c.in-Replace.deposit c.in-Replace.ingests c.in_ok-replaced-in-Replace.replaced are)
+
+pub returns-in_err-replaced-in-Replace-clause-cause : goal.returns-in_err-replaced-in-Replace-clause-cause
+returns-in_err-replaced-in-Replace-clause-cause c s it =
+    let view = c.args.view.now in
+    let content = c.args.content.now in
+    let has = subst (TellsFor view s content) c.in-Replace.is (told s view content c.args.decision.now it) in
+    let fault = c.in_err-replaced-in-Replace.field-0.0 in
+    if_err_is _ c.from_residual-in_err-replaced-in-Replace.result fault c.from_residual-in_err-replaced-in-Replace.ensures.1
+    (subst (λ (d : Decision). CopiesKnown d × (fault ≡ Memory)) (sym c.in-Replace.is) (c.in_err-replaced-in-Replace.ensures.cause s c.in-Replace.object has.0 has.2 has.1))
 
 pub returns-in_ok-row-in-SetMetadata-clause-told : goal.returns-in_ok-row-in-SetMetadata-clause-told
 returns-in_ok-row-in-SetMetadata-clause-told c s it =
