@@ -1,4 +1,4 @@
-//! What is told of objects that a deposit makes or replaces, which is known without a look at the tables.
+//! What is told of objects and files that a deposit makes or replaces, which is known without a look at the tables.
 
 ghost use Rattle.std.specs.Prelude.{◌≡◌, ◌≢◌, ◌||◌, ℕ, Bool, [], length, IfOk, IfErr, IsOkAnd, IsTrue};
 ghost use Rattle.dep_types.specs.Numbers.{has_room};
@@ -149,4 +149,20 @@ pub(crate) fn replaced_view(
     let view = change.view;
     let row = ingested_by(touched(view)?, ingests);
     filled_view(change, blank_row(view, row.object, row.ingested), deposit)
+}
+
+/// The row of the file of the object that is touched, once it is the content of the request.
+pub(crate) fn replaced_file(
+    change: &Change<'_>,
+    file: u64,
+    new: &NewFile,
+) -> Result<FileRow, StoreFault>
+    ensures told { (s : State) (n : ℕ) (o : Object) → TellsNewFile change.now s 0 new.now.source
+        → TellsObject change.now.view.now s n o
+        → IfOk result (λ row. row ≡ file_row n file (file_from s change.now.content.now new.now)) }
+    ensures cause { (s : State) (n : ℕ) (o : Object) → TellsSource change.now s 0 new.now.source
+        → TellsObject change.now.view.now s n o → IfErr result (λ fault. fault ≡ Memory) }
+{
+    let object = touched(change.view)?.object;
+    row_of(change, FileNumbers { object, file }, new, 0)
 }

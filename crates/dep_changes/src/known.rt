@@ -9,7 +9,7 @@ ghost use Rattle.dep_changes.specs.Known.{CopiesKnown, known_shown};
 ghost use Rattle.dep_changes.specs.Told.{IsAccepted};
 
 use crate::change::{Change, touched};
-use crate::created::{created_view, replaced_view};
+use crate::created::{created_view, replaced_file, replaced_view};
 use crate::objects::{files_changed, texts_changed};
 use dep_answers::Shown;
 use dep_decisions::Decision;
@@ -19,7 +19,7 @@ use dep_types::StoreFault;
 use std::alloc::Global;
 
 /// What the reply shows of what was decided, once it is carried out, where all of that is known: an object that is made or
-/// replaced, and the row of one whose metadata or files are put in their place. No statement is run: rows,
+/// replaced, the row of one whose metadata or files are put in their place, and that of a file. No statement is run: rows,
 /// numbers and digests stand in the view and in the decision. It fails for want of memory alone.
 pub fn known_after(
     alloc: Global,
@@ -58,6 +58,10 @@ pub fn known_after(
         Decision::SetFiles { .. } => {
             let row = touched(view)?;
             Ok(Some(Shown::ObjectRow(files_changed(view, row))))
+        }
+        Decision::SetFile { file, new, .. } => {
+            let replaced = replaced_file(&change, *file, new)?;
+            Ok(Some(Shown::File(replaced)))
         }
         _ => Ok(None),
     }

@@ -140,7 +140,7 @@ module _ (config : Config) (s : State) (op : Operation) (kept : op.target.method
   looked_at (Replace n d ingests) makes sub is = let same : subject.Object n ≡ sub = cc in makes ∙ same
   looked_at (SetMetadata n texts) makes sub is = let same : subject.ObjectRow n ≡ sub = cc in makes kept ∙ same
   looked_at (SetFiles n new) makes sub is = let same : subject.ObjectRow n ≡ sub = cc in makes kept ∙ same
-  looked_at (SetFile n f new) makes sub is = absurd (cc)
+  looked_at (SetFile n f new) makes sub is = let same : subject.File (record { object = n; file = f }) ≡ sub = cc in makes ∙ same
   looked_at Show makes sub is = absurd (cc)
   looked_at (Append n d ingests) makes sub is = absurd (cc)
   looked_at (Complete n) makes sub is = absurd (cc)

@@ -1,4 +1,5 @@
-use Rattle.std.proofs.Common.{◌≡◌, Some, ap, subst, sym}
+use Rattle.std.proofs.Common.{◌≡◌, Some, ap, refl, subst, sym}
+use Rattle.std.specs.Prelude.{slice_get}
 use Rattle.std.specs.FinMap as finmap
 use Rattle.dep_types.specs.declared.store_fault.StoreFault.TheVariants.{Memory}
 use Rattle.dep_decisions.specs.Decisions.{numbers_for}
@@ -7,9 +8,9 @@ use Rattle.dep_decisions.specs.declared.decision.Decision.{Decision}
 use Rattle.dep_answers.specs.declared.subject.Shown.TheVariants as shown
 use Rattle.dep_row_maps.proofs.Causes.{if_err_is}
 use Rattle.dep_changes.specs.Known.{CopiesKnown, known_shown}
-use Rattle.dep_changes.specs.Told.{TellsFor}
+use Rattle.dep_changes.specs.Told.{IsSource, TellsFor}
 use Rattle.dep_changes.proofs.Carried.{numbers_told, room_of_files, told}
-use Rattle.dep_changes.proofs.KnownShown.{created_known, files_known, never_told, replaced_known, texts_known}
+use Rattle.dep_changes.proofs.KnownShown.{created_known, file_known, files_known, never_told, replaced_known, texts_known}
 use Rattle.dep_changes.proofs.Steps.{files_row, texts_row}
 use Rattle.dep_changes.proofs.known.known_after.Goals as goal
 
@@ -93,3 +94,26 @@ returns-in_err-row-in-SetFiles-clause-cause c s it =
     let view = c.args.view.now in
     let has = subst (TellsFor view s c.args.content.now) c.in-SetFiles.is (told s view c.args.content.now c.args.decision.now it) in
     never_told s view c.in-SetFiles.object has.0 has.1 c.in_err-row-in-SetFiles.ensures.absent
+
+pub returns-in_ok-replaced-in-SetFile-clause-told : goal.returns-in_ok-replaced-in-SetFile-clause-told
+returns-in_ok-replaced-in-SetFile-clause-told c s it =
+    let view = c.args.view.now in
+    let content = c.args.content.now in
+    let n = c.in-SetFile.object in
+    let has = subst (TellsFor view s content) c.in-SetFile.is (told s view content c.args.decision.now it) in
+    let numbers = numbers_told s view content c.args.decision.now it in
+    let object = has.2.0 in
+    let source = subst (IsSource s content (slice_get view.uploads 0)) (sym has.3) refl in
+    let row = c.in_ok-replaced-in-SetFile.replaced in
+    subst (λ (d : Decision). Some (shown.File row) ≡ known_shown s content d) (sym c.in-SetFile.is)
+    (file_known s content n has.0 object.1 c.in-SetFile.file c.in-SetFile.new row (c.in_ok-replaced-in-SetFile.ensures.told s n has.0 (numbers, source) object))
+
+pub returns-in_err-replaced-in-SetFile-clause-cause : goal.returns-in_err-replaced-in-SetFile-clause-cause
+returns-in_err-replaced-in-SetFile-clause-cause c s it =
+    let view = c.args.view.now in
+    let content = c.args.content.now in
+    let has = subst (TellsFor view s content) c.in-SetFile.is (told s view content c.args.decision.now it) in
+    let source = subst (IsSource s content (slice_get view.uploads 0)) (sym has.3) refl in
+    let fault = c.in_err-replaced-in-SetFile.field-0.0 in
+    if_err_is _ c.from_residual-in_err-replaced-in-SetFile.result fault c.from_residual-in_err-replaced-in-SetFile.ensures.1
+    (subst (λ (d : Decision). CopiesKnown d × (fault ≡ Memory)) (sym c.in-SetFile.is) (tt, c.in_err-replaced-in-SetFile.ensures.cause s c.in-SetFile.object has.0 source has.2.0))
