@@ -11,3 +11,5 @@ pub mod Appended
 pub mod Fits
 pub mod Opened
 pub mod NewObject
+pub mod CopiedNames
+pub mod KnownShown

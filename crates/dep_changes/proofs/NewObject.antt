@@ -10,7 +10,6 @@ use Rattle.dep_types.specs.Maps.{Numbered}
 use Rattle.dep_types.specs.Rows.{file_row, object_row, object_view, upload_row}
 use Rattle.dep_types.specs.State.{State, File, Texts, Upload}
 use Rattle.dep_types.specs.Uploads.{assembled}
-use Rattle.dep_types.specs.declared.counters.Counters.{Counters}
 use Rattle.dep_types.specs.declared.rows.FileRow.{FileRow}
 use Rattle.dep_types.specs.declared.rows.ObjectRow.{ObjectRow}
 use Rattle.dep_types.specs.declared.rows.ObjectView.{ObjectView}
@@ -18,16 +17,16 @@ use Rattle.dep_types.specs.declared.rows.UploadRow.{UploadRow}
 use Rattle.dep_fixity.specs.Fixity.{digests_of}
 use Rattle.dep_fixity.specs.declared.hasher.Digests.{Digests}
 use Rattle.dep_row_maps.proofs.Files.{entries-empty}
-use Rattle.dep_decisions.specs.Effects.{added, added_from, blank, bytes_from, file_from, filled}
+use Rattle.dep_decisions.specs.Effects.{added_from, blank, bytes_from, file_from, filled}
 use Rattle.dep_decisions.specs.declared.decision.Source.{Source}
 use Rattle.dep_decisions.specs.declared.decision.Source.TheVariants.{Posted, Assembled}
-use Rattle.dep_decisions.specs.declared.decision.Deposit.TheVariants.{Files}
+use Rattle.dep_decisions.specs.declared.decision.Deposit.{Deposit}
+use Rattle.dep_decisions.specs.declared.decision.Deposit.TheVariants.{Files, Metadata}
 use Rattle.dep_decisions.specs.declared.decision.NewFile.{NewFile}
 use Rattle.dep_operations.specs.declared.view.UploadView.{UploadView}
 use Rattle.dep_changes.specs.Told.{IsSource, whole_view}
-use Rattle.dep_changes.specs.Changed.{IsExtent}
+use Rattle.dep_changes.specs.Changed.{IsExtent, new_rows}
 use Rattle.dep_changes.proofs.Added.{length_before, take_next}
-use Rattle.dep_changes.proofs.Filled.{blank_row_is}
 
 -- ---- how many bytes a file has
 
@@ -140,14 +139,18 @@ module _ (s : State) (content : List ℕ) where
 
 -- ---- the object
 
-pub view_told : (s : State) (content : List ℕ) (files : List NewFile) (ingested : Bool) (clock : ℕ) (next : Counters) → clock ≡ s.clock → next ≡ s.next
-    → (row : ObjectRow) → row ≡ record { object = next.object; ingested = ingested; object_tag = next.change; metadata_tag = next.change; files_tag = next.change; changed = clock }
-    → (rows : List FileRow) (texts : Texts) → texts ≡ finmap.empty → rows ≡ map (λ e. file_row next.object e.0 e.1) (finmap.entries (added s content files finmap.empty))
-    → ◌≡◌ {A = ObjectView} (record { object = row; metadata = texts; files = rows }) (object_view s.next.object (filled s content (Files files) ingested))
-view_told s content files ingested clock next at_clock at_next row is rows texts none all =
-    let number = ap (λ (c : Counters). c.object) at_next in
-    let blank_is : row ≡ object_row next.object (blank s ingested) = blank_row_is s clock next at_clock at_next row next.object ingested is in
-    let row_is : row ≡ object_row s.next.object (blank s ingested) = blank_is ∙ ap (λ (n : ℕ). object_row n (blank s ingested)) number in
-    let rows_are : rows ≡ map (λ (e : Entry). file_row s.next.object e.0 e.1) (finmap.entries (added s content files finmap.empty)) =
-    all ∙ ap (λ (n : ℕ). map (λ (e : Entry). file_row n e.0 e.1) (finmap.entries (added s content files finmap.empty))) number in
-    λ i. record { object = row_is i; metadata = none i; files = rows_are i }
+-- what is told of an object of this row that has a deposit alone
+module _ (s : State) (content : List ℕ) (n : ℕ) (ingested : Bool) (row : ObjectRow) (is : row ≡ object_row n (blank s ingested)) (d : Deposit) where
+  pub view_of_files : (new : List NewFile) → d ≡ Files new → (texts : Texts) → texts ≡ finmap.empty → (rows : List FileRow) → rows ≡ new_rows s content row.object new
+      → ◌≡◌ {A = ObjectView} (record { object = row; metadata = texts; files = rows }) (object_view n (filled s content d ingested))
+  view_of_files new same texts none rows are =
+      let rows_are : rows ≡ new_rows s content n new = are ∙ ap (λ (r : ObjectRow). new_rows s content r.object new) is in
+      let told : ◌≡◌ {A = ObjectView} (record { object = row; metadata = texts; files = rows }) (object_view n (filled s content (Files new) ingested)) = λ i. record { object = is i; metadata = none i; files = rows_are i } in
+      told ∙ ap (λ (x : Deposit). object_view n (filled s content x ingested)) (sym same)
+
+  pub view_of_texts : (texts : Texts) → d ≡ Metadata texts → (copied : Texts) → copied ≡ texts → (rows : List FileRow) → rows ≡ []
+      → ◌≡◌ {A = ObjectView} (record { object = row; metadata = copied; files = rows }) (object_view n (filled s content d ingested))
+  view_of_texts texts same copied copy rows none =
+      let rows_are : rows ≡ map (λ (e : Entry). file_row n e.0 e.1) (finmap.entries finmap.empty) = none ∙ sym (ap (map (λ (e : Entry). file_row n e.0 e.1)) (entries-empty nat_cmp File)) in
+      let told : ◌≡◌ {A = ObjectView} (record { object = row; metadata = copied; files = rows }) (object_view n (filled s content (Metadata texts) ingested)) = λ i. record { object = is i; metadata = copy i; files = rows_are i } in
+      told ∙ ap (λ (x : Deposit). object_view n (filled s content x ingested)) (sym same)

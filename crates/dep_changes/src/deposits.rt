@@ -25,8 +25,8 @@ use dep_tables::Statements;
 use dep_types::{Metadata, ObjectRow, StoreFault};
 use std::alloc::Global;
 
-// An ingested object never goes back.
-fn ingested_by(row: ObjectRow, ingests: bool) -> ObjectRow
+/// An ingested object never goes back.
+pub(crate) fn ingested_by(row: ObjectRow, ingests: bool) -> ObjectRow
     ensures { result ≡ record row { ingested = row.ingested || ingests } }
 {
     ObjectRow {

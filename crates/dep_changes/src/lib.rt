@@ -1,15 +1,17 @@
-//! What an accepted request's decision makes of the tables, inside a transaction. The owner of the transaction gives
-//! it back where a call fails.
+//! What an accepted request's decision makes of the tables, inside a transaction, and what the reply shows of that where
+//! it is known. The owner of the transaction gives it back where a call fails.
 #![tactic(auto)]
 
 mod carrying;
 mod change;
+mod copies;
 mod created;
 mod deposits;
+mod known;
 mod new_files;
 mod objects;
 mod uploads;
 
 pub use carrying::carry_out;
-pub use created::created_view;
+pub use known::known_after;
 pub use new_files::copied_behalf;

@@ -1,2 +1,2 @@
 pub mod Stepping
-pub mod Created
+pub mod Known

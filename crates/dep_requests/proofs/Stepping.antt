@@ -4,6 +4,7 @@ use Rattle.std.specs.Prelude.{option_and_then}
 use Rattle.std.specs.Option.{option_map, option_map_or}
 use Rattle.sqlite.specs.Effect.{Database}
 use Rattle.sqlite.specs.State as db
+use Rattle.sqlite.proofs.StateLemmas.{unchanged}
 use Rattle.dep_types.specs.Limits.{greatest_moment}
 use Rattle.dep_types.specs.Numbers.{counters_after}
 use Rattle.dep_types.specs.Maps.{◌>>=◌}
@@ -90,6 +91,10 @@ reads_alike config s op (Do d) is only = inr (sym is.1 ∙ only)
 pub reads_alone : {T A E : Type 0} (state : T → db.State) (old mid new : T) (r : Result A E) → mid ≡ old → (IsTrue (state mid).is_open → ReadsOnly (state mid) (state new) r)
     → IsTrue (state old).is_open → ReadsOnly (state old) (state new) r
 reads_alone {T} state old mid new r same reads = subst (λ (tx : T). IsTrue (state tx).is_open → ReadsOnly (state tx) (state new) r) same reads
+
+-- what was left alone is unchanged
+pub left_alone : {T : Type 0} (state : T → db.State) (old new : T) → new ≡ old → IsTrue (state old).is_open → db.IsUnchanged (state old) (state new)
+left_alone {T} state old new same is_open = subst (λ (tx : T). db.IsUnchanged (state old) (state tx)) (sym same) (unchanged (state old) is_open)
 
 -- how the reply to a request goes out
 abbrev pub delivery_for : State → Operation → Delivery

@@ -1,10 +1,12 @@
 -- What is ruled of a request, and what comes of it.
 use Rattle.sqlite.specs.State as db
-use Rattle.std.specs.Prelude.{◌≡◌, ◌≢◌, ◌⊎◌, None, Result, IfOk}
+use Rattle.std.specs.Prelude.{◌≡◌, ◌≢◌, ◌⊎◌, ℕ, List, Option, Some, None, Result, IfOk}
 use Rattle.dep_types.specs.State.{State}
 use Rattle.dep_types.specs.Sound.{IsSound}
 use Rattle.dep_types.specs.declared.config.Config.{Config}
 use Rattle.dep_types.specs.declared.store_fault.StoreFault.{StoreFault}
+use Rattle.dep_types.specs.declared.target.Method.{Method}
+use Rattle.dep_types.specs.declared.target.Method.TheVariants.{Delete}
 use Rattle.dep_fields.specs.Fit.{AreFit}
 use Rattle.dep_answers.specs.Performing.{IsReady}
 use Rattle.dep_answers.specs.Replies.{answer_to}
@@ -13,6 +15,7 @@ use Rattle.dep_answers.specs.Subjects.{shown_at, subject_of}
 use Rattle.dep_answers.specs.Answers.{Answer}
 use Rattle.dep_answers.specs.declared.performed.Performed.{Performed}
 use Rattle.dep_answers.specs.declared.subject.Shown.{Shown}
+use Rattle.dep_answers.specs.declared.subject.Shown.TheVariants.{Nothing}
 use Rattle.dep_row_maps.specs.Clauses.{FromMaps, SeesState}
 use Rattle.dep_decisions.specs.Effects.{effect}
 use Rattle.dep_decisions.specs.declared.decision.Decision.{Decision}
@@ -25,6 +28,7 @@ use Rattle.dep_operations.specs.Views.{touched_by, true_view}
 use Rattle.dep_operations.specs.declared.ruling.Ruling.{Ruling}
 use Rattle.dep_operations.specs.declared.ruling.Ruling.TheVariants.{Do, Refuse}
 use Rattle.dep_views.specs.Seen.{touched_payload}
+use Rattle.dep_changes.specs.Known.{known_shown}
 use Rattle.dep_requests.specs.declared.performing.Done.{Done}
 use Rattle.dep_requests.specs.declared.performing.Ruled.{Ruled}
 
@@ -50,6 +54,14 @@ shown_by s op = shown_at s (subject_of s.next op.target.resource op.target.metho
 -- the answer that it gets there
 abbrev pub answered_at : Config → State → Operation → Answer
 answered_at config s op = answer_to config s op.target.resource op.target.method
+
+-- What is known of it without a look at the tables, where this is decided: of a deletion nothing is shown.
+abbrev pub known_at : State → (content : List ℕ) → Decision → Method → Option Shown
+known_at s content d Delete = Some Nothing
+known_at s content d m = known_shown s content d
+
+abbrev pub known_by : State → Operation → Decision → Option Shown
+known_by s op d = known_at s op.content d op.target.method
 
 -- the tables are those of what it makes of the state, of which this is shown
 abbrev pub ShowsEffect : Config → State → Operation → db.State → Shown → Type 0

@@ -1,18 +1,13 @@
-use Rattle.std.proofs.Common.{◌≡◌, List, length, refl, sym, ap, subst, ◌∙◌}
+use Rattle.std.proofs.Common.{refl, sym, subst, ◌∙◌}
 use Rattle.dep_tables.proofs.Chains.{clean_before, stays_then}
-use Rattle.dep_decisions.specs.Effects.{effect}
-use Rattle.dep_changes.proofs.Chains.{ours_then}
-use Rattle.dep_decisions.proofs.Accepted.{effect_sound}
-use Rattle.dep_requests.proofs.Stepping.{next_after, reads_alone, shown_after}
-use Rattle.dep_decisions.specs.Decisions.{numbers_for}
-use Rattle.dep_decisions.specs.declared.decision.Decision.{Decision}
-use Rattle.dep_decisions.specs.declared.decision.Deposit.{Deposit}
-use Rattle.dep_decisions.specs.declared.decision.NewFile.{NewFile}
 use Rattle.dep_row_maps.specs.Clauses.{SeesState}
-use Rattle.dep_changes.proofs.Carried.{request_made, room_of_files}
-use Rattle.dep_decisions.specs.declared.decision.Decision.TheVariants.{Create}
-use Rattle.dep_decisions.specs.declared.decision.Deposit.TheVariants.{Files}
-use Rattle.dep_requests.proofs.Created.{created_shown}
+use Rattle.dep_decisions.specs.Effects.{effect}
+use Rattle.dep_decisions.proofs.Accepted.{effect_sound}
+use Rattle.dep_changes.specs.Told.{IsAccepted}
+use Rattle.dep_changes.proofs.Carried.{request_made}
+use Rattle.dep_changes.proofs.Chains.{ours_then}
+use Rattle.dep_requests.proofs.Known.{known_shown_by}
+use Rattle.dep_requests.proofs.Stepping.{left_alone, next_after, reads_alone, shown_after}
 use Rattle.dep_requests.proofs.performing.carry.Goals as goal
 
 pub returns-clause-map : goal.returns-clause-map
@@ -39,19 +34,13 @@ pub returns-clause-unchanged : goal.returns-clause-unchanged
 returns-clause-unchanged g c show =
     reads_alone g.T.Statements.state c.args.tx.now c.carry_out.new.tx c.load_shown.new.tx c.load_shown.result (c.in_ok-carry_out.ensures.untouched show).1 c.load_shown.ensures.keeps.same
 
-pub created_view-requires : goal.created_view-requires
-created_view-requires g c =
-    room_of_files c.args.ruled.now.view.next c.args.decision.now _
-    (ap (λ (d : Decision). (numbers_for d).file) (c.in-Create.is ∙ ap (λ (x : Deposit). Create x c.in-Create.ingests) c.in-Files.is) ∙ ap length (sym c.as_slice.ensures)) c.requires
-
-pub returns-in-Files-clause-map : goal.returns-in-Files-clause-map
-returns-in-Files-clause-map g c clean within ours s are config sound fit rules ruling =
+pub returns-in-Some-clause-map : goal.returns-in-Some-clause-map
+returns-in-Some-clause-map g c clean within ours s are config sound fit rules ruling =
     let op = c.args.operation.now in
-    let made = subst (SeesState (g.T.Statements.state c.carry_out.new.tx)) (request_made config s op c.args.decision.now ruling.1)
-    (c.in_ok-carry_out.ensures.map clean within ours s are (record { config = config; op = op; sound = sound; seen = rules.view; ruling = ruling; sent = refl })) in
-    let files = c.as_slice.result.now in
-    let same : c.args.decision.now ≡ Create (Files files) c.in-Create.ingests =
-    c.in-Create.is ∙ ap (λ (x : Deposit). Create x c.in-Create.ingests) (c.in-Files.is ∙ ap (λ (fs : List NewFile). Files fs) (sym c.as_slice.ensures)) in
-    let asked = sym same ∙ ruling.1 in
-    let told = c.in_ok-created.ensures.told s (record { config = config; op = op; sound = sound; seen = rules.view; ruling = (ruling.0, asked); sent = refl }) in
-    (made, created_shown config s op (Files files) c.in-Create.ingests c.in_ok-created.created asked told)
+    let accepted : IsAccepted s c.args.ruled.now.view op.content c.args.decision.now = record { config = config; op = op; sound = sound; seen = rules.view; ruling = ruling; sent = refl } in
+    let made = subst (SeesState (g.T.Statements.state c.carry_out.new.tx)) (request_made config s op c.args.decision.now ruling.1) (c.in_ok-carry_out.ensures.map clean within ours s are accepted) in
+    (made, known_shown_by config s op c.args.decision.now c.in-Some.shown ruling.1 (sym c.in-Some.is ∙ c.in_ok-shown.ensures s accepted))
+
+pub returns-in-Some-clause-unchanged : goal.returns-in-Some-clause-unchanged
+returns-in-Some-clause-unchanged g c show is_open clean ours =
+    left_alone g.T.Statements.state c.args.tx.now c.carry_out.new.tx (c.in_ok-carry_out.ensures.untouched show).1 is_open

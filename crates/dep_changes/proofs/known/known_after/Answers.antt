@@ -1,0 +1,119 @@
+use Rattle.std.proofs.Common.{◌≡◌, Some, ap, refl, subst, sym}
+use Rattle.std.specs.Prelude.{slice_get}
+use Rattle.std.specs.FinMap as finmap
+use Rattle.dep_types.specs.declared.store_fault.StoreFault.TheVariants.{Memory}
+use Rattle.dep_decisions.specs.Decisions.{numbers_for}
+use Rattle.dep_decisions.specs.Effects.{added}
+use Rattle.dep_decisions.specs.declared.decision.Decision.{Decision}
+use Rattle.dep_answers.specs.declared.subject.Shown.TheVariants as shown
+use Rattle.dep_row_maps.proofs.Causes.{if_err_is}
+use Rattle.dep_changes.specs.Known.{CopiesKnown, known_shown}
+use Rattle.dep_changes.specs.Told.{IsSource, TellsFor}
+use Rattle.dep_changes.proofs.Carried.{numbers_told, room_of_files, told}
+use Rattle.dep_changes.proofs.KnownShown.{created_known, file_known, files_known, never_told, replaced_known, texts_known}
+use Rattle.dep_changes.proofs.Steps.{files_row, texts_row}
+use Rattle.dep_changes.proofs.known.known_after.Goals as goal
+
+pub created_view-requires : goal.created_view-requires
+created_view-requires c =
+    room_of_files c.args.view.now.next c.args.decision.now _ (ap (λ (d : Decision). (numbers_for d).file) c.in-Create.is) c.requires
+
+pub returns-in_ok-created-in-Create-clause-told : goal.returns-in_ok-created-in-Create-clause-told
+returns-in_ok-created-in-Create-clause-told c s it =
+    let view = c.args.view.now in
+    let content = c.args.content.now in
+    let has = subst (TellsFor view s content) c.in-Create.is (told s view content c.args.decision.now it) in
+    let are = c.in_ok-created-in-Create.ensures.told s (numbers_told s view content c.args.decision.now it, has.1) in
+    subst (λ (d : Decision). Some (shown.Object c.in_ok-created-in-Create.created) ≡ known_shown s content d) (sym c.in-Create.is)
+    (created_known s content c.in-Create.deposit c.in-Create.ingests c.in_ok-created-in-Create.created are)
+
+pub returns-in_err-created-in-Create-clause-cause : goal.returns-in_err-created-in-Create-clause-cause
+returns-in_err-created-in-Create-clause-cause c s it =
+    let view = c.args.view.now in
+    let content = c.args.content.now in
+    let has = subst (TellsFor view s content) c.in-Create.is (told s view content c.args.decision.now it) in
+    let fault = c.in_err-created-in-Create.field-0.0 in
+    if_err_is _ c.from_residual.result fault c.from_residual.ensures.1
+    (subst (λ (d : Decision). CopiesKnown d × (fault ≡ Memory)) (sym c.in-Create.is) (c.in_err-created-in-Create.ensures.cause s has.1))
+
+pub replaced_view-requires : goal.replaced_view-requires
+replaced_view-requires c =
+    room_of_files c.args.view.now.next c.args.decision.now _ (ap (λ (d : Decision). (numbers_for d).file) c.in-Replace.is) c.requires
+
+pub returns-in_ok-replaced-in-Replace-clause-told : goal.returns-in_ok-replaced-in-Replace-clause-told
+returns-in_ok-replaced-in-Replace-clause-told c s it =
+    let view = c.args.view.now in
+    let content = c.args.content.now in
+    let n = c.in-Replace.object in
+    let has = subst (TellsFor view s content) c.in-Replace.is (told s view content c.args.decision.now it) in
+    let are = c.in_ok-replaced-in-Replace.ensures.told s n has.0 (numbers_told s view content c.args.decision.now it, has.2) has.1 in
+    subst (λ (d : Decision). Some (shown.Object c.in_ok-replaced-in-Replace.replaced) ≡ known_shown s content d) (sym c.in-Replace.is)
+    (replaced_known s content n has.0 has.1.1 c.in-Replace.deposit c.in-Replace.ingests c.in_ok-replaced-in-Replace.replaced are)
+
+pub returns-in_err-replaced-in-Replace-clause-cause : goal.returns-in_err-replaced-in-Replace-clause-cause
+returns-in_err-replaced-in-Replace-clause-cause c s it =
+    let view = c.args.view.now in
+    let content = c.args.content.now in
+    let has = subst (TellsFor view s content) c.in-Replace.is (told s view content c.args.decision.now it) in
+    let fault = c.in_err-replaced-in-Replace.field-0.0 in
+    if_err_is _ c.from_residual-in_err-replaced-in-Replace.result fault c.from_residual-in_err-replaced-in-Replace.ensures.1
+    (subst (λ (d : Decision). CopiesKnown d × (fault ≡ Memory)) (sym c.in-Replace.is) (c.in_err-replaced-in-Replace.ensures.cause s c.in-Replace.object has.0 has.2 has.1))
+
+pub returns-in_ok-row-in-SetMetadata-clause-told : goal.returns-in_ok-row-in-SetMetadata-clause-told
+returns-in_ok-row-in-SetMetadata-clause-told c s it =
+    let view = c.args.view.now in
+    let content = c.args.content.now in
+    let n = c.in-SetMetadata.object in
+    let texts = c.in-SetMetadata.metadata in
+    let has = subst (TellsFor view s content) c.in-SetMetadata.is (told s view content c.args.decision.now it) in
+    let numbers = numbers_told s view content c.args.decision.now it in
+    let now = c.texts_changed.result in
+    let is = texts_row s n has.0 view.object has.1.0 c.in_ok-row-in-SetMetadata.row c.in_ok-row-in-SetMetadata.ensures.told view.clock view.next numbers.0 numbers.1 now texts c.texts_changed.ensures in
+    subst (λ (d : Decision). Some (shown.ObjectRow now) ≡ known_shown s content d) (sym c.in-SetMetadata.is) (texts_known s content n has.0 has.1.1 texts now is)
+
+pub returns-in_err-row-in-SetMetadata-clause-cause : goal.returns-in_err-row-in-SetMetadata-clause-cause
+returns-in_err-row-in-SetMetadata-clause-cause c s it =
+    let view = c.args.view.now in
+    let has = subst (TellsFor view s c.args.content.now) c.in-SetMetadata.is (told s view c.args.content.now c.args.decision.now it) in
+    never_told s view c.in-SetMetadata.object has.0 has.1 c.in_err-row-in-SetMetadata.ensures.absent
+
+pub returns-in_ok-row-in-SetFiles-clause-told : goal.returns-in_ok-row-in-SetFiles-clause-told
+returns-in_ok-row-in-SetFiles-clause-told c s it =
+    let view = c.args.view.now in
+    let content = c.args.content.now in
+    let n = c.in-SetFiles.object in
+    let new = c.in-SetFiles.files in
+    let has = subst (TellsFor view s content) c.in-SetFiles.is (told s view content c.args.decision.now it) in
+    let numbers = numbers_told s view content c.args.decision.now it in
+    let now = c.files_changed.result in
+    let is = files_row s n has.0 view.object has.1.0 c.in_ok-row-in-SetFiles.row c.in_ok-row-in-SetFiles.ensures.told view.clock view.next numbers.0 numbers.1 now (added s content new finmap.empty) c.files_changed.ensures in
+    subst (λ (d : Decision). Some (shown.ObjectRow now) ≡ known_shown s content d) (sym c.in-SetFiles.is) (files_known s content n has.0 has.1.1 new now is)
+
+pub returns-in_err-row-in-SetFiles-clause-cause : goal.returns-in_err-row-in-SetFiles-clause-cause
+returns-in_err-row-in-SetFiles-clause-cause c s it =
+    let view = c.args.view.now in
+    let has = subst (TellsFor view s c.args.content.now) c.in-SetFiles.is (told s view c.args.content.now c.args.decision.now it) in
+    never_told s view c.in-SetFiles.object has.0 has.1 c.in_err-row-in-SetFiles.ensures.absent
+
+pub returns-in_ok-replaced-in-SetFile-clause-told : goal.returns-in_ok-replaced-in-SetFile-clause-told
+returns-in_ok-replaced-in-SetFile-clause-told c s it =
+    let view = c.args.view.now in
+    let content = c.args.content.now in
+    let n = c.in-SetFile.object in
+    let has = subst (TellsFor view s content) c.in-SetFile.is (told s view content c.args.decision.now it) in
+    let numbers = numbers_told s view content c.args.decision.now it in
+    let object = has.2.0 in
+    let source = subst (IsSource s content (slice_get view.uploads 0)) (sym has.3) refl in
+    let row = c.in_ok-replaced-in-SetFile.replaced in
+    subst (λ (d : Decision). Some (shown.File row) ≡ known_shown s content d) (sym c.in-SetFile.is)
+    (file_known s content n has.0 object.1 c.in-SetFile.file c.in-SetFile.new row (c.in_ok-replaced-in-SetFile.ensures.told s n has.0 (numbers, source) object))
+
+pub returns-in_err-replaced-in-SetFile-clause-cause : goal.returns-in_err-replaced-in-SetFile-clause-cause
+returns-in_err-replaced-in-SetFile-clause-cause c s it =
+    let view = c.args.view.now in
+    let content = c.args.content.now in
+    let has = subst (TellsFor view s content) c.in-SetFile.is (told s view content c.args.decision.now it) in
+    let source = subst (IsSource s content (slice_get view.uploads 0)) (sym has.3) refl in
+    let fault = c.in_err-replaced-in-SetFile.field-0.0 in
+    if_err_is _ c.from_residual-in_err-replaced-in-SetFile.result fault c.from_residual-in_err-replaced-in-SetFile.ensures.1
+    (subst (λ (d : Decision). CopiesKnown d × (fault ≡ Memory)) (sym c.in-SetFile.is) (tt, c.in_err-replaced-in-SetFile.ensures.cause s c.in-SetFile.object has.0 source has.2.0))

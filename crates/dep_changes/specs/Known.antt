@@ -1,0 +1,33 @@
+-- What the reply to a request shows, where that is known without a look at the tables.
+use Rattle.std.specs.Prelude.{⊤, ℕ, List, Option, Some, None, option_map}
+use Rattle.dep_types.specs.State.{State}
+use Rattle.dep_types.specs.declared.counters.Counters.{Counters}
+use Rattle.dep_decisions.specs.Effects.{effect_of}
+use Rattle.dep_decisions.specs.declared.decision.Decision.{Decision}
+use Rattle.dep_decisions.specs.declared.decision.Decision.TheVariants.{Create, Replace, SetMetadata, SetFiles, SetFile}
+use Rattle.dep_answers.specs.Subjects.{shown_at}
+use Rattle.dep_answers.specs.declared.subject.Subject.{Subject}
+use Rattle.dep_answers.specs.declared.subject.Subject.TheVariants.{File, Object, ObjectRow}
+use Rattle.dep_answers.specs.declared.subject.Shown.{Shown}
+use Rattle.dep_changes.specs.Causes.{HasCopies}
+
+-- What is known of a decision once it is carried out: an object that it makes, under the next number, or puts in the place
+-- of another, the row of one that gets other metadata or files alone, and a file.
+abbrev pub known_subject : (next : Counters) → Decision → Option Subject
+known_subject next (Create d ingests) = Some (Object next.object)
+known_subject next (Replace n d ingests) = Some (Object n)
+known_subject next (SetMetadata n texts) = Some (ObjectRow n)
+known_subject next (SetFiles n new) = Some (ObjectRow n)
+known_subject next (SetFile n f new) = Some (File (record { object = n; file = f }))
+known_subject next d = None
+
+-- what the state after shows there
+abbrev pub known_shown : State → (content : List ℕ) → Decision → Option Shown
+known_shown s content d = option_map (shown_at (effect_of s content d)) (known_subject s.next d)
+
+-- memory is taken for what is shown
+abbrev pub CopiesKnown : Decision → Type 0
+CopiesKnown (Create d ingests) = HasCopies d
+CopiesKnown (Replace n d ingests) = HasCopies d
+CopiesKnown (SetFile n f new) = ⊤
+CopiesKnown d = ⊥

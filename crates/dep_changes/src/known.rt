@@ -1,0 +1,68 @@
+//! What the reply to a request shows, where that is known without a look at the tables.
+
+ghost use Rattle.std.specs.Prelude.{◌≡◌, IfOk, IfErr, IsTrue};
+ghost use Rattle.dep_types.specs.Numbers.{room_for};
+ghost use Rattle.dep_types.specs.State.{State};
+ghost use Rattle.dep_types.specs.declared.store_fault.StoreFault.TheVariants.{Memory};
+ghost use Rattle.dep_decisions.specs.Decisions.{numbers_for};
+ghost use Rattle.dep_changes.specs.Known.{CopiesKnown, known_shown};
+ghost use Rattle.dep_changes.specs.Told.{IsAccepted};
+
+use crate::change::{Change, touched};
+use crate::created::{created_view, replaced_file, replaced_view};
+use crate::objects::{files_changed, texts_changed};
+use dep_answers::Shown;
+use dep_decisions::Decision;
+use dep_fixity::HashedOctets;
+use dep_operations::View;
+use dep_types::StoreFault;
+use std::alloc::Global;
+
+/// What the reply shows of what was decided, once it is carried out, where all of that is known: an object that is made or
+/// replaced, the row of one whose metadata or files are put in their place, and that of a file. No statement is run: rows,
+/// numbers and digests stand in the view and in the decision. It fails for want of memory alone.
+pub fn known_after(
+    alloc: Global,
+    view: &View,
+    decision: &Decision,
+    content: &HashedOctets,
+) -> Result<Option<Shown>, StoreFault>
+    requires { IsTrue (room_for view.now.next (numbers_for decision.now)) }
+    ensures told { (s : State) → IsAccepted s view.now content.now decision.now
+        → IfOk result (λ known. known ≡ known_shown s content.now decision.now) }
+    ensures cause { (s : State) → IsAccepted s view.now content.now decision.now
+        → IfErr result (λ fault. CopiesKnown decision.now × (fault ≡ Memory)) }
+{
+    let change = Change {
+        alloc,
+        view,
+        content,
+    };
+    match decision {
+        Decision::Create { deposit, ingests } => {
+            let created = created_view(&change, deposit, *ingests)?;
+            Ok(Some(Shown::Object(created)))
+        }
+        Decision::Replace {
+            deposit,
+            ingests,
+            ..
+        } => {
+            let replaced = replaced_view(&change, deposit, *ingests)?;
+            Ok(Some(Shown::Object(replaced)))
+        }
+        Decision::SetMetadata { .. } => {
+            let row = touched(view)?;
+            Ok(Some(Shown::ObjectRow(texts_changed(view, row))))
+        }
+        Decision::SetFiles { .. } => {
+            let row = touched(view)?;
+            Ok(Some(Shown::ObjectRow(files_changed(view, row))))
+        }
+        Decision::SetFile { file, new, .. } => {
+            let replaced = replaced_file(&change, *file, new)?;
+            Ok(Some(Shown::File(replaced)))
+        }
+        _ => Ok(None),
+    }
+}
