@@ -4,6 +4,7 @@ use Rattle.dep_row_maps.specs.Causes.{FailsByStatement}
 use Rattle.dep_row_maps.specs.Causes.FailsByStatement.{sha512_found, upload_found}
 use Rattle.dep_row_maps.proofs.Causes.{fails_first, fails_then, if_err_is, never_failed}
 use Rattle.dep_files.proofs.Results.{same_tables}
+use Rattle.dep_staging.proofs.Causes.{refused_on}
 use Rattle.dep_staging.proofs.Loaded.{none_found, row_found}
 use Rattle.dep_staging.proofs.loading.find_row.Goals as goal
 
@@ -52,3 +53,6 @@ returns-in_err-columns-clause-keeps g c = reads_err c.from_residual.ensures.0 c.
 
 pub returns-in_err-find_sha512-clause-keeps : goal.returns-in_err-find_sha512-clause-keeps
 returns-in_err-find_sha512-clause-keeps g c = reads_err c.from_residual-in_err-find_sha512.ensures.0 (reads_then c.in_ok-columns.ensures.keeps c.find_sha512.ensures.keeps)
+
+pub returns-in_err-columns-clause-numbers : goal.returns-in_err-columns-clause-numbers
+returns-in_err-columns-clause-numbers g c great = refused_on c.from_residual.result c.in_err-columns.field-0.0 c.from_residual.ensures.1 (c.in_err-columns.ensures.numbers great)

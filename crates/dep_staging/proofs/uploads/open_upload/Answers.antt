@@ -12,6 +12,7 @@ use Rattle.dep_row_maps.proofs.Causes.{fails_first, fails_then, if_err_is, if_er
 use Rattle.dep_row_maps.proofs.Changing.{by_leads, changes_err, changes_ok, changes_then}
 use Rattle.dep_staging.specs.Causes.{FailsToOpen}
 use Rattle.dep_staging.specs.Causes.FailsToOpen.{promise, row}
+use Rattle.dep_staging.proofs.Causes.{refused_on}
 use Rattle.dep_staging.proofs.UploadCalls.{opened}
 use Rattle.dep_staging.proofs.uploads.open_upload.Goals as goal
 
@@ -71,3 +72,8 @@ returns-in-None-clause-keeps g c = changes_ok (by_leads _ c.in_ok-insert_upload.
 
 pub returns-in_err-insert_upload-clause-keeps : goal.returns-in_err-insert_upload-clause-keeps
 returns-in_err-insert_upload-clause-keeps g c = changes_err c.from_residual.ensures.0 c.insert_upload.ensures.keeps.stays
+
+pub returns-in_err-insert_upload-clause-numbers : goal.returns-in_err-insert_upload-clause-numbers
+returns-in_err-insert_upload-clause-numbers g c great =
+    refused_on c.from_residual.result c.in_err-insert_upload.field-0.0 c.from_residual.ensures.1
+    (c.in_err-insert_upload.ensures.numbers (λ storable. great (subst IsStorableUpload c.of_row.ensures storable)))
