@@ -110,3 +110,36 @@ returns-then-len-ge-MOST_CONNECTIONS-clause-holding g c = λ lines held kept. ke
 
 pub returns-in-Err-clause-holding : goal.returns-in-Err-clause-holding
 returns-in-Err-clause-holding g c = holds_same c.args.self.now.config.max_upload c.args.self.now.connections.items c.push.new.self.items c.in-Err.ensures.items
+
+pub returns-then-len-ge-MOST_CONNECTIONS-clause-adds : goal.returns-then-len-ge-MOST_CONNECTIONS-clause-adds
+returns-then-len-ge-MOST_CONNECTIONS-clause-adds g c = tt
+
+pub returns-then-len-ge-MOST_CONNECTIONS-clause-moves : goal.returns-then-len-ge-MOST_CONNECTIONS-clause-moves
+returns-then-len-ge-MOST_CONNECTIONS-clause-moves g c = tt
+
+pub returns-then-len-ge-MOST_CONNECTIONS-clause-same : goal.returns-then-len-ge-MOST_CONNECTIONS-clause-same
+returns-then-len-ge-MOST_CONNECTIONS-clause-same g c = λ w at. at
+
+pub returns-then-len-ge-MOST_CONNECTIONS-clause-config : goal.returns-then-len-ge-MOST_CONNECTIONS-clause-config
+returns-then-len-ge-MOST_CONNECTIONS-clause-config g c = refl
+
+pub returns-then-len-ge-MOST_CONNECTIONS-clause-store : goal.returns-then-len-ge-MOST_CONNECTIONS-clause-store
+returns-then-len-ge-MOST_CONNECTIONS-clause-store g c = refl
+
+pub returns-then-len-ge-MOST_CONNECTIONS-clause-next : goal.returns-then-len-ge-MOST_CONNECTIONS-clause-next
+returns-then-len-ge-MOST_CONNECTIONS-clause-next g c = tt
+
+pub returns-then-len-ge-MOST_CONNECTIONS-clause-room : goal.returns-then-len-ge-MOST_CONNECTIONS-clause-room
+returns-then-len-ge-MOST_CONNECTIONS-clause-room g c = tt
+
+pub returns-then-len-ge-MOST_CONNECTIONS-clause-kept : goal.returns-then-len-ge-MOST_CONNECTIONS-clause-kept
+returns-then-len-ge-MOST_CONNECTIONS-clause-kept g c = refl
+
+pub returns-then-len-ge-MOST_CONNECTIONS-clause-fresh : goal.returns-then-len-ge-MOST_CONNECTIONS-clause-fresh
+returns-then-len-ge-MOST_CONNECTIONS-clause-fresh g c = tt
+
+pub returns-then-len-ge-MOST_CONNECTIONS-clause-there : goal.returns-then-len-ge-MOST_CONNECTIONS-clause-there
+returns-then-len-ge-MOST_CONNECTIONS-clause-there g c = tt
+
+pub returns-clause-next : goal.returns-clause-next
+returns-clause-next g c = (c.new-2.ensures, refl)

@@ -24,3 +24,60 @@ pub invariant_of-result : goal.invariant_of-result
 invariant_of-result g c = record {
   ascends = subst (λ (cs : List Connection). Ascends 0 cs 0) (sym c.new-2.ensures.items) (omega arith);
 }
+
+pub returns-in-Err-Memory-clause-stands : goal.returns-in-Err-Memory-clause-stands
+returns-in-Err-Memory-clause-stands g c = tt
+
+pub returns-in-Err-Memory-clause-again : goal.returns-in-Err-Memory-clause-again
+returns-in-Err-Memory-clause-again g c = tt
+
+pub returns-in-Err-Memory-clause-config : goal.returns-in-Err-Memory-clause-config
+returns-in-Err-Memory-clause-config g c = tt
+
+pub returns-in-Err-Memory-clause-kept : goal.returns-in-Err-Memory-clause-kept
+returns-in-Err-Memory-clause-kept g c = tt
+
+pub returns-in-Err-Memory-clause-checked : goal.returns-in-Err-Memory-clause-checked
+returns-in-Err-Memory-clause-checked g c = tt
+
+pub returns-in-Err-Memory-clause-next : goal.returns-in-Err-Memory-clause-next
+returns-in-Err-Memory-clause-next g c = tt
+
+pub returns-in-Err-Memory-clause-store : goal.returns-in-Err-Memory-clause-store
+returns-in-Err-Memory-clause-store g c = refl
+
+pub returns-in_default-clause-stands : goal.returns-in_default-clause-stands
+returns-in_default-clause-stands g c = tt
+
+pub returns-in_default-clause-again : goal.returns-in_default-clause-again
+returns-in_default-clause-again g c = tt
+
+pub returns-in_default-clause-config : goal.returns-in_default-clause-config
+returns-in_default-clause-config g c = tt
+
+pub returns-in_default-clause-kept : goal.returns-in_default-clause-kept
+returns-in_default-clause-kept g c = tt
+
+pub returns-in_default-clause-checked : goal.returns-in_default-clause-checked
+returns-in_default-clause-checked g c = tt
+
+pub returns-in_default-clause-next : goal.returns-in_default-clause-next
+returns-in_default-clause-next g c = tt
+
+pub returns-in_default-clause-store : goal.returns-in_default-clause-store
+returns-in_default-clause-store g c = refl
+
+pub returns-clause-config : goal.returns-clause-config
+returns-clause-config g c = c.in-Ok-new.ensures
+
+pub returns-clause-kept : goal.returns-clause-kept
+returns-clause-kept g c = refl
+
+pub returns-clause-next : goal.returns-clause-next
+returns-clause-next g c = refl
+
+pub returns-clause-refused : goal.returns-clause-refused
+returns-clause-refused g c = tt
+
+pub returns-clause-store : goal.returns-clause-store
+returns-clause-store g c = tt
