@@ -182,3 +182,10 @@ front_cut held holds before after store p bytes CutShort ready settles never fir
     cause = inl (cause refl);
   };
 }
+
+-- no reply is both sent and cut
+pub sent_uncut : {P : Type 0} → Sent ≡ CutShort → P
+sent_uncut is = absurd (cc)
+
+pub cut_unsent : {P : Type 0} → CutShort ≡ Sent → P
+cut_unsent is = absurd (cc)

@@ -251,11 +251,13 @@ impl<A: Archive> Hub<A> {
             (λ found. Run self.config first (records ++ stopped ∷ []) (first_world found)) }
     {
         let Hub {
-            config: _,
+            config,
             store,
-            connections: _,
+            connections,
             next: _,
         } = self;
+        drop(config);
+        drop(connections);
         store
     }
 }

@@ -30,7 +30,7 @@ use Rattle.dep_types.specs.declared.store_fault.StoreFault.TheVariants.{Store}
 use Rattle.dep_row_maps.specs.Causes.{FailsSince}
 use Rattle.dep_row_maps.proofs.Causes.{fails_then}
 use Rattle.dep_row_maps.specs.Owned.{put_each}
-use Rattle.dep_row_maps.specs.Sha512s.{value_rows}
+use Rattle.dep_row_maps.specs.Sha512s.{upgraded, value_rows}
 use Rattle.dep_schema.specs.Beside.{with_tables, AddsIndexes, AreNewNamesFree}
 use Rattle.dep_schema.specs.Standing.{Sees, IsBack, no_schema}
 use Rattle.dep_schema.specs.OpenFaults.{begun}
@@ -193,6 +193,19 @@ module _ {S : Type 0} (g : Ghosts S) (values : List FileSha512) (old : Held S) (
   commit_failed new fault stays clean free failed =
       let since = subst (λ (h : Held S). CommitsNothing (state g h) (state g last.conn.now)) is (subst (λ (tx : Transaction S). CommitsNothing (state g first.tx.now.conn.now) (state g tx.conn.now)) left stays.survives) in
       inr (last.conn.now, failed.0, free, survives_begin g old (state g last.conn.now) (λ _. ⊥) since, failed_only (state g last.conn.now) (state g new) failed.0 (still_inside g old stays is left clean) failed.1, failed.2)
+
+-- what an Ok of the statements inside a transaction tells
+pub record IsRewritten (start inside : State) (values : List FileSha512) : Type 0 where
+  pub ok : HasCleanDisk inside → IsTrue start.in_transaction → IsOlder start → Sees inside (upgraded values (tables_of start))
+  pub free : HasCleanDisk inside → IsTrue start.in_transaction → AreNewNamesFree start.now.schema
+
+-- in one that was lent, it tells that of the connection
+pub rewritten_within : {S A E : Type 0} {first inside : Lent S} {last : Transaction S} {r : Result A E} (g : Ghosts S) (old : Held S) (values : List FileSha512)
+    → LentStays g first inside r → first.tx.now.conn.now ≡ begun old → inside.tx.now ≡ last
+    → IsRewritten (state g first.tx.now.conn.now) (state g inside.tx.now.conn.now) values → IsRewritten (state g (begun old)) (state g last.conn.now) values
+rewritten_within {S = S} {inside = inside} g old values stays is left it =
+    subst (λ (tx : Transaction S). IsRewritten (state g (begun old)) (state g tx.conn.now) values) left
+    (subst (λ (h : Held S). IsRewritten (state g h) (state g inside.tx.now.conn.now) values) is it)
 
 -- ---- what it leaves, whatever tables there are
 

@@ -172,6 +172,10 @@ pub told_as : {A : Type 0} (r : Result A OpenFault) (fault e : OpenFault) → Is
 told_as (Ok x) fault e is said = absurd is
 told_as (Err x) fault e is said = let same : x ≡ e = cc in sym is ∙ same
 
+-- so a fault of the store that is passed on tells no version
+pub never_passed : {A : Type 0} (r : Result A OpenFault) (fault : StoreFault) → IsErrAnd r (λ e. e ≡ open_fault_for fault) → r ≡ Err UnknownVersion → ⊥
+never_passed r fault is said = named_fault fault (open_fault_for fault) refl (told_as r (open_fault_for fault) UnknownVersion is said)
+
 -- what is committed at the end
 commits_open : (old last : State) → (old.now.schema ≡ no_schema → Sees last first_tables) → (IsKnown old → last.now ≡ old.now) → (LacksFormat old.now.schema → GainsOurs old.now last.now) → (db : Trees) → db ≡ last.now.trees → CommitsBySchema old db
 commits_open old last made there gains db is = record {

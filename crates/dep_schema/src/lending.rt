@@ -20,10 +20,10 @@ impl<'a, 'b, S: Alter> Statements for Lent<'a, 'b, S> {
     ghost lenders = { λ lent. (lent.tx.ghost_name, lent.tx.now.conn.ghost_name) };
 
     fn run(&mut self, sql: &str, params: &[ValueRef<'_>]) -> Result<(), StoreFault> {
-        self.tx
-            .execute(sql, params)
-            .map_err(|error| fault_of(error))?;
-        Ok(())
+        match self.tx.execute(sql, params) {
+            Ok(_) => Ok(()),
+            Err(error) => Err(fault_of(error)),
+        }
     }
 
     fn ask(&mut self, sql: &str, params: &[ValueRef<'_>]) -> Result<Vec<Row>, StoreFault> {

@@ -23,22 +23,22 @@ loop-count-preserved g c = record {
       (turn_at g.A.Archive.condition _ _ _ _ _ None c.loop-count.invariant.same c.in_default.ensures.turn);
 }
 
-pub returns-in-Some-clause-talks : goal.returns-in-Some-clause-talks
-returns-in-Some-clause-talks g c = talk_last g.A.Archive.condition _ _ _ _ _ c.in-Some.end _ (omega (arith, c.loop-count-test.true))
-    c.loop-count.invariant.config c.loop-count.invariant.reads c.loop-count.invariant.talk
-    (turn_at g.A.Archive.condition _ _ _ _ _ (Some c.in-Some.end) c.loop-count.invariant.same c.in-Some.ensures.turn)
+pub returns-in-Some : goal.returns-in-Some
+returns-in-Some g c = record {
+  call = c.turn.ensures.call;
+  config = c.turn.ensures.config ∙ c.loop-count.invariant.config;
+  next = c.turn.ensures.next ∙ c.loop-count.invariant.next;
+  talks = talk_last g.A.Archive.condition _ _ _ _ _ c.in-Some.end _ (omega (arith, c.loop-count-test.true))
+      c.loop-count.invariant.config c.loop-count.invariant.reads c.loop-count.invariant.talk
+      (turn_at g.A.Archive.condition _ _ _ _ _ (Some c.in-Some.end) c.loop-count.invariant.same c.in-Some.ensures.turn);
+  flushed = λ h. c.turn.ensures.flushed (c.loop-count.invariant.flushed h);
+}
 
-pub returns-clause-talks : goal.returns-clause-talks
-returns-clause-talks g c = talk_bound g.A.Archive.condition _ _ _ _ _ (omega arith) c.loop-count.invariant.reads c.loop-count.invariant.last c.loop-count.invariant.talk
-
-pub returns-in-Some-clause-config : goal.returns-in-Some-clause-config
-returns-in-Some-clause-config g c = c.turn.ensures.config ∙ c.loop-count.invariant.config
-
-pub returns-in-Some-clause-next : goal.returns-in-Some-clause-next
-returns-in-Some-clause-next g c = c.turn.ensures.next ∙ c.loop-count.invariant.next
-
-pub returns-clause-config : goal.returns-clause-config
-returns-clause-config g c = c.loop-count.invariant.config
-
-pub returns-clause-next : goal.returns-clause-next
-returns-clause-next g c = c.loop-count.invariant.next
+pub returns : goal.returns
+returns g c = record {
+  call = c.loop-count.invariant.call;
+  config = c.loop-count.invariant.config;
+  next = c.loop-count.invariant.next;
+  talks = talk_bound g.A.Archive.condition _ _ _ _ _ (omega arith) c.loop-count.invariant.reads c.loop-count.invariant.last c.loop-count.invariant.talk;
+  flushed = c.loop-count.invariant.flushed;
+}

@@ -7,53 +7,58 @@ use Rattle.dep_hub.proofs.Leaving.{stays_as}
 use Rattle.dep_hub.proofs.TalkLemmas.{serves_whole, unserved, next_served, later_clean, later_honest}
 use Rattle.dep_hub.proofs.connection.serve_connection.Goals as goal
 
-pub returns-clause-converses : goal.returns-clause-converses
-returns-clause-converses g c =
+pub returns : goal.returns
+returns g c =
     let store = c.close.new.self.store in
-    serves_whole g.A.Archive.condition _ c.in-Ok-connect.connection
-    (session c.args.hub.now (wire (g.R.Inlet.unread c.args.reader.now) (g.R.Inlet.reads c.args.reader.now) (g.R.Inlet.last c.args.reader.now) (g.W.Outlet.taken c.args.writer.now) (g.W.Outlet.failures c.args.writer.now)) c.args.clock.now)
-    c.connect.new.self c.converse-served.new.hub c.close.new.self _ c.converse-served.new.clock
-    c.in-Ok-connect.ensures.next.0 c.in-Ok-connect.ensures.fresh c.in-Ok-connect.ensures.moves c.close.ensures.moves
-    (g.met.A.Archive.settled c.connect.new.self.store)
-    (g.met.A.Archive.honest_if_open store)
-    c.connect.ensures.config (c.close.ensures.kept.config ∙ (c.converse-served.ensures.config ∙ c.connect.ensures.config)) c.close.ensures.kept.store c.connect.ensures.store c.close.ensures.gone
-    c.converse-served.result c.converse-served.ensures.talks
+    record {
+      call = c.converse-served.ensures.call;
+      goes = record {
+        config = c.close.ensures.kept.config ∙ (c.converse-served.ensures.config ∙ c.connect.ensures.config);
+        clean = λ is_open.
+            subst (λ (x : _). IsTrue (g.A.Archive.condition x).is_open) c.connect.ensures.store
+            (later_clean g.A.Archive.condition _ c.in-Ok-connect.connection _ _ c.converse-served.result c.converse-served.ensures.talks
+            (subst (λ (x : _). IsTrue (g.A.Archive.condition x).is_open) c.close.ensures.kept.store is_open));
+        honest = λ honest.
+            subst (λ (x : _). HasCleanDisk (g.A.Archive.condition x)) c.connect.ensures.store
+            (later_honest g.A.Archive.condition _ c.in-Ok-connect.connection _ _ c.converse-served.result c.converse-served.ensures.talks
+            (subst (λ (x : _). HasCleanDisk (g.A.Archive.condition x)) c.close.ensures.kept.store honest));
+      };
+      converses = serves_whole g.A.Archive.condition _ c.in-Ok-connect.connection
+          (session c.args.hub.now (wire (g.R.Inlet.unread c.args.reader.now) (g.R.Inlet.reads c.args.reader.now) (g.R.Inlet.last c.args.reader.now) (g.W.Outlet.taken c.args.writer.now) (g.W.Outlet.failures c.args.writer.now)) c.args.clock.now)
+          c.connect.new.self c.converse-served.new.hub c.close.new.self _ c.converse-served.new.clock
+          c.in-Ok-connect.ensures.next.0 c.in-Ok-connect.ensures.fresh c.in-Ok-connect.ensures.moves c.close.ensures.moves
+          (g.met.A.Archive.settled c.connect.new.self.store)
+          (g.met.A.Archive.honest_if_open store)
+          c.connect.ensures.config (c.close.ensures.kept.config ∙ (c.converse-served.ensures.config ∙ c.connect.ensures.config)) c.close.ensures.kept.store c.connect.ensures.store c.close.ensures.gone
+          c.converse-served.result c.converse-served.ensures.talks;
+      next = c.close.ensures.kept.next ∙ (c.converse-served.ensures.next ∙ (c.in-Ok-connect.ensures.next.1
+          ∙ sym (next_served g.A.Archive.condition _ c.in-Ok-connect.connection _ _ c.converse-served.result c.converse-served.ensures.talks c.args.hub.now.next)));
+      flushed = c.converse-served.ensures.flushed;
+    }
 
-pub returns-clause-goes : goal.returns-clause-goes
-returns-clause-goes g c = record {
-  config = c.close.ensures.kept.config ∙ (c.converse-served.ensures.config ∙ c.connect.ensures.config);
-  clean = λ is_open.
-      subst (λ (x : _). IsTrue (g.A.Archive.condition x).is_open) c.connect.ensures.store
-      (later_clean g.A.Archive.condition _ c.in-Ok-connect.connection _ _ c.converse-served.result c.converse-served.ensures.talks
-      (subst (λ (x : _). IsTrue (g.A.Archive.condition x).is_open) c.close.ensures.kept.store is_open));
-  honest = λ honest.
-      subst (λ (x : _). HasCleanDisk (g.A.Archive.condition x)) c.connect.ensures.store
-      (later_honest g.A.Archive.condition _ c.in-Ok-connect.connection _ _ c.converse-served.result c.converse-served.ensures.talks
-      (subst (λ (x : _). HasCleanDisk (g.A.Archive.condition x)) c.close.ensures.kept.store honest));
+-- no connection was opened
+pub returns-in_default-connect : goal.returns-in_default-connect
+returns-in_default-connect g c = record {
+  call = c.requires;
+  goes = record {
+    config = c.connect.ensures.config;
+    clean = λ is_open. subst (λ (x : _). IsTrue (g.A.Archive.condition x).is_open) c.connect.ensures.store is_open;
+    honest = λ honest. subst (λ (x : _). HasCleanDisk (g.A.Archive.condition x)) c.connect.ensures.store honest;
+  };
+  converses = unserved g.A.Archive.condition c.args.clock.now c.args.hub.now c.connect.new.self (wire (g.R.Inlet.unread c.args.reader.now) (g.R.Inlet.reads c.args.reader.now) (g.R.Inlet.last c.args.reader.now) (g.W.Outlet.taken c.args.writer.now) (g.W.Outlet.failures c.args.writer.now))
+      c.in_default-connect.ensures.same c.connect.ensures.store c.connect.ensures.rests (same_stands_for g.A.Archive.condition c.args.hub.now c.connect.new.self c.connect.ensures.config c.in_default-connect.ensures.same);
+  next = c.in_default-connect.ensures.kept;
+  flushed = λ flushed. flushed;
 }
 
-pub returns-in_default-connect-clause-converses : goal.returns-in_default-connect-clause-converses
-returns-in_default-connect-clause-converses g c =
-    unserved g.A.Archive.condition c.args.clock.now c.args.hub.now c.connect.new.self (wire (g.R.Inlet.unread c.args.reader.now) (g.R.Inlet.reads c.args.reader.now) (g.R.Inlet.last c.args.reader.now) (g.W.Outlet.taken c.args.writer.now) (g.W.Outlet.failures c.args.writer.now))
-    c.in_default-connect.ensures.same c.connect.ensures.store c.connect.ensures.rests (same_stands_for g.A.Archive.condition c.args.hub.now c.connect.new.self c.connect.ensures.config c.in_default-connect.ensures.same)
-
-pub returns-in_default-clause-converses : goal.returns-in_default-clause-converses
-returns-in_default-clause-converses g c =
-    unserved g.A.Archive.condition c.args.clock.now c.args.hub.now c.args.hub.now (wire (g.R.Inlet.unread c.args.reader.now) (g.R.Inlet.reads c.args.reader.now) (g.R.Inlet.last c.args.reader.now) (g.W.Outlet.taken c.args.writer.now) (g.W.Outlet.failures c.args.writer.now))
-    (λ w at. at) refl (λ w at. stays_as (store_of g.A.Archive.condition c.args.hub.now) w.state (g.met.A.Archive.settled c.args.hub.now.store) at.state)
-    (λ first records h. h)
-
-pub returns-clause-next : goal.returns-clause-next
-returns-clause-next g c =
-    c.close.ensures.kept.next ∙ (c.converse-served.ensures.next ∙ (c.in-Ok-connect.ensures.next.1
-    ∙ sym (next_served g.A.Archive.condition _ c.in-Ok-connect.connection _ _ c.converse-served.result c.converse-served.ensures.talks c.args.hub.now.next)))
-
-pub returns-in_default-clause-goes : goal.returns-in_default-clause-goes
-returns-in_default-clause-goes g c = record { config = refl; clean = λ h. h; honest = λ h. h }
-
-pub returns-in_default-connect-clause-goes : goal.returns-in_default-connect-clause-goes
-returns-in_default-connect-clause-goes g c = record {
-  config = c.connect.ensures.config;
-  clean = λ is_open. subst (λ (x : _). IsTrue (g.A.Archive.condition x).is_open) c.connect.ensures.store is_open;
-  honest = λ honest. subst (λ (x : _). HasCleanDisk (g.A.Archive.condition x)) c.connect.ensures.store honest;
+-- there was no memory for its pieces
+pub returns-in_default : goal.returns-in_default
+returns-in_default g c = record {
+  call = c.requires;
+  goes = record { config = refl; clean = λ h. h; honest = λ h. h };
+  converses = unserved g.A.Archive.condition c.args.clock.now c.args.hub.now c.args.hub.now (wire (g.R.Inlet.unread c.args.reader.now) (g.R.Inlet.reads c.args.reader.now) (g.R.Inlet.last c.args.reader.now) (g.W.Outlet.taken c.args.writer.now) (g.W.Outlet.failures c.args.writer.now))
+      (λ w at. at) refl (λ w at. stays_as (store_of g.A.Archive.condition c.args.hub.now) w.state (g.met.A.Archive.settled c.args.hub.now.store) at.state)
+      (λ first records h. h);
+  next = refl;
+  flushed = λ flushed. flushed;
 }

@@ -1,4 +1,5 @@
 use Rattle.std.proofs.Common.{refl}
+use Rattle.dep_hub.proofs.SendingLemmas.{cut_unsent, sent_uncut}
 use Rattle.dep_hub.proofs.sending.send.Goals as goal
 
 pub returns-in-Ok-clause-sends : goal.returns-in-Ok-clause-sends
@@ -12,3 +13,10 @@ returns-in-Err-clause-sends g c = let part = c.in-Err.ensures.err in (part.0, pa
 
 pub returns-in-Err-clause-cause : goal.returns-in-Err-clause-cause
 returns-in-Err-clause-cause g c = λ _. c.in-Err.ensures.cause
+
+-- no arm answers what the other does
+pub returns-in-Ok-clause-cause : goal.returns-in-Ok-clause-cause
+returns-in-Ok-clause-cause g c = sent_uncut
+
+pub returns-in-Err-clause-kept : goal.returns-in-Err-clause-kept
+returns-in-Err-clause-kept g c = cut_unsent

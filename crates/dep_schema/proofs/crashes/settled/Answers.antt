@@ -1,5 +1,12 @@
+use Rattle.sqlite.specs.Held.{state}
 use Rattle.sqlite.proofs.StateLemmas.{clean_if_open}
+use Rattle.dep_schema.proofs.Transacting.{left_as_was}
 use Rattle.dep_schema.proofs.crashes.settled.Goals as goal
 
-pub returns-clause-clean : goal.returns-clause-clean
-returns-clause-clean g c is_open = clean_if_open (g.S.Store.view c.args.connection.now.store) (g.met.S.Store.shut_if_dirty c.args.connection.now.store) is_open
+pub returns : goal.returns
+returns g c =
+    let store = c.args.connection.now.store in
+    record {
+      left = λ tables stands trees may. left_as_was (state g.S.Store c.args.connection.now) tables (λ trees h. g.met.S.Store.settled store trees stands.is_open h) stands trees may;
+      clean = λ is_open. clean_if_open (g.S.Store.view store) (g.met.S.Store.shut_if_dirty store) is_open;
+    }

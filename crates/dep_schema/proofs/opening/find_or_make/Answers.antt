@@ -1,4 +1,4 @@
-use Rattle.std.proofs.Common.{◌≡◌, IfSome, Err, inl, inr, ap, refl, rules, subst, sym, ◌∙◌}
+use Rattle.std.proofs.Common.{◌≡◌, IfSome, Err, inl, inr, ap, refl, subst, sym, ◌∙◌}
 use Rattle.std.proofs.lemmas.Result.{IfOk-from_err, err_from_is_err_and}
 use Rattle.sqlite.specs.Effect.{Database}
 use Rattle.sqlite.specs.Held.{state}
@@ -8,7 +8,7 @@ use Rattle.dep_tables.proofs.Chains.{clean_before, stays_then, stays_ok, stays_e
 use Rattle.dep_tables.specs.Tables.{tables_of}
 use Rattle.dep_tables.specs.Versions.{IsKnownVersion, HasVersion}
 use Rattle.dep_schema.specs.Standing.{GainsOurs}
-use Rattle.dep_schema.proofs.Asking.{stays_on}
+use Rattle.dep_schema.proofs.Asking.{lent_name, stays_on}
 use Rattle.dep_schema.proofs.Version.{never_named, never_refused, not_older, told_as}
 use Rattle.dep_schema.proofs.Refusing.{match_err, some_is_not_none, of_found, none_found, matched_some, matched_none, lent_fails}
 use Rattle.dep_schema.proofs.opening.find_or_make.Goals as goal
@@ -61,7 +61,7 @@ returns g c =
     let told = c.in_ok-version.ensures in
     let found = c.in_ok-version.field-0 in
     let last = c.tx-1.given.0 in
-    let same : c.make_tables.new.tx.tx.now ≡ last = search rules in
+    let same : c.make_tables.new.tx.tx.now ≡ last = sym (c.tx-1.given.1 (lent_name g.S.Store c.in_ok-make_tables.ensures.stays)) in
     let made = rw same at c.in_ok-make_tables.ensures in
     let stays = rw same at (stays_on g.S.Store c.in_ok-make_tables.ensures.stays) in
     let new = state g.S.Store last.conn.now in
@@ -86,7 +86,7 @@ returns g c =
 pub returns-in_err-make_tables : goal.returns-in_err-make_tables
 returns-in_err-make_tables g c =
     let told = c.in_ok-version.ensures in
-    let same : c.make_tables.new.tx.tx.now ≡ c.tx-1.given.0 = search rules in
+    let same : c.make_tables.new.tx.tx.now ≡ c.tx-1.given.0 = sym (c.tx-1.given.1 (lent_name g.S.Store c.in_err-make_tables.ensures.stays)) in
     let stays = rw same at (stays_on g.S.Store c.in_err-make_tables.ensures.stays) in
     let fault = c.in_err-make_tables.field-0.0 in
     let is = err_from_is_err_and c.from_residual-in_err-make_tables.result c.from_residual-in_err-make_tables.ensures.1 in

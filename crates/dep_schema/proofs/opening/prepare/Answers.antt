@@ -1,5 +1,5 @@
-use Rattle.std.proofs.Common.{◌≡◌, ◌∙◌, inl, inr, IsTrue, refl, subst, rules, ap, Err}
-use Rattle.std.proofs.lemmas.Result.{IfOk-from_err, err_from_is_err_and}
+use Rattle.std.proofs.Common.{◌≡◌, ◌∙◌, inl, inr, IsTrue, refl, sym, subst, ap, Err}
+use Rattle.std.proofs.lemmas.Result.{IfOk-from_err}
 use Rattle.sqlite.specs.Held.{state}
 use Rattle.sqlite.specs.State.{HasCleanDisk}
 use Rattle.sqlite.proofs.Callers.{survives_begin}
@@ -9,7 +9,7 @@ use Rattle.dep_schema.proofs.Prepared.{AreMade, AreMissed, IsCommitted, IsUncomm
 use Rattle.dep_schema.proofs.Prepared.{fresh, found, made_new, still, free, beside, opened, crash, fell_back, left, refused, crash_missed}
 use Rattle.dep_schema.specs.OpenFaults.{open_fault_for, FailsToFindOrMake, ShowsOrMakes, begun}
 use Rattle.dep_schema.proofs.Refusing.{match_err, if_err_told, refuses_known, uncommitted, failed_only, clean_last}
-use Rattle.dep_schema.proofs.Version.{never_named, never_refused, told_as}
+use Rattle.dep_schema.proofs.Version.{never_passed, never_refused, told_as}
 use Rattle.dep_schema.proofs.opening.prepare.Goals as goal
 
 -- where the tables were not found, nothing is said of an Ok
@@ -18,7 +18,7 @@ returns-in_err-version g c =
     let old = c.args.connection.now in
     let last = c.find_or_make.new.tx.conn.now in
     let new = c.connection-1.given.0 in
-    let same : c.drop-tx.new.self.0 ≡ new = search rules in
+    let same : c.drop-tx.new.self.0 ≡ new = sym (c.connection-1.given.1 (sym (c.in_err-version.ensures.stays.same_reference ∙ c.transaction-tx.ensures.same_reference))) in
     let fault = c.in_err-version.field-0.0 in
     let told = c.in_err-version.ensures in
     let missed = subst (λ h. AreMissed (state g.S.Store h) (state g.S.Store last) fault) c.transaction-tx.ensures.begun
@@ -61,7 +61,7 @@ returns g c =
     let old = c.args.connection.now in
     let last = c.find_or_make.new.tx.conn.now in
     let new = c.connection-2-1.given.0 in
-    let same : c.commit.new.tx.0 ≡ new = search rules in
+    let same : c.commit.new.tx.0 ≡ new = sym (c.connection-2-1.given.1 (sym (c.in_ok-version.ensures.stays.same_reference ∙ c.transaction-tx.ensures.same_reference))) in
     let told = c.in_ok-version.ensures in
     let version = c.in_ok-version.version in
     let stays = told.stays in
@@ -95,7 +95,7 @@ returns-in_err-commit g c =
     let old = c.args.connection.now in
     let last = c.find_or_make.new.tx.conn.now in
     let new = c.connection-2-1.given.0 in
-    let same : c.commit.new.tx.0 ≡ new = search rules in
+    let same : c.commit.new.tx.0 ≡ new = sym (c.connection-2-1.given.1 (sym (c.in_ok-version.ensures.stays.same_reference ∙ c.transaction-tx.ensures.same_reference))) in
     let told = c.in_ok-version.ensures in
     let version = c.in_ok-version.version in
     let stays = told.stays in
@@ -105,27 +105,32 @@ returns-in_err-commit g c =
     let ended = subst (λ h. IsUncommitted (state g.S.Store last) (state g.S.Store h) fault) same
     (record { ended = c.commit.ensures.ended; failed = c.in_err-commit.ensures.err; survives = c.commit.ensures.survives }) in
     let undone = fell_back g.S.Store old last new version made fault ended in
-    let told = err_from_is_err_and c.from_residual-in_err-commit.result c.from_residual-in_err-commit.ensures.1 in
-    let tells = λ (clean : HasCleanDisk (state g.S.Store new)). told.2 ∙ ap open_fault_for (ended.failed clean).2 in
+    let result = c.from_residual-in_err-commit.result in
+    let is_err = c.from_residual-in_err-commit.ensures.0 in
+    let is = c.from_residual-in_err-commit.ensures.1 in
+    let passed = open_fault_for fault in
+    let tells = λ (clean : HasCleanDisk (state g.S.Store new)). ap open_fault_for (ended.failed clean).2 in
     let since = survives_begin g.S.Store old (state g.S.Store last) (λ _. ⊥) made.survives in
     let before = clean_last (state g.S.Store last) (state g.S.Store new) _ ended.survives in
     let failed = λ (clean : HasCleanDisk (state g.S.Store new)). failed_only (state g.S.Store last) (state g.S.Store new) (ended.failed clean).0 (made.inside (before clean) refl) (ended.failed clean).1 in
-    rw told.1 (record {
-      fresh = λ clean empty. tt;
-      found = λ clean its known ours. tt;
-      made = λ clean lacks. tt;
-      still = λ clean. tt;
-      known = tt;
-      version = λ clean said. absurd (never_named fault told.0 told.2 said);
-      lacking = λ clean said lacks. never_named fault told.0 told.2 said;
-      told = λ clean. inr (last, (ended.failed clean).0, (λ lacks. (made.gains (before clean) refl lacks).free), since, failed clean, tells clean);
-      ours = λ clean known. uncommitted g.S.Store old last new known _ (ended.failed clean).0 (failed clean) (tells clean) since ended.survives.counts (before clean);
-      free = λ clean lacks. tt;
-      beside = λ clean lacks has. tt;
-      left = left g.S.Store old last new made.kept ended.survives.clean undone;
-      opened = λ clean. tt;
-      refused = refused g.S.Store old last new made.kept ended.survives.clean undone
-          (clean_if_open (g.S.Store.view new.store) (g.met.S.Store.shut_if_dirty new.store));
+    record {
+      fresh = λ clean empty. IfOk-from_err result _ is_err;
+      found = λ clean its known ours. IfOk-from_err result _ is_err;
+      made = λ clean lacks. IfOk-from_err result _ is_err;
+      still = λ clean. IfOk-from_err result _ is_err;
+      known = IfOk-from_err result _ is_err;
+      version = λ clean said. absurd (never_passed result fault is said);
+      lacking = λ clean said lacks. never_passed result fault is said;
+      told = λ clean. match_err _ _ result passed is
+          (inr (last, (ended.failed clean).0, (λ lacks. (made.gains (before clean) refl lacks).free), since, failed clean, tells clean));
+      ours = λ clean known. if_err_told _ result passed is
+          (uncommitted g.S.Store old last new known passed (ended.failed clean).0 (failed clean) (tells clean) since ended.survives.counts (before clean));
+      free = λ clean lacks. IfOk-from_err result _ is_err;
+      beside = λ clean lacks has. IfOk-from_err result _ is_err;
+      left = λ clean is_open. on_err_by result (left g.S.Store old last new made.kept ended.survives.clean undone clean is_open);
+      opened = λ clean. IfOk-from_err result _ is_err;
+      refused = λ is_open. on_err_by result (refused g.S.Store old last new made.kept ended.survives.clean undone
+          (clean_if_open (g.S.Store.view new.store) (g.met.S.Store.shut_if_dirty new.store)) is_open);
       mode = ended.ended;
       crash = crash g.S.Store old last new version made ended.survives;
-    })
+    }

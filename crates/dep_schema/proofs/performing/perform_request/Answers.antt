@@ -1,36 +1,48 @@
-use Rattle.std.proofs.Common.{rules, ◌≡◌, ◌∙◌, false, refl, sym, subst}
-use Rattle.std.proofs.lemmas.Result.{err_from_is_err_and}
+use Rattle.std.proofs.Common.{not, ◌≡◌, ◌∙◌, Result, Err, false, refl, sym, ap, subst}
+use Rattle.std.proofs.lemmas.Result.{IfOk-from_err, err_from_is_err_and}
 use Rattle.sqlite.specs.State.{Survives}
-use Rattle.dep_schema.specs.Transactions.{IsGivenBack}
+use Rattle.dep_types.specs.declared.store_fault.StoreFault.{StoreFault}
+use Rattle.dep_requests.specs.declared.performing.Done.{Done}
+use Rattle.dep_schema.specs.Transactions.{IsGivenBack, Transacts}
 use Rattle.sqlite.proofs.StateLemmas.{clean_if_open}
 use Rattle.dep_schema.proofs.Transacting.{back_by_rollback, back_then, fails_back, gave_up, committed, given_back, none_by_rollback, none_then, uncommitted, works_within, still_inside}
-use Rattle.dep_schema.proofs.Performed.{told_inside, works, works_still}
+use Rattle.dep_schema.proofs.Asking.{lent_connection, lent_name}
+use Rattle.dep_schema.proofs.Performed.{told_inside, worked_within, works, works_still}
 use Rattle.dep_schema.specs.Performing.{StepsOver}
 use Rattle.sqlite.specs.Held.{state}
 use Rattle.dep_schema.proofs.performing.perform_request.Goals as goal
 
-pub returns-in_err-performed-clause-transacts : goal.returns-in_err-performed-clause-transacts
-returns-in_err-performed-clause-transacts g c =
+-- where it failed, nothing is said of an Ok
+pub returns-in_err-performed : goal.returns-in_err-performed
+returns-in_err-performed g c =
     let old = c.args.connection.now in
-    let left : c.answer.new.tx.tx.now ≡ c.tx-2-1.given.0 = search rules in
+    let left : c.answer.new.tx.tx.now ≡ c.tx-2-1.given.0 = sym (c.tx-2-1.given.1 (lent_name g.S.Store c.in_err-performed.ensures.stays)) in
     let inside = c.tx-2-1.given.0.conn.now in
     let new = c.drop-tx.new.self.0 in
     let work = works_within g.S.Store old new c.in_err-performed.ensures.stays c.transaction-tx.ensures.begun left (λ is_open trees h. g.met.S.Store.settled old.store trees is_open h)
     (clean_if_open (g.S.Store.view new.store) (g.met.S.Store.shut_if_dirty new.store)) in
-    let same : new ≡ c.connection-1.given.0 = search rules in
-    gave_up g.S.Store old inside new _ c.from_residual.result c.from_residual.ensures.0 work
-    c.drop-tx.ensures.undone c.drop-tx.ensures.survives _ same
+    let same : new ≡ c.connection-1.given.0 = sym (c.connection-1.given.1 (lent_connection g.S.Store c.in_err-performed.ensures.stays left c.transaction-tx.ensures.same_reference)) in
+    let result = c.from_residual.result in
+    let is_err = c.from_residual.ensures.0 in
+    record {
+      transacts = gave_up g.S.Store old inside new _ result is_err work c.drop-tx.ensures.undone c.drop-tx.ensures.survives _ same;
+      changes = λ clean s stands running. IfOk-from_err result _ is_err;
+      back = IfOk-from_err result _ is_err;
+    }
 
+-- where something was changed, it was committed
 pub returns-then-performed : goal.returns-then-performed
 returns-then-performed g c =
     let old = c.args.connection.now in
-    let left : c.answer.new.tx.tx.now ≡ c.tx-2-1.given.0 = search rules in
+    let left : c.answer.new.tx.tx.now ≡ c.tx-2-1.given.0 = sym (c.tx-2-1.given.1 (lent_name g.S.Store c.in_ok-performed.ensures.stays)) in
     let inside = c.tx-2-1.given.0.conn.now in
     let new = c.commit.new.tx.0 in
-    let worked = rw (c.transaction-tx.ensures.begun, left) at c.in_ok-performed.ensures in
-    let work = works_within g.S.Store old new c.in_ok-performed.ensures.stays c.transaction-tx.ensures.begun left (λ is_open trees h. g.met.S.Store.settled old.store trees is_open h)
+    let told = c.in_ok-performed.ensures in
+    let worked = worked_within g.S.Store old c.args.service.now c.args.operation.now c.args.running.now c.in_ok-performed.performed told.stays c.transaction-tx.ensures.begun left
+    (record { map = told.map; changes = told.changes; unchanged = told.unchanged; ours = told.ours }) in
+    let work = works_within g.S.Store old new told.stays c.transaction-tx.ensures.begun left (λ is_open trees h. g.met.S.Store.settled old.store trees is_open h)
     (clean_if_open (g.S.Store.view new.store) (g.met.S.Store.shut_if_dirty new.store)) in
-    let same : new ≡ c.connection-then-performed-1.given.0 = search rules in
+    let same : new ≡ c.connection-then-performed-1.given.0 = sym (c.connection-then-performed-1.given.1 (lent_connection g.S.Store c.in_ok-performed.ensures.stays left c.transaction-tx.ensures.same_reference)) in
     record {
       transacts = committed g.S.Store old inside new _ _ work
           (works g.S.Store old inside c.args.service.now c.args.operation.now c.args.running.now c.in_ok-performed.performed worked.map worked.ours)
@@ -39,65 +51,83 @@ returns-then-performed g c =
       back = λ none. cc (sym c.if-performed.true ∙ none);
     }
 
+-- or not
 pub returns-in_err-commit : goal.returns-in_err-commit
 returns-in_err-commit g c =
     let old = c.args.connection.now in
-    let left : c.answer.new.tx.tx.now ≡ c.tx-2-1.given.0 = search rules in
+    let left : c.answer.new.tx.tx.now ≡ c.tx-2-1.given.0 = sym (c.tx-2-1.given.1 (lent_name g.S.Store c.in_ok-performed.ensures.stays)) in
     let inside = c.tx-2-1.given.0.conn.now in
     let new = c.commit.new.tx.0 in
-    let worked = rw (c.transaction-tx.ensures.begun, left) at c.in_ok-performed.ensures in
-    let work = works_within g.S.Store old new c.in_ok-performed.ensures.stays c.transaction-tx.ensures.begun left (λ is_open trees h. g.met.S.Store.settled old.store trees is_open h)
+    let told = c.in_ok-performed.ensures in
+    let worked = worked_within g.S.Store old c.args.service.now c.args.operation.now c.args.running.now c.in_ok-performed.performed told.stays c.transaction-tx.ensures.begun left
+    (record { map = told.map; changes = told.changes; unchanged = told.unchanged; ours = told.ours }) in
+    let work = works_within g.S.Store old new told.stays c.transaction-tx.ensures.begun left (λ is_open trees h. g.met.S.Store.settled old.store trees is_open h)
     (clean_if_open (g.S.Store.view new.store) (g.met.S.Store.shut_if_dirty new.store)) in
-    let same : new ≡ c.connection-then-performed-1.given.0 = search rules in
-    let told = err_from_is_err_and c.from_residual-in_err-commit.result c.from_residual-in_err-commit.ensures.1 in
-    rw (told.1, told.2) (record {
-      transacts = uncommitted g.S.Store old inside new _ c.in_ok-performed.performed c.in_err-commit.field-0.0 work
+    let last = c.connection-then-performed-1.given.0 in
+    let same : new ≡ last = sym (c.connection-then-performed-1.given.1 (lent_connection g.S.Store c.in_ok-performed.ensures.stays left c.transaction-tx.ensures.same_reference)) in
+    let result = c.from_residual-in_err-commit.result in
+    let is_err = c.from_residual-in_err-commit.ensures.0 in
+    let passed = err_from_is_err_and result c.from_residual-in_err-commit.ensures.1 in
+    let is : result ≡ Err c.in_err-commit.field-0.0 = passed.1 ∙ ap Err passed.2 in
+    record {
+      transacts = subst (λ (r : Result Done StoreFault). Transacts (state g.S.Store old) (state g.S.Store last) r (StepsOver c.args.service.now c.args.operation.now c.args.running.now)) (sym is)
+          (uncommitted g.S.Store old inside new _ c.in_ok-performed.performed c.in_err-commit.field-0.0 work
           (works g.S.Store old inside c.args.service.now c.args.operation.now c.args.running.now c.in_ok-performed.performed worked.map worked.ours)
-          (still_inside g.S.Store old c.in_ok-performed.ensures.stays c.transaction-tx.ensures.begun left) c.in_err-commit.ensures.err c.commit.ensures.survives _ same;
-      changes = λ clean s stands running. tt;
-      back = tt;
-    })
+          (still_inside g.S.Store old told.stays c.transaction-tx.ensures.begun left) c.in_err-commit.ensures.err c.commit.ensures.survives _ same);
+      changes = λ clean s stands running. IfOk-from_err result _ is_err;
+      back = IfOk-from_err result _ is_err;
+    }
 
-pub returns-in_err-check_open-clause-transacts : goal.returns-in_err-check_open-clause-transacts
-returns-in_err-check_open-clause-transacts g c =
+-- where nothing was changed, all is given back, and the store may not be open
+pub returns-in_err-check_open : goal.returns-in_err-check_open
+returns-in_err-check_open g c =
     let old = c.args.connection.now in
-    let left : c.answer.new.tx.tx.now ≡ c.tx-2-1.given.0 = search rules in
+    let left : c.answer.new.tx.tx.now ≡ c.tx-2-1.given.0 = sym (c.tx-2-1.given.1 (lent_name g.S.Store c.in_ok-performed.ensures.stays)) in
     let inside = c.tx-2-1.given.0.conn.now in
     let mid = c.rollback.new.self.0 in
     let new = c.check_open.new.connection in
     let work = works_within g.S.Store old mid c.in_ok-performed.ensures.stays c.transaction-tx.ensures.begun left (λ is_open trees h. g.met.S.Store.settled old.store trees is_open h)
     (clean_if_open (g.S.Store.view mid.store) (g.met.S.Store.shut_if_dirty mid.store)) in
-    let same : mid ≡ c.connection-2-1.given.0 = search rules in
+    let same : mid ≡ c.connection-2-1.given.0 = sym (c.connection-2-1.given.1 (lent_connection g.S.Store c.in_ok-performed.ensures.stays left c.transaction-tx.ensures.same_reference)) in
     let after = state g.S.Store c.connection-2-1.given.0 in
     let first = back_by_rollback g.S.Store old inside mid work
-    c.rollback.ensures.undone c.rollback.ensures.survives (c.is_autocommit-between.ensures.settled (search rules)) _ same in
+    c.rollback.ensures.undone c.rollback.ensures.survives (c.is_autocommit-between.ensures.settled (c.is_autocommit-between.ensures.value ∙ ap not c.requires.settled)) _ same in
     let back = back_then (state g.S.Store old) after (state g.S.Store new) first c.check_open.ensures.back in
     let survives = none_then (state g.S.Store old) after (state g.S.Store new) (none_by_rollback g.S.Store old inside mid work c.rollback.ensures.survives _ same) c.check_open.ensures.survives in
-    fails_back (state g.S.Store old) (state g.S.Store new) _ _ c.from_residual-in_err-check_open.ensures.0
-    (λ is_open trees h. g.met.S.Store.settled old.store trees is_open h) back survives
+    let result = c.from_residual-in_err-check_open.result in
+    let is_err = c.from_residual-in_err-check_open.ensures.0 in
+    record {
+      transacts = fails_back (state g.S.Store old) (state g.S.Store new) result _ is_err (λ is_open trees h. g.met.S.Store.settled old.store trees is_open h) back survives;
+      changes = λ clean s stands running. IfOk-from_err result _ is_err;
+      back = IfOk-from_err result _ is_err;
+    }
 
+-- or it is
 pub returns : goal.returns
 returns g c =
     let old = c.args.connection.now in
-    let left : c.answer.new.tx.tx.now ≡ c.tx-2-1.given.0 = search rules in
+    let left : c.answer.new.tx.tx.now ≡ c.tx-2-1.given.0 = sym (c.tx-2-1.given.1 (lent_name g.S.Store c.in_ok-performed.ensures.stays)) in
     let inside = c.tx-2-1.given.0.conn.now in
     let mid = c.rollback.new.self.0 in
     let new = c.check_open.new.connection in
-    let work = works_within g.S.Store old mid c.in_ok-performed.ensures.stays c.transaction-tx.ensures.begun left (λ is_open trees h. g.met.S.Store.settled old.store trees is_open h)
+    let told = c.in_ok-performed.ensures in
+    let worked = worked_within g.S.Store old c.args.service.now c.args.operation.now c.args.running.now c.in_ok-performed.performed told.stays c.transaction-tx.ensures.begun left
+    (record { map = told.map; changes = told.changes; unchanged = told.unchanged; ours = told.ours }) in
+    let work = works_within g.S.Store old mid told.stays c.transaction-tx.ensures.begun left (λ is_open trees h. g.met.S.Store.settled old.store trees is_open h)
     (clean_if_open (g.S.Store.view mid.store) (g.met.S.Store.shut_if_dirty mid.store)) in
-    let same : mid ≡ c.connection-2-1.given.0 = search rules in
+    let same : mid ≡ c.connection-2-1.given.0 = sym (c.connection-2-1.given.1 (lent_connection g.S.Store c.in_ok-performed.ensures.stays left c.transaction-tx.ensures.same_reference)) in
     let after = state g.S.Store c.connection-2-1.given.0 in
     let first = back_by_rollback g.S.Store old inside mid work
-    c.rollback.ensures.undone c.rollback.ensures.survives (c.is_autocommit-between.ensures.settled (search rules)) _ same in
+    c.rollback.ensures.undone c.rollback.ensures.survives (c.is_autocommit-between.ensures.settled (c.is_autocommit-between.ensures.value ∙ ap not c.requires.settled)) _ same in
     let back = back_then (state g.S.Store old) after (state g.S.Store new) first c.check_open.ensures.back in
     let survives = none_then (state g.S.Store old) after (state g.S.Store new) (none_by_rollback g.S.Store old inside mid work c.rollback.ensures.survives _ same) c.check_open.ensures.survives in
-    let worked = rw (c.transaction-tx.ensures.begun, left) at c.in_ok-performed.ensures in
+    let later = subst (λ h. Survives (state g.S.Store h) (state g.S.Store new) (λ _. ⊥)) (sym same) c.check_open.ensures.survives in
     let given : IsGivenBack (state g.S.Store old) (state g.S.Store new) = record { opened = c.in_ok-check_open.ensures.opened; back = back; survives = survives } in
     let made = works g.S.Store old inside c.args.service.now c.args.operation.now c.args.running.now c.in_ok-performed.performed worked.map worked.ours in
     let none : c.in_ok-performed.performed.has_changes ≡ false = c.if-performed.false in
     record {
       transacts = given_back (state g.S.Store old) (state g.S.Store new) c.in_ok-performed.performed _ (λ is_open trees h. g.met.S.Store.settled old.store trees is_open h) given
-          (works_still g.S.Store old inside mid new (StepsOver c.args.service.now c.args.operation.now c.args.running.now) c.in_ok-performed.performed made (worked.unchanged none) c.rollback.ensures.survives (subst (λ h. Survives (state g.S.Store h) (state g.S.Store new) (λ _. ⊥)) (sym same) c.check_open.ensures.survives));
-      changes = λ clean s stands running. told_inside g.S.Store old inside new _ _ worked.changes (none_then (state g.S.Store inside) (state g.S.Store mid) (state g.S.Store new) c.rollback.ensures.survives (subst (λ h. Survives (state g.S.Store h) (state g.S.Store new) (λ _. ⊥)) (sym same) c.check_open.ensures.survives)) new refl clean s stands stands.means.sound running;
+          (works_still g.S.Store old inside mid new (StepsOver c.args.service.now c.args.operation.now c.args.running.now) c.in_ok-performed.performed made (worked.unchanged none) c.rollback.ensures.survives later);
+      changes = λ clean s stands running. told_inside g.S.Store old inside new _ _ worked.changes (none_then (state g.S.Store inside) (state g.S.Store mid) (state g.S.Store new) c.rollback.ensures.survives later) new refl clean s stands stands.means.sound running;
       back = λ none. given;
     }

@@ -1,4 +1,4 @@
-use Rattle.std.proofs.Common.{rules, inl, []}
+use Rattle.std.proofs.Common.{not, ◌∙◌, ap, inl, []}
 use Rattle.std.proofs.lemmas.Result.{err_from_is_err_and}
 use Rattle.sqlite.specs.Held.{state}
 use Rattle.sqlite.proofs.StateLemmas.{clean_if_open}
@@ -15,7 +15,7 @@ returns-in_err-prepare-clause-back g c is_open =
     let old = state g.S.Store c.args.connection.now in
     let new = state g.S.Store c.prepare.new.self in
     let clean = clean_if_open (g.S.Store.view c.prepare.new.self.store) (g.met.S.Store.shut_if_dirty c.prepare.new.self.store) is_open in
-    back_by_statement old new (c.is_autocommit-between.ensures.settled (search rules)) c.requires.settled (not_run old new _ [] c.in_err-prepare.field-0.0 (c.in_err-prepare.ensures.err clean [])) is_open
+    back_by_statement old new (c.is_autocommit-between.ensures.settled (c.is_autocommit-between.ensures.value ∙ ap not c.requires.settled)) c.requires.settled (not_run old new _ [] c.in_err-prepare.field-0.0 (c.in_err-prepare.ensures.err clean [])) is_open
 
 pub returns-clause-opened : goal.returns-clause-opened
 returns-clause-opened g c = λ clean. (c.in_ok-prepare.ensures.ok clean).1.0.is_open
@@ -25,4 +25,4 @@ returns-clause-back g c is_open =
     let old = state g.S.Store c.args.connection.now in
     let new = state g.S.Store c.prepare.new.self in
     let clean = clean_if_open (g.S.Store.view c.prepare.new.self.store) (g.met.S.Store.shut_if_dirty c.prepare.new.self.store) is_open in
-    back_by_statement old new (c.is_autocommit-between.ensures.settled (search rules)) c.requires.settled (inl (c.in_ok-prepare.ensures.ok clean).1) is_open
+    back_by_statement old new (c.is_autocommit-between.ensures.settled (c.is_autocommit-between.ensures.value ∙ ap not c.requires.settled)) c.requires.settled (inl (c.in_ok-prepare.ensures.ok clean).1) is_open
