@@ -10,7 +10,7 @@ use dep_answers::Performed;
 use dep_types::{Outlet, StoreFault, WriteFailed};
 
 /// How an item was answered.
-#[derive(Clone, Copy, Debug, PartialEq, Eq)]
+#[derive(Clone, Copy)]
 pub(crate) enum Answered {
     /// Its reply was sent.
     Sent,

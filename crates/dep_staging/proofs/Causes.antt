@@ -1,11 +1,12 @@
 -- The statements of a call on uploads are among those of the tables.
-use Rattle.std.proofs.Common.{◌≡◌, ℕ, subst}
+use Rattle.std.proofs.Common.{◌≡◌, ◌∙◌, ℕ, Result, Ok, Err, IsErrAnd, ap, subst}
 use Rattle.sqlite.specs.State as db
 use Rattle.dep_types.specs.Maps.{Numbered}
 use Rattle.dep_types.specs.State.{State, Upload, clock_at}
 use Rattle.dep_types.specs.declared.config.Config.{Config}
 use Rattle.dep_types.specs.declared.rows.UploadRow.{UploadRow}
 use Rattle.dep_types.specs.declared.store_fault.StoreFault.{StoreFault}
+use Rattle.dep_types.specs.declared.store_fault.StoreFault.TheVariants.{Store}
 use Rattle.dep_tables.specs.declared.segments.SegmentRow.{SegmentRow}
 use Rattle.dep_row_maps.specs.Causes.{FailsByStatement}
 use Rattle.dep_row_maps.specs.Causes.FailsByStatement.{state_read, state_written, timed_out_added, upload_added, upload_left, upload_deleted, segments_deleted, block_read, sha512_added, sha512_deleted}
@@ -51,3 +52,11 @@ module _ (at now : db.State) (fault : StoreFault) where
 
   pub hash_among : (u : ℕ) → FailsToHash u at now fault → FailsByStatement at now fault
   hash_among u failed = block_among u failed.0 failed.1
+
+-- a refusal that is passed on
+pub refused_on : {A B P : Type 0} (r : Result A StoreFault) (fault : StoreFault) → IsErrAnd r (λ e. e ≡ fault) → (◌≡◌ {A = Result B StoreFault} (Err fault) (Err Store)) × P → (r ≡ Err Store) × P
+refused_on (Ok x) fault is told = absurd is
+refused_on (Err e) fault is told = (ap Err (is ∙ only_fault fault told.0), told.1)
+  where
+    only_fault : {B : Type 0} (one : StoreFault) → ◌≡◌ {A = Result B StoreFault} (Err one) (Err Store) → one ≡ Store
+    only_fault one same = cc

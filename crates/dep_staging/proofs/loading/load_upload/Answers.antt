@@ -6,6 +6,7 @@ use Rattle.dep_row_maps.specs.Causes.{FailsByStatement}
 use Rattle.dep_row_maps.specs.Causes.FailsByStatement.{segments_read}
 use Rattle.dep_row_maps.proofs.Causes.{fails_then, if_err_is, never_failed}
 use Rattle.dep_files.proofs.Results.{same_tables}
+use Rattle.dep_staging.proofs.Causes.{refused_on}
 use Rattle.dep_staging.proofs.Loaded.{found_live}
 use Rattle.dep_staging.proofs.loading.load_upload.Goals as goal
 
@@ -45,3 +46,21 @@ returns-in_ok-segments_of-in-Live-clause-numbers g c great = never_failed _ _ (c
 
 pub returns-in_err-segments_of-in-Live-clause-numbers : goal.returns-in_err-segments_of-in-Live-clause-numbers
 returns-in_err-segments_of-in-Live-clause-numbers g c great = never_failed _ _ (c.in_ok-row.ensures.numbers great).0
+
+pub returns-in-TimedOut-clause-numbers : goal.returns-in-TimedOut-clause-numbers
+returns-in-TimedOut-clause-numbers g c great = never_failed _ _ (c.in_ok-row.ensures.numbers great).0
+
+pub returns-in-Unknown-clause-numbers : goal.returns-in-Unknown-clause-numbers
+returns-in-Unknown-clause-numbers g c great = never_failed _ _ (c.in_ok-row.ensures.numbers great).0
+
+pub returns-in-TimedOut-clause-keeps : goal.returns-in-TimedOut-clause-keeps
+returns-in-TimedOut-clause-keeps g c = reads_ok c.in_ok-row.ensures.keeps
+
+pub returns-in-Unknown-clause-keeps : goal.returns-in-Unknown-clause-keeps
+returns-in-Unknown-clause-keeps g c = reads_ok c.in_ok-row.ensures.keeps
+
+pub returns-in_err-row-clause-keeps : goal.returns-in_err-row-clause-keeps
+returns-in_err-row-clause-keeps g c = reads_err c.from_residual.ensures.0 c.find_staged.ensures.keeps
+
+pub returns-in_err-row-clause-numbers : goal.returns-in_err-row-clause-numbers
+returns-in_err-row-clause-numbers g c great = refused_on c.from_residual.result c.in_err-row.field-0.0 c.from_residual.ensures.1 (c.in_err-row.ensures.numbers great)

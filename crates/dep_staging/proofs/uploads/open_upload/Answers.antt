@@ -8,9 +8,11 @@ use Rattle.dep_tables.specs.Texts.{insert_upload_text}
 use Rattle.dep_tables.specs.declared.uploads.UploadColumns.{UploadColumns}
 use Rattle.dep_tables.proofs.Results.{ok_then}
 use Rattle.dep_tables.proofs.Chains.{clean_before}
-use Rattle.dep_row_maps.proofs.Causes.{fails_first, fails_then, if_err_is, if_err_then}
+use Rattle.dep_row_maps.proofs.Causes.{fails_first, fails_then, if_err_is, if_err_then, never_failed}
+use Rattle.dep_row_maps.proofs.Changing.{by_leads, changes_err, changes_ok, changes_then}
 use Rattle.dep_staging.specs.Causes.{FailsToOpen}
 use Rattle.dep_staging.specs.Causes.FailsToOpen.{promise, row}
+use Rattle.dep_staging.proofs.Causes.{refused_on}
 use Rattle.dep_staging.proofs.UploadCalls.{opened}
 use Rattle.dep_staging.proofs.uploads.open_upload.Goals as goal
 
@@ -52,3 +54,26 @@ returns-in-Some-clause-cause g c storable clean inside =
     let within = c.in_ok-insert_upload.ensures.keeps.stays.inside (clean_before c.insert_sha512.ensures.keeps.stays clean) inside in
     if_err_then c.insert_sha512.result (c.insert_sha512.ensures.cause storable.upload clean within)
     (λ fault failed. fails_then g.T.Statements.state old mid new c.insert_upload.ensures.keeps.stays.survives (FailsToOpen c.args.row.now) fault (promise c.in-Some.value c.in-Some.is failed))
+
+pub returns-in-Some-clause-numbers : goal.returns-in-Some-clause-numbers
+returns-in-Some-clause-numbers g c great =
+    never_failed _ _ (c.in_ok-insert_upload.ensures.numbers (λ storable. great (subst IsStorableUpload c.of_row.ensures storable))).0
+
+pub returns-in-None-clause-numbers : goal.returns-in-None-clause-numbers
+returns-in-None-clause-numbers g c great =
+    never_failed _ _ (c.in_ok-insert_upload.ensures.numbers (λ storable. great (subst IsStorableUpload c.of_row.ensures storable))).0
+
+pub returns-in-Some-clause-keeps : goal.returns-in-Some-clause-keeps
+returns-in-Some-clause-keeps g c =
+    changes_then (by_leads _ c.in_ok-insert_upload.ensures.keeps.stays c.in_ok-insert_upload.ensures.ok) (by_leads _ c.insert_sha512.ensures.keeps.stays c.insert_sha512.ensures.ok)
+
+pub returns-in-None-clause-keeps : goal.returns-in-None-clause-keeps
+returns-in-None-clause-keeps g c = changes_ok (by_leads _ c.in_ok-insert_upload.ensures.keeps.stays c.in_ok-insert_upload.ensures.ok)
+
+pub returns-in_err-insert_upload-clause-keeps : goal.returns-in_err-insert_upload-clause-keeps
+returns-in_err-insert_upload-clause-keeps g c = changes_err c.from_residual.ensures.0 c.insert_upload.ensures.keeps.stays
+
+pub returns-in_err-insert_upload-clause-numbers : goal.returns-in_err-insert_upload-clause-numbers
+returns-in_err-insert_upload-clause-numbers g c great =
+    refused_on c.from_residual.result c.in_err-insert_upload.field-0.0 c.from_residual.ensures.1
+    (c.in_err-insert_upload.ensures.numbers (λ storable. great (subst IsStorableUpload c.of_row.ensures storable)))
