@@ -51,7 +51,7 @@ pub(crate) fn answer_message<A: Archive, O: Outlet, L: AccessLog>(
     let length = message.content.as_slice().len() as u64;
     log.request(message.head.method(), message.head.path(), length);
     match store.tick(context.site.config(), context.moment) {
-        Ok(clock) => match perform(context.site, store, message, clock) {
+        Ok(clock) => match answer_routed(context.site, store, message, clock) {
             Ok(performed) => {
                 let answered = send_performed(store, &performed, out, log);
                 drop(performed);
@@ -114,7 +114,7 @@ pub(crate) fn answer_fault<A: Archive, O: Outlet, L: AccessLog>(
 }
 
 // What a message comes to, once the clock has gone on and is this one.
-fn perform<A: Archive>(
+fn answer_routed<A: Archive>(
     site: &Site,
     store: &mut A,
     message: Message,
@@ -133,7 +133,7 @@ fn perform<A: Archive>(
     let mut message = message;
     let path = message.head.take_path();
     match site.route(message.head.method(), path) {
-        Routed::To(target) => operate(site.service(), store, message, target),
+        Routed::To(target) => perform_operation(site.service(), store, message, target),
         Routed::NotFound => {
             drop(message);
             refuse(alloc, Refusal::NotFound, None, delivery)
@@ -160,7 +160,7 @@ fn refuse(
 }
 
 // What a request for a resource comes to.
-fn operate<A: Archive>(
+fn perform_operation<A: Archive>(
     service: &Service,
     store: &mut A,
     message: Message,

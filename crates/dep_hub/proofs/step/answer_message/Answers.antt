@@ -8,9 +8,9 @@ use Rattle.dep_hub.proofs.Leaving.{leaves_wider}
 use Rattle.dep_hub.proofs.ServingLemmas.{answers_fixed, answers_from, made_from}
 use Rattle.dep_hub.proofs.step.answer_message.Goals as goal
 
-pub returns-in-Ok-perform : goal.returns-in-Ok-perform
+pub returns-in-Ok-answer_routed : goal.returns-in-Ok-answer_routed
 unfolding step
-returns-in-Ok-perform g c =
+returns-in-Ok-answer_routed g c =
     let config = c.args.context.now.site.now in
     let m : Message = c.args.message in
     let x = c.send_performed-answered.ensures in
@@ -18,34 +18,34 @@ returns-in-Ok-perform g c =
       sent = x.sent;
       passes = record {
         appends = x.passes.appends;
-        honest = λ h. c.tick.ensures.does.honest (c.perform.ensures.honest (x.passes.honest h));
-        clean = λ h. c.tick.ensures.does.was_open (c.perform.ensures.was_open (x.passes.clean h));
+        honest = λ h. c.tick.ensures.does.honest (c.answer_routed.ensures.honest (x.passes.honest h));
+        clean = λ h. c.tick.ensures.does.was_open (c.answer_routed.ensures.was_open (x.passes.clean h));
       };
       steps = λ disk s stands.
           let between = x.passes.honest disk in
-          let t = (rw c.config.ensures at c.in-Ok.ensures.does).ok (c.perform.ensures.honest between) s stands tt in
-          let p = c.in-Ok-perform.ensures.ok between (tick config s c.args.context.now.moment) t.1 tt in
+          let t = (rw c.config.ensures at c.in-Ok.ensures.does).ok (c.answer_routed.ensures.honest between) s stands tt in
+          let p = c.in-Ok-answer_routed.ensures.ok between (tick config s c.args.context.now.moment) t.1 tt in
           made_from config s (Request m) c.args.context.now.moment x.sent _ _ _ c.send_performed-answered.result refl
           (answers_from config s (Request m) c.args.context.now.moment x.sent _ _ c.send_performed-answered.result (x.sends disk (step config s (Request m) c.args.context.now.moment) (record { state = p.1; ready = p.0 t.0 })));
-      shut = λ disk none. absurd (none (c.in-Ok.ensures.shut.opened (c.perform.ensures.honest (x.passes.honest disk))));
+      shut = λ disk none. absurd (none (c.in-Ok.ensures.shut.opened (c.answer_routed.ensures.honest (x.passes.honest disk))));
     }
 
-pub returns-in-Err-perform : goal.returns-in-Err-perform
+pub returns-in-Err-answer_routed : goal.returns-in-Err-answer_routed
 unfolding step
-returns-in-Err-perform g c =
+returns-in-Err-answer_routed g c =
     let config = c.args.context.now.site.now in
     let m : Message = c.args.message in
-    let new = g.A.Archive.condition c.perform.new.store in
-    answers_fixed config (outside (g.O.Outlet.taken c.args.out.now) (g.O.Outlet.failures c.args.out.now) (g.A.Archive.condition c.args.store.now)) (outside (g.O.Outlet.taken c.send_fault.new.out) (g.O.Outlet.failures c.send_fault.new.out) (g.A.Archive.condition c.perform.new.store)) (Request m) c.args.context.now.moment c.in-Err-perform.fault
-    (λ h. c.tick.ensures.does.honest (c.perform.ensures.honest h)) (λ h. c.tick.ensures.does.was_open (c.perform.ensures.was_open h))
+    let new = g.A.Archive.condition c.answer_routed.new.store in
+    answers_fixed config (outside (g.O.Outlet.taken c.args.out.now) (g.O.Outlet.failures c.args.out.now) (g.A.Archive.condition c.args.store.now)) (outside (g.O.Outlet.taken c.send_fault.new.out) (g.O.Outlet.failures c.send_fault.new.out) (g.A.Archive.condition c.answer_routed.new.store)) (Request m) c.args.context.now.moment c.in-Err-answer_routed.fault
+    (λ h. c.tick.ensures.does.honest (c.answer_routed.ensures.honest h)) (λ h. c.tick.ensures.does.was_open (c.answer_routed.ensures.was_open h))
     (λ disk s stands.
-    let t = (rw c.config.ensures at c.in-Ok.ensures.does).ok (c.perform.ensures.honest disk) s stands tt in record {
+    let t = (rw c.config.ensures at c.in-Ok.ensures.does).ok (c.answer_routed.ensures.honest disk) s stands tt in record {
       left = tick config s c.args.context.now.moment;
       is_left = inr refl;
-      stands = λ is_open. c.in-Err-perform.ensures.err is_open (tick config s c.args.context.now.moment) t.1;
-      stop = leaves_wider new _ _ (λ found e. inr e) (c.perform.ensures.stop disk (tick config s c.args.context.now.moment) t.1 tt);
+      stands = λ is_open. c.in-Err-answer_routed.ensures.err is_open (tick config s c.args.context.now.moment) t.1;
+      stop = leaves_wider new _ _ (λ found e. inr e) (c.answer_routed.ensures.stop disk (tick config s c.args.context.now.moment) t.1 tt);
     })
-    (λ sent answer h. h) (λ disk none. absurd (none (c.in-Ok.ensures.shut.opened (c.perform.ensures.honest disk))))
+    (λ sent answer h. h) (λ disk none. absurd (none (c.in-Ok.ensures.shut.opened (c.answer_routed.ensures.honest disk))))
     c.send_fault.result c.send_fault.ensures.sends c.send_fault.ensures.cause
 
 pub returns-in-Err : goal.returns-in-Err

@@ -3,14 +3,14 @@ use Rattle.std.specs.String.{string_bytes}
 use Rattle.dep_router.specs.declared.routed.Routed.TheVariants.{NotAllowed}
 use Rattle.dep_answers.specs.declared.performed.Delivery.{Delivery}
 use Rattle.dep_hub.proofs.StepLemmas.{asked_same, operation_answered, none_answered, not_allowed_answered, same_operation}
-use Rattle.dep_hub.proofs.step.perform.Goals as goal
+use Rattle.dep_hub.proofs.step.answer_routed.Goals as goal
 
 pub returns-in-To : goal.returns-in-To
 returns-in-To g c =
-    operation_answered c.args.site.now c.args.message (g.A.Archive.condition c.args.store.now) (g.A.Archive.condition c.operate.new.store) c.args.clock c.operate.result _ c.in-To.target
+    operation_answered c.args.site.now c.args.message (g.A.Archive.condition c.args.store.now) (g.A.Archive.condition c.perform_operation.new.store) c.args.clock c.perform_operation.result _ c.in-To.target
     (same_operation c.args.message c.take_path-path.new.self c.in-To.target c.take_path-path.ensures.rest)
     (c.in-To.ensures ∙ asked_same c.args.message.head c.take_path-path.new.self c.method.result.now (string_bytes c.take_path-path.result) c.method.ensures c.take_path-path.ensures.rest c.take_path-path.ensures.path)
-    (rw c.service.ensures at c.operate.ensures)
+    (rw c.service.ensures at c.perform_operation.ensures)
 
 pub returns-in-NotFound : goal.returns-in-NotFound
 returns-in-NotFound g c =

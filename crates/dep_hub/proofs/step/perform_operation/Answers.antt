@@ -4,7 +4,7 @@ use Rattle.dep_fields.specs.declared.fields.SwordFields.{SwordFields}
 use Rattle.dep_fields.proofs.FitFields.{fields_are_fit}
 use Rattle.dep_decisions.specs.declared.operation.Operation.{Operation}
 use Rattle.dep_hub.proofs.StepLemmas.{step_unasked, tries_always, asks_same}
-use Rattle.dep_hub.proofs.step.operate.Goals as goal
+use Rattle.dep_hub.proofs.step.perform_operation.Goals as goal
 
 pub returns-in-Err : goal.returns-in-Err
 returns-in-Err g c = step_unasked (g.A.Archive.condition c.args.store.now) (g.met.A.Archive.settled c.args.store.now) _ _
