@@ -1,4 +1,4 @@
-//! The configuration of a deposit server that serves many connections, and the lines of its access log.
+//! The configuration of a server for many connections, read and printed, and the lines of its access log.
 #![tactic(auto)]
 
 mod access_log;
@@ -10,6 +10,7 @@ mod field;
 pub mod laws;
 mod names;
 mod reply_front;
+mod report;
 mod values;
 
 pub use access_log::{
@@ -20,3 +21,4 @@ pub use example::{EXAMPLE, explain};
 pub use fault::ConfigurationFault;
 pub use field::{Bounds, FIELDS, Field, Wanted};
 pub use reply_front::{refusal_of_front, status_of_front};
+pub use report::print_configuration;

@@ -1,4 +1,7 @@
 pub mod Setup
+pub mod Commands
+pub mod HostCommands
+pub mod Folders
 pub mod Clock
 pub mod Addresses
 pub mod Serves

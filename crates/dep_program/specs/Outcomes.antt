@@ -1,5 +1,7 @@
--- The exit status of each outcome, and its line on standard error.
-use Rattle.std.specs.Prelude.{ℕ, List, Option, Some, None, codes}
+-- What a run comes to; the exit status of each outcome, and its line on standard error.
+use Rattle.std.specs.Prelude.{ℕ, List, Option, Some, None, Bool, true, codes}
+use Rattle.dep_hub.specs.declared.connection.Served.{Served}
+use Rattle.dep_hub.specs.declared.connection.Served.TheVariants.{Ended, Closed, Unserved, ReadFault, WriteFault, Bound}
 use Rattle.dep_program.specs.declared.outcome.Outcome.{Outcome}
 use Rattle.dep_program.specs.declared.outcome.Outcome.TheVariants.{Done, Usage, NoSuchObject, StoreFault, TransferFault, Damaged}
 
@@ -20,3 +22,17 @@ line_of NoSuchObject = Some (codes "swordd: no such object")
 line_of StoreFault = Some (codes "swordd: store fault")
 line_of TransferFault = Some (codes "swordd: input or output fault")
 line_of Damaged = None
+
+-- what the program says of a connection
+abbrev pub outcome_of : Served → Outcome
+outcome_of Ended = Done
+outcome_of Closed = Done
+outcome_of Unserved = StoreFault
+outcome_of ReadFault = TransferFault
+outcome_of WriteFault = TransferFault
+outcome_of Bound = TransferFault
+
+-- the same, once the outlet was asked whether it gave up
+abbrev pub outcome_sent : (has_failed : Bool) → Outcome → Outcome
+outcome_sent true Done = TransferFault
+outcome_sent has_failed outcome = outcome

@@ -5,7 +5,7 @@ ghost use Rattle.dep_program.specs.Clock.{seconds_of};
 
 use dep_moment::Moment;
 use std::io;
-use std::time::{SystemTime, UNIX_EPOCH};
+use std::time::{Clock, Instant, SystemTime, UNIX_EPOCH};
 
 /// The moment of a reading of the clock, in whole seconds since 1970; the first one where the clock can't be read.
 pub fn moment_of(reading: io::Result<SystemTime>) -> Moment
@@ -17,5 +17,16 @@ pub fn moment_of(reading: io::Result<SystemTime>) -> Moment
             Err(_) => Moment::new(0),
         },
         Err(_) => Moment::new(0),
+    }
+}
+
+/// How long ago that was; 0 where a clock can't be read.
+pub fn microseconds_since<R: Clock>(rt: &R, begun: Option<Instant>) -> u64 {
+    let Some(begun) = begun else {
+        return 0;
+    };
+    match begun.elapsed(rt) {
+        Ok(elapsed) => u64::try_from(elapsed.as_micros()).unwrap_or(u64::MAX),
+        Err(_) => 0,
     }
 }

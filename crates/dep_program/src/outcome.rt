@@ -1,7 +1,9 @@
 //! What a run of the program comes to.
 ghost use Rattle.std.specs.Prelude.{◌≡◌};
 ghost use Rattle.std.specs.Option.{option_copied};
-ghost use Rattle.dep_program.specs.Outcomes.{status_of, line_of};
+ghost use Rattle.dep_program.specs.Outcomes.{status_of, line_of, outcome_of, outcome_sent};
+
+use dep_hub::Served;
 
 /// What a run of the program comes to.
 #[derive(Clone, Copy, Debug, PartialEq, Eq)]
@@ -48,5 +50,26 @@ impl Outcome {
             Outcome::StoreFault => Some("swordd: store fault"),
             Outcome::TransferFault => Some("swordd: input or output fault"),
         }
+    }
+}
+
+/// What a run comes to that served one connection.
+pub fn outcome_of(served: Served) -> Outcome
+    ensures { result ≡ outcome_of served }
+{
+    match served {
+        Served::Ended | Served::Closed => Outcome::Done,
+        Served::Unserved => Outcome::StoreFault,
+        Served::ReadFault | Served::WriteFault | Served::Bound => Outcome::TransferFault,
+    }
+}
+
+/// What it comes to, once the outlet was asked whether it gave up.
+pub fn outcome_sent(has_failed: bool, outcome: Outcome) -> Outcome
+    ensures { result ≡ outcome_sent has_failed outcome }
+{
+    match (has_failed, outcome) {
+        (true, Outcome::Done) => Outcome::TransferFault,
+        (_, outcome) => outcome,
     }
 }

@@ -1,2 +1,4 @@
 pub mod Readiness
 pub mod Totals
+pub mod Doors
+pub mod Outcomes

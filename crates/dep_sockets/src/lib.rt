@@ -1,13 +1,17 @@
-//! The sockets of the system, of many connections at once, and spools in files.
+//! The sockets of the system, of many connections at once, spools in files, and a hub that is served by a door.
 #![tactic(auto)]
 
+mod door;
 mod file_spool;
+mod hosting;
 mod readiness;
 mod socket;
 mod sockets;
 mod spools;
 
+pub use door::{Door, SocketDoor};
 pub use file_spool::FileSpool;
+pub use hosting::{DoorLog, serve_hub};
 pub use socket::{SocketSink, SocketSource};
 pub use sockets::{SocketFault, Sockets};
 pub use spools::Spools;

@@ -18,10 +18,11 @@ use Rattle.dep_schema.proofs.Version.{not_older}
 use Rattle.dep_store.proofs.Opened.{first_means, version_is}
 use Rattle.dep_store.specs.Migrating.{IsUpgraded, OpensOlder}
 use Rattle.dep_store.proofs.ReportLemmas.{stands_still}
+use Rattle.dep_program.specs.Folders.{without_folder}
 use Rattle.dep_program.specs.declared.outcome.Outcome.{Outcome}
 use Rattle.dep_program.specs.declared.outcome.Outcome.TheVariants.{StoreFault}
 use Rattle.swordd.specs.Databases.{IsRefused}
-use Rattle.swordd.specs.Examinations.{AuditsDatabase, ExportsDatabase, ExportsInto, without_folder}
+use Rattle.swordd.specs.Examinations.{AuditsDatabase, ExportsDatabase, ExportsInto}
 use Rattle.swordd.proofs.DatabaseLemmas.{kept_still}
 
 -- of no object anything was written

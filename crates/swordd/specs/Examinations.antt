@@ -2,8 +2,6 @@
 use Rattle.std.specs.Prelude.{◌≡◌, ◌⊎◌, ℕ, List, [], IsTrue}
 use Rattle.sqlite.specs.State as db
 use Rattle.sqlite.specs.State.{HasCleanDisk}
-use Rattle.std.specs.declared.io.ErrorKind.{ErrorKind}
-use Rattle.std.specs.declared.io.ErrorKind.TheVariants.{OutOfMemory}
 use Rattle.dep_types.specs.State.{State, empty_state}
 use Rattle.dep_tables.specs.Tables.{Tables}
 use Rattle.dep_tables.specs.Versions.{our_version, older_version, HasVersion}
@@ -52,11 +50,6 @@ pub record AuditsDatabase (old new : db.State) (written : List ℕ) (outcome : O
 abbrev pub ExportsInto : State → (object : ℕ) → (given : List ℕ) → Outcome → Type 0
 ExportsInto s object given outcome =
     Exports s object given outcome ⊎ ((given ≡ []) × (outcome ≡ TransferFault))
-
--- what an export comes to where its folder can't be made
-abbrev pub without_folder : ErrorKind → Outcome
-without_folder OutOfMemory = StoreFault
-without_folder _ = TransferFault
 
 -- the folder is given the bag of an object; of an empty database that of the initial state, which has none
 pub record ExportsDatabase (old new : db.State) (object : ℕ) (outcome : Outcome) : Type 0 where

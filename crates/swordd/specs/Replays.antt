@@ -1,5 +1,5 @@
 -- One connection, replayed over an archive that is empty at first.
-use Rattle.std.specs.Prelude.{◌≡◌, ◌⊎◌, ◌≤◌, ◌+◌, ℕ, Bool, true, List, All, Option}
+use Rattle.std.specs.Prelude.{◌≡◌, ◌⊎◌, ◌≤◌, ◌+◌, ℕ, Bool, List, All, Option}
 use Rattle.dep_types.specs.State.{empty_state}
 use Rattle.dep_types.specs.Config.{IsChecked}
 use Rattle.dep_types.specs.declared.inlet.Inlet as inlet
@@ -7,26 +7,12 @@ use Rattle.dep_hub.specs.Records.{World, first_world, Run}
 use Rattle.dep_hub.specs.Turns.{Turn, pieces_of, replies_of, records_of, ArePieces, with_opened, with_closed, Exchanges, EndsAs, most_reads, reads_made, reads_after, HasLastRead}
 use Rattle.dep_hub.specs.Conversation.{Wire, Transfers, Rests, wire}
 use Rattle.dep_hub.specs.declared.connection.Served.{Served}
-use Rattle.dep_hub.specs.declared.connection.Served.TheVariants.{Ended, Closed, Unserved, ReadFault, WriteFault, Bound}
 use Rattle.dep_program.specs.Gathering.{told}
+use Rattle.dep_program.specs.Outcomes.{outcome_of, outcome_sent}
 use Rattle.dep_program.specs.Setup.{program_config}
 use Rattle.dep_program.specs.declared.gathered.Gathered.{Gathered}
 use Rattle.dep_program.specs.declared.outcome.Outcome.{Outcome}
 use Rattle.dep_program.specs.declared.outcome.Outcome.TheVariants.{Done, Usage, StoreFault, TransferFault}
-
--- what the program says of a connection
-abbrev pub outcome_of : Served → Outcome
-outcome_of Ended = Done
-outcome_of Closed = Done
-outcome_of Unserved = StoreFault
-outcome_of ReadFault = TransferFault
-outcome_of WriteFault = TransferFault
-outcome_of Bound = TransferFault
-
--- the same, once the outlet was asked whether it gave up
-abbrev pub outcome_sent : (has_failed : Bool) → Outcome → Outcome
-outcome_sent true Done = TransferFault
-outcome_sent has_failed outcome = outcome
 
 -- the connection of this inlet, to an outlet that took these bytes and failed so often
 abbrev pub wire_over : {R : Type 0} → (g : inlet.Ghosts R) → R → (taken : Option (List ℕ)) → (failures : ℕ)

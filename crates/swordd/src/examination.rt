@@ -7,18 +7,14 @@ ghost use Rattle.dep_types.specs.State.{State};
 ghost use Rattle.dep_types.specs.Writing.{HasRisen};
 ghost use Rattle.dep_types.specs.Conditions.{StandsFor, HasCleanDisk as HasCleanArchive};
 ghost use Rattle.dep_bag.specs.Source.{StandsStill};
-ghost use Rattle.swordd.specs.Examinations.{AuditsDatabase, ExportsInto, ExportsDatabase, without_folder};
+ghost use Rattle.swordd.specs.Examinations.{AuditsDatabase, ExportsInto, ExportsDatabase};
 
-use crate::folder::Folder;
-use crate::folder_sink::FolderSink;
-use crate::progress::Progress;
 use dep_bag::BagSource;
-use dep_program::Outcome;
+use dep_program::{Folder, FolderSink, Outcome, without_folder};
 use dep_store::{Store, Watch, audit_all, export_object};
 use dep_types::Outlet;
 use sqlite::{Alter, Connection};
 use std::alloc::Global;
-use std::io::ErrorKind;
 
 /// Opens the store in the database, checks all its files, and hands the database back. The lines go to the outlet.
 pub fn audit_database<S: Alter, W: Outlet, P: Watch>(
@@ -46,11 +42,12 @@ pub fn audit_database<S: Alter, W: Outlet, P: Watch>(
 
 /// Opens the store in the database, makes the folder, which must not be there, and fills it with the bag of the
 /// object. Hands the database back.
-pub fn export_database<S: Alter>(
+pub fn export_database<S: Alter, P: Watch>(
     rt: &HostRuntime,
     connection: Connection<S>,
     object: u64,
     folder: &str,
+    watch: &mut P,
 ) -> (Outcome, Connection<S>)
     requires settled { (state S.Store connection).in_transaction ≡ false }
     ensures exports { ExportsDatabase (state S.Store connection) (state S.Store result.1) object result.0 }
@@ -58,7 +55,7 @@ pub fn export_database<S: Alter>(
     ensures open { IsTrue (state S.Store result.1).is_open
         → IsTrue (state S.Store connection).is_open }
 {
-    match Store::open(rt.alloc(), connection, &mut Progress::new(rt)) {
+    match Store::open(rt.alloc(), connection, watch) {
         Ok(mut store) => {
             let outcome = export_into(rt, &mut store, object, folder);
             (outcome, store.close())
@@ -77,15 +74,5 @@ fn export_into<B: BagSource>(rt: &HostRuntime, source: &mut B, object: u64, fold
     match Folder::new(rt, folder) {
         Ok(folder) => export_object(rt.alloc(), source, object, &mut FolderSink::new(folder)),
         Err(error) => without_folder(error.kind()),
-    }
-}
-
-// What it comes to where the folder can't be made.
-fn without_folder(kind: ErrorKind) -> Outcome
-    ensures { result ≡ without_folder kind }
-{
-    match kind {
-        ErrorKind::OutOfMemory => Outcome::StoreFault,
-        _ => Outcome::TransferFault,
     }
 }

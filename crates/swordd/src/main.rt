@@ -1,26 +1,20 @@
 //! `swordd`, the deposit server of a repository: SWORD 3.0 over HTTP/1.1.
 #![tactic(auto)]
 
-mod command;
 mod examination;
-mod folder;
-mod folder_sink;
-pub mod laws;
 mod progress;
 mod replay;
 mod service;
 mod store_file;
 
-use crate::command::{Command, unread};
 pub use crate::replay::{replay, replay_gathered};
 use crate::store_file::work_on;
 use dep_moment::Moment;
-use dep_program::Gathered;
+use dep_program::{Command, Gathered, unread, words};
 pub use dep_program::{Outcome, serve_on};
 pub use dep_store::{audit_all, export_object};
 use dep_types::ReaderInlet;
 use std::process::ExitCode;
-use std::{env, io};
 
 fn main(rt: HostRuntime) -> ExitCode {
     let outcome = run(&rt);
@@ -55,9 +49,4 @@ fn replay_here(rt: &HostRuntime, moment: u64, base: &str) -> Outcome {
         &mut inlet,
         &mut outlet,
     )
-}
-
-// The words after the program's name.
-fn words(rt: &HostRuntime) -> io::Result<Vec<String>> {
-    Ok(env::args(rt)?.skip(1).collect(rt.alloc())?)
 }

@@ -1,39 +1,14 @@
-//! How far a long command came, told on standard error.
+//! A watch that tells how far a long command came.
 
+use dep_program::Progress;
 use dep_store::Watch;
-use std::io::IsTerminal;
 
-/// The bytes between two lines: 256 MiB.
-const STEP: u64 = 268_435_456;
-
-const MEBIBYTE: u64 = 1_048_576;
-
-/// Counts bytes, and where standard error is a terminal tells each further 256 MiB there.
+/// Tells on standard error how far a command came.
 #[derive(Drop)]
-pub struct Progress<'a> {
-    rt: &'a HostRuntime,
-    is_shown: bool,
-    octets: u64,
-}
+pub struct Told<'a>(pub Progress<'a>);
 
-impl<'a> Progress<'a> {
-    /// Nothing is counted yet. Whether it is shown is asked once, here.
-    pub fn new(rt: &'a HostRuntime) -> Progress<'a> {
-        Progress {
-            rt,
-            is_shown: rt.stderr().is_terminal(),
-            octets: 0,
-        }
-    }
-}
-
-impl Watch for Progress<'_> {
+impl Watch for Told<'_> {
     fn advance(&mut self, octets: u64) {
-        let before = self.octets;
-        self.octets = before.saturating_add(octets);
-        if self.is_shown && before / STEP < self.octets / STEP {
-            let done = self.octets / MEBIBYTE;
-            let _ = eprintln!(self.rt; "swordd: {done} MiB");
-        }
+        self.0.advance(octets);
     }
 }

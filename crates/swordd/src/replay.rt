@@ -1,24 +1,33 @@
 //! One connection over a store in memory.
-ghost use Rattle.std.specs.Prelude.{◌≡◌, [], IfErr, IfOk};
+ghost use Rattle.std.specs.Prelude.{◌≡◌, [], false, IfErr, IfOk};
 ghost use Rattle.std.specs.Io.KnownBytes.{Keeps};
-ghost use Rattle.sqlite.specs.Steps.{over_memory};
+ghost use Rattle.sqlite.specs.Held.{state};
+ghost use Rattle.sqlite.specs.State.{HasCleanDisk};
 ghost use Rattle.dep_types.specs.State.{empty_state};
+ghost use Rattle.dep_schema.specs.Standing.{HoldsNone};
 ghost use Rattle.dep_archive.specs.Archive.{condition_of};
 ghost use Rattle.dep_hub.specs.Flushing.{IsFlushed};
-ghost use Rattle.dep_hub.specs.Standing.{StandsAfter};
+ghost use Rattle.dep_hub.specs.Standing.{IsHonest, StandsAfter};
 ghost use Rattle.dep_program.specs.Gathering.{told, held_in, given};
 ghost use Rattle.dep_program.specs.Setup.{program_config};
-ghost use Rattle.swordd.specs.Replays.{IsNotBegun, Replays, ReplaysSent, wire_over, wire_gathered, outcome_of, outcome_sent};
+ghost use Rattle.swordd.specs.Replays.{IsNotBegun, Replays, ReplaysSent, wire_over, wire_gathered};
 
 use dep_archive::{HashingStore, open_hub};
-use dep_hub::{Flush, Hub, Served, serve_connection};
+use dep_hub::{Flush, Hub, serve_connection};
 use dep_moment::Moment;
-use dep_program::{Gathered, Outcome, configuration};
+use dep_program::{Gathered, Outcome, configuration, outcome_of, outcome_sent};
 use dep_store::Unwatched;
 use dep_types::Inlet;
-use sqlite::{Connection, MemStore};
+use sqlite::{Alter, Connection};
 use std::alloc::Global;
 use std::io::Write;
+
+/// When the pieces of a connection come, and under which base it is served.
+#[derive(Clone, Copy)]
+struct Setting<'a> {
+    moment: Moment,
+    base: &'a str,
+}
 
 /// Serves one connection over a store in memory, which is empty at first: the reader is read to its end,
 /// or until the connection is closed, each piece at the moment, and the replies go to the writer.
@@ -35,16 +44,14 @@ pub fn replay<R: Inlet, W: Flush>(
     ensures flushed { IsFlushed (W.held writer.old) (W.has_failed writer.old)
         → IsFlushed (W.held writer.new) (W.has_failed writer.new) }
 {
-    match new_hub(alloc, base) {
-        Ok(mut hub) => {
-            let mut clock = move || -> Moment
-                ensures { result ≡ moment }
-            { moment };
-            let served = serve_connection(alloc, reader, writer, &mut hub, &mut clock);
-            drop(hub.into_store().into_store().close());
-            outcome_of(served)
+    let setting = Setting { moment, base };
+    match Connection::open_in_memory(alloc) {
+        Ok(connection) => {
+            let (outcome, connection) = replay_database(alloc, setting, connection, reader, writer);
+            drop(connection);
+            outcome
         }
-        Err(outcome) => outcome,
+        Err(_) => Outcome::StoreFault,
     }
 }
 
@@ -68,44 +75,55 @@ pub fn replay_gathered<R: Inlet, W: Write + Drop>(
     outcome_sent(outlet.has_failed(), outcome)
 }
 
-/// A hub over a new store in memory.
-fn new_hub(alloc: Global, base: &str) -> Result<Hub<HashingStore<MemStore>>, Outcome>
-    ensures config { IfOk result (λ hub. hub.config ≡ program_config base.now) }
-    ensures stands { IfOk result (λ hub. StandsAfter (condition_of over_memory) hub empty_state []) }
-    ensures refused { IfErr result (λ outcome. IsNotBegun base.now outcome) }
+// Opens the store in the database, which has no table, serves the connection, and hands the database back.
+// A call, at a store in memory, of a function that is generic in the store is dear to prove: this one alone is called so.
+fn replay_database<S: Alter, R: Inlet, W: Flush>(
+    alloc: Global,
+    setting: Setting<'_>,
+    connection: Connection<S>,
+    reader: &mut R,
+    writer: &mut W,
+) -> (Outcome, Connection<S>)
+    requires settled { (state S.Store connection).in_transaction ≡ false }
+    ensures replays { HoldsNone (state S.Store connection).now.trees
+        → HasCleanDisk (state S.Store result.1)
+        → Replays setting.entry.base.now setting.entry.moment
+        (wire_over R.Inlet reader.old (W.taken writer.old) (W.failures writer.old))
+        (wire_over R.Inlet reader.new (W.taken writer.new) (W.failures writer.new)) result.0 }
+    ensures flushed { IsFlushed (W.held writer.old) (W.has_failed writer.old)
+        → IsFlushed (W.held writer.new) (W.has_failed writer.new) }
 {
-    let Ok(connection) = Connection::open_in_memory(alloc) else {
-        return Err(Outcome::StoreFault);
-    };
+    match new_hub(alloc, setting.base, connection) {
+        Ok(mut hub) => {
+            let moment = setting.moment;
+            let mut clock = move || -> Moment
+                ensures { result ≡ moment }
+            { moment };
+            let served = serve_connection(alloc, reader, writer, &mut hub, &mut clock);
+            (outcome_of(served), hub.into_store().into_store().close())
+        }
+        Err(refused) => refused,
+    }
+}
+
+/// A hub over the store in a database that has no table.
+fn new_hub<S: Alter>(
+    alloc: Global,
+    base: &str,
+    connection: Connection<S>,
+) -> Result<Hub<HashingStore<S>>, (Outcome, Connection<S>)>
+    requires settled { (state S.Store connection).in_transaction ≡ false }
+    ensures config { IfOk result (λ hub. hub.config ≡ program_config base.now) }
+    ensures stands { IfOk result (λ hub. IsHonest (condition_of S.Store) hub
+        → HoldsNone (state S.Store connection).now.trees
+        → StandsAfter (condition_of S.Store) hub empty_state []) }
+    ensures refused { IfErr result (λ e. IsNotBegun base.now e.0) }
+{
     let Ok(config) = configuration(alloc, base) else {
-        drop(connection);
-        return Err(Outcome::StoreFault);
+        return Err((Outcome::StoreFault, connection));
     };
     match open_hub(alloc, config, connection, &mut Unwatched) {
         Ok(hub) => Ok(hub),
-        Err((fault, connection)) => {
-            drop(connection);
-            Err(fault.outcome())
-        }
-    }
-}
-
-fn outcome_of(served: Served) -> Outcome
-    ensures { result ≡ outcome_of served }
-{
-    match served {
-        Served::Ended | Served::Closed => Outcome::Done,
-        Served::Unserved => Outcome::StoreFault,
-        Served::ReadFault | Served::WriteFault | Served::Bound => Outcome::TransferFault,
-    }
-}
-
-// What it comes to, once the outlet was asked whether it gave up.
-fn outcome_sent(has_failed: bool, outcome: Outcome) -> Outcome
-    ensures { result ≡ outcome_sent has_failed outcome }
-{
-    match (has_failed, outcome) {
-        (true, Outcome::Done) => Outcome::TransferFault,
-        (_, outcome) => outcome,
+        Err((fault, connection)) => Err((fault.outcome(), connection)),
     }
 }

@@ -3,11 +3,10 @@ ghost use Rattle.std.specs.Prelude.{◌≡◌, false};
 ghost use Rattle.sqlite.specs.Held.{state};
 ghost use Rattle.swordd.specs.Jobs.{WorksOn};
 
-use crate::command::Job;
 use crate::examination::{audit_database, export_database};
-use crate::progress::Progress;
+use crate::progress::Told;
 use crate::service::serve_database;
-use dep_program::Outcome;
+use dep_program::{Job, Outcome, Progress};
 use dep_store::{Work, work_on_file};
 use dep_types::Through;
 use sqlite::{Alter, Connection};
@@ -44,16 +43,15 @@ fn worked<S: Alter>(
     requires settled { (state S.Store connection).in_transaction ≡ false }
     ensures works { WorksOn job.entry (state S.Store connection) (state S.Store result.1) result.0 }
 {
+    let mut watch = Told(Progress::new(rt));
     match job {
-        Job::Serve(door) => {
-            serve_database(rt, rt.alloc(), door, connection, &mut Progress::new(rt))
+        Job::Serve(door) => serve_database(rt, rt.alloc(), door, connection, &mut watch),
+        Job::Export { object, folder } => {
+            export_database(rt, connection, object, folder, &mut watch)
         }
-        Job::Export { object, folder } => export_database(rt, connection, object, folder),
-        Job::Audit => audit_database(
-            rt.alloc(),
-            connection,
-            &mut Through::new(rt.stdout()),
-            &mut Progress::new(rt),
-        ),
+        Job::Audit => {
+            let mut lines = Through::new(rt.stdout());
+            audit_database(rt.alloc(), connection, &mut lines, &mut watch)
+        }
     }
 }

@@ -1,13 +1,15 @@
 //! What a host tells, in lines of JSON on standard error.
 
-use crate::start::microseconds_since;
+use crate::service::Place;
+use crate::start::write_start;
 use dep_configuration::{
     Closing as Closed, Exchange, GREATEST_PATH, Reason, closing_line, exchange_line,
     refusal_of_front, status_of_front,
 };
 use dep_host::{Bytes, Closing, HostLog, Refusal};
 use dep_hub::{AccessLog, ConnId, Next};
-use dep_program::moment_of;
+use dep_program::{microseconds_since, moment_of};
+use dep_sockets::DoorLog;
 use std::alloc::AllocError;
 use std::io::Write;
 use std::net::IpAddr;
@@ -20,6 +22,9 @@ const MOST_METHOD: usize = 32;
 #[derive(Drop)]
 pub struct StandardErrorLog<'a> {
     rt: &'a HostRuntime,
+    place: &'a Place,
+    /// The time that opening the database took.
+    open_microseconds: u64,
     /// The item that is answered.
     item: Item,
 }
@@ -39,10 +44,12 @@ struct Item {
 }
 
 impl<'a> StandardErrorLog<'a> {
-    /// A log that has no item under way.
-    pub fn new(rt: &'a HostRuntime) -> StandardErrorLog<'a> {
+    /// A log that has no item under way, of a server at the place, whose database has just been opened.
+    pub fn new(rt: &'a HostRuntime, place: &'a Place) -> StandardErrorLog<'a> {
         StandardErrorLog {
             rt,
+            place,
+            open_microseconds: microseconds_since(rt, place.begun),
             item: Item {
                 connection: 0,
                 address: None,
@@ -172,6 +179,17 @@ impl HostLog for StandardErrorLog<'_> {
     fn closed(&mut self, connection: ConnId, address: IpAddr, closing: Closing, _bytes: Bytes) {
         if let Some(reason) = reason_of_closing(closing) {
             self.write_closing(Some(connection.number()), address, reason);
+        }
+    }
+}
+
+impl DoorLog for StandardErrorLog<'_> {
+    fn door(&mut self, is_open: bool) {
+        let address = self.place.address;
+        if is_open {
+            write_start(self.rt, address, self.place.limits, self.open_microseconds);
+        } else {
+            let _ = eprintln!(self.rt; "swordd_host: it can't listen at {address}");
         }
     }
 }

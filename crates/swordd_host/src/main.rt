@@ -1,23 +1,18 @@
 //! `swordd_host`, the deposit server of a repository for many connections at once.
 #![tactic(auto)]
 
-mod command;
-mod door;
 mod folders;
 mod host_log;
-mod report;
 mod service;
 mod start;
 
-use crate::command::Command;
 use crate::folders::check_folders;
-use crate::report::print_configuration;
 use crate::service::serve_store;
-use dep_configuration::{Configuration, ConfigurationFault, EXAMPLE, explain};
-use dep_program::Outcome;
+use dep_configuration::{Configuration, ConfigurationFault, EXAMPLE, explain, print_configuration};
+use dep_program::{HostCommand, Outcome, words};
 use std::fmt::Display;
+use std::fs;
 use std::process::ExitCode;
-use std::{env, fs, io};
 
 const USAGE: &str = "usage: swordd_host CONFIGURATION | --example | --check CONFIGURATION";
 
@@ -29,11 +24,11 @@ fn run(rt: &HostRuntime) -> Outcome {
     let Ok(words) = words(rt) else {
         return usage(rt);
     };
-    match Command::read(&words) {
+    match HostCommand::read(&words) {
         None => usage(rt),
-        Some(Command::Example) => print_example(rt),
-        Some(Command::Check(file)) => check_file(rt, file),
-        Some(Command::Serve(file)) => serve_file(rt, file),
+        Some(HostCommand::Example) => print_example(rt),
+        Some(HostCommand::Check(file)) => check_file(rt, file),
+        Some(HostCommand::Serve(file)) => serve_file(rt, file),
     }
 }
 
@@ -126,9 +121,4 @@ fn outcome_of(fault: &ConfigurationFault) -> Outcome {
         ConfigurationFault::Memory => Outcome::StoreFault,
         _ => Outcome::Usage,
     }
-}
-
-// The words after the program's name.
-fn words(rt: &HostRuntime) -> io::Result<Vec<String>> {
-    Ok(env::args(rt)?.skip(1).collect(rt.alloc())?)
 }

@@ -1,22 +1,15 @@
 //! A store in a file, served at an address.
-ghost use Rattle.std.specs.Prelude.{◌≡◌, false, List};
+ghost use Rattle.std.specs.Prelude.{◌≡◌, false};
 ghost use Rattle.sqlite.specs.Held.{state};
-ghost use Rattle.dep_host.specs.Hosting.{Deed};
-ghost use Rattle.swordd_host.specs.Hosted.{EndsHub, HostsDatabase, WentOn};
-ghost use Rattle.swordd_host.specs.Outcomes.{outcome_at};
+ghost use Rattle.swordd_host.specs.Hosted.{HostsDatabase};
 
-use crate::door::{Door, SocketDoor};
 use crate::host_log::StandardErrorLog;
-use crate::start::{microseconds_since, write_start};
 use dep_archive::open_hub;
 use dep_configuration::{Configuration, Limits};
-use dep_host::laws::hosts_make_a_run;
-use dep_host::{Ended, Events, Host, serve};
-use dep_hub::laws::nothing_held;
-use dep_hub::{Archive, Hub};
+use dep_host::Events;
 use dep_outbox::{Sink, Source, Spool};
 use dep_program::Outcome;
-use dep_sockets::Spools;
+use dep_sockets::{Door, SocketDoor, Spools, serve_hub};
 use dep_store::{Unwatched, Work, work_on_file};
 use dep_types::{Config, Text};
 use sqlite::{Alter, Connection};
@@ -24,17 +17,14 @@ use std::net::SocketAddr;
 use std::process;
 use std::time::Instant;
 
-/// How many bytes are read at once.
-const MOST_READ: usize = 65_536;
-
 /// Where clients come from, and what bounds their connections.
 #[derive(Drop)]
-struct Place {
-    address: SocketAddr,
-    spool_folder: Text,
-    limits: Limits,
+pub struct Place {
+    pub address: SocketAddr,
+    pub spool_folder: Text,
+    pub limits: Limits,
     /// When the opening of the database began.
-    begun: Option<Instant>,
+    pub begun: Option<Instant>,
 }
 
 /// What serves the store in a database.
@@ -105,57 +95,20 @@ fn serve_database<
 {
     match open_hub(rt.alloc(), config, connection, &mut Unwatched) {
         Ok(hub) => {
-            let (outcome, archive) = serve_hub(rt, place, hub, door);
+            let mut log = StandardErrorLog::new(rt, place);
+            let (outcome, archive) = serve_hub(
+                rt.alloc(),
+                hub,
+                host_limits(&place.limits),
+                door,
+                &mut log,
+            );
             (outcome, archive.into_store().close())
         }
         Err((fault, connection)) => {
             let _ = eprintln!(rt; "swordd_host: {fault}");
             (fault.outcome(), connection)
         }
-    }
-}
-
-/// Serves whoever comes by the door, and hands the store back.
-fn serve_hub<
-    A: Archive,
-    R: Source + Drop,
-    K: Sink + Drop,
-    P: Spool + Drop,
-    E: Events<R, K, P> + Door,
->(rt: &HostRuntime, place: &Place, hub: Hub<A>, door: &mut E) -> (Outcome, A)
-    ensures ends { (deeds : List Deed) × EndsHub A.condition R.unread K.taken P.held (E.is_over door.new)
-        (E.is_cut door.new) hub result.1 deeds result.0 × WentOn A.condition hub result.1 deeds }
-{
-    nothing_held::<A>();
-    hosts_make_a_run::<A, R, K, P>();
-    let opened = microseconds_since(rt, place.begun);
-    let mut host = match Host::new(rt.alloc(), hub, host_limits(&place.limits)) {
-        Ok(host) => host,
-        Err(hub) => return (Outcome::StoreFault, hub.into_store()),
-    };
-    let Ok(mut room) = vec![in rt.alloc(); 0u8; MOST_READ] else {
-        return (Outcome::StoreFault, host.into_hub().into_store());
-    };
-    if !door.open() {
-        let _ = eprintln!(rt; "swordd_host: it can't listen at {}", place.address);
-        return (Outcome::TransferFault, host.into_hub().into_store());
-    }
-    // It stands behind the listening, so that who reads the line can connect.
-    write_start(rt, place.address, place.limits, opened);
-    let mut log = StandardErrorLog::new(rt);
-    let ended = serve(&mut host, door, room.as_mut_slice(), &mut log);
-    let outcome = outcome_at(ended, door.was_cut());
-    (outcome, host.into_hub().into_store())
-}
-
-/// What it comes to where no more is served.
-fn outcome_at(ended: Ended, is_cut: bool) -> Outcome
-    ensures { result ≡ outcome_at ended is_cut }
-{
-    match ended {
-        Ended::Events if !is_cut => Outcome::Done,
-        Ended::Events | Ended::Spent => Outcome::TransferFault,
-        Ended::Shut => Outcome::StoreFault,
     }
 }
 

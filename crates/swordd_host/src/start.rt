@@ -4,7 +4,7 @@ use dep_configuration::{Limits, Start, start_line};
 use dep_program::moment_of;
 use std::io::Write;
 use std::net::SocketAddr;
-use std::time::{Instant, SystemTime};
+use std::time::SystemTime;
 
 /// The version of the server.
 const VERSION: &str = "1.0";
@@ -24,16 +24,5 @@ pub fn write_start(rt: &HostRuntime, address: SocketAddr, limits: Limits, open_m
     };
     if let Ok(line) = start_line(rt.alloc(), &start) {
         let _ = rt.stderr().write_all(line.as_slice());
-    }
-}
-
-/// How long ago that was; 0 where a clock can't be read.
-pub fn microseconds_since(rt: &HostRuntime, begun: Option<Instant>) -> u64 {
-    let Some(begun) = begun else {
-        return 0;
-    };
-    match begun.elapsed(rt) {
-        Ok(elapsed) => u64::try_from(elapsed.as_micros()).unwrap_or(u64::MAX),
-        Err(_) => 0,
     }
 }

@@ -1,5 +1,5 @@
 use Rattle.std.proofs.Common.{◌∙◌, ap, sym}
-use Rattle.swordd.specs.Replays.{outcome_sent}
+use Rattle.dep_program.specs.Outcomes.{outcome_sent}
 use Rattle.swordd.proofs.ReplayLemmas.{done_open}
 use Rattle.swordd.proofs.replay.replay_gathered.Goals as goal
 

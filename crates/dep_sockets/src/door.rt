@@ -1,8 +1,11 @@
 //! Where clients come from.
 ghost use Rattle.std.specs.Prelude.{◌≡◌, Bool};
 
+use crate::file_spool::FileSpool;
+use crate::socket::{SocketSink, SocketSource};
+use crate::sockets::Sockets;
+use crate::spools::Spools;
 use dep_host::{Event, Events};
-use dep_sockets::{FileSpool, SocketSink, SocketSource, Sockets, Spools};
 use std::alloc::Global;
 use std::fs::Files;
 use std::net::{Net, SocketAddr};

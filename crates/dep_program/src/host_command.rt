@@ -1,10 +1,10 @@
-//! The words of the command line.
+//! The words of the command line of `swordd_host`.
 ghost use Rattle.std.specs.Prelude.{◌≡◌, map, string_bytes, option_map};
-ghost use Rattle.swordd_host.specs.Commands.{asked_in, asked_of, asked_of_one, is_option};
+ghost use Rattle.dep_program.specs.HostCommands.{asked_in, asked_of, asked_of_one, is_option};
 
 /// What the words ask for.
 #[derive(Clone, Copy)]
-pub enum Command<'a> {
+pub enum HostCommand<'a> {
     /// The store that a configuration file names is served.
     Serve(&'a str),
     /// It is told what would be served.
@@ -13,16 +13,16 @@ pub enum Command<'a> {
     Example,
 }
 
-impl<'a> Command<'a> {
+impl<'a> HostCommand<'a> {
     /// Reads the words after the program's name. There is no command where they are none of these.
-    pub fn read(words: &'a [String]) -> Option<Command<'a>>
+    pub fn read(words: &'a [String]) -> Option<HostCommand<'a>>
         ensures { option_map asked_in result ≡ asked_of (map string_bytes words.now) }
     {
         match words {
             [word] => of_one(word.as_str()),
             [word, file] => {
                 if word.as_str() == "--check" {
-                    Some(Command::Check(file.as_str()))
+                    Some(HostCommand::Check(file.as_str()))
                 } else {
                     None
                 }
@@ -32,16 +32,16 @@ impl<'a> Command<'a> {
     }
 }
 
-fn of_one<'a>(word: &'a str) -> Option<Command<'a>>
+fn of_one<'a>(word: &'a str) -> Option<HostCommand<'a>>
     ensures { option_map asked_in result ≡ asked_of_one word.now }
 {
     if word == "--example" {
-        return Some(Command::Example);
+        return Some(HostCommand::Example);
     }
     if is_option(word) {
         return None;
     }
-    Some(Command::Serve(word))
+    Some(HostCommand::Serve(word))
 }
 
 /// Whether a word is no name of a file.

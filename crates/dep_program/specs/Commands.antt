@@ -1,4 +1,4 @@
--- What the words of the command line ask for.
+-- What the words of the command line of `swordd` ask for.
 use Rattle.std.specs.Prelude.{ℕ, zero, suc, ◌-◌, ◌^◌, List, [], ◌∷◌, Option, Some, None, option_map, codes, bytes_eq, if◌then◌else◌}
 use Rattle.dep_octets.specs.Octets.{decimal_number, value_of}
 use Rattle.dep_types.specs.Numbers.{number_in}
@@ -6,10 +6,10 @@ use Rattle.std.specs.declared.io.ErrorKind.{ErrorKind}
 use Rattle.std.specs.declared.io.ErrorKind.TheVariants.{OutOfMemory}
 use Rattle.dep_program.specs.declared.outcome.Outcome.{Outcome}
 use Rattle.dep_program.specs.declared.outcome.Outcome.TheVariants.{Usage, StoreFault}
-use Rattle.swordd.specs.declared.command.Command.{Command}
-use Rattle.swordd.specs.declared.command.Command.TheVariants as command
-use Rattle.swordd.specs.declared.command.Job.{Job}
-use Rattle.swordd.specs.declared.command.Job.TheVariants as job
+use Rattle.dep_program.specs.declared.command.Command.{Command}
+use Rattle.dep_program.specs.declared.command.Command.TheVariants as command
+use Rattle.dep_program.specs.declared.command.Job.{Job}
+use Rattle.dep_program.specs.declared.command.Job.TheVariants as job
 
 -- a moment and a base to replay at; a port, a file, and a count of connections to serve; a file, an object and a
 -- folder to export it into; a file to audit

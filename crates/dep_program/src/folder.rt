@@ -1,9 +1,9 @@
-//! A new folder of the file system.
+//! A new folder of the file system, for an export.
 ghost use Rattle.std.specs.Prelude.{◌≡◌, IfOk, OnOk, IsSome, None, string_bytes};
-ghost use Rattle.swordd.specs.Folders.{path_in};
+ghost use Rattle.dep_program.specs.Folders.{path_in, without_folder};
 
+use crate::outcome::Outcome;
 use crate::progress::Progress;
-use dep_store::Watch;
 use std::fs::File;
 use std::io::{ErrorKind, Write};
 use std::{fs, io};
@@ -103,5 +103,15 @@ impl<'a> Folder<'a> {
         self.inside.push_str("/")?;
         self.inside.push_str(path)?;
         Ok(())
+    }
+}
+
+/// What an export comes to where its folder can't be made.
+pub fn without_folder(kind: ErrorKind) -> Outcome
+    ensures { result ≡ without_folder kind }
+{
+    match kind {
+        ErrorKind::OutOfMemory => Outcome::StoreFault,
+        _ => Outcome::TransferFault,
     }
 }

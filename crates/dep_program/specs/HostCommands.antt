@@ -1,7 +1,7 @@
--- What the words of the command line ask for.
+-- What the words of the command line of `swordd_host` ask for.
 use Rattle.std.specs.Prelude.{ℕ, ◌==◌, List, [], ◌∷◌, Option, Some, None, Bool, false, codes, bytes_eq, if◌then◌else◌}
-use Rattle.swordd_host.specs.declared.command.Command.{Command}
-use Rattle.swordd_host.specs.declared.command.Command.TheVariants as command
+use Rattle.dep_program.specs.declared.host_command.HostCommand.{HostCommand}
+use Rattle.dep_program.specs.declared.host_command.HostCommand.TheVariants as command
 
 -- a configuration file is served or looked at, or an example of one is printed
 pub data Asked : Type 0 where
@@ -29,7 +29,7 @@ asked_of (word ∷ file ∷ []) =
 asked_of _ = None
 
 -- what a command is
-abbrev pub asked_in : Command → Asked
+abbrev pub asked_in : HostCommand → Asked
 asked_in (command.Serve file) = serve file.now
 asked_in (command.Check file) = check file.now
 asked_in command.Example = example

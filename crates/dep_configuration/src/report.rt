@@ -1,6 +1,7 @@
 //! What a configuration asks for, field by field.
 
-use dep_configuration::{Configuration, FIELDS, Field};
+use crate::configuration::Configuration;
+use crate::field::{FIELDS, Field};
 use std::fmt;
 use std::io::{self, Write};
 use std::net::IpAddr;

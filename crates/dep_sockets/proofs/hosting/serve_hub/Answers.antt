@@ -1,8 +1,8 @@
 use Rattle.std.proofs.Common.{[], ap, ◌∙◌}
 use Rattle.dep_host.specs.Hosting.{position}
-use Rattle.swordd_host.specs.Hosted.{not_begun, not_let_in}
-use Rattle.swordd_host.proofs.HostedLemmas.{ends_at, went_on}
-use Rattle.swordd_host.proofs.service.serve_hub.Goals as goal
+use Rattle.dep_sockets.specs.Doors.{not_begun, not_let_in}
+use Rattle.dep_sockets.proofs.DoorLemmas.{ends_at, went_on}
+use Rattle.dep_sockets.proofs.hosting.serve_hub.Goals as goal
 
 pub returns-in-Err : goal.returns-in-Err
 returns-in-Err g c =
@@ -14,10 +14,10 @@ returns-in_default g c =
     let ends = not_begun (c.into_store-in_default.ensures.same ∙ ap (λ h. h.store) (c.into_hub.ensures ∙ c.in-Ok.ensures.hub)) in
     record { ends = ([], ends, went_on g.A.Archive.condition g.R.Source.unread g.K.Sink.taken g.P.Spool.held c.args.hub c.into_store-in_default.result ends c.hosts_make_a_run.ensures c.nothing_held.ensures.holds) }
 
-pub returns-then-not-open : goal.returns-then-not-open
-returns-then-not-open g c =
-    let ends = not_let_in (c.into_store-then-not-open.ensures.same ∙ ap (λ h. h.store) (c.into_hub-then-not-open.ensures ∙ c.in-Ok.ensures.hub)) in
-    record { ends = ([], ends, went_on g.A.Archive.condition g.R.Source.unread g.K.Sink.taken g.P.Spool.held c.args.hub c.into_store-then-not-open.result ends c.hosts_make_a_run.ensures c.nothing_held.ensures.holds) }
+pub returns-then-not-is_open : goal.returns-then-not-is_open
+returns-then-not-is_open g c =
+    let ends = not_let_in (c.into_store-then-not-is_open.ensures.same ∙ ap (λ h. h.store) (c.into_hub-then-not-is_open.ensures ∙ c.in-Ok.ensures.hub)) in
+    record { ends = ([], ends, went_on g.A.Archive.condition g.R.Source.unread g.K.Sink.taken g.P.Spool.held c.args.hub c.into_store-then-not-is_open.result ends c.hosts_make_a_run.ensures c.nothing_held.ensures.holds) }
 
 pub returns : goal.returns
 returns g c =

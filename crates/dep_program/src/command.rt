@@ -1,12 +1,14 @@
-//! The words of the command line.
+//! The words of the command line of `swordd`.
 ghost use Rattle.std.specs.Prelude.{◌≡◌, map, string_bytes, option_map};
 ghost use Rattle.dep_octets.specs.Octets.{decimal_number, value_of};
-ghost use Rattle.swordd.specs.Commands.{asked_in, asked_of, replay_of, serve_of, export_of, audit_of, moment_of, from_one, unread_outcome};
+ghost use Rattle.dep_program.specs.Commands.{asked_in, asked_of, replay_of, serve_of, export_of, audit_of, moment_of, from_one, unread_outcome};
 
+use crate::door::Door;
+use crate::outcome::Outcome;
 use dep_octets::{Number, decimal, positive_decimal};
-use dep_program::{Door, Outcome};
 use dep_types::GREATEST_NUMBER;
-use std::io::ErrorKind;
+use std::env;
+use std::io::{self, ErrorKind};
 
 /// What the words ask for.
 #[derive(Drop)]
@@ -125,6 +127,11 @@ fn number_in(word: &str, most: u64) -> Option<u64>
         Number::Value(number) => Some(number),
         Number::NotDigits | Number::Above => None,
     }
+}
+
+/// The words after the program's name.
+pub fn words(rt: &HostRuntime) -> io::Result<Vec<String>> {
+    Ok(env::args(rt)?.skip(1).collect(rt.alloc())?)
 }
 
 /// What the program comes to where the words can't be had: without memory it is a fault of the store, and a word that

@@ -1,6 +1,6 @@
-//! Words of the command line, as the definitions read them.
+//! Words of the command line of `swordd`, as the definitions read them.
 ghost use Rattle.std.specs.Prelude.{◌≡◌, ◌-◌, ◌^◌, [], ◌∷◌, Some, None, codes};
-ghost use Rattle.swordd.specs.Commands.{asked_of, replay, serve, export, audit};
+ghost use Rattle.dep_program.specs.Commands.{asked_of, replay, serve, export, audit};
 
 /// A moment has up to 64 bits, also with zeros before it.
 pub fn words_of_a_replay()

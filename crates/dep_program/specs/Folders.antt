@@ -1,0 +1,15 @@
+-- Where the files of a folder stand, and what an export comes to without one.
+use Rattle.std.specs.Prelude.{ℕ, List, ◌++◌, codes}
+use Rattle.std.specs.declared.io.ErrorKind.{ErrorKind}
+use Rattle.std.specs.declared.io.ErrorKind.TheVariants.{OutOfMemory}
+use Rattle.dep_program.specs.declared.outcome.Outcome.{Outcome}
+use Rattle.dep_program.specs.declared.outcome.Outcome.TheVariants.{StoreFault, TransferFault}
+
+-- the path of a file or a folder inside a folder
+abbrev pub path_in : (folder path : List ℕ) → List ℕ
+path_in folder path = folder ++ codes "/" ++ path
+
+-- what an export comes to where its folder can't be made
+abbrev pub without_folder : ErrorKind → Outcome
+without_folder OutOfMemory = StoreFault
+without_folder _ = TransferFault

@@ -1,0 +1,66 @@
+//! A hub that is served by a door.
+ghost use Rattle.std.specs.Prelude.{◌≡◌, List};
+ghost use Rattle.dep_host.specs.Hosting.{Deed};
+ghost use Rattle.dep_sockets.specs.Doors.{EndsHub, WentOn};
+ghost use Rattle.dep_sockets.specs.Outcomes.{outcome_at};
+
+use crate::door::Door;
+use dep_host::laws::hosts_make_a_run;
+use dep_host::{Ended, Events, Host, HostLog, Limits, serve};
+use dep_hub::laws::nothing_held;
+use dep_hub::{Archive, Hub};
+use dep_outbox::{Sink, Source, Spool};
+use dep_program::Outcome;
+use std::alloc::Global;
+
+/// How many bytes are read at once.
+const MOST_READ: usize = 65_536;
+
+/// A log of a host that is told of its door, too.
+pub trait DoorLog: HostLog {
+    /// The door was opened, or couldn't be.
+    fn door(&mut self, is_open: bool);
+}
+
+/// Serves whoever comes by the door, and hands the store back. The log is told of the door once it is open, so that who
+/// reads it there can connect.
+pub fn serve_hub<
+    A: Archive,
+    R: Source + Drop,
+    K: Sink + Drop,
+    P: Spool + Drop,
+    E: Events<R, K, P> + Door,
+    L: DoorLog,
+>(alloc: Global, hub: Hub<A>, limits: Limits, door: &mut E, log: &mut L) -> (Outcome, A)
+    ensures ends { (deeds : List Deed) × EndsHub A.condition R.unread K.taken P.held (E.is_over door.new)
+        (E.is_cut door.new) hub result.1 deeds result.0 × WentOn A.condition hub result.1 deeds }
+{
+    nothing_held::<A>();
+    hosts_make_a_run::<A, R, K, P>();
+    let mut host = match Host::new(alloc, hub, limits) {
+        Ok(host) => host,
+        Err(hub) => return (Outcome::StoreFault, hub.into_store()),
+    };
+    let Ok(mut room) = vec![in alloc; 0u8; MOST_READ] else {
+        return (Outcome::StoreFault, host.into_hub().into_store());
+    };
+    let is_open = door.open();
+    log.door(is_open);
+    if !is_open {
+        return (Outcome::TransferFault, host.into_hub().into_store());
+    }
+    let ended = serve(&mut host, door, room.as_mut_slice(), log);
+    let outcome = outcome_at(ended, door.was_cut());
+    (outcome, host.into_hub().into_store())
+}
+
+/// What it comes to where no more is served.
+fn outcome_at(ended: Ended, is_cut: bool) -> Outcome
+    ensures { result ≡ outcome_at ended is_cut }
+{
+    match ended {
+        Ended::Events if !is_cut => Outcome::Done,
+        Ended::Events | Ended::Spent => Outcome::TransferFault,
+        Ended::Shut => Outcome::StoreFault,
+    }
+}
