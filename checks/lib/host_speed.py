@@ -27,6 +27,8 @@ from served import Server, free_port
 
 CLIENTS = (1, 10, 100, 1000)
 SECONDS = 5
+# So many requests stand in one write of a client that sends on before it has a reply.
+PIPELINED = 16
 SEGMENT, SEGMENTS, CHUNK = 16 * MIB, 32, MIB // 16
 # So long may one hold the others up for each 16 MiB of its own.
 GOAL = 0.1
@@ -52,10 +54,10 @@ def used(process):
     return int(pathlib.Path(f"/proc/{process}/schedstat").read_text().split()[0]) / 1e9
 
 
-def measure(what, process, port, count, method, path, body, memory=None):
+def measure(what, process, port, count, method, path, body, memory=None, **how):
     """Has so many clients ask for a time, and prints what that came to."""
     before = used(process)
-    requests, rate, half, most = load(port, count, method, path, body)
+    requests, rate, half, most = load(port, count, method, path, body, **how)
     each = 1e6 * (used(process) - before) / requests
     room = "" if memory is None else f"{memory():8.0f} MiB"
     print(f"{what:<34}{count:6} clients {rate:8.0f} a second {half:9.2f} ms {most:9.2f} ms {each:8.0f} us {room}", flush=True)
@@ -63,13 +65,15 @@ def measure(what, process, port, count, method, path, body, memory=None):
 
 # ---- clients ----
 
-def wrk(port, count, method, path, body):
+def wrk(port, count, method, path, body, in_one_write=1):
     """How many requests were answered, how many a second, and the 50th and 99th hundredth of the times in milliseconds, by wrk."""
     with tempfile.NamedTemporaryFile("w", suffix=".lua") as script:
         script.write(f'wrk.method = "{method}"\n')
         if body is not None:
             script.write(f'wrk.body = string.rep("x", {len(body)})\n')
             script.writelines(f'wrk.headers["{name}"] = "{value}"\n' for name, value in DEPOSIT.items())
+        if in_one_write > 1:
+            script.write(f"init = function() all = string.rep(wrk.format(), {in_one_write}) end\nrequest = function() return all end\n")
         script.flush()
         said = subprocess.run(["wrk", f"-t{min(2, count)}", f"-c{count}", f"-d{SECONDS}s", "--timeout", "60s", "--latency", "-s",
                                script.name, f"http://{ADDRESS}:{port}{path}"], capture_output=True, text=True).stdout
@@ -120,8 +124,8 @@ def by_selectors(port, count, method, path, body):
     return len(times), len(times) / took, 1000 * statistics.median(times), 1000 * times[int(0.99 * len(times))]
 
 
-def load(*what):
-    return (wrk if shutil.which("wrk") else by_selectors)(*what)
+def load(*what, **how):
+    return (wrk if shutil.which("wrk") else by_selectors)(*what, **how)
 
 
 # ---- servers ----
@@ -188,6 +192,37 @@ def beside_others():
             print("skipped: nginx, which isn't installed")
     with Server(1_000_000) as server:
         many_clients("swordd serve", server, (1,))
+
+
+def by_http_client(port, path):
+    """The median milliseconds of a GET by Python's http.client, over one connection."""
+    connection, times = http.client.HTTPConnection(ADDRESS, port, timeout=PATIENCE), []
+    for _ in range(1000):
+        began = time.perf_counter()
+        exchange(connection, "GET", path)
+        times.append(time.perf_counter() - began)
+    connection.close()
+    return 1000 * statistics.median(times)
+
+
+def without_tables():
+    """What needs no table, beside nginx with the same bytes from a file: the service document, by itself and 16 in one write."""
+    if not (shutil.which("nginx") and shutil.which("wrk")):
+        print("skipped: the service document beside nginx, for want of nginx or wrk")
+        return
+    with Host() as host, Server(1_000_000) as server, tempfile.TemporaryDirectory() as name:
+        _, document = ask(host.port, "GET", "/service")
+        content = b"x" * 1024
+        with nginx(pathlib.Path(name), document) as (port, worker):
+            (pathlib.Path(name) / "files/content").write_bytes(content)
+            asked = (("swordd_host", host.process.pid, host.port, "/service"), ("swordd serve", server.process.pid, server.port, "/service"),
+                     ("nginx", worker, port, "/file"))
+            for count in (1, PIPELINED):
+                for who, process, at, path in asked:
+                    measure(f"{who}: {len(document)} bytes, {count} a write", process, at, 1, "GET", path, None, in_one_write=count)
+            for path, other in (("/service", "/file"), (deposited(server, content), "/content")):
+                took, beside = by_http_client(server.port, path), by_http_client(port, other)
+                print(f"by http.client: {path} {took:.3f} ms, from nginx {beside:.3f} ms", flush=True)
 
 
 # ---- what one costs the others ----
@@ -284,6 +319,7 @@ def main():
     with Host() as host:
         many_clients("swordd_host", host, CLIENTS)
     beside_others()
+    without_tables()
     with Host(idle_seconds=600) as host:
         one_beside_others(host)
     print(f"load {os.getloadavg()[0]:.1f} at the end")
