@@ -1,15 +1,21 @@
 -- What the reply to a request shows, where that is known without a look at the tables.
-use Rattle.std.specs.Prelude.{⊤, ℕ, List, Option, Some, None, option_map}
+use Rattle.std.specs.Prelude.{◌≡◌, ⊤, ℕ, Bool, List, Option, Some, None, option_map}
 use Rattle.dep_types.specs.State.{State}
+use Rattle.dep_types.specs.Rows.{file_row, object_view}
 use Rattle.dep_types.specs.declared.counters.Counters.{Counters}
-use Rattle.dep_decisions.specs.Effects.{effect_of}
+use Rattle.dep_types.specs.declared.rows.FileRow.{FileRow}
+use Rattle.dep_types.specs.declared.rows.ObjectView.{ObjectView}
+use Rattle.dep_decisions.specs.Effects.{effect_of, file_from, filled}
 use Rattle.dep_decisions.specs.declared.decision.Decision.{Decision}
+use Rattle.dep_decisions.specs.declared.decision.Deposit.{Deposit}
+use Rattle.dep_decisions.specs.declared.decision.NewFile.{NewFile}
 use Rattle.dep_decisions.specs.declared.decision.Decision.TheVariants.{Create, Replace, SetMetadata, SetFiles, SetFile}
 use Rattle.dep_answers.specs.Subjects.{shown_at}
 use Rattle.dep_answers.specs.declared.subject.Subject.{Subject}
 use Rattle.dep_answers.specs.declared.subject.Subject.TheVariants.{File, Object, ObjectRow}
 use Rattle.dep_answers.specs.declared.subject.Shown.{Shown}
 use Rattle.dep_changes.specs.Causes.{HasCopies}
+use Rattle.dep_changes.specs.declared.change.Change.{Change}
 
 -- What is known of a decision once it is carried out: an object that it makes, under the next number, or puts in the place
 -- of another, the row of one that gets other metadata or files alone, and a file.
@@ -24,6 +30,14 @@ known_subject next d = None
 -- what the state after shows there
 abbrev pub known_shown : State → (content : List ℕ) → Decision → Option Shown
 known_shown s content d = option_map (shown_at (effect_of s content d)) (known_subject s.next d)
+
+-- what is told of an object that has this deposit alone
+abbrev pub IsFilledView : State → Change → Deposit → (n : ℕ) → (ingested : Bool) → ObjectView → Type 0
+IsFilledView s change d n ingested view = view ≡ object_view n (filled s change.content.now d ingested)
+
+-- the row of a file that is the content of this change
+abbrev pub IsRowFrom : State → Change → NewFile → (n f : ℕ) → FileRow → Type 0
+IsRowFrom s change new n f row = row ≡ file_row n f (file_from s change.content.now new)
 
 -- memory is taken for what is shown
 abbrev pub CopiesKnown : Decision → Type 0

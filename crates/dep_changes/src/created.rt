@@ -10,7 +10,8 @@ ghost use Rattle.dep_decisions.specs.Effects.{blank, bytes_from, file_from, fill
 ghost use Rattle.dep_decisions.specs.declared.decision.Deposit.TheVariants.{Files};
 ghost use Rattle.dep_changes.specs.Causes.{HasCopies};
 ghost use Rattle.dep_changes.specs.Changed.{IsExtent, new_rows};
-ghost use Rattle.dep_changes.specs.Told.{AreSources, HasSources, TellsDeposit, TellsNewFile, TellsObject, TellsSource};
+ghost use Rattle.dep_changes.specs.Known.{IsFilledView, IsRowFrom};
+ghost use Rattle.dep_changes.specs.Told.{AreSources, HasItsSources, TellsDeposit, TellsNewFile, TellsObject, TellsSource};
 
 use crate::change::{Change, touched};
 use crate::copies::copied_metadata;
@@ -86,10 +87,9 @@ pub(crate) fn filled_view(
     requires { IsTrue (has_room change.now.view.now.next.file (count_of deposit.now)) }
     ensures told { (s : State) (n : ℕ) (ingested : Bool) → TellsDeposit change.now s deposit.now
         → row ≡ object_row n (blank s ingested)
-        → IfOk result (λ told. told
-        ≡ object_view n (filled s change.now.content.now deposit.now ingested)) }
+        → IfOk result (IsFilledView s change.now deposit.now n ingested) }
     ensures cause { (s : State)
-        → HasSources s change.now.content.now change.now.view.now.uploads deposit.now
+        → HasItsSources s change.now deposit.now
         → IfErr result (λ fault. HasCopies deposit.now × (fault ≡ Memory)) }
 {
     match deposit {
@@ -120,10 +120,9 @@ pub(crate) fn created_view(
 ) -> Result<ObjectView, StoreFault>
     requires { IsTrue (has_room change.now.view.now.next.file (count_of deposit.now)) }
     ensures told { (s : State) → TellsDeposit change.now s deposit.now
-        → IfOk result (λ told. told
-        ≡ object_view s.next.object (filled s change.now.content.now deposit.now ingests)) }
+        → IfOk result (IsFilledView s change.now deposit.now s.next.object ingests) }
     ensures cause { (s : State)
-        → HasSources s change.now.content.now change.now.view.now.uploads deposit.now
+        → HasItsSources s change.now deposit.now
         → IfErr result (λ fault. HasCopies deposit.now × (fault ≡ Memory)) }
 {
     let view = change.view;
@@ -139,10 +138,9 @@ pub(crate) fn replaced_view(
     requires { IsTrue (has_room change.now.view.now.next.file (count_of deposit.now)) }
     ensures told { (s : State) (n : ℕ) (o : Object) → TellsDeposit change.now s deposit.now
         → TellsObject change.now.view.now s n o
-        → IfOk result (λ told. told ≡ object_view n
-        (filled s change.now.content.now deposit.now (o.ingested || ingests))) }
+        → IfOk result (IsFilledView s change.now deposit.now n (o.ingested || ingests)) }
     ensures cause { (s : State) (n : ℕ) (o : Object)
-        → HasSources s change.now.content.now change.now.view.now.uploads deposit.now
+        → HasItsSources s change.now deposit.now
         → TellsObject change.now.view.now s n o
         → IfErr result (λ fault. HasCopies deposit.now × (fault ≡ Memory)) }
 {
@@ -159,7 +157,7 @@ pub(crate) fn replaced_file(
 ) -> Result<FileRow, StoreFault>
     ensures told { (s : State) (n : ℕ) (o : Object) → TellsNewFile change.now s 0 new.now.source
         → TellsObject change.now.view.now s n o
-        → IfOk result (λ row. row ≡ file_row n file (file_from s change.now.content.now new.now)) }
+        → IfOk result (IsRowFrom s change.now new.now n file) }
     ensures cause { (s : State) (n : ℕ) (o : Object) → TellsSource change.now s 0 new.now.source
         → TellsObject change.now.view.now s n o → IfErr result (λ fault. fault ≡ Memory) }
 {
