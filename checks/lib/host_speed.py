@@ -27,7 +27,7 @@ from served import Server, free_port
 
 CLIENTS = (1, 10, 100, 1000)
 SECONDS = 5
-SEGMENT, SEGMENTS = 16 * MIB, 32
+SEGMENT, SEGMENTS, CHUNK = 16 * MIB, 32, MIB // 16
 # So long may one hold the others up for each 16 MiB of its own.
 GOAL = 0.1
 DEPOSIT = as_file("a", "application/octet-stream")
@@ -138,6 +138,11 @@ def deposited(server, content):
     """Returns the path of the file."""
     _, document = ask(server.port, "POST", "/service", content, DEPOSIT)
     return server.path_of(first_file(document))
+
+
+def chunks_of(content):
+    """The content as http.client sends it in chunks."""
+    return (content[at:at + CHUNK] for at in range(0, len(content), CHUNK))
 
 
 def is_at_rest(port):
@@ -262,6 +267,7 @@ def one_beside_others(host):
     beside(host, "nothing", 0, lambda: time.sleep(3))
     content = os.urandom(SEGMENT)
     path = beside(host, "a deposit of 16 MiB", SEGMENT, lambda: deposited(host, content))
+    beside(host, "a deposit of 16 MiB in chunks", SEGMENT, lambda: deposited(host, chunks_of(content)))
     beside(host, "ten deposits of 16 MiB, one after another", SEGMENT, lambda: [deposited(host, content) for _ in range(10)])
     beside(host, "ten GETs of 16 MiB", SEGMENT, lambda: [read_whole(host, path) for _ in range(10)])
     url, digest = beside(host, "32 segments of 16 MiB", SEGMENT, lambda: send_upload(host))

@@ -6,6 +6,7 @@ ghost use Rattle.dep_body.specs.Feeding.{HasFed, TellsFed, answer_of, used_by};
 use crate::left::DataLeft;
 use crate::size::SizeLine;
 use crate::stage::{Stage, chunk_end_after, line_after, section_after};
+use dep_fixity::HashedOctets;
 use std::alloc::{AllocError, Global};
 use std::marker::Model;
 
@@ -27,7 +28,8 @@ pub enum Fed {
 #[derive(Drop)]
 pub struct ChunkReader {
     max_upload: u64,
-    content: Vec<u8>,
+    content: HashedOctets,
+    is_hashed: bool,
     stage: Stage,
 }
 
@@ -36,19 +38,21 @@ impl Model for ChunkReader {
 
     ghost Value = { ReaderValue };
 
-    ghost view = { λ r. record { limit = r.max_upload; content = r.content.items; stage = r.stage } };
+    ghost view = { λ r. record { limit = r.max_upload; content = r.content; stage = r.stage } };
 }
 
 impl ChunkReader {
-    /// A reader of a content of at most `max_upload` bytes, which grows in `alloc`. It takes no memory.
-    pub fn new(alloc: Global, max_upload: u64) -> ChunkReader
+    /// A reader of a content of at most `max_upload` bytes, which grows in `alloc`. It takes no memory. The content is
+    /// hashed while it comes if `is_hashed` says so, which changes no answer.
+    pub fn new(alloc: Global, max_upload: u64, is_hashed: bool) -> ChunkReader
         ensures fed { HasFed result [] }
         ensures limit { result.limit ≡ max_upload }
         ensures content { result.content ≡ [] }
     {
         ChunkReader {
             max_upload,
-            content: Vec::new(alloc),
+            content: HashedOctets::from_vec(Vec::new(alloc)),
+            is_hashed,
             stage: Stage::Line(SizeLine::new()),
         }
     }
@@ -64,7 +68,7 @@ impl ChunkReader {
         ensures limit { self.new.limit ≡ self.old.limit }
         ensures err { OnErr result (self.new ≡ self.old) }
     {
-        let held = self.content.len();
+        let held = self.content.as_slice().len();
         let (stage, used) = match advance(self.stage, self.max_upload, &mut self.content, piece) {
             Ok(advanced) => advanced,
             Err(error) => {
@@ -73,16 +77,20 @@ impl ChunkReader {
             }
         };
         self.stage = stage;
+        if self.is_hashed && !stage.is_settled() {
+            self.content.hash_to(usize::MAX);
+        }
         Ok(answer(stage, used))
     }
 
     /// The bytes of the chunks so far, joined. It takes no memory.
-    pub fn content(self) -> Vec<u8>
-        ensures { result.items ≡ self.content }
+    pub fn content(self) -> HashedOctets
+        ensures { result ≡ self.content }
     {
         let ChunkReader {
             max_upload: _,
             content,
+            is_hashed: _,
             stage: _,
         } = self;
         content
@@ -104,15 +112,15 @@ fn answer(stage: Stage, used: usize) -> Fed
 fn advance(
     stage: Stage,
     limit: u64,
-    content: &mut Vec<u8>,
+    content: &mut HashedOctets,
     piece: &[u8],
 ) -> Result<(Stage, usize), AllocError>
-    ensures stands { IfOk result (λ r. (text : List ℕ) → StandsAt limit content.old.items stage text
-        → StandsAt limit content.new.items r.0 (text ++ take r.1 piece.now)) }
+    ensures stands { IfOk result (λ r. (text : List ℕ) → StandsAt limit content.old stage text
+        → StandsAt limit content.new r.0 (text ++ take r.1 piece.now)) }
     ensures within { IfOk result (λ r. r.1 ≤ length piece.now) }
     ensures all { IfOk result (λ r. is_settled r.0 ≡ false → r.1 ≡ length piece.now) }
     ensures settled { is_settled stage ≡ true → IfOk result (λ r. (r.1 ≡ 0) × (r.0 ≡ stage)) }
-    ensures kept { take (length content.old.items) content.new.items ≡ content.old.items }
+    ensures kept { take (length content.old) content.new ≡ content.old }
 {
     let mut stage = stage;
     let mut used = 0;
@@ -128,18 +136,18 @@ fn advance(
 fn step(
     stage: Stage,
     limit: u64,
-    content: &mut Vec<u8>,
+    content: &mut HashedOctets,
     rest: &[u8],
 ) -> Result<(Stage, usize), AllocError>
     requires some { 0 < length rest.now }
-    ensures stands { IfOk result (λ r. (text : List ℕ) → StandsAt limit content.old.items stage text
-        → StandsAt limit content.new.items r.0 (text ++ take r.1 rest.now)) }
+    ensures stands { IfOk result (λ r. (text : List ℕ) → StandsAt limit content.old stage text
+        → StandsAt limit content.new r.0 (text ++ take r.1 rest.now)) }
     ensures within { IfOk result (λ r. r.1 ≤ length rest.now) }
     ensures some { is_settled stage ≡ false → IfOk result (λ r. 0 < r.1) }
-    ensures kept { take (length content.old.items) content.new.items ≡ content.old.items }
+    ensures kept { take (length content.old) content.new ≡ content.old }
 {
     let byte = rest[0];
-    let taken = content.len() as u64;
+    let taken = content.as_slice().len() as u64;
     match stage {
         Stage::Line(line) => Ok((line_after(line, byte, taken, limit), 1)),
         Stage::Data(left) => take_data(left, content, rest),
@@ -152,19 +160,19 @@ fn step(
 // Takes the bytes of a chunk, of which so many are left.
 fn take_data(
     left: DataLeft,
-    content: &mut Vec<u8>,
+    content: &mut HashedOctets,
     rest: &[u8],
 ) -> Result<(Stage, usize), AllocError>
     requires some { 0 < length rest.now }
     ensures stands { IfOk result (λ r. (limit : ℕ) (text : List ℕ)
-        → IsInData limit content.old.items left.bytes text
-        → StandsAt limit content.new.items r.0 (text ++ take r.1 rest.now)) }
+        → IsInData limit content.old left.bytes text
+        → StandsAt limit content.new r.0 (text ++ take r.1 rest.now)) }
     ensures within { IfOk result (λ r. r.1 ≤ length rest.now) }
     ensures some { IfOk result (λ r. 0 < r.1) }
-    ensures kept { take (length content.old.items) content.new.items ≡ content.old.items }
+    ensures kept { take (length content.old) content.new ≡ content.old }
 {
     let count = left.bytes.min(rest.len() as u64) as usize;
-    content.extend_from_slice(&rest[..count])?;
+    content.append(&rest[..count], usize::MAX)?;
     let later = left.bytes - count as u64;
     if later == 0 {
         return Ok((Stage::ChunkEnd(None), count));

@@ -152,10 +152,11 @@ impl Work {
     {
         let used = UsedBytes::new().and(&self.buffer.as_slice()[..head_length]);
         self.buffer.drop_front(head_length);
+        let is_hashed = is_hashed_early(&head);
         self.read_chunks(ChunkedRequest {
             head,
             used,
-            reader: ChunkReader::new(self.alloc, self.limit),
+            reader: ChunkReader::new(self.alloc, self.limit, is_hashed),
         })
     }
 
@@ -204,11 +205,7 @@ impl Work {
                 self.keep_place(Progress::Chunked(request));
                 Ok(Found::Nothing)
             }
-            Ok(Fed::Done(used)) => Ok(self.take_plain(
-                used,
-                request.head,
-                request.reader.content(),
-            )),
+            Ok(Fed::Done(used)) => Ok(self.take(used, request.head, request.reader.content())),
             Ok(Fed::Bad) => Ok(fault_of(request.head, FrameFault::Bad)),
             Ok(Fed::TooLarge) => Ok(fault_of(request.head, FrameFault::TooLarge)),
         }

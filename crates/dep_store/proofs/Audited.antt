@@ -19,8 +19,3 @@ audited_of mid new t object rows (Ok audit) stands are still audited = (
   tables_kept mid new t stands still.0.is_open (λ _. inl still),
 )
 audited_of mid new t object rows (Err e) stands are still audited = tt
-
--- it failed, so nothing has to be told
-pub none_told : {A E : Type 0} (r : Result A E) (P : A → Type 0) → IsErr r → IfOk r P
-none_told (Ok answer) P failed = cc failed
-none_told (Err fault) P failed = tt

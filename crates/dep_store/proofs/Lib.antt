@@ -6,7 +6,7 @@ pub mod Carrying
 pub mod Audited
 pub mod Remembered
 pub mod WalkLemmas
-pub mod TellLemmas
+pub mod ReportLemmas
 pub mod LineLemmas
 pub mod ShutLemmas
 pub mod Tries

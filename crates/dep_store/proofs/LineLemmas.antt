@@ -3,7 +3,7 @@ use Rattle.std.proofs.Common.{◌≡◌, ℕ, ◌<◌, List, ◌∷◌, ◌++◌
 use Rattle.std.specs.Prelude.{IsErrAnd}
 use Rattle.std.proofs.lemmas.Grind.{flat_map-append}
 use Rattle.dep_types.specs.Sinks.{IsFront}
-use Rattle.dep_store.specs.Telling.{IsWritten}
+use Rattle.dep_store.specs.Reporting.{IsWritten}
 use Rattle.dep_store.specs.declared.audit_fault.AuditFault.{AuditFault}
 
 regrouped : (a part rest more : List ℕ) → a ++ ((part ++ rest) ++ more) ≡ (a ++ part) ++ (rest ++ more)

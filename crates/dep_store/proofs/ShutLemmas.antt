@@ -1,5 +1,6 @@
 -- A store that a fault shut: what fails on it, and what stands again once a statement was given back.
 use Rattle.std.proofs.Common.{◌≡◌, ◌∙◌, ℕ, List, [], Result, Ok, Err, OnOk, IsErr, MatchResult, codes, refl, IsTrue, inl, inr, sym, ap, subst, length, le_of_eq}
+use Rattle.std.proofs.lemmas.Result.{IfOk-from_err}
 use Rattle.sqlite.specs.State as db
 use Rattle.sqlite.specs.State.{HasCleanDisk, Survives, IsNotRun, store_error}
 use Rattle.sqlite.specs.declared.error.ErrorCode.TheVariants as code
@@ -22,17 +23,13 @@ on_any : {A E : Type 0} (r : Result A E) (P : Type 0) → P → OnOk r P
 on_any (Ok answer) P h = h
 on_any (Err e) P h = tt
 
-on_none : {A E : Type 0} (r : Result A E) (P : Type 0) → IsErr r → OnOk r P
-on_none (Ok answer) P failed = cc failed
-on_none (Err e) P failed = tt
-
 -- nothing was committed
 pub leaves_no_more : (old new : db.State) → Survives old new (λ _. ⊥) → LeavesNoMore old new
 leaves_no_more old new survives clean shut trees h = elim (survives.crash clean trees h) [ inl earlier ↦ earlier | inr none ↦ absurd none ]
 
 -- it failed, and nothing was committed
 pub fails_still : {A E : Type 0} (old new : db.State) (r : Result A E) → IsErr r → Survives old new (λ _. ⊥) → FailsIfShut old new r
-fails_still old new r failed survives = record { opened = λ clean. on_none r _ failed; left = leaves_no_more old new survives }
+fails_still old new r failed survives = record { opened = λ clean. IfOk-from_err r (λ _. _) failed; left = leaves_no_more old new survives }
 
 -- the store was open
 pub was_open_then : {A E : Type 0} (old new : db.State) (r : Result A E) → (HasCleanDisk new → IsTrue old.is_open) → FailsIfShut old new r

@@ -15,7 +15,7 @@ use Rattle.dep_hub.specs.Archives.{TriesTo, Tells, KeepsState, KeepsAll, Always,
 use Rattle.dep_store.specs.Archive.{shown_by}
 use Rattle.dep_store.specs.Staying.{TellsTables, KeepsTables, LeavesOnly}
 use Rattle.dep_store.proofs.ShutLemmas.{state_back}
-use Rattle.dep_store.proofs.TellLemmas.{leaves_held, stands_still}
+use Rattle.dep_store.proofs.ReportLemmas.{leaves_held, stands_still}
 
 -- a transaction goes on from each state of which this holds
 pub tries_over : {A E : Type 0} (old new : db.State) (r : Result A E) (Makes : Tables → A → Tables → Type 0) (holds : State → Type 0)

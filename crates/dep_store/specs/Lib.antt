@@ -7,5 +7,5 @@ pub mod Staying
 pub mod Archive
 pub mod Exports
 pub mod Audits
-pub mod Telling
+pub mod Reporting
 pub mod Working

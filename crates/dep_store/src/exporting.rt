@@ -5,7 +5,7 @@ ghost use Rattle.dep_types.specs.State.{State};
 ghost use Rattle.dep_types.specs.Conditions.{StandsFor, HasCleanDisk};
 ghost use Rattle.dep_bag.specs.Source.{StandsStill};
 ghost use Rattle.dep_store.specs.Exports.{Exports};
-ghost use Rattle.dep_store.specs.Telling.{BlamesTransfer};
+ghost use Rattle.dep_store.specs.Reporting.{BlamesTransfer};
 
 use dep_bag::{BagSource, ExportFault, export};
 use dep_program::Outcome;

@@ -1,7 +1,7 @@
 //! The lines of an audit.
 ghost use Rattle.std.specs.Prelude.{◌≡◌, IfOk, flat_map, string_bytes};
 ghost use Rattle.dep_store.specs.Audits.{damaged_line, count_line};
-ghost use Rattle.dep_store.specs.Telling.{Writes, BlamesWriter};
+ghost use Rattle.dep_store.specs.Reporting.{Writes, BlamesWriter};
 
 use crate::audit_fault::AuditFault;
 use crate::tally::Tally;
@@ -10,7 +10,7 @@ use itoa::Buffer;
 use std::alloc::{AllocError, Global};
 
 /// Writes a line for each of the damaged files of an object.
-pub(crate) fn tell_damaged<W: Outlet>(
+pub(crate) fn write_damaged<W: Outlet>(
     alloc: Global,
     object: u64,
     files: &[u64],
@@ -21,12 +21,12 @@ pub(crate) fn tell_damaged<W: Outlet>(
     ensures blames { BlamesWriter (W.failures out.old) (W.failures out.new) result }
 {
     'files: for file in files {
-        tell_file(alloc, object, *file, out)?;
+        write_file(alloc, object, *file, out)?;
     }
     Ok(())
 }
 
-fn tell_file<W: Outlet>(
+fn write_file<W: Outlet>(
     alloc: Global,
     object: u64,
     file: u64,
@@ -37,7 +37,7 @@ fn tell_file<W: Outlet>(
     ensures blames { BlamesWriter (W.failures out.old) (W.failures out.new) result }
 {
     let line = file_line(alloc, object, file)?;
-    tell(line.as_str(), out)
+    write_line(line.as_str(), out)
 }
 
 fn file_line(alloc: Global, object: u64, file: u64) -> Result<String, AllocError>
@@ -53,7 +53,7 @@ fn file_line(alloc: Global, object: u64, file: u64) -> Result<String, AllocError
 }
 
 /// Writes the last line.
-pub(crate) fn tell_count<W: Outlet>(
+pub(crate) fn write_count<W: Outlet>(
     alloc: Global,
     tally: Tally,
     out: &mut W,
@@ -63,7 +63,7 @@ pub(crate) fn tell_count<W: Outlet>(
     ensures blames { BlamesWriter (W.failures out.old) (W.failures out.new) result }
 {
     let line = last_line(alloc, tally)?;
-    tell(line.as_str(), out)
+    write_line(line.as_str(), out)
 }
 
 fn last_line(alloc: Global, tally: Tally) -> Result<String, AllocError>
@@ -78,7 +78,7 @@ fn last_line(alloc: Global, tally: Tally) -> Result<String, AllocError>
     Ok(line)
 }
 
-fn tell<W: Outlet>(line: &str, out: &mut W) -> Result<(), AuditFault>
+fn write_line<W: Outlet>(line: &str, out: &mut W) -> Result<(), AuditFault>
     ensures writes { Writes (W.taken out.old) (W.taken out.new)
         line.now result }
     ensures blames { BlamesWriter (W.failures out.old) (W.failures out.new) result }

@@ -17,7 +17,7 @@ use Rattle.dep_store.specs.Audits.{Audited, Audits, IsBegun, object_rows}
 use Rattle.dep_schema.proofs.Version.{not_older}
 use Rattle.dep_store.proofs.Opened.{first_means, version_is}
 use Rattle.dep_store.specs.Migrating.{IsUpgraded, OpensOlder}
-use Rattle.dep_store.proofs.TellLemmas.{stands_still}
+use Rattle.dep_store.proofs.ReportLemmas.{stands_still}
 use Rattle.dep_program.specs.Folders.{without_folder}
 use Rattle.dep_program.specs.declared.outcome.Outcome.{Outcome}
 use Rattle.dep_program.specs.declared.outcome.Outcome.TheVariants.{StoreFault}

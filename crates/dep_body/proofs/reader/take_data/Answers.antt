@@ -9,14 +9,14 @@ returns-then-later-eq0-clause-stands c = λ limit text h.
     let more = take c.min-count.result c.args.rest.now in
     let long : length more ≡ c.min-count.result = length-take-le _ _ (omega (arith, c.min-count.ensures)) in
     let all : length more ≡ c.args.left.bytes = omega (arith, long, c.min-count.ensures, c.if-later-eq0.true) in
-    subst (λ s. IsBehindData limit s None (text ++ more)) (sym c.in_ok-extend_from_slice.ensures.items)
-    (data_ends limit c.args.content.now.items text more c.args.left.bytes h all)
+    subst (λ s. IsBehindData limit s None (text ++ more)) (sym c.in_ok-append.ensures.ok)
+    (data_ends limit c.args.content.now text more c.args.left.bytes h all)
 
 pub returns-clause-stands : goal.returns-clause-stands
 returns-clause-stands c = λ limit text h.
     let more = take c.min-count.result c.args.rest.now in
     let long : length more ≡ c.min-count.result = length-take-le _ _ (omega (arith, c.min-count.ensures)) in
     let less : length more < c.args.left.bytes = omega (arith, long, c.min-count.ensures, c.if-later-eq0.false) in
-    subst (λ s. IsInData limit s (c.args.left.bytes - c.min-count.result) (text ++ more)) (sym c.in_ok-extend_from_slice.ensures.items)
-    (subst (λ n. IsInData limit (c.args.content.now.items ++ more) (c.args.left.bytes - n) (text ++ more)) long
-    (data_goes limit c.args.content.now.items text more c.args.left.bytes h less))
+    subst (λ s. IsInData limit s (c.args.left.bytes - c.min-count.result) (text ++ more)) (sym c.in_ok-append.ensures.ok)
+    (subst (λ n. IsInData limit (c.args.content.now ++ more) (c.args.left.bytes - n) (text ++ more)) long
+    (data_goes limit c.args.content.now text more c.args.left.bytes h less))

@@ -2,7 +2,8 @@ use Rattle.sqlite.specs.State.{HasCleanDisk}
 use Rattle.sqlite.specs.Held.{state}
 use Rattle.sqlite.proofs.StateLemmas.{clean_if_open}
 use Rattle.dep_store.specs.Auditing.{IsObjectAudited}
-use Rattle.dep_store.proofs.Audited.{audited_of, none_told}
+use Rattle.std.proofs.lemmas.Result.{IfOk-from_err}
+use Rattle.dep_store.proofs.Audited.{audited_of}
 use Rattle.dep_store.proofs.Carrying.{tables_kept}
 use Rattle.dep_streams.proofs.Stills.{still_left}
 use Rattle.dep_tables.specs.Tables.{Tables}
@@ -17,7 +18,7 @@ returns-in_err-files g c =
     let store = c.list_files.new.connection.store in
     let it = c.in_err-files.ensures.transacts in
     record {
-      ok = λ clean t at. none_told c.from_residual.result (λ audit. IsObjectAudited t c.args.object audit × Stands new t) c.from_residual.ensures.0;
+      ok = λ clean t at. IfOk-from_err c.from_residual.result (λ audit. IsObjectAudited t c.args.object audit × Stands new t) c.from_residual.ensures.0;
       still = still_tells _ _ _ _ it (clean_if_open (g.S.Store.view store) (g.met.S.Store.shut_if_dirty store));
       honest = it.honest;
       was_open = it.was_open;

@@ -6,19 +6,19 @@ use Rattle.dep_body.proofs.reader.ChunkReader.feed.Goals as goal
 
 pub returns-clause-fed : goal.returns-clause-fed
 returns-clause-fed c = λ fed h.
-    let old : ReaderValue = record { limit = c.self.inside.max_upload; content = c.self.inside.content.items; stage = c.self.inside.stage } in
-    let new : ReaderValue = record { limit = c.self.inside.max_upload; content = c.advance.new.content.items; stage = c.in-Ok.advanced.0 } in
+    let old : ReaderValue = record { limit = c.self.inside.max_upload; content = c.self.inside.content; stage = c.self.inside.stage } in
+    let new : ReaderValue = record { limit = c.self.inside.max_upload; content = c.advance.new.content; stage = c.in-Ok.advanced.0 } in
     let was = subst (λ (r : ReaderValue). HasFed r fed) (sym c.self.view_is) h in
     feeds_fed new fed c.args.piece.now c.in-Ok.advanced.1
     (feeds old new fed c.args.piece.now c.in-Ok.advanced.1 was c.in-Ok.ensures.stands c.in-Ok.ensures.within c.in-Ok.ensures.all c.in-Ok.ensures.settled)
 
 pub returns-clause-told : goal.returns-clause-told
 returns-clause-told c = λ fed h.
-    let old : ReaderValue = record { limit = c.self.inside.max_upload; content = c.self.inside.content.items; stage = c.self.inside.stage } in
-    let new : ReaderValue = record { limit = c.self.inside.max_upload; content = c.advance.new.content.items; stage = c.in-Ok.advanced.0 } in
+    let old : ReaderValue = record { limit = c.self.inside.max_upload; content = c.self.inside.content; stage = c.self.inside.stage } in
+    let new : ReaderValue = record { limit = c.self.inside.max_upload; content = c.advance.new.content; stage = c.in-Ok.advanced.0 } in
     let was = subst (λ (r : ReaderValue). HasFed r fed) (sym c.self.view_is) h in
     subst (TellsFed new fed c.args.piece.now) (sym c.answer.ensures)
-    (tells c.self.inside.max_upload c.advance.new.content.items fed c.args.piece.now c.in-Ok.advanced.0 c.in-Ok.advanced.1
+    (tells c.self.inside.max_upload c.advance.new.content fed c.args.piece.now c.in-Ok.advanced.0 c.in-Ok.advanced.1
     (feeds old new fed c.args.piece.now c.in-Ok.advanced.1 was c.in-Ok.ensures.stands c.in-Ok.ensures.within c.in-Ok.ensures.all c.in-Ok.ensures.settled))
 
 pub returns-clause-within : goal.returns-clause-within

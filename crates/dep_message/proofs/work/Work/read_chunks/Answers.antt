@@ -42,9 +42,9 @@ returns-in-Ok-Done c =
     let fed = c.in-Ok-Done.ensures in
     let content = c.feed.new.self.content in
     let told = rw c.in-Ok-Done.field-0-is at (fed.told reads.fed reads.has_fed) in
-    rw c.take_plain.ensures.whole
-    (subst (λ (l : List ℕ). Finds w.limit w.continued (r.used.items ++ w.buffer) c.take_plain.new.self (F.Message (record { head = r.head; content = l }))) (sym c.content.ensures)
-    (takes_chunks w.limit w.continued r piece w.buffer reads c.as_slice-bytes.ensures c.feed.new.self.limit content (fed.limit ∙ reads.limit_is) c.in-Ok-Done.used c.take_plain.new.self told c.take_plain.ensures.left))
+    rw c.take.ensures.whole
+    (subst (λ (l : List ℕ). Finds w.limit w.continued (r.used.items ++ w.buffer) c.take.new.self (F.Message (record { head = r.head; content = l }))) (sym c.content.ensures)
+    (takes_chunks w.limit w.continued r piece w.buffer reads c.as_slice-bytes.ensures c.feed.new.self.limit content (fed.limit ∙ reads.limit_is) c.in-Ok-Done.used c.take.new.self told c.take.ensures.left))
 
 pub returns-in-Ok-Bad : goal.returns-in-Ok-Bad
 returns-in-Ok-Bad c =

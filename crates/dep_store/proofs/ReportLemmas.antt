@@ -19,7 +19,7 @@ use Rattle.dep_schema.specs.States.{TablesStandFor, StandsFor, Leaves}
 use Rattle.dep_types.specs.Sinks.{IsFront}
 use Rattle.dep_store.specs.Auditing.{IsObjectAudited}
 use Rattle.dep_store.specs.Audits.{Audited, AreAudits, object_rows, damaged_line, damaged_lines, lines_of, count_line, audit_text, outcome_of_audit, IsWhole, IsBegun, Audits}
-use Rattle.dep_store.specs.Telling.{IsToldObject, IsPartOfObject, IsTold, IsToldTo, TellsObject, TellsObjects, outcome_of_fault}
+use Rattle.dep_store.specs.Reporting.{IsReportedObject, IsPartOfObject, IsReported, IsReportedTo, ReportsObject, ReportsObjects, outcome_of_fault}
 use Rattle.dep_store.specs.declared.audit_fault.AuditFault.{AuditFault}
 use Rattle.dep_streams.specs.declared.auditing.Audit.{Audit}
 use Rattle.dep_store.specs.declared.tally.Tally.{Tally}
@@ -51,7 +51,7 @@ audits_more t rows found r a h same audited = record {
 }
 
 -- nothing was told yet
-pub told_none : (t : Tables) (tally : Tally) → tally.checked ≡ 0 → tally.damaged ≡ 0 → IsToldTo t 0 [] tally
+pub told_none : (t : Tables) (tally : Tally) → tally.checked ≡ 0 → tally.damaged ≡ 0 → IsReportedTo t 0 [] tally
 told_none t tally checked damaged = record {
   rows = [];
   first = refl;
@@ -65,7 +65,7 @@ told_none t tally checked damaged = record {
 }
 
 module _ (t : Tables) (ordered : IsOrdered t.objects) (after n : ℕ) (written : List ℕ) (tally : Tally)
-    (told : IsToldTo t after written tally) (next : IsObjectAfter after t (Some n)) where
+    (told : IsReportedTo t after written tally) (next : IsObjectAfter after t (Some n)) where
   behind : List Row
   behind = filter (is_after after) t.objects
 
@@ -86,8 +86,8 @@ module _ (t : Tables) (ordered : IsOrdered t.objects) (after n : ℕ) (written :
   same_id a its = ap (λ m. Int (pos m)) its ∙ the_row.2
 
   -- the lines of the next object were written too
-  pub told_more : (more : List ℕ) (its sum : Tally) → IsToldObject t n more its → sum.checked ≡ tally.checked + its.checked
-      → sum.damaged ≡ tally.damaged + its.damaged → IsToldTo t n (written ++ more) sum
+  pub told_more : (more : List ℕ) (its sum : Tally) → IsReportedObject t n more its → sum.checked ≡ tally.checked + its.checked
+      → sum.damaged ≡ tally.damaged + its.damaged → IsReportedTo t n (written ++ more) sum
   told_more more its sum h checked damaged =
       let all = told.told in
       let a = h.told in record {
@@ -118,7 +118,7 @@ module _ (t : Tables) (ordered : IsOrdered t.objects) (after n : ℕ) (written :
       }
 
 -- it ended between two objects
-pub told_so_far : (t : Tables) (after : ℕ) (written : List ℕ) (tally : Tally) → IsToldTo t after written tally → IsBegun t written
+pub told_so_far : (t : Tables) (after : ℕ) (written : List ℕ) (tally : Tally) → IsReportedTo t after written tally → IsBegun t written
 told_so_far t after written tally h = record {
   rows = h.rows;
   others = filter (is_after after) t.objects;
@@ -129,17 +129,17 @@ told_so_far t after written tally h = record {
 }
 
 -- all objects were told
-pub told_all : (t : Tables) (after : ℕ) (written : List ℕ) (tally : Tally) → IsToldTo t after written tally → IsObjectAfter after t None
-    → IsTold t (object_rows t) written tally
+pub told_all : (t : Tables) (after : ℕ) (written : List ℕ) (tally : Tally) → IsReportedTo t after written tally → IsObjectAfter after t None
+    → IsReported t (object_rows t) written tally
 told_all t after written tally h none =
     let rows_are : object_rows t ≡ h.rows = h.first ∙ ap (λ l. h.rows ++ l) (no_row after t.objects (go (find (is_after after) t.objects) refl none)) ∙ append-nil h.rows in
-    subst (λ (rows : List Row). IsTold t rows written tally) (sym rows_are) h.told
+    subst (λ (rows : List Row). IsReported t rows written tally) (sym rows_are) h.told
   where
     go : (r : Option Row) → find (is_after after) t.objects ≡ r → option_map (λ m. Int (pos m)) None ≡ option_map rowid r → find (is_after after) t.objects ≡ None
     go None is e = is
     go (Some row) is e = cc
 
-module _ (t : Tables) (written : List ℕ) (tally : Tally) (h : IsTold t (object_rows t) written tally) where
+module _ (t : Tables) (written : List ℕ) (tally : Tally) (h : IsReported t (object_rows t) written tally) where
   text_is : written ++ count_line tally.checked tally.damaged ≡ audit_text h.found
   text_is = ap₂ (λ xs ys. xs ++ ys) h.lines (ap₂ count_line h.checked h.damaged)
 
@@ -158,7 +158,7 @@ module _ (t : Tables) (written : List ℕ) (tally : Tally) (h : IsTold t (object
 
 -- one object
 pub told_object : (t : Tables) (object : ℕ) (a : Audit) (files written : List ℕ) (tally : Tally) → IsObjectAudited t object a → files ≡ a.damaged.items
-    → written ≡ flat_map (damaged_line object) files → tally.checked ≡ a.checked → tally.damaged ≡ length a.damaged.items → IsToldObject t object written tally
+    → written ≡ flat_map (damaged_line object) files → tally.checked ≡ a.checked → tally.damaged ≡ length a.damaged.items → IsReportedObject t object written tally
 told_object t object a files written tally audited same is checked damaged = record {
   told = record { object = object; audit = a };
   its = refl;
@@ -169,7 +169,7 @@ told_object t object a files written tally audited same is checked damaged = rec
 
 pub object_fails : (t : Tables) (object : ℕ) (a : Audit) (files written : List ℕ) → IsObjectAudited t object a → files ≡ a.damaged.items
     → IsFront written (flat_map (damaged_line object) files) → (fault : AuditFault) (result : Result Tally AuditFault) → IsErrAnd result (λ x. x ≡ fault)
-    → TellsObject t object written result
+    → ReportsObject t object written result
 object_fails t object a files written audited same front fault (Ok x) err = absurd err
 object_fails t object a files written audited same front fault (Err e) err = inr (record {
   told = record { object = object; audit = a };
@@ -180,18 +180,18 @@ object_fails t object a files written audited same front fault (Err e) err = inr
 
 -- the lines of an object failed, or those of all so far but the sum
 module _ (t : Tables) (ordered : IsOrdered t.objects) (after n : ℕ) (written : List ℕ) (tally : Tally)
-    (told : IsToldTo t after written tally) (next : IsObjectAfter after t (Some n)) where
+    (told : IsReportedTo t after written tally) (next : IsObjectAfter after t (Some n)) where
   begun : (more : List ℕ) → ((more ≡ []) ⊎ IsPartOfObject t n more) → IsBegun t (written ++ more)
   begun more (inl none) = subst (IsBegun t) (sym (ap (λ l. written ++ l) none ∙ append-nil written)) (told_so_far t after written tally told)
   begun more (inr part) = told_part t ordered after n written tally told next more part
 
   pub objects_fail : (more : List ℕ) (fault : AuditFault) → ((more ≡ []) ⊎ IsPartOfObject t n more) → (result : Result Tally AuditFault)
-      → IsErrAnd result (λ x. x ≡ fault) → TellsObjects t (written ++ more) result
+      → IsErrAnd result (λ x. x ≡ fault) → ReportsObjects t (written ++ more) result
   objects_fail more fault part (Ok x) err = absurd err
   objects_fail more fault part (Err e) err = begun more part
 
-  pub sum_fails : (more : List ℕ) (its : Tally) → IsToldObject t n more its → (fault : AuditFault) (result : Result Tally AuditFault)
-      → IsErrAnd result (λ x. x ≡ fault) → TellsObjects t (written ++ more) result
+  pub sum_fails : (more : List ℕ) (its : Tally) → IsReportedObject t n more its → (fault : AuditFault) (result : Result Tally AuditFault)
+      → IsErrAnd result (λ x. x ≡ fault) → ReportsObjects t (written ++ more) result
   sum_fails more its h fault (Ok x) err = absurd err
   sum_fails more its h fault (Err e) err = begun more (inr (record {
     told = h.told;
@@ -210,7 +210,7 @@ fault_begun t written Store outcome is begun = subst (Audits t written) (sym is)
 fault_begun t written Writer outcome is begun = subst (Audits t written) (sym is) begun
 
 pub begun_fails : (t : Tables) (written : List ℕ) → IsBegun t written → (fault : AuditFault) (result : Result Tally AuditFault) → IsErrAnd result (λ x. x ≡ fault)
-    → TellsObjects t written result
+    → ReportsObjects t written result
 begun_fails t written begun fault (Ok x) err = absurd err
 begun_fails t written begun fault (Err e) err = begun
 

@@ -64,7 +64,7 @@ pub record IsTallyOf (a : Audited) (tally : Tally) : Type 0 where
   pub damaged : tally.damaged ≡ length a.audit.damaged.items
 
 -- the lines of an object were written
-pub record IsToldObject (t : Tables) (object : ℕ) (written : List ℕ) (tally : Tally) : Type 0 where
+pub record IsReportedObject (t : Tables) (object : ℕ) (written : List ℕ) (tally : Tally) : Type 0 where
   pub told : Audited
   pub its : told.object ≡ object
   pub audited : IsObjectAudited t told.object told.audit
@@ -78,23 +78,23 @@ pub record IsPartOfObject (t : Tables) (object : ℕ) (written : List ℕ) : Typ
   pub audited : IsObjectAudited t told.object told.audit
   pub front : IsFront written (damaged_lines told)
 
-abbrev pub TellsObject : Tables → (object : ℕ) → (written : List ℕ) → Result Tally AuditFault → Type 0
-TellsObject t object written (Ok tally) = IsToldObject t object written tally
-TellsObject t object written (Err fault) = (written ≡ []) ⊎ IsPartOfObject t object written
+abbrev pub ReportsObject : Tables → (object : ℕ) → (written : List ℕ) → Result Tally AuditFault → Type 0
+ReportsObject t object written (Ok tally) = IsReportedObject t object written tally
+ReportsObject t object written (Err fault) = (written ≡ []) ⊎ IsPartOfObject t object written
 
 -- the objects up to this number were audited, and their lines were written
-pub record IsTold (t : Tables) (rows : List Row) (written : List ℕ) (tally : Tally) : Type 0 where
+pub record IsReported (t : Tables) (rows : List Row) (written : List ℕ) (tally : Tally) : Type 0 where
   pub found : List Audited
   pub are : AreAudits t rows found
   pub lines : written ≡ lines_of found
   pub checked : tally.checked ≡ checked_in found
   pub damaged : tally.damaged ≡ damaged_in found
 
-pub record IsToldTo (t : Tables) (after : ℕ) (written : List ℕ) (tally : Tally) : Type 0 where
+pub record IsReportedTo (t : Tables) (after : ℕ) (written : List ℕ) (tally : Tally) : Type 0 where
   pub rows : List Row
   pub first : object_rows t ≡ rows ++ filter (is_after after) t.objects
-  pub told : IsTold t rows written tally
+  pub told : IsReported t rows written tally
 
-abbrev pub TellsObjects : Tables → (written : List ℕ) → Result Tally AuditFault → Type 0
-TellsObjects t written (Ok tally) = IsTold t (object_rows t) written tally
-TellsObjects t written (Err fault) = IsBegun t written
+abbrev pub ReportsObjects : Tables → (written : List ℕ) → Result Tally AuditFault → Type 0
+ReportsObjects t written (Ok tally) = IsReported t (object_rows t) written tally
+ReportsObjects t written (Err fault) = IsBegun t written

@@ -6,10 +6,10 @@ ghost use Rattle.dep_tables.specs.Tables.{Tables};
 ghost use Rattle.dep_schema.specs.Standing.{Stands};
 ghost use Rattle.dep_store.specs.Audits.{Audits};
 ghost use Rattle.dep_store.specs.Staying.{KeepsTables};
-ghost use Rattle.dep_store.specs.Telling.{TellsObject, TellsObjects, WritesOf, BlamesWriter, BlamesTransfer, outcome_of_fault};
+ghost use Rattle.dep_store.specs.Reporting.{ReportsObject, ReportsObjects, WritesOf, BlamesWriter, BlamesTransfer, outcome_of_fault};
 
 use crate::audit_fault::AuditFault;
-use crate::lines::{tell_count, tell_damaged};
+use crate::lines::{write_count, write_damaged};
 use crate::store::Store;
 use crate::tally::Tally;
 use dep_program::Outcome;
@@ -32,11 +32,11 @@ pub fn audit_all<S: Alter, W: Outlet, P: Watch>(
     ensures stays { KeepsTables (state S.Store store.old) (state S.Store store.new) }
     ensures blames { BlamesTransfer (W.failures out.old) (W.failures out.new) result }
 {
-    let tally = match tell_objects(alloc, store, out, watch) {
+    let tally = match report_objects(alloc, store, out, watch) {
         Ok(tally) => tally,
         Err(fault) => return outcome_of(fault),
     };
-    match tell_count(alloc, tally, out) {
+    match write_count(alloc, tally, out) {
         Ok(()) if tally.damaged == 0 => Outcome::Done,
         Ok(()) => Outcome::Damaged,
         Err(fault) => outcome_of(fault),
@@ -53,14 +53,14 @@ fn outcome_of(fault: AuditFault) -> Outcome
 }
 
 // Writes the lines of all objects.
-fn tell_objects<S: Alter, W: Outlet, P: Watch>(
+fn report_objects<S: Alter, W: Outlet, P: Watch>(
     alloc: Global,
     store: &mut Store<S>,
     out: &mut W,
     watch: &mut P,
 ) -> Result<Tally, AuditFault>
     ensures writes { WritesOf (state S.Store store.old) (state S.Store store.new)
-        (W.taken out.old) (W.taken out.new) (λ t written. TellsObjects t written result) }
+        (W.taken out.old) (W.taken out.new) (λ t written. ReportsObjects t written result) }
     ensures stays { KeepsTables (state S.Store store.old) (state S.Store store.new) }
     ensures blames { BlamesWriter (W.failures out.old) (W.failures out.new) result }
 {
@@ -73,7 +73,7 @@ fn tell_objects<S: Alter, W: Outlet, P: Watch>(
         let Some(object) = store.next_object(after)? else {
             return Ok(tally);
         };
-        let more = tell_object(alloc, store, object, out, watch)?;
+        let more = report_object(alloc, store, object, out, watch)?;
         tally = tally.plus(more)?;
         after = object;
     }
@@ -81,7 +81,7 @@ fn tell_objects<S: Alter, W: Outlet, P: Watch>(
 }
 
 // Writes the lines of an object.
-fn tell_object<S: Alter, W: Outlet, P: Watch>(
+fn report_object<S: Alter, W: Outlet, P: Watch>(
     alloc: Global,
     store: &mut Store<S>,
     object: u64,
@@ -89,14 +89,14 @@ fn tell_object<S: Alter, W: Outlet, P: Watch>(
     watch: &mut P,
 ) -> Result<Tally, AuditFault>
     ensures writes { WritesOf (state S.Store store.old) (state S.Store store.new)
-        (W.taken out.old) (W.taken out.new) (λ t written. TellsObject t object written result) }
+        (W.taken out.old) (W.taken out.new) (λ t written. ReportsObject t object written result) }
     ensures kept { HasCleanDisk (state S.Store store.new) → (t : Tables)
         → Stands (state S.Store store.old) t → OnOk result (Stands (state S.Store store.new) t) }
     ensures stays { KeepsTables (state S.Store store.old) (state S.Store store.new) }
     ensures blames { BlamesWriter (W.failures out.old) (W.failures out.new) result }
 {
     let audit = store.audit(object, watch)?;
-    tell_damaged(alloc, object, audit.damaged.as_slice(), out)?;
+    write_damaged(alloc, object, audit.damaged.as_slice(), out)?;
     Ok(Tally {
         checked: audit.checked,
         damaged: audit.damaged.len() as u64,

@@ -1,9 +1,9 @@
 use Rattle.std.proofs.Common.{◌++◌, [], refl, subst, ◌∙◌}
 use Rattle.std.proofs.KnownBytes.{Appends-nil, Appends-trans}
 use Rattle.dep_tables.specs.Edits.{IsObjectAfter}
-use Rattle.dep_store.proofs.TellLemmas.{objects_rise, told_none, told_so_far, told_more, told_all, objects_fail, sum_fails, begun_fails}
+use Rattle.dep_store.proofs.ReportLemmas.{objects_rise, told_none, told_so_far, told_more, told_all, objects_fail, sum_fails, begun_fails}
 use Rattle.dep_store.proofs.Tries.{tells_keeps, keeps_then, keeps_still}
-use Rattle.dep_store.proofs.telling.tell_objects.Goals as goal
+use Rattle.dep_store.proofs.reporting.report_objects.Goals as goal
 
 pub returns-in_default-clause-writes : goal.returns-in_default-clause-writes
 returns-in_default-clause-writes g c =
@@ -20,7 +20,7 @@ returns-in_err-more-clause-writes g c =
     let before = c.objects.invariant.writes in
     let more = c.in_err-more.ensures.writes in (
       before.0 ++ more.0,
-      Appends-trans (g.W.Outlet.taken c.args.out.now) (g.W.Outlet.taken c.objects.out) (g.W.Outlet.taken c.tell_object.new.out) before.0 more.0 before.1 more.1,
+      Appends-trans (g.W.Outlet.taken c.args.out.now) (g.W.Outlet.taken c.objects.out) (g.W.Outlet.taken c.report_object.new.out) before.0 more.0 before.1 more.1,
       λ clean t at. let mid = c.in_err-more.ensures.stays.honest clean in
           let earlier = c.in_ok-object.ensures.rows.honest mid in
           let stood = c.objects.invariant.kept earlier t at in
@@ -35,7 +35,7 @@ returns-in_err-tally-clause-writes g c =
     let before = c.objects.invariant.writes in
     let more = c.in_ok-more.ensures.writes in (
       before.0 ++ more.0,
-      Appends-trans (g.W.Outlet.taken c.args.out.now) (g.W.Outlet.taken c.objects.out) (g.W.Outlet.taken c.tell_object.new.out) before.0 more.0 before.1 more.1,
+      Appends-trans (g.W.Outlet.taken c.args.out.now) (g.W.Outlet.taken c.objects.out) (g.W.Outlet.taken c.report_object.new.out) before.0 more.0 before.1 more.1,
       λ clean t at. let mid = c.in_ok-more.ensures.stays.honest clean in
           let earlier = c.in_ok-object.ensures.rows.honest mid in
           let stood = c.objects.invariant.kept earlier t at in
@@ -55,7 +55,7 @@ objects-preserved g c =
           c.in_ok-more.ensures.kept clean t (c.in_ok-object.ensures.rows.ok mid t (inv.kept (c.in_ok-object.ensures.rows.honest mid) t at)).1;
       writes = (
         before.0 ++ more.0,
-        Appends-trans (g.W.Outlet.taken c.args.out.now) (g.W.Outlet.taken c.objects.out) (g.W.Outlet.taken c.tell_object.new.out) before.0 more.0 before.1 more.1,
+        Appends-trans (g.W.Outlet.taken c.args.out.now) (g.W.Outlet.taken c.objects.out) (g.W.Outlet.taken c.report_object.new.out) before.0 more.0 before.1 more.1,
         λ clean t at. let mid = c.in_ok-more.ensures.stays.honest clean in
             let earlier = c.in_ok-object.ensures.rows.honest mid in
             let stood = inv.kept earlier t at in

@@ -1,7 +1,7 @@
 use Rattle.std.proofs.Common.{◌≡◌, ℕ, List, flat_map, take}
 use Rattle.std.specs.Io.KnownBytes.{Appends}
 use Rattle.dep_store.specs.Audits.{damaged_line}
-use Rattle.dep_store.proofs.lines.tell_damaged.Given as goal
+use Rattle.dep_store.proofs.lines.write_damaged.Given as goal
 
 abbrev pub invariant-files : goal.invariant-files
 invariant-files g l = record {

@@ -1,8 +1,0 @@
-use Rattle.std.proofs.Common.{ℕ, List, subst, ◌∙◌}
-use Rattle.dep_store.specs.Telling.{IsWritten}
-use Rattle.dep_store.proofs.lines.tell_file.Goals as goal
-
-pub returns-clause-writes : goal.returns-clause-writes
-returns-clause-writes g c =
-    let wrote = c.tell.ensures.writes in
-    (wrote.0, wrote.1, subst (λ (l : List ℕ). IsWritten l wrote.0 c.tell.result) (c.as_str.ensures.value ∙ c.in_ok-line.ensures) wrote.2)
