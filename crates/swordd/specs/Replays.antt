@@ -1,8 +1,11 @@
 -- One connection, replayed over an archive that is empty at first.
 use Rattle.std.specs.Prelude.{◌≡◌, ◌⊎◌, ◌≤◌, ◌+◌, ℕ, Bool, List, All, Option}
+use Rattle.sqlite.specs.State as db
 use Rattle.dep_types.specs.State.{empty_state}
 use Rattle.dep_types.specs.Config.{IsChecked}
 use Rattle.dep_types.specs.declared.inlet.Inlet as inlet
+use Rattle.dep_types.specs.declared.outlet.Outlet as outlet
+use Rattle.dep_schema.specs.Standing.{HoldsNone}
 use Rattle.dep_hub.specs.Records.{World, first_world, Run}
 use Rattle.dep_hub.specs.Turns.{Turn, pieces_of, replies_of, records_of, ArePieces, with_opened, with_closed, Exchanges, EndsAs, most_reads, reads_made, reads_after, HasLastRead}
 use Rattle.dep_hub.specs.Conversation.{Wire, Transfers, Rests, wire}
@@ -13,11 +16,20 @@ use Rattle.dep_program.specs.Setup.{program_config}
 use Rattle.dep_program.specs.declared.gathered.Gathered.{Gathered}
 use Rattle.dep_program.specs.declared.outcome.Outcome.{Outcome}
 use Rattle.dep_program.specs.declared.outcome.Outcome.TheVariants.{Done, Usage, StoreFault, TransferFault}
+use Rattle.swordd.specs.declared.replay.Setting.{Setting}
 
 -- the connection of this inlet, to an outlet that took these bytes and failed so often
 abbrev pub wire_over : {R : Type 0} → (g : inlet.Ghosts R) → R → (taken : Option (List ℕ)) → (failures : ℕ)
     → Wire
 wire_over g reader taken failures = wire (g.unread reader) (g.reads reader) (g.last reader) taken failures
+
+-- the same to this outlet
+abbrev pub wire_of : {R W : Type 0} → (g : inlet.Ghosts R) → (h : outlet.Ghosts W) → R → W → Wire
+wire_of g h reader writer = wire_over g reader (h.taken writer) (h.failures writer)
+
+-- where a database had no table, and its disk has told no lie up to now
+abbrev pub FromNothing : (old new : db.State) → Type 0 → Type 0
+FromNothing old new P = HoldsNone old.now.trees → db.HasCleanDisk new → P
 
 -- the same, to an outlet that gathers what its writer has taken
 abbrev pub wire_gathered : {R W : Type 0} → (g : inlet.Ghosts R) → R
@@ -58,6 +70,10 @@ pub data Replays (base : List ℕ) (moment : ℕ) (before after : Wire) : Outcom
       → Replays base moment before after Usage
   -- memory ran out before the first read
   not_begun : Rests before after → Replays base moment before after StoreFault
+
+-- the same by its setting
+abbrev pub ReplaysIn : Setting → (before after : Wire) → Outcome → Type 0
+ReplaysIn setting before after outcome = Replays setting.base.now setting.moment before after outcome
 
 -- one was replayed, and then the outlet was asked whether it gave up
 abbrev pub ReplaysSent : (base : List ℕ) (moment : ℕ) (before after : Wire) (has_failed : Bool)

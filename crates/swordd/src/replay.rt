@@ -2,7 +2,6 @@
 ghost use Rattle.std.specs.Prelude.{◌≡◌, [], false, IfErr, IfOk};
 ghost use Rattle.std.specs.Io.KnownBytes.{Keeps};
 ghost use Rattle.sqlite.specs.Held.{state};
-ghost use Rattle.sqlite.specs.State.{HasCleanDisk};
 ghost use Rattle.dep_types.specs.State.{empty_state};
 ghost use Rattle.dep_schema.specs.Standing.{HoldsNone};
 ghost use Rattle.dep_archive.specs.Archive.{condition_of};
@@ -10,7 +9,7 @@ ghost use Rattle.dep_hub.specs.Flushing.{IsFlushed};
 ghost use Rattle.dep_hub.specs.Standing.{IsHonest, StandsAfter};
 ghost use Rattle.dep_program.specs.Gathering.{told, held_in, given};
 ghost use Rattle.dep_program.specs.Setup.{program_config};
-ghost use Rattle.swordd.specs.Replays.{IsNotBegun, Replays, ReplaysSent, wire_over, wire_gathered};
+ghost use Rattle.swordd.specs.Replays.{FromNothing, IsNotBegun, Replays, ReplaysIn, ReplaysSent, wire_gathered, wire_of};
 
 use dep_archive::{HashingStore, open_hub};
 use dep_hub::{Flush, Hub, serve_connection};
@@ -39,8 +38,8 @@ pub fn replay<R: Inlet, W: Flush>(
     writer: &mut W,
 ) -> Outcome
     ensures replays { Replays base.now moment
-        (wire_over R.Inlet reader.old (W.taken writer.old) (W.failures writer.old))
-        (wire_over R.Inlet reader.new (W.taken writer.new) (W.failures writer.new)) result }
+        (wire_of R.Inlet W.Outlet reader.old writer.old)
+        (wire_of R.Inlet W.Outlet reader.new writer.new) result }
     ensures flushed { IsFlushed (W.held writer.old) (W.has_failed writer.old)
         → IsFlushed (W.held writer.new) (W.has_failed writer.new) }
 {
@@ -85,11 +84,9 @@ fn replay_database<S: Alter, R: Inlet, W: Flush>(
     writer: &mut W,
 ) -> (Outcome, Connection<S>)
     requires settled { (state S.Store connection).in_transaction ≡ false }
-    ensures replays { HoldsNone (state S.Store connection).now.trees
-        → HasCleanDisk (state S.Store result.1)
-        → Replays setting.entry.base.now setting.entry.moment
-        (wire_over R.Inlet reader.old (W.taken writer.old) (W.failures writer.old))
-        (wire_over R.Inlet reader.new (W.taken writer.new) (W.failures writer.new)) result.0 }
+    ensures replays { FromNothing (state S.Store connection) (state S.Store result.1)
+        (ReplaysIn setting.entry (wire_of R.Inlet W.Outlet reader.old writer.old)
+        (wire_of R.Inlet W.Outlet reader.new writer.new) result.0) }
     ensures flushed { IsFlushed (W.held writer.old) (W.has_failed writer.old)
         → IsFlushed (W.held writer.new) (W.has_failed writer.new) }
 {
