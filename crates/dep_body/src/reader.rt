@@ -77,10 +77,17 @@ impl ChunkReader {
             }
         };
         self.stage = stage;
-        if self.is_hashed && !stage.is_settled() {
+        self.hash_early();
+        Ok(answer(stage, used))
+    }
+
+    // Hashes what has come, if more is to come.
+    fn hash_early(&mut self)
+        ensures { self.new ≡ self.old }
+    {
+        if self.is_hashed && !self.stage.is_settled() {
             self.content.hash_to(usize::MAX);
         }
-        Ok(answer(stage, used))
     }
 
     /// The bytes of the chunks so far, joined. It takes no memory.

@@ -1,4 +1,4 @@
-use Rattle.std.proofs.Common.{◌≤◌, length, subst, sym}
+use Rattle.std.proofs.Common.{◌≤◌, ◌++◌, length, subst, sym}
 use Rattle.dep_body.specs.ReaderValue.{ReaderValue}
 use Rattle.dep_body.specs.Feeding.{HasFed, TellsFed, used_by}
 use Rattle.dep_body.proofs.FeedLemmas.{feeds, feeds_fed, tells, used_within}
@@ -9,17 +9,19 @@ returns-clause-fed c = λ fed h.
     let old : ReaderValue = record { limit = c.self.inside.max_upload; content = c.self.inside.content; stage = c.self.inside.stage } in
     let new : ReaderValue = record { limit = c.self.inside.max_upload; content = c.advance.new.content; stage = c.in-Ok.advanced.0 } in
     let was = subst (λ (r : ReaderValue). HasFed r fed) (sym c.self.view_is) h in
-    feeds_fed new fed c.args.piece.now c.in-Ok.advanced.1
-    (feeds old new fed c.args.piece.now c.in-Ok.advanced.1 was c.in-Ok.ensures.stands c.in-Ok.ensures.within c.in-Ok.ensures.all c.in-Ok.ensures.settled)
+    subst (λ (r : ReaderValue). HasFed r (fed ++ c.args.piece.now)) (sym c.hash_early.ensures)
+    (feeds_fed new fed c.args.piece.now c.in-Ok.advanced.1
+    (feeds old new fed c.args.piece.now c.in-Ok.advanced.1 was c.in-Ok.ensures.stands c.in-Ok.ensures.within c.in-Ok.ensures.all c.in-Ok.ensures.settled))
 
 pub returns-clause-told : goal.returns-clause-told
 returns-clause-told c = λ fed h.
     let old : ReaderValue = record { limit = c.self.inside.max_upload; content = c.self.inside.content; stage = c.self.inside.stage } in
     let new : ReaderValue = record { limit = c.self.inside.max_upload; content = c.advance.new.content; stage = c.in-Ok.advanced.0 } in
     let was = subst (λ (r : ReaderValue). HasFed r fed) (sym c.self.view_is) h in
-    subst (TellsFed new fed c.args.piece.now) (sym c.answer.ensures)
+    subst (λ (r : ReaderValue). TellsFed r fed c.args.piece.now c.answer.result) (sym c.hash_early.ensures)
+    (subst (TellsFed new fed c.args.piece.now) (sym c.answer.ensures)
     (tells c.self.inside.max_upload c.advance.new.content fed c.args.piece.now c.in-Ok.advanced.0 c.in-Ok.advanced.1
-    (feeds old new fed c.args.piece.now c.in-Ok.advanced.1 was c.in-Ok.ensures.stands c.in-Ok.ensures.within c.in-Ok.ensures.all c.in-Ok.ensures.settled))
+    (feeds old new fed c.args.piece.now c.in-Ok.advanced.1 was c.in-Ok.ensures.stands c.in-Ok.ensures.within c.in-Ok.ensures.all c.in-Ok.ensures.settled)))
 
 pub returns-clause-within : goal.returns-clause-within
 returns-clause-within c =

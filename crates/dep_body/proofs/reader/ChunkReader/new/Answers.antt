@@ -1,4 +1,4 @@
-use Rattle.std.proofs.Common.{[], refl, arith, sym, subst, List, ℕ}
+use Rattle.std.proofs.Common.{◌∙◌, [], refl, arith, sym, subst, List, ℕ}
 use Rattle.dep_body.specs.Body.{HasChunks}
 use Rattle.dep_body.specs.Standing.{IsBegunLine}
 use Rattle.dep_body.proofs.BegunLines.{begun_none}
@@ -14,7 +14,7 @@ returns-clause-fed c =
       stands = record {
         rest = [];
         line = [];
-        chunks = subst (λ (s : List ℕ). HasChunks c.args.max_upload [] s []) (sym c.new.ensures.items) (chunks_none c.args.max_upload);
+        chunks = subst (λ (s : List ℕ). HasChunks c.args.max_upload [] s []) (sym (c.from_vec.ensures ∙ c.new.ensures.items)) (chunks_none c.args.max_upload);
         begun = subst (IsBegunLine [] []) (sym c.new-2.ensures.after_cr) begun_none;
         length_is = c.new-2.ensures.length;
         short = omega arith;
