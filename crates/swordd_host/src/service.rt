@@ -11,7 +11,7 @@ use crate::start::{microseconds_since, write_start};
 use dep_archive::open_hub;
 use dep_configuration::{Configuration, Limits};
 use dep_host::laws::hosts_make_a_run;
-use dep_host::{Ended, Events, Host, serve};
+use dep_host::{Ended, Events, Host, MOST_READ, ReadBuffer, serve};
 use dep_hub::laws::nothing_held;
 use dep_hub::{Archive, Hub};
 use dep_outbox::{Sink, Source, Spool};
@@ -23,9 +23,6 @@ use sqlite::{Alter, Connection};
 use std::net::SocketAddr;
 use std::process;
 use std::time::Instant;
-
-/// How many bytes are read at once.
-const MOST_READ: usize = 65_536;
 
 /// Where clients come from, and what bounds their connections.
 #[derive(Drop)]
@@ -133,7 +130,7 @@ fn serve_hub<
         Ok(host) => host,
         Err(hub) => return (Outcome::StoreFault, hub.into_store()),
     };
-    let Ok(mut room) = vec![in rt.alloc(); 0u8; MOST_READ] else {
+    let Ok(mut buffer) = ReadBuffer::new(rt.alloc(), MOST_READ) else {
         return (Outcome::StoreFault, host.into_hub().into_store());
     };
     if !door.open() {
@@ -143,7 +140,7 @@ fn serve_hub<
     // It stands behind the listening, so that who reads the line can connect.
     write_start(rt, place.address, place.limits, opened);
     let mut log = StandardErrorLog::new(rt);
-    let ended = serve(&mut host, door, room.as_mut_slice(), &mut log);
+    let ended = serve(&mut host, door, &mut buffer, &mut log);
     let outcome = outcome_at(ended, door.was_cut());
     (outcome, host.into_hub().into_store())
 }
