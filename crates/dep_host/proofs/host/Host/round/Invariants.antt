@@ -1,4 +1,4 @@
-use Rattle.std.proofs.Common.{◌≤◌, ◌<◌, ℕ, length}
+use Rattle.std.proofs.Common.{◌<◌, ℕ}
 use Rattle.dep_host.specs.Hosting.{HasTime, Stays, position, slot}
 use Rattle.dep_host.proofs.HostLemmas.{RoundSoFar}
 use Rattle.dep_host.proofs.host.Host.round.Given as goal
