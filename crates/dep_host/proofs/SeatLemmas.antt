@@ -62,6 +62,14 @@ client_of {R = R} {K = K} {S = S} before mid after w v c d p q = record {
   address = ap (λ (s : Seat R K S). s.address) q ∙ ap (λ (s : Seat R K S). s.address) p;
 }
 
+-- a piece was received from its source, and offered
+pub offered_to : {R K S : Type 0} (before after : Seat R K S) (got : R) (w : Wire K S) (c : Course) (n : ℕ) → after ≡ record before { source = got; wire = w; course = c; received = n }
+    → SameClient before after × (after.source ≡ got)
+offered_to {R = R} {K = K} {S = S} before after got w c n p = (
+  record { connection = ap (λ (s : Seat R K S). s.connection) p; address = ap (λ (s : Seat R K S). s.address) p },
+  ap (λ (s : Seat R K S). s.source) p,
+)
+
 -- who is read or answered has not ended
 not_yet : (before after p : Phase) → before ≡ p → is_ended p ≡ false → is_ended before ≡ true → is_ended after ≡ true
 not_yet before after p b going e = absurd (let bad : true ≡ false = sym e ∙ (ap is_ended b ∙ going) in cc)
