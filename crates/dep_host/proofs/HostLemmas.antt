@@ -1,10 +1,10 @@
 -- How a host goes on.
 use Rattle.std.proofs.Common.{◌≡◌, ◌⊎◌, ◌<◌, ◌≤◌, ◌+◌, ◌==◌, ℕ, zero, suc, Bool, true, false, if◌then◌else◌, List, [], ◌∷◌, ◌++◌, Option, None, Some, refl, sym, ap, subst, ◌∙◌, append_assoc, length, get_or, set, take, nat_lt, is_some, IsTrue, add-one, inl, inr, arith}
-use Rattle.std.proofs.lemmas.List.{append-nil, get_or_default, set-get_or, get_or_past}
+use Rattle.std.proofs.lemmas.List.{append-nil, get_or_default, get_or-set_same, set-get_or, get_or_past}
 use Rattle.std.proofs.Math.ListN.{length-set}
 use Rattle.std.proofs.lemmas.Bool.{ne_eqb, cases_eq, cases_lt, lt-ltb}
 use Rattle.std.proofs.KnownBytes.{Keeps-refl}
-use Rattle.std.specs.Prelude.{IfSome, IsSomeAnd, MatchOption}
+use Rattle.std.specs.Prelude.{IfSome, IsSomeAnd}
 use Rattle.std.specs.Io.KnownBytes.{Keeps}
 use Rattle.dep_types.specs.Conditions.{Condition}
 use Rattle.dep_hub.specs.Holding.{KeepsHolding}
@@ -21,8 +21,18 @@ use Rattle.dep_host.specs.declared.limits.Limits.{Limits}
 use Rattle.dep_host.specs.declared.log.Closing.{Closing}
 use Rattle.dep_host.specs.declared.log.Closing.TheVariants.{Large}
 use Rattle.dep_host.specs.declared.course.Phase.TheVariants.{Open}
-use Rattle.dep_host.specs.Seats.{SameClient, TakesTurn}
+use Rattle.dep_host.specs.Seats.{SameClient, ActsOnce, TakesTurn}
 use Rattle.dep_host.specs.Hosting.{Position, slot, HasTime, MayGo, Stays, Deed, Takes, Replies, Declines, Closes, answers_at, pieces_at, unfinished_of, unfinished_in, AreDoneAt, HasTurn, Goes, Asks, Refused, Step, refused, asks, rests, offers, refuses, answers, leaves, Steps, begins, goes_on, GoesOn, Serves, GoesRound, Sheds}
+
+-- what was set twice is as it was set last
+set_again : {X : Type 0} (l : List X) (at : ℕ) (x y : X) → set (set l at x) at y ≡ set l at y
+set_again [] at x y = refl
+set_again (z ∷ l) zero x y = refl
+set_again {X = X} (z ∷ l) (suc at) x y = ap (λ (k : List X). z ∷ k) (set_again l at x y)
+
+-- the places that there are stay
+pub there_still : {X : Type 0} (l : List X) (at : ℕ) (x : X) → at < length l → at < length (set l at x)
+there_still l at x there = omega (arith, there, length-set l at x)
 
 -- what was read at a place is what stands there
 pub slot_read : {X : Type 0} (at : ℕ) (seats : List (Option X)) (x : Option X) → at < length seats → x ≡ get_or seats at x → slot at seats ≡ x
@@ -73,11 +83,14 @@ left_sheds {R = R} {K = K} {S = S} old new second was limits before same stays p
   | inr e ↦ subst (λ (x : Option (Seat R K S)). HasTime second limits x) (sym e) tt
 ]
 
--- why who sits at a place is closed
-pub closing_there : {A R K S : Type 0} (p : Position A R K S) (at second : ℕ) (seat : Seat R K S) (found : Option Closing) → slot at p.seats ≡ Some seat → found ≡ why seat.course second p.limits
-    → MatchOption found (HasTime second p.limits (slot at p.seats)) (λ reason. MayGo p second reason (slot at p.seats))
-closing_there {R = R} {K = K} {S = S} p at second seat None sat e = subst (λ (o : Option (Seat R K S)). HasTime second p.limits o) (sym sat) (sym e)
-closing_there {R = R} {K = K} {S = S} p at second seat (Some reason) sat e = subst (λ (o : Option (Seat R K S)). MayGo p second reason o) (sym sat) (inl (sym e))
+-- who sits at a place is closed for a reason, or has time left
+pub closes_there : {A R K S : Type 0} (p : Position A R K S) (at second : ℕ) (seat : Seat R K S) (reason : Closing) → slot at p.seats ≡ Some seat → Some reason ≡ why seat.course second p.limits
+    → MayGo p second reason (slot at p.seats)
+closes_there {R = R} {K = K} {S = S} p at second seat reason sat e = subst (λ (o : Option (Seat R K S)). MayGo p second reason o) (sym sat) (inl (sym e))
+
+pub time_there : {R K S : Type 0} (seats : List (Option (Seat R K S))) (at second : ℕ) (limits : Limits) (seat : Seat R K S) → slot at seats ≡ Some seat → None ≡ why seat.course second limits
+    → HasTime second limits (slot at seats)
+time_there {R = R} {K = K} {S = S} seats at second limits seat sat e = subst (λ (o : Option (Seat R K S)). HasTime second limits o) (sym sat) (sym e)
 
 pub none_there : {R K S : Type 0} (seats : List (Option (Seat R K S))) (at second : ℕ) (limits : Limits) → slot at seats ≡ None → HasTime second limits (slot at seats)
 none_there {R = R} {K = K} {S = S} seats at second limits free = subst (λ (o : Option (Seat R K S)). HasTime second limits o) (sym free) tt
@@ -104,6 +117,11 @@ stays_on p q r s t = record {
   unanswered = t.unanswered ∙ s.unanswered;
 }
 
+-- one place changed, and then nothing of what stays
+pub stays_after : {A R K S : Type 0} (p q r : Host A R K S) (at : ℕ) (x : Option (Seat R K S)) → Stays q r → q.seats.items ≡ set p.seats.items at x → q.limits ≡ p.limits → q.shut_since ≡ p.shut_since
+    → q.unanswered ≡ p.unanswered → Stays p r
+stays_after p q r at x t seats limits shut unanswered = stays_on p q r (stays_set p q at x seats limits shut unanswered) t
+
 -- the store is shut where the hub tells that it is
 pub told_shut : (c : Condition) (is_open : Bool) → is_open ≡ false → TellsOpen c is_open → ¬ IsTrue c.is_open
 told_shut c is_open e told = subst (λ (b : Bool). TellsOpen c b) e told
@@ -120,16 +138,16 @@ none_more (s ∷ seats) h (suc at) = none_more seats (λ n. h (suc n)) at
 
 -- the largest may be closed
 pub too_large : {A R K S : Type 0} (p : Position A R K S) (at second : ℕ) (x : Option (Seat R K S)) → slot at p.seats ≡ x → IsSomeAnd x (λ seat. seat.course.phase ≡ Open)
-    → ((place : ℕ) → unfinished_of (slot place p.seats) ≤ unfinished_of (slot at p.seats)) → p.limits.unfinished_bytes < unfinished_in p.seats → MayGo p second Large x
+    → ((place : ℕ) → unfinished_of (slot place p.seats) ≤ unfinished_of (slot at p.seats)) → p.limits.unfinished_bytes < unfinished_in p.seats → MayGo p second Large (slot at p.seats)
 too_large p at second None e waits most full = absurd waits
-too_large {R = R} {K = K} {S = S} p at second (Some seat) e waits most full = inr (
+too_large {R = R} {K = K} {S = S} p at second (Some seat) e waits most full = subst (λ (o : Option (Seat R K S)). MayGo p second Large o) (sym e) (inr (
   refl,
   record {
     full = full;
     largest = λ place. subst (λ (o : Option (Seat R K S)). unfinished_of (slot place p.seats) ≤ unfinished_of o) e (most place);
     waits = waits;
   },
-)
+))
 
 -- how many bytes are kept for all at the places so far, and at one more
 kept_suc : {R K S : Type 0} (seats : List (Option (Seat R K S))) (at : ℕ) → at < length seats → unfinished_in (take (suc at) seats) ≡ unfinished_in (take at seats) + unfinished_of (slot at seats)
@@ -242,8 +260,8 @@ module _ {A R K S : Type 0} (condition : A → Condition) (unread : R → Option
       let no : ⊥ = omega (arith, kept, none, some) in no)
 
   -- a connection had its turn
-  pub took_turn : (p q : Position A R K S) (at : ℕ) (time : Time) (is_full : Bool) (before after : Seat R K S) → HasTurn condition unread taken held p q at before after
-      → TakesTurn condition unread taken held p.hub q.hub before after time.moment is_full (is_some p.shut) → Serves condition unread taken held p q at time is_full
+  took_turn : (p q : Position A R K S) (at : ℕ) (time : Time) (is_full : Bool) (before after : Seat R K S) → HasTurn condition unread taken held p q at before after
+      → ActsOnce condition unread taken held p.hub q.hub before after time.moment is_full (is_some p.shut) → Serves condition unread taken held p q at time is_full
   took_turn p q at time is_full before after t (inl r) = record {
     deeds = [];
     steps = goes_on begins (rests t r);
@@ -281,18 +299,38 @@ module _ {A R K S : Type 0} (condition : A → Condition) (unread : R → Option
     in_time = (refl, tt);
   }
 
-  -- its turn had begun before
-  pub after_begin : (p q r : Position A R K S) (at : ℕ) (time : Time) (is_full : Bool) → Steps condition unread taken held p [] q → unfinished_of (slot at q.seats) ≡ unfinished_of (slot at p.seats)
-      → Serves condition unread taken held q r at time is_full → Serves condition unread taken held p r at time is_full
-  after_begin p q r at time is_full b count s = record {
-    deeds = s.deeds;
-    steps = steps_join b s.steps;
-    once = s.once;
-    others = s.others;
-    waits = λ full some. s.waits full (omega (arith, count, some));
-    unread_others = s.unread_others;
-    in_time = s.in_time;
-  }
+  -- a connection had its turn, once that had begun
+  pub served : (p q : Position A R K S) (at : ℕ) (time : Time) (is_full is_shut : Bool) (before mid after : Seat R K S) → at < length p.seats → slot at p.seats ≡ Some before
+      → q.seats ≡ set p.seats at (Some after) → q.limits ≡ p.limits → q.shut ≡ p.shut → mid ≡ record before { course = mid.course }
+      → (mid.course.phase ≡ Open → before.course.phase ≡ Open) → (is_ended before.course.phase ≡ true → is_ended mid.course.phase ≡ true)
+      → mid.course.unfinished ≡ before.course.unfinished → is_shut ≡ is_some p.shut
+      → TakesTurn condition unread taken held p.hub q.hub mid after time.moment is_full is_shut → Serves condition unread taken held p q at time is_full
+  served p q at time is_full is_shut before mid after there sat sits limits shut same opens ended count told t =
+      let m : Position A R K S = record p { seats = set p.seats at (Some mid) } in
+      let begun : slot at m.seats ≡ Some mid = get_or-set_same p.seats at (Some mid) None there in
+      let unfinished : unfinished_of (slot at m.seats) ≡ unfinished_of (slot at p.seats) =
+      ap (λ (o : Option (Seat R K S)). unfinished_of o) begun ∙ (count ∙ sym (ap (λ (o : Option (Seat R K S)). unfinished_of o) sat)) in
+      let s = took_turn m q at time is_full mid after (record {
+        there = omega (arith, there, length-set p.seats at (Some mid));
+        sat = begun;
+        sits = sits ∙ sym (set_again p.seats at (Some mid) (Some after));
+        client = t.client;
+        hub = t.hub;
+        ended = t.ended;
+        same_limits = limits;
+        same_shut = shut;
+      }) (subst (λ (b : Bool). ActsOnce condition unread taken held p.hub q.hub mid after time.moment is_full b) told t.acts) in
+      record {
+        deeds = s.deeds;
+        steps = steps_join (woken p m at before mid there sat refl refl refl refl
+            (record { connection = ap (λ (x : Seat R K S). x.connection) same; address = ap (λ (x : Seat R K S). x.address) same })
+            (ap (λ (x : Seat R K S). x.source) same) (ap (λ (x : Seat R K S). x.wire) same) opens ended count) s.steps;
+        once = s.once;
+        others = s.others;
+        waits = λ full some. s.waits full (omega (arith, unfinished, some));
+        unread_others = s.unread_others;
+        in_time = s.in_time;
+      }
 
   -- and was closed after it
   pub then_closed : (p q r : Position A R K S) (at : ℕ) (time : Time) (is_full : Bool) (seat : Seat R K S) → Serves condition unread taken held p q at time is_full → Goes condition unread taken held q r at time.second seat
@@ -317,10 +355,10 @@ module _ {A R K S : Type 0} (condition : A → Condition) (unread : R → Option
   pub closing_none : (p q : Position A R K S) (at second : ℕ) (x : Option (Seat R K S)) → x ≡ None → IfSome x (Goes condition unread taken held p q at second)
   closing_none p q at second x e = subst (λ (o : Option (Seat R K S)). IfSome o (Goes condition unread taken held p q at second)) (sym e) tt
 
-  pub closes_served : (p q r : Position A R K S) (at : ℕ) (time : Time) (is_full : Bool) (reason : Closing) (x : Option (Seat R K S)) → Serves condition unread taken held p q at time is_full → MayGo q time.second reason x
-      → IfSome x (Goes condition unread taken held q r at time.second) → Serves condition unread taken held p r at time is_full
-  closes_served p q r at time is_full reason None s d g = absurd d
-  closes_served p q r at time is_full reason (Some seat) s d g = then_closed p q r at time is_full seat s g
+  pub closes_served : (p q r : Position A R K S) (at : ℕ) (time : Time) (is_full : Bool) (reason : Closing) (x : Option (Seat R K S)) → IfSome x (Goes condition unread taken held q r at time.second) → MayGo q time.second reason x
+      → Serves condition unread taken held p q at time is_full → Serves condition unread taken held p r at time is_full
+  closes_served p q r at time is_full reason None g d s = absurd d
+  closes_served p q r at time is_full reason (Some seat) g d s = then_closed p q r at time is_full seat s g
 
   -- the places so far had their turns
   pub record RoundSoFar (p q : Position A R K S) (at : ℕ) (time : Time) (is_full : Bool) : Type 0 where
@@ -397,7 +435,7 @@ module _ {A R K S : Type 0} (condition : A → Condition) (unread : R → Option
       }
 
   -- the largest was closed
-  pub shed_one : (p q : Position A R K S) (at second : ℕ) (x : Option (Seat R K S)) → IsSomeAnd x (λ seat. seat.course.phase ≡ Open) → IfSome x (Goes condition unread taken held p q at second)
-      → Sheds condition unread taken held p q second
-  shed_one p q at second None waits g = absurd waits
-  shed_one p q at second (Some seat) waits g = inr (at, seat, g)
+  pub shed_one : (p q : Position A R K S) (at second : ℕ) (x : Option (Seat R K S)) → slot at p.seats ≡ x → IsSomeAnd x (λ seat. seat.course.phase ≡ Open)
+      → IfSome (slot at p.seats) (Goes condition unread taken held p q at second) → Sheds condition unread taken held p q second
+  shed_one p q at second None e waits g = absurd waits
+  shed_one p q at second (Some seat) e waits g = inr (at, seat, subst (λ (o : Option (Seat R K S)). IfSome o (Goes condition unread taken held p q at second)) e g)

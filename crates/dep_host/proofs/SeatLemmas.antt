@@ -2,7 +2,7 @@
 use Rattle.std.proofs.Common.{◌≡◌, ◌⊎◌, inl, inr, ◌<◌, ◌≤◌, ◌+◌, ◌-◌, ◌^◌, ◌||◌, min, nat_lt, ℕ, Bool, List, ◌++◌, Option, None, Some, length, take, false, true, refl, sym, subst, ap, ◌∙◌, arith}
 use Rattle.std.proofs.lemmas.List.{length-take}
 use Rattle.std.proofs.lemmas.Bool.{lt-ltb}
-use Rattle.std.proofs.Math.Bool.{or-true}
+use Rattle.std.proofs.Math.Bool.{or-true, true-or}
 use Rattle.std.specs.Io.KnownBytes.{Keeps, Appends, Consumes, IsAtEnd}
 use Rattle.dep_types.specs.Conditions.{Condition}
 use Rattle.dep_hub.specs.Holding.{AnswersOver, ComesToNext, OffersTo, Outcome, IsNext, IsRefused, arrived_by}
@@ -15,10 +15,11 @@ use Rattle.dep_hub.specs.declared.next.Next.TheVariants.{More, Waiting, Closed, 
 use Rattle.dep_outbox.specs.declared.wire.Wire.{Wire}
 use Rattle.dep_outbox.specs.Wires.{told, owed}
 use Rattle.dep_host.specs.declared.seat.Seat.{Seat}
+use Rattle.dep_host.specs.declared.course.Course.{Course}
 use Rattle.dep_host.specs.declared.course.Phase.{Phase}
 use Rattle.dep_host.specs.declared.course.Phase.TheVariants.{Open, Answering, Last, Over}
 use Rattle.dep_host.specs.Courses.{is_ended}
-use Rattle.dep_host.specs.Seats.{Rests, Answers, IsRead, TakesTurn, phase_offered, phase_answered, left_unfinished}
+use Rattle.dep_host.specs.Seats.{HubStays, SameClient, Rests, Answers, IsRead, ActsOnce, TakesTurn, phase_offered, phase_answered, left_unfinished}
 
 appends_kept : (a b c : Option (List ℕ)) (bytes : List ℕ) → Appends a b bytes → Keeps b c → Appends a c bytes
 appends_kept None b c bytes p q = tt
@@ -50,6 +51,28 @@ not_open after o h = absurd (let e : Over ≡ Open = sym o ∙ h in cc)
 
 not_ended : (after : Phase) → after ≡ Over → is_ended after ≡ false → ⊥
 not_ended after o h = absurd (let e : true ≡ false = sym (ap is_ended o) ∙ h in cc)
+
+-- its wire and its course changed, and changed again
+pub source_of : {R K S : Type 0} (before after : Seat R K S) (w : Wire K S) (c : Course) → after ≡ record before { wire = w; course = c } → after.source ≡ before.source
+source_of {R = R} {K = K} {S = S} before after w c p = ap (λ (s : Seat R K S). s.source) p
+
+pub client_of : {R K S : Type 0} (before mid after : Seat R K S) (w v : Wire K S) (c d : Course) → mid ≡ record before { wire = w; course = c } → after ≡ record mid { wire = v; course = d } → SameClient before after
+client_of {R = R} {K = K} {S = S} before mid after w v c d p q = record {
+  connection = ap (λ (s : Seat R K S). s.connection) q ∙ ap (λ (s : Seat R K S). s.connection) p;
+  address = ap (λ (s : Seat R K S). s.address) q ∙ ap (λ (s : Seat R K S). s.address) p;
+}
+
+-- a piece was received from its source, and offered
+pub offered_to : {R K S : Type 0} (before after : Seat R K S) (got : R) (w : Wire K S) (c : Course) (n : ℕ) → after ≡ record before { source = got; wire = w; course = c; received = n }
+    → SameClient before after × (after.source ≡ got)
+offered_to {R = R} {K = K} {S = S} before after got w c n p = (
+  record { connection = ap (λ (s : Seat R K S). s.connection) p; address = ap (λ (s : Seat R K S). s.address) p },
+  ap (λ (s : Seat R K S). s.source) p,
+)
+
+-- who is read or answered has not ended
+not_yet : (before after p : Phase) → before ≡ p → is_ended p ≡ false → is_ended before ≡ true → is_ended after ≡ true
+not_yet before after p b going e = absurd (let bad : true ≡ false = sym e ∙ (ap is_ended b ∙ going) in cc)
 
 module _ {A R K S : Type 0} (condition : A → Condition) (unread : R → Option (List ℕ)) (taken : K → Option (List ℕ)) (held : S → Option (List ℕ)) where
   -- what was taken for an item stays taken
@@ -136,7 +159,7 @@ module _ {A R K S : Type 0} (condition : A → Condition) (unread : R → Option
   -- a piece that was read was offered
   offered : (old new : Hub A) (before after : Seat R K S) (piece : List ℕ) (answer : Arrived) (is_full is_shut : Bool) → IsRead condition unread taken held before after piece is_full is_shut → new.store ≡ old.store
       → OffersTo condition (told taken held before.wire) (told taken held after.wire) before.wire.failures after.wire.failures old new before.connection piece answer
-      → after.course.phase ≡ phase_offered answer → (moment : ℕ) → TakesTurn condition unread taken held old new before after moment is_full is_shut
+      → after.course.phase ≡ phase_offered answer → (moment : ℕ) → ActsOnce condition unread taken held old new before after moment is_full is_shut
   offered old new before after piece came.Open is_full is_shut read store o p moment = inr (inl (record {
     piece = piece;
     read = read;
@@ -168,7 +191,7 @@ module _ {A R K S : Type 0} (condition : A → Condition) (unread : R → Option
   })
 
   -- a front of the room was received, and offered
-  pub received : (old new : Hub A) (before after : Seat R K S) (got : R) (room : List ℕ) (n : ℕ) (answer : Arrived) (is_full is_shut : Bool) → IsAtEnd (owed held before.wire) → before.course.phase ≡ Open
+  pub received : (old new : Hub A) (before after : Seat R K S) (got : R) (room : List ℕ) (n : ℕ) (answer : Arrived) (is_full is_shut : Bool) → SameClient before after → HubStays condition old new → IsAtEnd (owed held before.wire) → before.course.phase ≡ Open
       → 0 < n → n ≤ length room → length room ≤ most_read → Consumes (unread before.source) (unread got) (take n room) → after.source ≡ got → new.store ≡ old.store
       → OffersTo condition (told taken held before.wire) (told taken held after.wire) before.wire.failures after.wire.failures old new before.connection (take n room) answer
       → after.course.phase ≡ phase_offered answer → (is_full ≡ true → before.course.unfinished ≡ 0) → is_shut ≡ false
@@ -176,33 +199,38 @@ module _ {A R K S : Type 0} (condition : A → Condition) (unread : R → Option
       → after.course.moved ≡ min (before.course.moved + length (take n room)) (2 ^ 64 - 1)
       → after.course.unfinished ≡ min (before.course.unfinished + length (take n room)) (2 ^ 64 - 1)
       → (moment : ℕ) → TakesTurn condition unread taken held old new before after moment is_full is_shut
-  received old new before after got room n answer is_full is_shut none was some within small gives same store o p allowed is_open stirs moved counts moment =
+  received old new before after got room n answer is_full is_shut client hub none was some within small gives same store o p allowed is_open stirs moved counts moment =
       let long : 0 < length (take n room) = let e = length-take n room in omega (arith, e, some, within) in
-      offered old new before after (take n room) answer is_full is_shut (record {
-        unowed = none;
-        waits = was;
-        some = long;
-        small = let e = length-take n room in omega (arith, e, within, small);
-        gives = subst (λ (s : R). Consumes (unread before.source) (unread s) (take n room)) (sym same) gives;
-        allowed = allowed;
-        is_open = is_open;
-        stirs = stirs ∙ (ap (λ (b : Bool). before.course.has_moved || b) (lt-ltb 0 (length (take n room)) long) ∙ or-true before.course.has_moved);
-        moves = omega (arith, moved);
-        counts = counts;
-      }) store o p moment
+      record {
+        client = client;
+        hub = hub;
+        ended = not_yet before.course.phase after.course.phase Open was refl;
+        acts = offered old new before after (take n room) answer is_full is_shut (record {
+          unowed = none;
+          waits = was;
+          some = long;
+          small = let e = length-take n room in omega (arith, e, within, small);
+          gives = subst (λ (s : R). Consumes (unread before.source) (unread s) (take n room)) (sym same) gives;
+          allowed = allowed;
+          is_open = is_open;
+          stirs = stirs ∙ (ap (λ (b : Bool). before.course.has_moved || b) (lt-ltb 0 (length (take n room)) long) ∙ or-true before.course.has_moved);
+          moves = omega (arith, moved);
+          counts = counts;
+        }) store o p moment;
+      }
 
   -- what was sent in a turn was counted behind it
-  pub counted : (old new : Hub A) (before mid after : Seat R K S) (moment : ℕ) (is_full is_shut : Bool) → TakesTurn condition unread taken held old new before mid moment is_full is_shut
+  acts_counted : (old new : Hub A) (before mid after : Seat R K S) (moment : ℕ) (is_full is_shut : Bool) → ActsOnce condition unread taken held old new before mid moment is_full is_shut
       → after.wire ≡ mid.wire → after.source ≡ mid.source → after.course.phase ≡ mid.course.phase → (mid.course.has_moved ≡ true → after.course.has_moved ≡ true)
-      → min mid.course.moved (2 ^ 64 - 1) ≤ after.course.moved → after.course.unfinished ≡ mid.course.unfinished → TakesTurn condition unread taken held old new before after moment is_full is_shut
-  counted old new before mid after moment is_full is_shut (inl r) wire source phase stirs moves count = inl (record {
+      → min mid.course.moved (2 ^ 64 - 1) ≤ after.course.moved → after.course.unfinished ≡ mid.course.unfinished → ActsOnce condition unread taken held old new before after moment is_full is_shut
+  acts_counted old new before mid after moment is_full is_shut (inl r) wire source phase stirs moves count = inl (record {
     same = r.same;
     keeps = subst (λ (w : Wire K S). Keeps (told taken held before.wire) (told taken held w)) (sym wire) r.keeps;
     gives = λ h. subst (λ (x : R). Keeps (unread before.source) (unread x)) (sym source) (r.gives (sym (ap is_ended phase) ∙ h));
     opens = λ h. r.opens (sym phase ∙ h);
     keeps_count = λ h. count ∙ r.keeps_count (sym (ap is_ended phase) ∙ h);
   })
-  counted old new before mid after moment is_full is_shut (inr (inl o)) wire source phase stirs moves count = inr (inl (record {
+  acts_counted old new before mid after moment is_full is_shut (inr (inl o)) wire source phase stirs moves count = inr (inl (record {
     piece = o.piece;
     read = read_counted before mid after o.piece is_full is_shut o.read source stirs moves count;
     answers_next = phase ∙ o.answers_next;
@@ -210,7 +238,7 @@ module _ {A R K S : Type 0} (condition : A → Condition) (unread : R → Option
     same_store = o.same_store;
     holds = o.holds;
   }))
-  counted old new before mid after moment is_full is_shut (inr (inr (inl r))) wire source phase stirs moves count = inr (inr (inl (record {
+  acts_counted old new before mid after moment is_full is_shut (inr (inr (inl r))) wire source phase stirs moves count = inr (inr (inl (record {
     piece = r.piece;
     read = read_counted before mid after r.piece is_full is_shut r.read source stirs moves count;
     ends = ap is_ended phase ∙ r.ends;
@@ -218,7 +246,7 @@ module _ {A R K S : Type 0} (condition : A → Condition) (unread : R → Option
     answers = subst (λ (w : Wire K S). AnswersOver condition (told taken held before.wire) (told taken held w) before.wire.failures w.failures old new before.connection
         (λ kept. kept ++ r.piece) moment r.answer (IsRefused r.answer)) (sym wire) r.answers;
   })))
-  counted old new before mid after moment is_full is_shut (inr (inr (inr a))) wire source phase stirs moves count = inr (inr (inr (record {
+  acts_counted old new before mid after moment is_full is_shut (inr (inr (inr a))) wire source phase stirs moves count = inr (inr (inr (record {
     unowed = a.unowed;
     was_read = a.was_read;
     same_source = source ∙ a.same_source;
@@ -229,3 +257,26 @@ module _ {A R K S : Type 0} (condition : A → Condition) (unread : R → Option
     stirs = stirs a.stirs;
     leaves = count ∙ a.leaves;
   })))
+
+  pub counted : (old new : Hub A) (before mid : Seat R K S) (course : Course) (bytes moment : ℕ) (is_full is_shut : Bool) → TakesTurn condition unread taken held old new before mid moment is_full is_shut
+      → course ≡ record mid.course { has_moved = mid.course.has_moved || nat_lt 0 bytes; moved = min (mid.course.moved + bytes) (2 ^ 64 - 1) }
+      → TakesTurn condition unread taken held old new before (record mid { course = course }) moment is_full is_shut
+  counted old new before mid course bytes moment is_full is_shut t e =
+      let phase : course.phase ≡ mid.course.phase = ap (λ (c : Course). c.phase) e in
+      record {
+        client = record { connection = t.client.connection; address = t.client.address };
+        hub = t.hub;
+        ended = λ h. ap is_ended phase ∙ t.ended h;
+        acts = acts_counted old new before mid (record mid { course = course }) moment is_full is_shut t.acts refl refl phase
+            (λ h. ap (λ (c : Course). c.has_moved) e ∙ (ap (λ (b : Bool). b || nat_lt 0 bytes) h ∙ true-or (nat_lt 0 bytes)))
+            (omega (arith, ap (λ (c : Course). c.moved) e)) (ap (λ (c : Course). c.unfinished) e);
+      }
+
+  -- an item was answered, whatever else may be
+  pub answers_turn : (old new : Hub A) (before after : Seat R K S) (moment : ℕ) → SameClient before after → HubStays condition old new → before.course.phase ≡ Answering
+      → Rests condition unread taken held old new before after ⊎ Answers condition unread taken held old new before after moment
+      → (is_full is_shut : Bool) → TakesTurn condition unread taken held old new before after moment is_full is_shut
+  answers_turn old new before after moment client hub was (inl r) is_full is_shut =
+      record { client = client; hub = hub; ended = not_yet before.course.phase after.course.phase Answering was refl; acts = inl r }
+  answers_turn old new before after moment client hub was (inr a) is_full is_shut =
+      record { client = client; hub = hub; ended = not_yet before.course.phase after.course.phase Answering was refl; acts = inr (inr (inr a)) }

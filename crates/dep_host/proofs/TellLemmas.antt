@@ -1,11 +1,11 @@
 -- What the wires of a host take is what is sent for their connections.
-use Rattle.std.proofs.Common.{◌≡◌, ◌⊎◌, inl, inr, ◌<◌, ◌≤◌, ◌==◌, ℕ, Bool, if◌then◌else◌, List, [], ◌∷◌, ◌++◌, Option, None, Some, refl, sym, ap, subst, ◌∙◌, append_assoc, length, set, drop, arith}
+use Rattle.std.proofs.Common.{◌≡◌, ◌⊎◌, inl, inr, ◌<◌, ◌≤◌, ◌==◌, ℕ, Bool, if◌then◌else◌, List, [], ◌∷◌, ◌++◌, Option, None, Some, refl, sym, ap, subst, ◌∙◌, append_assoc, length, set, arith}
 use Rattle.std.proofs.lemmas.List.{append-nil, get_or-set_same, get_or-set_other}
 use Rattle.std.proofs.lemmas.Bool.{cases_eq, eq-eqb, ne_eqb}
 use Rattle.std.specs.Io.KnownBytes.{Appends, Keeps, IsAtEnd, prepend_known}
 use Rattle.dep_types.specs.Conditions.{Condition}
 use Rattle.dep_host.specs.declared.seat.Seat.{Seat}
-use Rattle.dep_outbox.specs.Wires.{joined, told}
+use Rattle.dep_outbox.specs.Wires.{front_of, joined, told}
 use Rattle.dep_host.specs.Runs.{StaysOpen}
 use Rattle.dep_host.specs.Hosting.{Position, slot, Deed, Opens, Takes, Replies, Declines, Closes, sent_by, replies_to, Tells, Step, refused, asks, comes, rests, offers, refuses, answers, leaves, HasTurn, Steps, begins, goes_on}
 
@@ -67,7 +67,7 @@ module _ {A R K S : Type 0} (condition : A → Condition) (unread : R → Option
   AllTell = ((sink : K) → Tells (taken sink)) × ((spool : S) → Tells (held spool))
 
   tells_of : AllTell → (seat : Seat R K S) → Tells (told taken held seat.wire)
-  tells_of all seat = tells_joined (taken seat.wire.sink) (held seat.wire.spool) (drop seat.wire.sent seat.wire.front.items) (all.0 seat.wire.sink) (all.1 seat.wire.spool)
+  tells_of all seat = tells_joined (taken seat.wire.sink) (held seat.wire.backlog.spool) (front_of seat.wire.backlog) (all.0 seat.wire.sink) (all.1 seat.wire.backlog.spool)
 
   pub record Tidy (q : Position A R K S) (rs : List Deed) : Type 0 where
     pub telling : AllTell → (at : ℕ) (seat : Seat R K S) → slot at q.seats ≡ Some seat → told taken held seat.wire ≡ Some (replies_to seat.connection rs)

@@ -25,9 +25,14 @@ seconds_of (Client client) = []
 seconds_of (Round time) = time.second ∷ []
 seconds_of End = []
 
--- the seconds of the rounds among events
-abbrev pub seconds_in : {R K S : Type 0} → List (Event R K S) → List ℕ
-seconds_in events = flat_map (λ e. seconds_of e) events
+-- what came when it was asked what comes, and the place that was offered then
+pub record Call (R K S : Type 0) : Type 0 where
+  pub offer : Option ℕ
+  pub event : Event R K S
+
+-- the seconds of the rounds among what came
+abbrev pub seconds_in : {R K S : Type 0} → List (Call R K S) → List ℕ
+seconds_in calls = flat_map (λ c. seconds_of c.event) calls
 
 -- a number for those addresses that one client may have: an IPv4 address, or all IPv6 addresses of
 -- the same first 64 bits

@@ -1,5 +1,5 @@
 -- What a connection does next, and when it is closed.
-use Rattle.std.specs.Prelude.{ℕ, ◌-◌, Bool, true, false, not, ◌&&◌, ◌||◌, nat_lt, if◌then◌else◌, Option, None, Some}
+use Rattle.std.specs.Prelude.{◌≡◌, ◌⊎◌, ℕ, ◌-◌, Bool, true, false, not, ◌&&◌, ◌||◌, nat_lt, if◌then◌else◌, Option, None, Some}
 use Rattle.dep_host.specs.declared.course.Course.{Course}
 use Rattle.dep_host.specs.declared.course.Phase.{Phase}
 use Rattle.dep_host.specs.declared.course.Phase.TheVariants.{Open, Answering, Last, Draining, Over}
@@ -70,3 +70,10 @@ is_ended Answering = false
 is_ended Last = true
 is_ended Draining = true
 is_ended Over = true
+
+-- it goes on as it was, or is over, and nothing counts as moved
+pub record StaysOrEnds (before after : Course) : Type 0 where
+  pub phase : (after.phase ≡ before.phase) ⊎ (after.phase ≡ Over)
+  pub stirs : after.has_moved ≡ before.has_moved
+  pub moved : after.moved ≡ before.moved
+  pub unfinished : after.unfinished ≡ before.unfinished

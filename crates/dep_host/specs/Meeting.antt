@@ -19,7 +19,7 @@ use Rattle.dep_host.specs.declared.events.Event.{Event}
 use Rattle.dep_host.specs.declared.events.Event.TheVariants as came
 use Rattle.dep_host.specs.declared.serving.Ended.{Ended}
 use Rattle.dep_host.specs.declared.serving.Ended.TheVariants as ended
-use Rattle.dep_host.specs.Coming.{origin, seated_from, seconds_in}
+use Rattle.dep_host.specs.Coming.{Call, origin, seated_from, seconds_in}
 use Rattle.dep_host.specs.Courses.{is_overdue}
 use Rattle.dep_host.specs.Seats.{woken_seat}
 use Rattle.dep_host.specs.Hosting.{Comes, GoesRound, HasTime, IsEmpty, IsVacant, Refused, Stays, Steps, position, slot}
@@ -46,11 +46,12 @@ MayEnd host rounds = IsSome host.shut_since × (IsEmpty (position host)
     ⊎ ((second : ℕ) × Contains rounds second
     × (is_overdue host.shut_since second host.limits ≡ true)))
 
--- what came, of which these were met: an end is the last
-abbrev pub all_given : {R K S : Type 0} → Ended → List (Event R K S) → List (Event R K S)
-all_given ended.Events events = events ++ came.End ∷ []
-all_given ended.Shut events = events
-all_given ended.Spent events = events
+-- what came, of which these were met: an end is the last, for which this place was offered
+abbrev pub all_given : {R K S : Type 0} → Ended → (last : Option ℕ) → List (Call R K S)
+    → List (Call R K S)
+all_given ended.Events last calls = calls ++ record { offer = last; event = came.End } ∷ []
+all_given ended.Shut last calls = calls
+all_given ended.Spent last calls = calls
 
 -- the hub opens no further connection
 abbrev pub IsFull : {A : Type 0} → Hub A → Type 0
@@ -120,37 +121,43 @@ module _ {A R K S L : Type 0} (condition : A → Condition) (unread : R → Opti
   Admits p q l m at client (result.Ok _) = LetsIn p q l m at client
   Admits p q l m at client (result.Err why) = TurnsAway p q l m client why
 
-  -- what it makes of one event
-  pub data Meets (p q : Host A R K S) (l m : L) : Event R K S → Type 0 where
-    wakes : {at : ℕ} {r w : Bool} → Wakes p q at r w → m ≡ l → Meets p q l m (came.Ready at r w)
+  -- what it makes of one event, before which this place was offered: who is let in sits there
+  pub data Meets (p q : Host A R K S) (l m : L) : (offer : Option ℕ) → Event R K S → Type 0 where
+    wakes : {offer : Option ℕ} {at : ℕ} {r w : Bool} → Wakes p q at r w → m ≡ l
+        → Meets p q l m offer (came.Ready at r w)
     lets_in : {client : Client R K S} {at : ℕ} → LetsIn p q l m at client
-        → Meets p q l m (came.Client client)
-    turns_away : {client : Client R K S} {why : Refusal} → TurnsAway p q l m client why
-        → Meets p q l m (came.Client client)
-    makes_round : {time : Time} → MakesRound condition unread taken held p q time
-        → Meets p q l m (came.Round time)
+        → Meets p q l m (Some at) (came.Client client)
+    turns_away : {offer : Option ℕ} {client : Client R K S} {why : Refusal}
+        → TurnsAway p q l m client why → Meets p q l m offer (came.Client client)
+    makes_round : {offer : Option ℕ} {time : Time}
+        → MakesRound condition unread taken held p q time → Meets p q l m offer (came.Round time)
 
   -- an event was met, or was the end, by whether it goes on
-  abbrev pub IsMet : {T : Type 0} → (p q : Host A R K S) → (l m : L) → Event R K S → Result T Ended
-      → Type 0
-  IsMet p q l m event (result.Ok now) = Meets p q l m event
-  IsMet p q l m event (result.Err ended.Events) = (event ≡ came.End) × (q ≡ p) × (m ≡ l)
-  IsMet p q l m event (result.Err ended.Shut) = Meets p q l m event
-  IsMet p q l m event (result.Err ended.Spent) = ⊥
+  abbrev pub IsMet : {T : Type 0} → (p q : Host A R K S) → (l m : L) → (offer : Option ℕ)
+      → Event R K S → Result T Ended → Type 0
+  IsMet p q l m offer event (result.Ok now) = Meets p q l m offer event
+  IsMet p q l m offer event (result.Err ended.Events) = (event ≡ came.End) × (q ≡ p) × (m ≡ l)
+  IsMet p q l m offer event (result.Err ended.Shut) = Meets p q l m offer event
+  IsMet p q l m offer event (result.Err ended.Spent) = ⊥
 
-  -- what it makes of all of them, one after another
+  -- what it makes of all of them, one after another: before each a free place was offered, if there
+  -- was one
   pub data MeetsAll (p : Host A R K S) (l : L)
-      : List (Event R K S) → Host A R K S → L → Type 0 where
+      : List (Call R K S) → Host A R K S → L → Type 0 where
     begins : MeetsAll p l [] p l
-    goes_on : {events : List (Event R K S)} {event : Event R K S} {q n : Host A R K S} {m o : L}
-        → MeetsAll p l events q m → Meets q n m o event → MeetsAll p l (events ++ event ∷ []) n o
+    goes_on : {calls : List (Call R K S)} {offer : Option ℕ} {event : Event R K S}
+        {q n : Host A R K S} {m o : L} → MeetsAll p l calls q m → IsOffer q offer
+        → Meets q n m o offer event
+        → MeetsAll p l (calls ++ record { offer = offer; event = event } ∷ []) n o
 
   -- What came in a call, where it is told, and what became of each: it was met, up to the end, and
   -- no round was too late, nor a shut store left too soon.
-  pub record Met (told_old told_new : Option (List (Event R K S))) (p q : Host A R K S) (l m : L)
+  pub record Met (told_old told_new : Option (List (Call R K S))) (p q : Host A R K S) (l m : L)
       (end : Ended) : Type 0 where
-    pub events : List (Event R K S)
-    pub given : Grows told_old told_new (all_given end events)
-    pub each : MeetsAll p l events q m
-    pub in_time : EndsInTime (seconds_in events) p.shut_since q.shut_since q.limits end
-    pub may_end : end ≡ ended.Shut → MayEnd q (seconds_in events)
+    pub calls : List (Call R K S)
+    pub last : Option ℕ
+    pub given : Grows told_old told_new (all_given end last calls)
+    pub each : MeetsAll p l calls q m
+    pub offered : end ≡ ended.Events → IsOffer q last
+    pub in_time : EndsInTime (seconds_in calls) p.shut_since q.shut_since q.limits end
+    pub may_end : end ≡ ended.Shut → MayEnd q (seconds_in calls)

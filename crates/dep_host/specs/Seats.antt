@@ -121,17 +121,30 @@ module _ {A R K S : Type 0} (condition : A → Condition) (unread : R → Option
     pub leaves : after.course.unfinished ≡ left_unfinished next before.course.unfinished
 
   -- a turn is one of these: at most one piece is read, and at most one item answered
-  abbrev pub TakesTurn : (old new : Hub A) → (before after : Seat R K S) → (moment : ℕ)
+  abbrev pub ActsOnce : (old new : Hub A) → (before after : Seat R K S) → (moment : ℕ)
       → (is_full is_shut : Bool) → Type 0
-  TakesTurn old new before after moment is_full is_shut =
+  ActsOnce old new before after moment is_full is_shut =
       Rests old new before after
       ⊎ (Offers old new before after is_full is_shut
       ⊎ (Refuses old new before after moment is_full is_shut ⊎ Answers old new before after moment))
+
+  -- a turn of a connection, which stays the one that it was
+  pub record TakesTurn (old new : Hub A) (before after : Seat R K S) (moment : ℕ)
+      (is_full is_shut : Bool) : Type 0 where
+    pub client : SameClient before after
+    pub hub : HubStays condition old new
+    pub ended : is_ended before.course.phase ≡ true → is_ended after.course.phase ≡ true
+    pub acts : ActsOnce old new before after moment is_full is_shut
 
   -- a turn in which a piece may be read, where it may be
   abbrev pub MayRead : (old new : Hub A) → (before after : Seat R K S) → Type 0
   MayRead old new before after = (moment : ℕ) (is_full is_shut : Bool)
       → (is_full ≡ true → before.course.unfinished ≡ 0) → is_shut ≡ false
+      → TakesTurn old new before after moment is_full is_shut
+
+  -- a turn in which an item may be answered, also where no piece may be read
+  abbrev pub MayAnswer : (old new : Hub A) → (before after : Seat R K S) → (moment : ℕ) → Type 0
+  MayAnswer old new before after moment = (is_full is_shut : Bool)
       → TakesTurn old new before after moment is_full is_shut
 
   -- what becomes of a piece that was offered

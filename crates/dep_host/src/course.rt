@@ -139,11 +139,10 @@ impl Course {
 
     /// Takes note that so many bytes were read or taken.
     pub fn count(&mut self, bytes: u64)
-        ensures phase { self.new.phase ≡ self.old.phase }
-        ensures has_moved { self.new.has_moved ≡ (self.old.has_moved || nat_lt 0 bytes) }
-        ensures moved { self.new.moved ≡ min (self.old.moved + bytes) (2 ^ 64 - 1) }
-        ensures since { self.new.since ≡ self.old.since }
-        ensures unfinished { self.new.unfinished ≡ self.old.unfinished }
+        ensures { self.new ≡ record self.old {
+          has_moved = self.old.has_moved || nat_lt 0 bytes;
+          moved = min (self.old.moved + bytes) (2 ^ 64 - 1);
+        } }
     {
         if bytes > 0 {
             self.has_moved = true;

@@ -82,19 +82,20 @@ pub enum Event<R, K, S> {
 /// What tells a host what comes. Before each `Round` it has told of all sockets that it knows to be
 /// ready: only then are connections judged that were silent for too long.
 pub trait Events<R: Source, K: Sink, S: Spool> {
-    ghost use Rattle.dep_host.specs.declared.events.Event.{Event};
+    ghost use Rattle.dep_host.specs.Coming.{Call};
 
     /// Whether no more comes.
     ghost is_over: { Self → Bool };
 
-    /// What came so far, where it tells.
-    ghost given: { Self → Option (List (Event R K S)) } = { λ _. None };
+    /// What came so far, each with the place that was given for it, where it tells.
+    ghost given: { Self → Option (List (Call R K S)) } = { λ _. None };
 
     /// The next event. A client comes to the place, where one is given, and none where it isn't, so
     /// that further ones wait in the queue of the system. It waits for something to come only where
     /// the host can't go on at once, and not for long, since a `Round` closes who is silent.
     fn next(&mut self, vacancy: Option<usize>, is_busy: bool) -> Event<R, K, S>
         ensures fresh { IsFresh K.taken S.held result }
-        ensures given { Grows (given self.old) (given self.new) (result ∷ []) }
+        ensures given { Grows (given self.old) (given self.new)
+            (record { offer = vacancy; event = result } ∷ []) }
         ensures end { result ≡ Event.End → IsTrue (is_over self.new) };
 }

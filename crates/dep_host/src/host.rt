@@ -1,7 +1,6 @@
 //! All connections, over one hub.
-ghost use Rattle.std.specs.Prelude.{◌≡◌, ◌⊎◌, ◌<◌, ◌≤◌, ℕ, List, [], None, Some, Option, length, nat_lt, IfOk, IfErr, IfSome, IsSomeAnd, MatchOption, is_some, IsSome, IsNone, if◌then◌else◌, ◌∷◌, true, false};
+ghost use Rattle.std.specs.Prelude.{◌≡◌, ◌⊎◌, ◌<◌, ◌≤◌, ℕ, [], None, length, nat_lt, IfOk, IfErr, IfSome, IsSomeAnd, is_some, IsSome, IsNone, if◌then◌else◌, ◌∷◌, true, false};
 ghost use Rattle.std.specs.Io.KnownBytes.{IsAtEnd};
-ghost use Rattle.dep_hub.specs.Turns.{most_read};
 ghost use Rattle.dep_outbox.specs.Wires.{told};
 ghost use Rattle.dep_host.specs.Hosting.{Steps, Serves, Goes, GoesRound, Sheds, Stays, HasTime, MayGo, IsEmpty, IsVacant, position, slot, unfinished_of, unfinished_in};
 ghost use Rattle.dep_host.specs.Coming.{origin, seated_from};
@@ -14,6 +13,7 @@ use crate::course::{Phase, is_past};
 use crate::events::{Client, comes_from, origin};
 use crate::limits::Limits;
 use crate::log::{Closing, HostLog, Refusal};
+use crate::read_buffer::ReadBuffer;
 use crate::seat::{Seat, Time, Turn};
 use dep_hub::{Archive, ConnectFault, Hub};
 use dep_outbox::{Sink, Source, Spool};
@@ -172,13 +172,8 @@ impl<A: Archive, R: Source + Drop, K: Sink + Drop, S: Spool + Drop> Host<A, R, K
             Err(ConnectFault::Full) => return Err(turn_away(client, Refusal::Full, log)),
             Err(ConnectFault::Memory) => return Err(turn_away(client, Refusal::Memory, log)),
         };
-        let Client {
-            source,
-            wire,
-            address,
-        } = client;
-        self.seats[at] = Some(Seat::new(connection, address, source, wire));
-        log.opened(connection, address);
+        log.opened(connection, client.address);
+        self.seats[at] = Some(Seat::new(connection, client));
         Ok(())
     }
 
@@ -207,8 +202,7 @@ impl<A: Archive, R: Source + Drop, K: Sink + Drop, S: Spool + Drop> Host<A, R, K
     /// Gives each connection its turn, and then closes it where it is over, was silent for too long or
     /// is too slow. Where more bytes of unfinished requests are kept than may be, it reads no more of
     /// these, and closes the one that has most. It answers whether one of them can go on at once.
-    pub fn round<L: HostLog>(&mut self, room: &mut [u8], time: &Time, log: &mut L) -> bool
-        requires room { length room.old ≤ most_read }
+    pub fn round<L: HostLog>(&mut self, buffer: &mut ReadBuffer, time: &Time, log: &mut L) -> bool
         ensures goes { GoesRound A.condition R.unread K.taken S.held (position self.old)
             (position self.new) time.now }
         ensures left { (at : ℕ)
@@ -220,38 +214,26 @@ impl<A: Archive, R: Source + Drop, K: Sink + Drop, S: Spool + Drop> Host<A, R, K
             is_full: self.is_full(),
             is_shut: self.shut_since.is_some(),
         };
-        let is_busy = self.serve_each(room, &turn, log);
-        self.shed(time.second, log);
-        is_busy
-    }
-
-    /// Gives each connection its turn, and then closes it where it is done.
-    #[tactic(auto, using(crate::proofs::HostLemmas::left_ends))]
-    fn serve_each<L: HostLog>(&mut self, room: &mut [u8], turn: &Turn, log: &mut L) -> bool
-        requires room { length room.old ≤ most_read }
-        requires full { turn.now.is_full ≡ nat_lt self.old.limits.unfinished_bytes
-            (unfinished_in self.old.seats.items) }
-        requires shut { turn.now.is_shut ≡ is_some self.old.shut_since }
-        ensures goes { GoesRound A.condition R.unread K.taken S.held (position self.old)
-            (position self.new) turn.now.time }
-        ensures left { (at : ℕ)
-            → HasTime turn.now.time.second self.new.limits (slot at self.new.seats.items) }
-        ensures stays { Stays self.old self.new }
-    {
         let mut is_busy = false;
         for at in 0..self.seats.len() {
-            if self.serve_at(at, room, turn, log) {
+            if self.serve_at(at, buffer, &turn, log) {
                 is_busy = true;
             }
         }
+        self.shed(time.second, log);
         is_busy
     }
 
     /// Gives the connection there its turn, and then closes it where it is done. It answers whether it
     /// can go on at once.
-    fn serve_at<L: HostLog>(&mut self, at: usize, room: &mut [u8], turn: &Turn, log: &mut L) -> bool
+    fn serve_at<L: HostLog>(
+        &mut self,
+        at: usize,
+        buffer: &mut ReadBuffer,
+        turn: &Turn,
+        log: &mut L,
+    ) -> bool
         requires there { at < length self.old.seats.items }
-        requires room { length room.old ≤ most_read }
         requires shut { turn.now.is_shut ≡ is_some self.old.shut_since }
         ensures goes { Serves A.condition R.unread K.taken S.held (position self.old)
             (position self.new) at turn.now.time turn.now.is_full }
@@ -261,69 +243,18 @@ impl<A: Archive, R: Source + Drop, K: Sink + Drop, S: Spool + Drop> Host<A, R, K
             → slot place self.new.seats.items ≡ slot place self.old.seats.items }
         ensures stays { Stays self.old self.new }
     {
-        self.begin_turn(at, turn.time.second);
-        self.take_turn(at, room, turn, log);
-        if let Some(closing) = self.closing(at, turn.time.second) {
+        let Some(seat) = &mut self.seats[at] else {
+            return false;
+        };
+        seat.begin_turn(turn.time.second, &self.limits, turn.is_shut);
+        seat.take_turn(&mut self.hub, buffer, turn, log);
+        let is_busy = seat.is_busy();
+        let closing = seat.course.closing(turn.time.second, &self.limits);
+        if let Some(closing) = closing {
             self.close(at, turn.time.second, closing, log);
             return false;
         }
-        self.is_busy(at)
-    }
-
-    /// Why the connection there is closed now, if it is.
-    fn closing(&self, at: usize, second: u64) -> Option<Closing>
-        requires there { at < length self.now.seats.items }
-        ensures { MatchOption result
-            (HasTime second self.now.limits (slot at self.now.seats.items))
-            (λ reason. MayGo (position self.now) second reason
-            (slot at self.now.seats.items)) }
-    {
-        match &self.seats[at] {
-            Some(seat) => seat.course.closing(second, &self.limits),
-            None => None,
-        }
-    }
-
-    /// Whether the connection there can go on at once.
-    fn is_busy(&self, at: usize) -> bool
-        requires there { at < length self.now.seats.items }
-    {
-        match &self.seats[at] {
-            Some(seat) => seat.is_busy(),
-            None => false,
-        }
-    }
-
-    /// Begins the turn of the connection there.
-    fn begin_turn(&mut self, at: usize, second: u64)
-        requires there { at < length self.old.seats.items }
-        ensures goes { Steps A.condition R.unread K.taken S.held (position self.old) []
-            (position self.new) }
-        ensures count { unfinished_of (slot at self.new.seats.items)
-            ≡ unfinished_of (slot at self.old.seats.items) }
-        ensures others { (place : ℕ) → (place ≡ at → ⊥)
-            → slot place self.new.seats.items ≡ slot place self.old.seats.items }
-        ensures stays { Stays self.old self.new }
-    {
-        if let Some(seat) = &mut self.seats[at] {
-            seat.begin_turn(second, &self.limits, self.shut_since.is_some());
-        }
-    }
-
-    /// Gives the connection there its turn.
-    fn take_turn<L: HostLog>(&mut self, at: usize, room: &mut [u8], turn: &Turn, log: &mut L)
-        requires there { at < length self.old.seats.items }
-        requires room { length room.old ≤ most_read }
-        requires shut { turn.now.is_shut ≡ is_some self.old.shut_since }
-        ensures goes { Serves A.condition R.unread K.taken S.held (position self.old)
-            (position self.new) at turn.now.time turn.now.is_full }
-        ensures others { (place : ℕ) → (place ≡ at → ⊥)
-            → slot place self.new.seats.items ≡ slot place self.old.seats.items }
-        ensures stays { Stays self.old self.new }
-    {
-        if let Some(seat) = &mut self.seats[at] {
-            seat.take_turn(&mut self.hub, room, turn, log);
-        }
+        is_busy
     }
 
     /// Closes the connection there, for a reason.
@@ -356,21 +287,9 @@ impl<A: Archive, R: Source + Drop, K: Sink + Drop, S: Spool + Drop> Host<A, R, K
         ensures stays { Stays self.old self.new }
     {
         if let Some(at) = self.largest() {
-            if self.is_full() && self.is_read(at) {
+            if self.is_full() && is_read(&self.seats[at]) {
                 self.close(at, second, Closing::Large, log);
             }
-        }
-    }
-
-    /// Whether the connection there is read, and none of its requests may be complete.
-    fn is_read(&self, at: usize) -> bool
-        requires there { at < length self.now.seats.items }
-        ensures { result ≡ true → IsSomeAnd (slot at self.now.seats.items)
-            (λ seat. seat.course.phase ≡ Open) }
-    {
-        match &self.seats[at] {
-            Some(seat) => seat.course.phase == Phase::Open,
-            None => false,
         }
     }
 
@@ -382,7 +301,7 @@ impl<A: Archive, R: Source + Drop, K: Sink + Drop, S: Spool + Drop> Host<A, R, K
     {
         let mut largest = 0;
         for at in 0..self.seats.len() {
-            if self.unfinished(at) > self.unfinished(largest) {
+            if unfinished(&self.seats[at]) > unfinished(&self.seats[largest]) {
                 largest = at;
             }
         }
@@ -393,17 +312,6 @@ impl<A: Archive, R: Source + Drop, K: Sink + Drop, S: Spool + Drop> Host<A, R, K
         }
     }
 
-    /// How many bytes of unfinished requests are kept for who sits there.
-    fn unfinished(&self, at: usize) -> u64
-        requires there { at < length self.now.seats.items }
-        ensures { result ≡ unfinished_of (slot at self.now.seats.items) }
-    {
-        match &self.seats[at] {
-            Some(seat) => seat.course.unfinished,
-            None => 0,
-        }
-    }
-
     /// Whether more bytes of unfinished requests are kept than may be.
     fn is_full(&self) -> bool
         ensures { result ≡ nat_lt self.now.limits.unfinished_bytes
@@ -411,9 +319,29 @@ impl<A: Archive, R: Source + Drop, K: Sink + Drop, S: Spool + Drop> Host<A, R, K
     {
         let mut kept: u128 = 0;
         for at in 0..self.seats.len() {
-            kept += self.unfinished(at) as u128;
+            kept += unfinished(&self.seats[at]) as u128;
         }
         kept > self.limits.unfinished_bytes as u128
+    }
+}
+
+/// How many bytes of unfinished requests are kept for who sits at a place.
+fn unfinished<R: Source, K: Sink, S: Spool>(place: &Option<Seat<R, K, S>>) -> u64
+    ensures { result ≡ unfinished_of place.now }
+{
+    match place {
+        Some(seat) => seat.course.unfinished,
+        None => 0,
+    }
+}
+
+/// Whether who sits at a place is read, and none of its requests may be complete.
+fn is_read<R: Source, K: Sink, S: Spool>(place: &Option<Seat<R, K, S>>) -> bool
+    ensures { result ≡ true → IsSomeAnd place.now (λ seat. seat.course.phase ≡ Open) }
+{
+    match place {
+        Some(seat) => seat.course.phase == Phase::Open,
+        None => false,
     }
 }
 

@@ -7,6 +7,7 @@ mod host;
 pub mod laws;
 mod limits;
 mod log;
+mod read_buffer;
 mod seat;
 mod serving;
 
@@ -15,5 +16,6 @@ pub use events::{Client, Event, Events, origin};
 pub use host::{Host, MOST_SEATS};
 pub use limits::Limits;
 pub use log::{Bytes, Closing, HostLog, Refusal};
+pub use read_buffer::{MOST_READ, ReadBuffer};
 pub use seat::{Seat, Time};
 pub use serving::{Ended, serve};

@@ -1,16 +1,16 @@
 //! A connection that is served.
-ghost use Rattle.std.specs.Prelude.{◌≡◌, ◌≢◌, ◌<◌, ◌≤◌, ◌⊎◌, ◌+◌, ◌-◌, ◌^◌, ◌||◌, min, nat_lt, ℕ, Bool, length, true, false};
-ghost use Rattle.std.specs.Io.KnownBytes.{Keeps, Consumes, IsAtEnd};
+ghost use Rattle.std.specs.Prelude.{◌≡◌, ◌≢◌, ◌<◌, ◌≤◌, ◌+◌, ◌-◌, ◌^◌, ◌||◌, min, nat_lt, length, true, false};
+ghost use Rattle.std.specs.Io.KnownBytes.{Keeps, IsAtEnd};
 ghost use Rattle.dep_hub.specs.Holding.{ComesToNext};
-ghost use Rattle.dep_hub.specs.Turns.{most_read};
-ghost use Rattle.dep_hub.specs.declared.next.Next.{Next as AnyNext};
 ghost use Rattle.dep_outbox.specs.Wires.{told, owed};
-ghost use Rattle.dep_host.specs.Courses.{is_ended};
-ghost use Rattle.dep_host.specs.Seats.{HubStays, SameClient, TakesTurn, MayRead, IsOffered, Rests, Answers, phase_answered, left_unfinished, woken_seat};
+ghost use Rattle.dep_host.specs.Courses.{StaysOrEnds, is_ended};
+ghost use Rattle.dep_host.specs.Seats.{HubStays, TakesTurn, MayRead, MayAnswer, IsOffered, phase_answered, left_unfinished, woken_seat};
 
 use crate::course::{Course, Duty, Phase};
+use crate::events::Client;
 use crate::limits::Limits;
 use crate::log::{Bytes, HostLog};
+use crate::read_buffer::ReadBuffer;
 use dep_hub::{Archive, Arrived, ConnId, Hub, Next};
 use dep_moment::Moment;
 use dep_outbox::{Flushed, Received, Sink, Source, Spool, Wire};
@@ -49,22 +49,22 @@ pub struct Seat<R, K, S> {
 }
 
 impl<R: Source, K: Sink, S: Spool> Seat<R, K, S> {
-    /// A fresh connection, whose socket may be ready.
-    pub(crate) fn new(
-        connection: ConnId,
-        address: IpAddr,
-        source: R,
-        wire: Wire<K, S>,
-    ) -> Seat<R, K, S>
+    /// A fresh connection of a client, whose socket may be ready.
+    pub(crate) fn new(connection: ConnId, client: Client<R, K, S>) -> Seat<R, K, S>
         ensures number { result.connection ≡ connection }
-        ensures address { result.address ≡ address }
-        ensures source { result.source ≡ source }
-        ensures wire { result.wire ≡ wire }
+        ensures address { result.address ≡ client.address }
+        ensures source { result.source ≡ client.source }
+        ensures wire { result.wire ≡ client.wire }
         ensures phase { result.course.phase ≡ Phase.Open }
         ensures moved { result.course.has_moved ≡ true }
         ensures due { result.course.is_due ≡ false }
         ensures unfinished { result.course.unfinished ≡ 0 }
     {
+        let Client {
+            source,
+            wire,
+            address,
+        } = client;
         Seat {
             connection,
             address,
@@ -96,9 +96,7 @@ impl<R: Source, K: Sink, S: Spool> Seat<R, K, S> {
 
     /// Begins its turn. Once the store is shut it is read no more.
     pub(crate) fn begin_turn(&mut self, second: u64, limits: &Limits, is_shut: bool)
-        ensures source { self.new.source ≡ self.old.source }
-        ensures wire { self.new.wire ≡ self.old.wire }
-        ensures client { SameClient self.old self.new }
+        ensures same { self.new ≡ record self.old { course = self.new.course } }
         ensures opens { self.new.course.phase ≡ Phase.Open
             → self.old.course.phase ≡ Phase.Open }
         ensures ended { is_ended self.old.course.phase ≡ true
@@ -123,15 +121,10 @@ impl<R: Source, K: Sink, S: Spool> Seat<R, K, S> {
     pub(crate) fn take_turn<A: Archive, L: HostLog>(
         &mut self,
         hub: &mut Hub<A>,
-        room: &mut [u8],
+        buffer: &mut ReadBuffer,
         turn: &Turn,
         log: &mut L,
     )
-        requires room { length room.old ≤ most_read }
-        ensures hub { HubStays A.condition hub.old hub.new }
-        ensures client { SameClient self.old self.new }
-        ensures ended { is_ended self.old.course.phase ≡ true
-            → is_ended self.new.course.phase ≡ true }
         ensures turn { TakesTurn A.condition R.unread K.taken S.held hub.old hub.new
             self.old self.new turn.now.time.moment turn.now.is_full turn.now.is_shut }
         // What its socket took counts.
@@ -142,7 +135,7 @@ impl<R: Source, K: Sink, S: Spool> Seat<R, K, S> {
             ≤ self.new.course.moved }
     {
         let before = self.wire.delivered();
-        self.act(hub, room, turn, log);
+        self.act(hub, buffer, turn, log);
         let sent = self.wire.delivered().saturating_sub(before);
         self.course.count(sent);
     }
@@ -161,15 +154,10 @@ impl<R: Source, K: Sink, S: Spool> Seat<R, K, S> {
     fn act<A: Archive, L: HostLog>(
         &mut self,
         hub: &mut Hub<A>,
-        room: &mut [u8],
+        buffer: &mut ReadBuffer,
         turn: &Turn,
         log: &mut L,
     )
-        requires room { length room.old ≤ most_read }
-        ensures hub { HubStays A.condition hub.old hub.new }
-        ensures client { SameClient self.old self.new }
-        ensures ended { is_ended self.old.course.phase ≡ true
-            → is_ended self.new.course.phase ≡ true }
         ensures turn { TakesTurn A.condition R.unread K.taken S.held hub.old hub.new
             self.old self.new turn.now.time.moment turn.now.is_full turn.now.is_shut }
         ensures moved { min self.old.course.moved (2 ^ 64 - 1) ≤ self.new.course.moved }
@@ -178,10 +166,10 @@ impl<R: Source, K: Sink, S: Spool> Seat<R, K, S> {
             Duty::Flush => self.flush(),
             Duty::Answer => self.answer(hub, turn.time.moment, log),
             Duty::Read => if self.may_read(turn) {
-                self.read(hub, room);
+                self.read(hub, buffer);
             },
             Duty::Finish => self.finish(),
-            Duty::Drain => self.drain(room),
+            Duty::Drain => self.drain(buffer),
             Duty::Wait => {}
         }
     }
@@ -190,10 +178,7 @@ impl<R: Source, K: Sink, S: Spool> Seat<R, K, S> {
     fn answer<A: Archive, L: HostLog>(&mut self, hub: &mut Hub<A>, moment: Moment, log: &mut L)
         requires unowed { IsAtEnd (owed S.held self.old.wire) }
         requires phase { self.old.course.phase ≡ Phase.Answering }
-        ensures hub { HubStays A.condition hub.old hub.new }
-        ensures client { SameClient self.old self.new }
-        ensures turn { Rests A.condition R.unread K.taken S.held hub.old hub.new self.old self.new
-            ⊎ Answers A.condition R.unread K.taken S.held hub.old hub.new
+        ensures turn { MayAnswer A.condition R.unread K.taken S.held hub.old hub.new
             self.old self.new moment }
         ensures moved { self.new.course.moved ≡ self.old.course.moved }
     {
@@ -214,8 +199,10 @@ impl<R: Source, K: Sink, S: Spool> Seat<R, K, S> {
         log: &mut L,
     ) -> Next
         ensures hub { HubStays A.condition hub.old hub.new }
-        ensures client { SameClient self.old self.new }
-        ensures source { self.new.source ≡ self.old.source }
+        ensures same { self.new ≡ record self.old {
+          wire = self.new.wire;
+          course = self.new.course;
+        } }
         ensures answers { ComesToNext A.condition
             (told K.taken S.held self.old.wire) (told K.taken S.held self.new.wire)
             self.old.wire.failures self.new.wire.failures hub.old hub.new self.old.connection
@@ -241,18 +228,15 @@ impl<R: Source, K: Sink, S: Spool> Seat<R, K, S> {
     }
 
     /// Reads a piece, and offers it.
-    fn read<A: Archive>(&mut self, hub: &mut Hub<A>, room: &mut [u8])
-        requires room { length room.old ≤ most_read }
+    fn read<A: Archive>(&mut self, hub: &mut Hub<A>, buffer: &mut ReadBuffer)
         requires unowed { IsAtEnd (owed S.held self.old.wire) }
         requires phase { self.old.course.phase ≡ Phase.Open }
-        ensures hub { HubStays A.condition hub.old hub.new }
-        ensures client { SameClient self.old self.new }
         ensures turn { MayRead A.condition R.unread K.taken S.held hub.old hub.new
             self.old self.new }
         ensures moved { min self.old.course.moved (2 ^ 64 - 1) ≤ self.new.course.moved }
     {
-        match self.source.receive(room) {
-            Received::Bytes(n) => self.offer(hub, &room[..n]),
+        match buffer.receive(&mut self.source) {
+            Received::Bytes(n) => self.offer(hub, &buffer.bytes[..n]),
             Received::Later => self.course.is_readable = false,
             Received::Ended | Received::Failed => self.course.phase = Phase::Over,
         }
@@ -262,8 +246,11 @@ impl<R: Source, K: Sink, S: Spool> Seat<R, K, S> {
     fn offer<A: Archive>(&mut self, hub: &mut Hub<A>, piece: &[u8])
         ensures hub { HubStays A.condition hub.old hub.new }
         ensures store { hub.new.store ≡ hub.old.store }
-        ensures client { SameClient self.old self.new }
-        ensures source { self.new.source ≡ self.old.source }
+        ensures same { self.new ≡ record self.old {
+          wire = self.new.wire;
+          course = self.new.course;
+          received = self.new.received;
+        } }
         ensures offers { IsOffered A.condition R.unread K.taken S.held hub.old hub.new
             self.old self.new piece.now }
         ensures has_moved { self.new.course.has_moved
@@ -289,13 +276,11 @@ impl<R: Source, K: Sink, S: Spool> Seat<R, K, S> {
         ensures keeps { Keeps (told K.taken S.held self.old.wire)
             (told K.taken S.held self.new.wire) }
         ensures failures { self.new.wire.failures ≡ self.old.wire.failures }
-        ensures client { SameClient self.old self.new }
-        ensures source { self.new.source ≡ self.old.source }
-        ensures phase { (self.new.course.phase ≡ self.old.course.phase)
-            ⊎ (self.new.course.phase ≡ Phase.Over) }
-        ensures stirs { self.new.course.has_moved ≡ self.old.course.has_moved }
-        ensures moved { self.new.course.moved ≡ self.old.course.moved }
-        ensures unfinished { self.new.course.unfinished ≡ self.old.course.unfinished }
+        ensures same { self.new ≡ record self.old {
+          wire = self.new.wire;
+          course = self.new.course;
+        } }
+        ensures course { StaysOrEnds self.old.course self.new.course }
     {
         match self.wire.flush() {
             Flushed::All | Flushed::Part => {}
@@ -307,11 +292,15 @@ impl<R: Source, K: Sink, S: Spool> Seat<R, K, S> {
     /// Tells the client that nothing more is sent.
     fn finish(&mut self)
         ensures keeps { told K.taken S.held self.new.wire ≡ told K.taken S.held self.old.wire }
-        ensures client { SameClient self.old self.new }
-        ensures phase { self.new.course.phase ≡ Phase.Draining }
-        ensures stirs { self.new.course.has_moved ≡ true }
-        ensures moved { self.new.course.moved ≡ self.old.course.moved }
-        ensures unfinished { self.new.course.unfinished ≡ 0 }
+        ensures same { self.new ≡ record self.old {
+          wire = self.new.wire;
+          course = self.new.course;
+        } }
+        ensures course { self.new.course ≡ record self.old.course {
+          phase = Phase.Draining;
+          has_moved = true;
+          unfinished = 0;
+        } }
     {
         self.wire.finish();
         self.course.phase = Phase::Draining;
@@ -320,16 +309,14 @@ impl<R: Source, K: Sink, S: Spool> Seat<R, K, S> {
     }
 
     /// Throws a piece away, which doesn't count.
-    fn drain(&mut self, room: &mut [u8])
-        ensures wire { self.new.wire ≡ self.old.wire }
-        ensures client { SameClient self.old self.new }
-        ensures phase { (self.new.course.phase ≡ self.old.course.phase)
-            ⊎ (self.new.course.phase ≡ Phase.Over) }
-        ensures stirs { self.new.course.has_moved ≡ self.old.course.has_moved }
-        ensures moved { self.new.course.moved ≡ self.old.course.moved }
-        ensures unfinished { self.new.course.unfinished ≡ self.old.course.unfinished }
+    fn drain(&mut self, buffer: &mut ReadBuffer)
+        ensures same { self.new ≡ record self.old {
+          source = self.new.source;
+          course = self.new.course;
+        } }
+        ensures course { StaysOrEnds self.old.course self.new.course }
     {
-        match self.source.receive(room) {
+        match buffer.receive(&mut self.source) {
             Received::Bytes(_) => {}
             Received::Later => self.course.is_readable = false,
             Received::Ended | Received::Failed => self.course.phase = Phase::Over,

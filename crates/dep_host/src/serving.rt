@@ -1,7 +1,6 @@
 //! Serving all clients until no more comes.
-ghost use Rattle.std.specs.Prelude.{◌≡◌, ◌≢◌, ◌≤◌, [], ◌∷◌, Err, length, IfOk, IsNone, IsTrue, false};
+ghost use Rattle.std.specs.Prelude.{◌≡◌, ◌≢◌, [], ◌∷◌, Err, IfOk, IsNone, IsTrue, false};
 ghost use Rattle.std.specs.List.{AllByRecursion};
-ghost use Rattle.dep_hub.specs.Turns.{most_read};
 ghost use Rattle.dep_host.specs.Coming.{IsFresh, seconds_of};
 ghost use Rattle.dep_host.specs.Courses.{is_overdue};
 ghost use Rattle.dep_host.specs.Hosting.{GoesOn, position};
@@ -12,6 +11,7 @@ use crate::events::{Client, Event, Events};
 use crate::host::Host;
 use crate::laws::hosts_keep_the_archive_promise;
 use crate::log::HostLog;
+use crate::read_buffer::ReadBuffer;
 use dep_hub::Archive;
 use dep_outbox::{Sink, Source, Spool};
 
@@ -33,8 +33,8 @@ struct Now {
     is_busy: bool,
 }
 
-/// Serves all clients until no more comes. The room is for the bytes that are read at once. It
-/// returns with the connections that are open then, which are cut off once the host is let go.
+/// Serves all clients until no more comes. It returns with the connections that are open then, which
+/// are cut off once the host is let go.
 pub fn serve<
     A: Archive,
     R: Source + Drop,
@@ -42,8 +42,7 @@ pub fn serve<
     S: Spool + Drop,
     E: Events<R, K, S>,
     L: HostLog,
->(host: &mut Host<A, R, K, S>, events: &mut E, room: &mut [u8], log: &mut L) -> Ended
-    requires { length room.old ≤ most_read }
+>(host: &mut Host<A, R, K, S>, events: &mut E, buffer: &mut ReadBuffer, log: &mut L) -> Ended
     // What came, and what was made of each.
     ensures met { Met A.condition R.unread K.taken S.held L.notes (E.given events.old)
         (E.given events.new) host.old host.new log.old log.new result }
@@ -63,7 +62,7 @@ pub fn serve<
     };
     for _ in 0..u64::MAX {
         let event = events.next(now.vacancy, now.is_busy);
-        match meet(host, now, event, room, log) {
+        match meet(host, now, event, buffer, log) {
             Ok(next) => now = next,
             Err(ended) => return ended,
         }
@@ -76,14 +75,13 @@ fn meet<A: Archive, R: Source + Drop, K: Sink + Drop, S: Spool + Drop, L: HostLo
     host: &mut Host<A, R, K, S>,
     now: Now,
     event: Event<R, K, S>,
-    room: &mut [u8],
+    buffer: &mut ReadBuffer,
     log: &mut L,
 ) -> Result<Now, Ended>
-    requires room { length room.old ≤ most_read }
     requires fresh { IsFresh K.taken S.held event }
     requires vacant { IsOffer host.old now.vacancy }
     ensures met { IsMet A.condition R.unread K.taken S.held L.notes host.old host.new
-        log.old log.new event result }
+        log.old log.new now.vacancy event result }
     ensures vacant { IfOk result (λ next. IsOffer host.new next.vacancy) }
     ensures shut { result ≡ Err Ended.Shut → MayEnd host.new (seconds_of event) }
     ensures time { IfOk result (λ _. AllByRecursion (λ second.
@@ -106,7 +104,7 @@ fn meet<A: Archive, R: Source + Drop, K: Sink + Drop, S: Spool + Drop, L: HostLo
             })
         }
         Event::Round(time) => {
-            let is_busy = host.round(room, &time, log);
+            let is_busy = host.round(buffer, &time, log);
             go_on(host, is_busy, time.second)
         }
         Event::End => Err(Ended::Events),
@@ -154,7 +152,7 @@ fn let_in<A: Archive, R: Source + Drop, K: Sink + Drop, S: Spool + Drop, L: Host
     requires fresh { IsFresh K.taken S.held (Event.Client client) }
     requires vacant { IsOffer host.old vacancy }
     ensures { Meets A.condition R.unread K.taken S.held L.notes host.old host.new
-        log.old log.new (Event.Client client) }
+        log.old log.new vacancy (Event.Client client) }
 {
     match vacancy {
         Some(at) => {

@@ -1,7 +1,7 @@
 -- What becomes of the bytes of a wire.
-use Rattle.std.proofs.Common.{◌≡◌, ℕ, ◌+◌, ◌-◌, List, [], ◌++◌, Option, None, Some, refl, sym, ap, ◌∙◌, append_assoc, length, take, drop, subst, ◌≢◌, arith}
-use Rattle.std.proofs.lemmas.List.{append-nil, take-append-drop, drop-drop, drop_all, take_all, length-drop}
-use Rattle.std.specs.Io.KnownBytes.{Appends, Keeps, IsAtEnd, prepend_known}
+use Rattle.std.proofs.Common.{◌≡◌, ℕ, ◌+◌, List, [], ◌++◌, Option, None, Some, refl, sym, ap, ◌∙◌, append_assoc, length, take, drop, subst, ◌≢◌, arith}
+use Rattle.std.proofs.lemmas.List.{append-nil, take-append-drop, drop-drop, drop_all}
+use Rattle.std.specs.Io.KnownBytes.{Appends, Consumes, Keeps, IsAtEnd, prepend_known}
 use Rattle.dep_types.specs.Writing.{TakesPart}
 use Rattle.dep_outbox.specs.Wires.{joined}
 
@@ -37,31 +37,31 @@ pub appends_memory : (f g bs : List ℕ) (h : Option (List ℕ)) → IsAtEnd h �
 appends_memory f g bs None e p = tt
 appends_memory f g bs (Some y) e p = rw e (append-nil g ∙ p ∙ ap (λ l. l ++ bs) (sym (append-nil f)))
 
--- the socket took a front of what is in memory
-pub keeps_sent : (a b h : Option (List ℕ)) (xs : List ℕ) (n : ℕ) → Appends a b (take n xs) → Keeps (joined a (prepend_known xs h)) (joined b (prepend_known (drop n xs) h))
-keeps_sent None b h xs n p = tt
-keeps_sent (Some x) None h xs n p = absurd p
-keeps_sent (Some x) (Some y) None xs n p = tt
-keeps_sent (Some x) (Some y) (Some z) xs n p =
-    ap (λ l. l ++ (drop n xs ++ z)) p ∙ append_assoc x (take n xs) (drop n xs ++ z)
-    ∙ ap (λ l. x ++ l) (sym (append_assoc (take n xs) (drop n xs) z) ∙ ap (λ l. l ++ z) (take-append-drop n xs))
+-- the socket took what is no longer owed
+pub keeps_moved : (a b h k : Option (List ℕ)) (bs : List ℕ) → Appends a b bs → Consumes h k bs → Keeps (joined a h) (joined b k)
+keeps_moved None b h k bs p q = tt
+keeps_moved (Some x) None h k bs p q = absurd p
+keeps_moved (Some x) (Some y) None k bs p q = tt
+keeps_moved (Some x) (Some y) (Some z) None bs p q = absurd q
+keeps_moved (Some x) (Some y) (Some z) (Some w) bs p q = ap (λ l. l ++ w) p ∙ append_assoc x bs w ∙ ap (λ l. x ++ l) (sym q)
 
--- as it stands in the code: the socket was offered all in memory from s on
-pub keeps_sent_from : (a b h : Option (List ℕ)) (items whole : List ℕ) (s n : ℕ) → whole ≡ items → Appends a b (take n (take (length whole - s) (drop s whole)))
-    → Keeps (joined a (prepend_known (drop s items) h)) (joined b (prepend_known (drop (s + n) items) h))
-keeps_sent_from a b h items whole s n same p =
-    let offered : take (length whole - s) (drop s whole) ≡ drop s whole = take_all _ _ (omega (arith, length-drop s whole)) in
-    let there : take n (take (length whole - s) (drop s whole)) ≡ take n (drop s items) = ap (take n) offered ∙ ap (λ (l : List ℕ). take n (drop s l)) same in
-    subst (λ (l : List ℕ). Keeps (joined a (prepend_known (drop s items) h)) (joined b (prepend_known l h))) (drop-drop n s items)
-    (keeps_sent a b h (drop s items) n (subst (λ (l : List ℕ). Appends a b l) there p))
+-- a front of what is in memory waits no more
+pub consumes_front : (h : Option (List ℕ)) (items : List ℕ) (s n : ℕ) → Consumes (prepend_known (drop s items) h) (prepend_known (drop (s + n) items) h) (take n (drop s items))
+consumes_front None items s n = tt
+consumes_front (Some y) items s n =
+    ap (λ l. l ++ y) (sym (take-append-drop n (drop s items))) ∙ append_assoc (take n (drop s items)) (drop n (drop s items)) y
+    ∙ ap (λ (l : List ℕ). take n (drop s items) ++ (l ++ y)) (drop-drop n s items)
 
--- bytes came out of the spool, once those in memory were sent
-pub keeps_refilled : (h k l : Option (List ℕ)) (items fresh new : List ℕ) (s t : ℕ) → s ≡ length items → fresh ≡ [] → t ≡ 0 → k ≡ h → Keeps (prepend_known fresh k) (prepend_known new l)
-    → Keeps (prepend_known (drop s items) h) (prepend_known (drop t new) l)
-keeps_refilled h k l items fresh new s t all none first same p =
-    let before : drop s items ≡ fresh = drop_all s items (omega (arith, all)) ∙ sym none in
-    let after : drop t new ≡ new = ap (λ (n : ℕ). drop n new) first in
-    rw before (rw after (subst (λ (o : Option (List ℕ)). Keeps (prepend_known fresh o) (prepend_known new l)) same p))
+-- all in memory waits no more
+pub consumes_all : (h : Option (List ℕ)) (items none : List ℕ) (s n : ℕ) → none ≡ [] → s + n ≡ length items → Consumes (prepend_known (drop s items) h) (prepend_known (drop 0 none) h) (take n (drop s items))
+consumes_all h items none s n e all =
+    let same : drop (s + n) items ≡ drop 0 none = drop_all (s + n) items (omega (arith, all)) ∙ sym (drop_all 0 none (omega (arith, ap length e))) in
+    subst (λ (l : List ℕ). Consumes (prepend_known (drop s items) h) (prepend_known l h) (take n (drop s items))) same (consumes_front h items s n)
+
+-- bytes came out of the spool, where there were none in memory
+pub keeps_filled : (h k : Option (List ℕ)) (items new : List ℕ) (s : ℕ) → items ≡ [] → s ≡ 0 → Keeps (prepend_known items h) (prepend_known new k)
+    → Keeps (prepend_known (drop s items) h) (prepend_known (drop s new) k)
+keeps_filled h k items new s none first p = rw first p
 
 -- none of some bytes was taken
 pub none_taken : (a b : Option (List ℕ)) (bytes : List ℕ) → bytes ≢ [] → Keeps a b → TakesPart a b bytes
@@ -69,8 +69,13 @@ none_taken None b bytes some p = ([], record { rest = bytes; joined = refl; shor
 none_taken (Some x) None bytes some p = absurd p
 none_taken (Some x) (Some y) bytes some p = ([], record { rest = bytes; joined = refl; short = some }, p ∙ sym (append-nil x))
 
--- a wire over a socket that took nothing and a spool that holds nothing has taken nothing
-pub nothing_told : (a h : Option (List ℕ)) (f : List ℕ) (s : ℕ) → f ≡ [] → IsAtEnd a → IsAtEnd h → IsAtEnd (joined a (prepend_known (drop s f) h))
-nothing_told None h f s none p q = tt
-nothing_told (Some x) None f s none p q = tt
-nothing_told (Some x) (Some y) f s none p q = rw p (rw q (rw none (append-nil (drop s []) ∙ drop_all s [] (omega arith))))
+-- without bytes in memory none wait but those in the spool
+pub none_waiting : (h : Option (List ℕ)) (f : List ℕ) (s : ℕ) → f ≡ [] → IsAtEnd h → IsAtEnd (prepend_known (drop s f) h)
+none_waiting None f s none q = tt
+none_waiting (Some y) f s none q = rw q (rw none (append-nil (drop s []) ∙ drop_all s [] (omega arith)))
+
+-- a wire over a socket that took nothing has taken nothing, where none wait
+pub nothing_told : (a h : Option (List ℕ)) → IsAtEnd a → IsAtEnd h → IsAtEnd (joined a h)
+nothing_told None h p q = tt
+nothing_told (Some x) None p q = tt
+nothing_told (Some x) (Some y) p q = rw p q

@@ -1,6 +1,7 @@
 -- What a wire has sent, and what it still owes.
 use Rattle.std.specs.Prelude.{ℕ, List, drop, Option, None, Some}
 use Rattle.std.specs.Io.KnownBytes.{prepend_known}
+use Rattle.dep_outbox.specs.declared.backlog.Backlog.{Backlog}
 use Rattle.dep_outbox.specs.declared.wire.Wire.{Wire}
 
 -- the first bytes and then the others, where both are known
@@ -8,10 +9,19 @@ abbrev pub joined : Option (List ℕ) → Option (List ℕ) → Option (List ℕ
 joined None behind = None
 joined (Some xs) behind = prepend_known xs behind
 
+module _ {S : Type 0} where
+  -- those in memory that wait
+  abbrev pub front_of : Backlog S → List ℕ
+  front_of b = drop b.sent b.front.items
+
+  -- and behind them those in the spool
+  abbrev pub waiting : (S → Option (List ℕ)) → Backlog S → Option (List ℕ)
+  waiting held b = prepend_known (front_of b) (held b.spool)
+
 module _ {K S : Type 0} where
   -- the bytes that the socket hasn't taken yet
   abbrev pub owed : (S → Option (List ℕ)) → Wire K S → Option (List ℕ)
-  owed held w = prepend_known (drop w.sent w.front.items) (held w.spool)
+  owed held w = waiting held w.backlog
 
   -- the bytes that the wire took: those that the socket took, and those that are owed behind them
   abbrev pub told : (K → Option (List ℕ)) → (S → Option (List ℕ)) → Wire K S → Option (List ℕ)

@@ -1,15 +1,13 @@
 //! The way to a client: its socket, and the bytes that the socket hasn't taken yet.
-ghost use Rattle.std.specs.Prelude.{◌≡◌, ◌≢◌, ◌≤◌, [], length, Some, OnOk, OnErr, false};
+ghost use Rattle.std.specs.Prelude.{◌≡◌, Some, OnOk, OnErr, false};
 ghost use Rattle.std.specs.Io.KnownBytes.{Keeps, Appends, IsAtEnd};
 ghost use Rattle.dep_types.specs.Writing.{TakesPart};
 
+use crate::backlog::Backlog;
 use crate::socket::{Delivered, Sink};
-use crate::spool::{Spool, SpoolFailed};
+use crate::spool::Spool;
 use dep_types::{Outlet, WriteFailed};
 use std::alloc::Global;
-
-/// How many bytes wait in memory at most.
-const MOST_IN_MEMORY: usize = 262_144;
 
 /// How often a flush sends at most.
 const MOST_SENDS: u32 = 16;
@@ -32,13 +30,10 @@ pub enum Flushed {
 #[derive(Drop)]
 pub struct Wire<K, S> {
     sink: K,
-    front: Vec<u8>,
-    sent: usize,
-    spool: S,
+    backlog: Backlog<S>,
     failures: u64,
     delivered: u64,
     written: u64,
-    ghost within: { sent ≤ length front.items },
 }
 
 impl<K: Sink, S: Spool> Wire<K, S> {
@@ -48,16 +43,14 @@ impl<K: Sink, S: Spool> Wire<K, S> {
     #[tactic(auto, using(crate::proofs::WireLemmas::nothing_told))]
     pub fn new(alloc: Global, sink: K, spool: S) -> Wire<K, S>
         ensures sink { result.sink ≡ sink }
-        ensures spool { result.spool ≡ spool }
+        ensures spool { result.backlog.spool ≡ spool }
         // Over a socket that took nothing and an empty spool it took nothing.
         ensures fresh { IsAtEnd (K.taken sink) → IsAtEnd (S.held spool)
             → IsAtEnd (told K.taken S.held result) }
     {
         Wire {
             sink,
-            front: Vec::new(alloc),
-            sent: 0,
-            spool,
+            backlog: Backlog::new(alloc, spool),
             failures: 0,
             delivered: 0,
             written: 0,
@@ -84,57 +77,21 @@ impl<K: Sink, S: Spool> Wire<K, S> {
         ensures all { result ≡ Some Flushed.All → IsAtEnd (owed S.held self.new) }
         ensures failures { self.new.failures ≡ self.old.failures }
     {
-        if self.sent == self.front.len() {
-            if self.spool.is_empty() {
-                self.forget_sent();
-                return Some(Flushed::All);
-            }
-            if self.refill().is_err() {
-                return Some(Flushed::Failed);
-            }
+        if self.backlog.is_empty() {
+            return Some(Flushed::All);
         }
-        self.send_front()
-    }
-
-    /// Sends what is in memory once.
-    fn send_front(&mut self) -> Option<Flushed>
-        ensures some { result ≢ Some Flushed.All }
-        ensures keeps { Keeps (told K.taken S.held self.old) (told K.taken S.held self.new) }
-        ensures failures { self.new.failures ≡ self.old.failures }
-    {
-        match self.sink.send(&self.front[self.sent..]) {
+        if self.backlog.fill().is_err() {
+            return Some(Flushed::Failed);
+        }
+        match self.sink.send(self.backlog.front()) {
             Delivered::Bytes(n) => {
-                self.sent += n;
+                self.backlog.consume(n);
                 self.delivered = self.delivered.saturating_add(n as u64);
                 None
             }
             Delivered::Later => Some(Flushed::Later),
             Delivered::Failed => Some(Flushed::Failed),
         }
-    }
-
-    /// Takes bytes out of the spool, once all in memory are sent.
-    fn refill(&mut self) -> Result<(), SpoolFailed>
-        requires { self.old.sent ≡ length self.old.front.items }
-        ensures keeps { Keeps (owed S.held self.old) (owed S.held self.new) }
-        ensures sink { self.new.sink ≡ self.old.sink }
-        ensures failures { self.new.failures ≡ self.old.failures }
-    {
-        self.forget_sent();
-        self.spool.pull(&mut self.front)
-    }
-
-    /// Forgets the bytes in memory, once all of them are sent.
-    fn forget_sent(&mut self)
-        requires { self.old.sent ≡ length self.old.front.items }
-        ensures empty { self.new.front.items ≡ [] }
-        ensures sent { self.new.sent ≡ 0 }
-        ensures sink { self.new.sink ≡ self.old.sink }
-        ensures spool { self.new.spool ≡ self.old.spool }
-        ensures failures { self.new.failures ≡ self.old.failures }
-    {
-        self.front.clear();
-        self.sent = 0;
     }
 
     /// Takes the bytes behind those that it took.
@@ -149,37 +106,17 @@ impl<K: Sink, S: Spool> Wire<K, S> {
         if bytes.is_empty() {
             return Ok(());
         }
-        if !self.has_room(bytes) && self.spool.is_empty() && self.flush() == Flushed::Failed {
+        if self.backlog.would_spill(bytes) && self.flush() == Flushed::Failed {
             return Err(WriteFailed);
         }
-        Ok(self.hold(bytes)?)
-    }
-
-    /// Keeps the bytes behind those that are owed.
-    fn hold(&mut self, bytes: &[u8]) -> Result<(), SpoolFailed>
-        ensures ok { OnOk result (Appends (owed S.held self.old) (owed S.held self.new) bytes.now) }
-        ensures err { OnErr result
-            (TakesPart (owed S.held self.old) (owed S.held self.new) bytes.now) }
-        ensures sink { self.new.sink ≡ self.old.sink }
-        ensures failures { self.new.failures ≡ self.old.failures }
-    {
-        let fits = self.spool.is_empty() && self.has_room(bytes);
-        if fits && self.front.extend_from_slice(bytes).is_ok() {
-            return Ok(());
-        }
-        self.spool.push(bytes)
-    }
-
-    /// Whether memory may hold the bytes too.
-    fn has_room(&self, bytes: &[u8]) -> bool {
-        bytes.len() <= MOST_IN_MEMORY && self.front.len() <= MOST_IN_MEMORY - bytes.len()
+        Ok(self.backlog.push(bytes)?)
     }
 
     /// Whether the socket hasn't taken all bytes yet.
     pub fn owes(&self) -> bool
         ensures { result ≡ false → IsAtEnd (owed S.held self.now) }
     {
-        self.sent < self.front.len() || !self.spool.is_empty()
+        !self.backlog.is_empty()
     }
 
     /// How many bytes the socket took, up to 2^64 - 1.

@@ -6,15 +6,12 @@ ghost use Rattle.dep_sockets.specs.Outcomes.{outcome_at};
 
 use crate::door::Door;
 use dep_host::laws::hosts_make_a_run;
-use dep_host::{Ended, Events, Host, HostLog, Limits, serve};
+use dep_host::{Ended, Events, Host, HostLog, Limits, MOST_READ, ReadBuffer, serve};
 use dep_hub::laws::nothing_held;
 use dep_hub::{Archive, Hub};
 use dep_outbox::{Sink, Source, Spool};
 use dep_program::Outcome;
 use std::alloc::Global;
-
-/// How many bytes are read at once.
-const MOST_READ: usize = 65_536;
 
 /// A log of a host that is told of its door, too.
 pub trait DoorLog: HostLog {
@@ -41,7 +38,7 @@ pub fn serve_hub<
         Ok(host) => host,
         Err(hub) => return (Outcome::StoreFault, hub.into_store()),
     };
-    let Ok(mut room) = vec![in alloc; 0u8; MOST_READ] else {
+    let Ok(mut buffer) = ReadBuffer::new(alloc, MOST_READ) else {
         return (Outcome::StoreFault, host.into_hub().into_store());
     };
     let is_open = door.open();
@@ -49,7 +46,7 @@ pub fn serve_hub<
     if !is_open {
         return (Outcome::TransferFault, host.into_hub().into_store());
     }
-    let ended = serve(&mut host, door, room.as_mut_slice(), log);
+    let ended = serve(&mut host, door, &mut buffer, log);
     let outcome = outcome_at(ended, door.was_cut());
     (outcome, host.into_hub().into_store())
 }

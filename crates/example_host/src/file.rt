@@ -6,7 +6,7 @@ ghost use Rattle.example_host.specs.Verdicts.{verdict_of, verdict_on};
 use crate::log::ScriptLog;
 use crate::script::{Script, Wrong};
 use crate::setting::{ScriptHost, host_of};
-use dep_host::serve;
+use dep_host::{ReadBuffer, serve};
 use example_player::{ExampleArchive, Verdict};
 use example_text::{Trouble, Words};
 use std::alloc::Global;
@@ -134,9 +134,11 @@ fn play_over<A: ExampleArchive>(
     let Ok(roll) = Rc::clone(&log.roll) else {
         return Err(no_memory());
     };
+    let Ok(mut buffer) = ReadBuffer::new(alloc, ROOM) else {
+        return Err(no_memory());
+    };
     let mut script = Script::new(alloc, words, lines, roll);
-    let mut room = [0u8; ROOM];
-    let _ended = serve(host, &mut script, &mut room, &mut log);
+    let _ended = serve(host, &mut script, &mut buffer, &mut log);
     script.outcome()
 }
 

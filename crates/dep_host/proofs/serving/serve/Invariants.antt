@@ -1,5 +1,3 @@
-use Rattle.std.proofs.Common.{◌≤◌, length}
-use Rattle.dep_hub.specs.Turns.{most_read}
 use Rattle.dep_host.specs.Meeting.{IsOffer, Met}
 use Rattle.dep_host.specs.declared.serving.Ended.TheVariants.{Spent}
 use Rattle.dep_host.proofs.serving.serve.Given as goal
@@ -8,5 +6,4 @@ abbrev pub invariant-loop : goal.invariant-loop
 invariant-loop g l = record {
   met : Met g.A.Archive.condition g.R.Source.unread g.K.Sink.taken g.S.Spool.held g.L.HostLog.notes (g.E.Events.given l.fn.events) (g.E.Events.given l.events) l.fn.host l.host l.fn.log l.log Spent;
   vacant : IsOffer l.host l.now.vacancy;
-  room : length l.room ≤ most_read;
 }

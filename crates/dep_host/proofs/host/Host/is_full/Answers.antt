@@ -1,11 +1,13 @@
-use Rattle.std.proofs.Common.{arith}
-use Rattle.dep_host.proofs.HostLemmas.{kept_more}
+use Rattle.std.proofs.Common.{ap, arith}
+use Rattle.dep_host.specs.Hosting.{unfinished_of}
+use Rattle.dep_host.proofs.HostLemmas.{kept_more, slot_read}
 use Rattle.dep_host.proofs.host.Host.is_full.Goals as goal
 
 pub loop-at-preserved : goal.loop-at-preserved
 loop-at-preserved g c =
     let more = kept_more c.args.self.now.seats.items c.loop-at.at (omega arith) in
+    let here = ap (λ s. unfinished_of s) (slot_read c.loop-at.at c.args.self.now.seats.items _ (omega arith) c.index.ensures) in
     record {
-      sum = omega (arith, more, c.loop-at.invariant.sum, c.unfinished.ensures);
+      sum = omega (arith, more, here, c.loop-at.invariant.sum, c.unfinished.ensures);
       small = omega (arith, c.loop-at.invariant.small);
     }

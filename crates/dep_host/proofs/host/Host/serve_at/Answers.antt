@@ -1,22 +1,45 @@
-use Rattle.std.proofs.Common.{ℕ, Option, is_some, sym, ap, ◌∙◌}
-use Rattle.dep_host.proofs.HostLemmas.{after_begin, closes_served, stays_on}
+use Rattle.std.proofs.Common.{None, refl, sym, ◌∙◌}
+use Rattle.std.proofs.lemmas.List.{get_or-set_same, get_or-set_other}
+use Rattle.dep_host.proofs.HostLemmas.{there_still, slot_read, served, served_none, closes_there, closes_served, time_there, stays_after, stays_set}
 use Rattle.dep_host.proofs.host.Host.serve_at.Goals as goal
 
-pub returns-in-Some-clause-goes : goal.returns-in-Some-clause-goes
-returns-in-Some-clause-goes g c =
-    closes_served g.A.Archive.condition g.R.Source.unread g.K.Sink.taken g.S.Spool.held _ _ _ c.args.at c.args.turn.now.time c.args.turn.now.is_full c.in-Some.closing _
-    (after_begin g.A.Archive.condition g.R.Source.unread g.K.Sink.taken g.S.Spool.held _ _ _ _ _ _ c.begin_turn.ensures.goes c.begin_turn.ensures.count c.take_turn.ensures.goes)
-    c.in-Some.ensures c.close.ensures.goes
+pub returns-in_default-clause-goes : goal.returns-in_default-clause-goes
+returns-in_default-clause-goes g c =
+    served_none g.A.Archive.condition g.R.Source.unread g.K.Sink.taken g.S.Spool.held _ _ c.args.at c.args.turn.now.time c.args.turn.now.is_full c.index_mut.result.now refl refl refl refl c.requires.there c.index_mut.ensures.value
 
 pub returns-clause-goes : goal.returns-clause-goes
 returns-clause-goes g c =
-    after_begin g.A.Archive.condition g.R.Source.unread g.K.Sink.taken g.S.Spool.held _ _ _ _ _ _ c.begin_turn.ensures.goes c.begin_turn.ensures.count c.take_turn.ensures.goes
+    let begins = c.begin_turn.ensures in
+    served g.A.Archive.condition g.R.Source.unread g.K.Sink.taken g.S.Spool.held _ _ c.args.at c.args.turn.now.time c.args.turn.now.is_full c.args.turn.now.is_shut c.in-Some.seat c.begin_turn.new.self c.take_turn.new.self
+    c.requires.there (slot_read _ _ _ c.requires.there c.index_mut.ensures.value ∙ c.in-Some.is) refl refl refl begins.same begins.opens begins.ended begins.unfinished c.requires.shut c.take_turn.ensures.turn
 
-pub take_turn-requires-clause-shut : goal.take_turn-requires-clause-shut
-take_turn-requires-clause-shut g c = c.requires.shut ∙ ap (λ (o : Option ℕ). is_some o) (sym c.begin_turn.ensures.stays.shut)
+pub returns-clause-here : goal.returns-clause-here
+returns-clause-here g c =
+    time_there _ c.args.at c.args.turn.now.time.second c.args.self.now.limits c.take_turn.new.self (get_or-set_same _ c.args.at _ None c.requires.there) (sym c.in_default-closing.is ∙ c.closing-closing.ensures)
 
-pub returns-in-Some-clause-stays : goal.returns-in-Some-clause-stays
-returns-in-Some-clause-stays g c = stays_on _ _ _ (stays_on _ _ _ c.begin_turn.ensures.stays c.take_turn.ensures.stays) c.close.ensures.stays
+pub returns-clause-others : goal.returns-clause-others
+returns-clause-others g c = λ place ne. get_or-set_other _ c.args.at place _ None ne
 
 pub returns-clause-stays : goal.returns-clause-stays
-returns-clause-stays g c = stays_on _ _ _ c.begin_turn.ensures.stays c.take_turn.ensures.stays
+returns-clause-stays g c = stays_set _ _ c.args.at _ refl refl refl refl
+
+pub close-requires-clause-there : goal.close-requires-clause-there
+close-requires-clause-there g c = there_still _ c.args.at _ c.requires.there
+
+pub close-requires-clause-done : goal.close-requires-clause-done
+close-requires-clause-done g c =
+    closes_there _ c.args.at c.args.turn.now.time.second c.take_turn.new.self c.in-Some-closing.closing (get_or-set_same _ c.args.at _ None c.requires.there) (sym c.in-Some-closing.is ∙ c.closing-closing.ensures)
+
+pub returns-in-Some-closing-clause-goes : goal.returns-in-Some-closing-clause-goes
+returns-in-Some-closing-clause-goes g c =
+    let begins = c.begin_turn.ensures in
+    closes_served g.A.Archive.condition g.R.Source.unread g.K.Sink.taken g.S.Spool.held _ _ _ c.args.at c.args.turn.now.time c.args.turn.now.is_full c.in-Some-closing.closing _ c.close.ensures.goes
+    (closes_there _ c.args.at c.args.turn.now.time.second c.take_turn.new.self c.in-Some-closing.closing (get_or-set_same _ c.args.at _ None c.requires.there) (sym c.in-Some-closing.is ∙ c.closing-closing.ensures))
+    (served g.A.Archive.condition g.R.Source.unread g.K.Sink.taken g.S.Spool.held _ _ c.args.at c.args.turn.now.time c.args.turn.now.is_full c.args.turn.now.is_shut c.in-Some.seat c.begin_turn.new.self c.take_turn.new.self
+    c.requires.there (slot_read _ _ _ c.requires.there c.index_mut.ensures.value ∙ c.in-Some.is) refl refl refl begins.same begins.opens begins.ended begins.unfinished c.requires.shut c.take_turn.ensures.turn)
+
+pub returns-in-Some-closing-clause-others : goal.returns-in-Some-closing-clause-others
+returns-in-Some-closing-clause-others g c = λ place ne. c.close.ensures.others place ne ∙ get_or-set_other _ c.args.at place _ None ne
+
+pub returns-in-Some-closing-clause-stays : goal.returns-in-Some-closing-clause-stays
+returns-in-Some-closing-clause-stays g c = stays_after _ _ _ c.args.at _ c.close.ensures.stays refl refl refl refl

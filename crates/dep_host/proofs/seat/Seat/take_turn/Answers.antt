@@ -1,9 +1,7 @@
-use Rattle.std.proofs.Common.{◌||◌, Bool, nat_lt, refl, ap, ◌∙◌, arith}
-use Rattle.std.proofs.Math.Bool.{true-or}
 use Rattle.dep_host.proofs.SeatLemmas.{counted}
 use Rattle.dep_host.proofs.seat.Seat.take_turn.Goals as goal
 
 pub returns-clause-turn : goal.returns-clause-turn
 returns-clause-turn g c =
-    counted g.A.Archive.condition g.R.Source.unread g.K.Sink.taken g.S.Spool.held c.args.hub.now c.act.new.hub c.args.self.now c.act.new.self _ c.args.turn.now.time.moment c.args.turn.now.is_full c.args.turn.now.is_shut
-    c.act.ensures.turn refl refl c.count.ensures.phase (λ h. c.count.ensures.has_moved ∙ (ap (λ (b : Bool). b || nat_lt 0 c.saturating_sub-sent.result) h ∙ true-or (nat_lt 0 c.saturating_sub-sent.result))) (omega (arith, c.count.ensures.moved)) c.count.ensures.unfinished
+    counted g.A.Archive.condition g.R.Source.unread g.K.Sink.taken g.S.Spool.held c.args.hub.now c.act.new.hub c.args.self.now c.act.new.self _ c.saturating_sub-sent.result c.args.turn.now.time.moment c.args.turn.now.is_full c.args.turn.now.is_shut
+    c.act.ensures.turn c.count.ensures

@@ -1,13 +1,11 @@
-use Rattle.std.proofs.Common.{◌≤◌, ◌<◌, ℕ, length}
-use Rattle.dep_hub.specs.Turns.{most_read}
+use Rattle.std.proofs.Common.{◌<◌, ℕ}
 use Rattle.dep_host.specs.Hosting.{HasTime, Stays, position, slot}
 use Rattle.dep_host.proofs.HostLemmas.{RoundSoFar}
-use Rattle.dep_host.proofs.host.Host.serve_each.Given as goal
+use Rattle.dep_host.proofs.host.Host.round.Given as goal
 
 abbrev pub invariant-loop-at : goal.invariant-loop-at
 invariant-loop-at g l = record {
   goes : RoundSoFar g.A.Archive.condition g.R.Source.unread g.K.Sink.taken g.S.Spool.held (position l.fn.self) (position l.self) l.at l.turn.time l.turn.is_full;
   left : (place : ℕ) → place < l.at → HasTime l.turn.time.second l.self.limits (slot place l.self.seats.items);
-  room : length l.room ≤ most_read;
   stays : Stays l.fn.self l.self;
 }

@@ -1,0 +1,35 @@
+//! What bytes are read into.
+ghost use Rattle.std.specs.Prelude.{◌≡◌, ◌≤◌, IfOk, length, min};
+ghost use Rattle.dep_hub.specs.Turns.{most_read};
+ghost use Rattle.dep_outbox.specs.Sockets.{Receives};
+
+use dep_outbox::{Received, Source};
+use std::alloc::{AllocError, Global};
+
+/// How many bytes are read at once at most.
+pub const MOST_READ: usize = 65_536;
+
+/// What bytes are read into, a piece of one connection at a time.
+#[derive(Drop)]
+pub struct ReadBuffer {
+    pub(crate) bytes: Vec<u8>,
+    ghost small: { length bytes.items ≤ most_read },
+}
+
+impl ReadBuffer {
+    /// A buffer of so many bytes, up to `MOST_READ`.
+    pub fn new(alloc: Global, size: usize) -> Result<ReadBuffer, AllocError>
+        ensures { IfOk result (λ buffer. length buffer.bytes.items ≡ min size MOST_READ) }
+    {
+        let bytes = vec![in alloc; 0u8; size.min(MOST_READ)]?;
+        Ok(ReadBuffer { bytes })
+    }
+
+    /// Receives what is there, into a front of it.
+    pub(crate) fn receive<R: Source>(&mut self, source: &mut R) -> Received
+        ensures { Receives (R.unread source.old) (R.unread source.new) self.new.bytes.items
+            result }
+    {
+        source.receive(self.bytes.as_mut_slice())
+    }
+}
