@@ -16,7 +16,7 @@ use itoa::Buffer;
 use std::alloc::{AllocError, Global};
 
 /// The greatest number that a table can hold.
-const GREATEST_NUMBER: u64 = 9_223_372_036_854_775_807;
+const GREATEST_KEY: u64 = 9_223_372_036_854_775_807;
 
 pub(crate) const BAGIT: &str = "bagit.txt";
 
@@ -130,7 +130,7 @@ fn number_written(digits: &[u8]) -> Option<u64>
     ensures told { result ≡ number_written digits.now }
     ensures fits { IfSome result IsStorable }
 {
-    match decimal(digits, GREATEST_NUMBER) {
+    match decimal(digits, GREATEST_KEY) {
         Number::Value(number) => Some(number),
         Number::Above | Number::NotDigits => None,
     }

@@ -9,7 +9,8 @@ use Rattle.dep_types.specs.Maps.{Numbered, first_of}
 use Rattle.dep_types.specs.State.{Texts, Upload}
 use Rattle.dep_types.specs.declared.refusal.Refusal.{Refusal}
 use Rattle.dep_docs_in.specs.Fit.{IsKept, AreKept}
-use Rattle.dep_decisions.specs.Effects.{at, joined, without}
+use Rattle.dep_types.specs.MetadataEntries.{joined}
+use Rattle.dep_decisions.specs.Effects.{at, without}
 use Rattle.dep_decisions.specs.Rules.{unless}
 
 -- ---- rules that were passed

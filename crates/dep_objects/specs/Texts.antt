@@ -8,7 +8,7 @@ use Rattle.sqlite_value.specs.Order.{Row}
 use Rattle.dep_types.specs.State.{State, Object, Texts}
 use Rattle.dep_types.specs.declared.store_fault.StoreFault.{StoreFault}
 use Rattle.dep_types.specs.declared.store_fault.StoreFault.TheVariants.{Memory}
-use Rattle.dep_decisions.specs.Effects.{joined}
+use Rattle.dep_types.specs.MetadataEntries.{joined}
 use Rattle.dep_tables.specs.Clauses.{FailsToRead}
 use Rattle.dep_tables.specs.Rows.{IsMetadataRow}
 use Rattle.dep_tables.specs.Texts.{metadata_of_text}

@@ -5,7 +5,8 @@ use Rattle.dep_tables.specs.Tables.{tables_of}
 use Rattle.dep_tables.proofs.Results.{ok_then}
 use Rattle.dep_row_maps.specs.TablesAre.{with_object}
 use Rattle.dep_row_maps.proofs.Lens.{get_here}
-use Rattle.dep_decisions.specs.Effects.{joined, with_texts}
+use Rattle.dep_types.specs.MetadataEntries.{joined}
+use Rattle.dep_decisions.specs.Effects.{with_texts}
 use Rattle.dep_changes.proofs.Steps.{texts_of_row, its_number, at_number, rewritten, written_again}
 use Rattle.std.proofs.Common.{◌≡◌, ◌≢◌, ◌⊎◌, subst, sym}
 use Rattle.dep_types.specs.State.{Texts}
