@@ -5,19 +5,19 @@ ghost use Rattle.dep_types.specs.Writing.{HasRisen};
 ghost use Rattle.dep_hub.specs.Machine.{SendsUpTo, want_of_memory};
 ghost use Rattle.dep_message.specs.Places.{Reading, shut_reading, left_to_read};
 ghost use Rattle.dep_hub.specs.Sending.{outside_of};
-ghost use Rattle.dep_hub.specs.Serving.{ServesOver, IsDeadIfShut, arrival_with, answer_after};
+ghost use Rattle.dep_hub.specs.Serving.{ServesOver, KeepsIntake, arrival_with, answer_after};
 ghost use Rattle.dep_hub.specs.Nexts.{AnswersNext, ended_as};
 
 use crate::access_log::{AccessLog, NoLog};
 use crate::archive::Archive;
 use crate::arrived::Arrived;
 use crate::next::Next;
-use crate::sending::{Answered, send_want_of_memory};
+use crate::sending::{Answered, send_fault};
 use crate::site::{Context, Site};
 use crate::step::{StreamRefusal, answer_continue, answer_fault, answer_message};
 use dep_message::{Intake, Step, closes};
 use dep_moment::Moment;
-use dep_types::Outlet;
+use dep_types::{Outlet, StoreFault};
 use std::alloc::AllocError;
 
 /// A piece of a connection's stream, and when it came.
@@ -39,8 +39,7 @@ pub(crate) fn serve<A: Archive, O: Outlet>(
         (arrival_with intake.old piece.now)
         (outside_of O.Outlet out.old (A.condition store.old))
         (outside_of O.Outlet out.new (A.condition store.new)) intake.new.place result }
-    ensures limit { intake.new.limit ≡ intake.old.limit }
-    ensures dead { IsDeadIfShut intake.old → IsDeadIfShut intake.new }
+    ensures keeps { KeepsIntake intake.old intake.new }
     ensures there { result ≢ Arrived.NoSuch }
 {
     if let Err(AllocError) = intake.feed(piece.bytes) {
@@ -73,8 +72,7 @@ pub(crate) fn answer_next<A: Archive, O: Outlet, L: AccessLog>(
         (outside_of O.Outlet out.old (A.condition store.old))
         (outside_of O.Outlet out.new (A.condition store.new))
         intake.new.place result }
-    ensures limit { intake.new.limit ≡ intake.old.limit }
-    ensures dead { IsDeadIfShut intake.old → IsDeadIfShut intake.new }
+    ensures keeps { KeepsIntake intake.old intake.new }
     ensures less { result ≡ Next.More
         → left_to_read intake.new.place < left_to_read intake.old.place }
 {
@@ -127,9 +125,8 @@ pub(crate) fn give_up<O: Outlet, L: AccessLog>(
         × SendsUpTo want_of_memory sent result }
     ensures shut { intake.new ≡ shut_reading intake.old }
     ensures cause { result ≡ Arrived.Cut → HasRisen (O.failures out.old) (O.failures out.new) }
-    ensures there { result ≢ Arrived.NoSuch }
 {
-    let answer = send_want_of_memory(out, log);
+    let answer = send_fault(StoreFault::Memory, out, log);
     end(intake, answer)
 }
 

@@ -49,7 +49,7 @@ returns-in-Err-refused g c =
           (stays_as new (tick config s c.args.context.now.moment) (g.met.A.Archive.settled c.tick.new.self) t.1);
     })
     (λ sent answer h. h) (λ disk none. absurd (none (c.in-Ok.ensures.shut.opened disk)))
-    c.send_fault.result c.send_fault.ensures.sends c.send_fault.ensures.cause
+    c.send_fault.result c.send_fault.ensures
 
 pub returns-in-Err : goal.returns-in-Err
 unfolding step
@@ -64,4 +64,4 @@ returns-in-Err g c =
       stop = leaves_wider new _ _ (λ found e. elim e [ inl same ↦ inl same | inr next ↦ inr (inl next) ]) ((rw c.config.ensures at c.tick.ensures.does).stop disk s stands tt);
     })
     (λ sent answer h. h) c.tick.ensures.shut.left
-    c.send_fault-in-Err.result c.send_fault-in-Err.ensures.sends c.send_fault-in-Err.ensures.cause
+    c.send_fault-in-Err.result c.send_fault-in-Err.ensures

@@ -46,7 +46,7 @@ returns-in-Err-answer_routed g c =
       stop = leaves_wider new _ _ (λ found e. inr e) (c.answer_routed.ensures.stop disk (tick config s c.args.context.now.moment) t.1 tt);
     })
     (λ sent answer h. h) (λ disk none. absurd (none (c.in-Ok.ensures.shut.opened (c.answer_routed.ensures.honest disk))))
-    c.send_fault.result c.send_fault.ensures.sends c.send_fault.ensures.cause
+    c.send_fault.result c.send_fault.ensures
 
 pub returns-in-Err : goal.returns-in-Err
 unfolding step
@@ -61,4 +61,4 @@ returns-in-Err g c =
       stop = leaves_wider new _ _ (λ found e. elim e [ inl same ↦ inl same | inr next ↦ inr (inl next) ]) ((rw c.config.ensures at c.tick.ensures.does).stop disk s stands tt);
     })
     (λ sent answer h. h) c.tick.ensures.shut.left
-    c.send_fault-in-Err.result c.send_fault-in-Err.ensures.sends c.send_fault-in-Err.ensures.cause
+    c.send_fault-in-Err.result c.send_fault-in-Err.ensures

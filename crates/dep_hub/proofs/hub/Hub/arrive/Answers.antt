@@ -16,7 +16,7 @@ returns-clause-arrival g c =
     let store = c.serve.new.store in
     comes_to g.A.Archive.condition c.args.self.now _ c.args.connection c.in-Some.i c.args.piece.now c.args.moment c.index_mut-kept.result.now c.serve.new.intake
     ((λ i. index_of (sym c.number.ensures i) (sym c.as_slice.ensures.value i)) ∙ sym c.in-Some.ensures.value)
-    c.index_mut-kept.ensures.value refl refl c.serve.ensures.limit c.serve.ensures.dead
+    c.index_mut-kept.ensures.value refl refl c.serve.ensures.keeps.limit c.serve.ensures.keeps.dead
     (g.met.A.Archive.honest_if_open store)
     (g.met.A.Archive.settled store)
     (g.O.Outlet.taken c.args.out.now) (g.O.Outlet.taken c.serve.new.out) (g.O.Outlet.failures c.args.out.now) (g.O.Outlet.failures c.serve.new.out) c.serve.result c.serve.ensures.there c.serve.ensures.served
