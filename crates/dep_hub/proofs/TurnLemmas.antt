@@ -8,7 +8,8 @@ use Rattle.dep_types.specs.Reading.{end_of_read}
 use Rattle.dep_types.specs.declared.inlet.ReadFailed.{ReadFailed}
 use Rattle.dep_types.specs.declared.inlet.LastRead.TheVariants.{Bytes, Nothing}
 use Rattle.dep_hub.specs.Turns.{most_read}
-use Rattle.dep_hub.specs.Standing.{ArrivesOver, IsArrival}
+use Rattle.dep_hub.specs.Standing.{ArrivesOver, IsArrival, GoesOnAs}
+use Rattle.dep_hub.specs.Holding.{RestsOn}
 use Rattle.dep_hub.specs.Conversation.{Session, OneTurn, NoTurn}
 use Rattle.dep_hub.specs.declared.hub.Hub.{Hub}
 use Rattle.dep_hub.specs.declared.arrived.Arrived.{Arrived}
@@ -61,6 +62,23 @@ keeps_itself None = tt
 keeps_itself (Some xs) = refl
 
 module _ {A : Type 0} (condition : A → Condition) where
+  -- nothing is asked of a hub
+  pub goes_same : (hub : Hub A) → GoesOnAs condition hub hub
+  goes_same hub = record { config = refl; next = refl; clean = λ h. h; honest = λ h. h }
+
+  -- one call, and another
+  pub goes_then : {old mid new : Hub A} → GoesOnAs condition old mid → GoesOnAs condition mid new → GoesOnAs condition old new
+  goes_then a b = record {
+    config = b.config ∙ a.config;
+    next = b.next ∙ a.next;
+    clean = λ h. a.clean (b.clean h);
+    honest = λ h. a.honest (b.honest h);
+  }
+
+  -- the store worked ahead
+  pub goes_ahead : {old new : Hub A} → RestsOn condition old new → GoesOnAs condition old new
+  goes_ahead r = record { config = r.config; next = r.next; clean = r.store.was_open; honest = r.store.honest }
+
   -- an arrival, and then the outlet was flushed
   pub arrives_flushed : (held sends holds : Option (List ℕ)) (failures fails failed : ℕ) (old new : Hub A) (number : ℕ) (piece : List ℕ) (moment : ℕ) (answer : Arrived)
       → Keeps sends holds → failed ≡ fails → ArrivesOver condition held sends failures fails old new number piece moment answer
@@ -69,6 +87,9 @@ module _ {A : Type 0} (condition : A → Condition) where
     sent = a.sent;
     appends = Appends-kept held sends holds a.sent a.appends kept;
     arrival = subst (λ (n : ℕ). IsArrival condition old new number piece moment a.sent failures n answer) (sym same) a.arrival;
+    goes = a.goes;
+    was_there = a.was_there;
+    is_there = a.is_there;
   }
 
   -- a piece was read, and it arrived
@@ -99,6 +120,7 @@ module _ {A : Type 0} (condition : A → Condition) where
         small = small_read n buffer given items fits long b same room;
         transfers = record { pieces = read; replies = came.appends };
         ticked = ticked;
+        goes = came.goes;
       }
 
   -- nothing was read

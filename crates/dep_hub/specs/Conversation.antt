@@ -10,7 +10,7 @@ use Rattle.dep_types.specs.declared.inlet.LastRead.{LastRead}
 use Rattle.dep_types.specs.declared.inlet.LastRead.TheVariants as read
 use Rattle.dep_types.specs.declared.outlet.Outlet as outlet
 use Rattle.dep_hub.specs.Records.{World, Connect, Close, Record, stopped, Run, first_world}
-use Rattle.dep_hub.specs.Standing.{StandsAt, StandsAfter, IsClean, IsHonest, Moves, IsArrival, intake_of, store_of}
+use Rattle.dep_hub.specs.Standing.{StandsAt, StandsAfter, IsClean, IsHonest, Moves, IsArrival, GoesOnAs, intake_of, store_of}
 use Rattle.dep_hub.specs.Turns.{Turn, pieces_of, replies_of, record_of, records_of, most_read, most_reads, reads_made, reads_after, HasLastRead, ArePieces, last_answer, with_opened, with_closed, Exchanges, LeftByExchanges, EndsAs}
 use Rattle.dep_hub.specs.Archives.{KeepsAll}
 use Rattle.dep_hub.specs.Shut.{LeavesNoMore, IfShut, SendsFixed}
@@ -139,6 +139,7 @@ module _ {A : Type 0} (condition : A → Condition) where
     pub transfers : Transfers before.wire after.wire (pieces_of turns) (replies_of turns)
     pub moments : Clocks ticks before.clock turns after.clock
     pub answered : last_answer turns ≡ answer
+    pub goes : GoesOnAs condition before.hub after.hub
 
   -- one turn
   pub record OneTurn {C : Type 0} (ticks : C → ℕ → C → Type 0)
@@ -155,6 +156,7 @@ module _ {A : Type 0} (condition : A → Condition) where
     pub small : length piece ≤ most_read
     pub transfers : Transfers before.wire after.wire piece sent
     pub ticked : ticks before.clock moment after.clock
+    pub goes : GoesOnAs condition before.hub after.hub
 
   -- one turn that leaves the connection open, behind which the store works ahead
   pub record OpenTurn {C : Type 0} (ticks : C → ℕ → C → Type 0)
@@ -162,6 +164,7 @@ module _ {A : Type 0} (condition : A → Condition) where
     pub served : Hub A
     pub turn : OneTurn ticks number before (session served after.wire after.clock) StaysOpen
     pub ahead : WorksAhead served after.hub
+    pub goes : GoesOnAs condition before.hub after.hub
 
   -- nothing was read
   pub record NoTurn {C : Type 0} (before after : Session A C) : Type 0 where
