@@ -1,5 +1,5 @@
 -- One connection over a reader and an outlet, from its opening to its close.
-use Rattle.std.specs.Prelude.{◌<◌, ◌≤◌, ◌+◌, length, ◌≡◌, ℕ, List, [], ◌∷◌, ◌++◌, Option, Some, None, map}
+use Rattle.std.specs.Prelude.{◌<◌, ◌≤◌, ◌+◌, length, ◌≡◌, ℕ, List, [], ◌∷◌, ◌++◌, Option, Some, None, IsSome, map}
 use Rattle.std.specs.List.{FoldsTo}
 use Rattle.std.specs.Io.KnownBytes.{Appends, Consumes, Keeps, IsAtEnd}
 use Rattle.dep_types.specs.State.{State}
@@ -90,6 +90,12 @@ abbrev pub standing : {R W A C : Type 0} → (g : inlet.Ghosts R) → (h : outle
 standing g h hub reader writer clock = session hub
     (wire (g.unread reader) (g.reads reader) (g.last reader) (h.taken writer) (h.failures writer))
     clock
+
+-- a turn may follow: the connection is there, and the clock can be asked
+pub record CanGoOn {A C : Type 0} (callable : C → Type 0) (number : ℕ) (hub : Hub A) (clock : C)
+    : Type 0 where
+  pub there : IsSome (intake_of hub.connections.items number)
+  pub call : callable clock
 
 module _ {A : Type 0} (condition : A → Condition) where
   -- for all records that it stood for, the hub stands for them with these after them, if its store

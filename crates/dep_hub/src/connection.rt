@@ -2,7 +2,7 @@
 ghost use Rattle.std.specs.Prelude.{◌≡◌, ◌<◌, IsSome, length};
 ghost use Rattle.dep_hub.specs.Standing.{intake_of, ServesAs};
 ghost use Rattle.dep_hub.specs.Turns.{most_read};
-ghost use Rattle.dep_hub.specs.Conversation.{standing, ConversesOver, TalksUntil, TurnsTo, next_after};
+ghost use Rattle.dep_hub.specs.Conversation.{standing, ConversesOver, CanGoOn, TalksUntil, TurnsTo, next_after};
 ghost use Rattle.dep_hub.specs.Flushing.{IsFlushed};
 
 use crate::archive::Archive;
@@ -84,8 +84,7 @@ fn converse<A: Archive, R: Inlet, W: Flush, C: FnMut() -> Moment>(
     clock: &mut C,
     incoming: &mut Incoming,
 ) -> Served
-    requires call { C.IsAlwaysCallable clock.old }
-    requires there { IsSome (intake_of hub.old.connections.items incoming.old.connection) }
+    requires { CanGoOn C.IsAlwaysCallable incoming.old.connection hub.old clock.old }
     ensures talks { TalksUntil A.condition C.step incoming.old.connection
         (standing R.Inlet W.Outlet hub.old reader.old writer.old clock.old)
         (standing R.Inlet W.Outlet hub.new reader.new writer.new clock.new) result }
@@ -108,8 +107,7 @@ fn turn<A: Archive, R: Inlet, W: Flush, C: FnMut() -> Moment>(
     clock: &mut C,
     incoming: &mut Incoming,
 ) -> Option<Served>
-    requires call { C.IsAlwaysCallable clock.old }
-    requires there { IsSome (intake_of hub.old.connections.items incoming.old.connection) }
+    requires { CanGoOn C.IsAlwaysCallable incoming.old.connection hub.old clock.old }
     ensures there { IsSome (intake_of hub.new.connections.items incoming.old.connection) }
     ensures same { incoming.new.connection ≡ incoming.old.connection }
     ensures turn { TurnsTo A.condition C.step incoming.old.connection

@@ -1,12 +1,9 @@
 //! One arrival: the items that are complete now are answered in order.
-ghost use Rattle.std.specs.Prelude.{◌≡◌, ◌≢◌, ◌<◌, ℕ, List};
-ghost use Rattle.std.specs.Io.KnownBytes.{Appends};
-ghost use Rattle.dep_types.specs.Writing.{HasRisen};
-ghost use Rattle.dep_hub.specs.Machine.{SendsUpTo, want_of_memory};
-ghost use Rattle.dep_message.specs.Places.{Reading, shut_reading, left_to_read};
+ghost use Rattle.std.specs.Prelude.{◌≡◌, ◌≢◌};
+ghost use Rattle.dep_message.specs.Places.{shut_reading};
 ghost use Rattle.dep_hub.specs.Sending.{outside_of};
 ghost use Rattle.dep_hub.specs.Serving.{ServesOver, KeepsIntake, arrival_with, answer_after};
-ghost use Rattle.dep_hub.specs.Nexts.{AnswersNext, ended_as};
+ghost use Rattle.dep_hub.specs.Nexts.{TakesNext, TellsWant, ended_as};
 
 use crate::access_log::{AccessLog, NoLog};
 use crate::archive::Archive;
@@ -68,13 +65,9 @@ pub(crate) fn answer_next<A: Archive, O: Outlet, L: AccessLog>(
     out: &mut O,
     log: &mut L,
 ) -> Next
-    ensures answers { AnswersNext context.now.site.now intake.old context.now.moment
+    ensures { TakesNext context.now.site.now intake.old intake.new context.now.moment
         (outside_of O.Outlet out.old (A.condition store.old))
-        (outside_of O.Outlet out.new (A.condition store.new))
-        intake.new.place result }
-    ensures keeps { KeepsIntake intake.old intake.new }
-    ensures less { result ≡ Next.More
-        → left_to_read intake.new.place < left_to_read intake.old.place }
+        (outside_of O.Outlet out.new (A.condition store.new)) result }
 {
     match intake.next() {
         Err(AllocError) => last(give_up(intake, out, log)),
@@ -121,10 +114,8 @@ pub(crate) fn give_up<O: Outlet, L: AccessLog>(
     out: &mut O,
     log: &mut L,
 ) -> Arrived
-    ensures sent { (sent : List ℕ) × Appends (O.taken out.old) (O.taken out.new) sent
-        × SendsUpTo want_of_memory sent result }
-    ensures shut { intake.new ≡ shut_reading intake.old }
-    ensures cause { result ≡ Arrived.Cut → HasRisen (O.failures out.old) (O.failures out.new) }
+    ensures { TellsWant (O.taken out.old) (O.taken out.new)
+        (O.failures out.old) (O.failures out.new) intake.old intake.new result }
 {
     let answer = send_fault(StoreFault::Memory, out, log);
     end(intake, answer)

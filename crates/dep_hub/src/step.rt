@@ -132,7 +132,7 @@ fn answer_routed<A: Archive>(
     let alloc = site.alloc();
     let mut message = message;
     let path = message.head.take_path();
-    match site.route(message.head.method(), path) {
+    match site.routes.route(message.head.method(), path) {
         Routed::To(target) => perform_operation(site.service(), store, message, target),
         Routed::NotFound => {
             drop(message);
