@@ -111,7 +111,10 @@ impl<A: Archive> Hub<A> {
         let number = self.next;
         let connection = Connection {
             number,
-            intake: Intake::new(self.config.alloc(), self.config.config().max_upload),
+            intake: Intake::new(
+                self.config.alloc(),
+                self.config.service().config().max_upload,
+            ),
         };
         if let Err(refused) = self.connections.push(connection) {
             drop(refused);

@@ -51,14 +51,7 @@ impl Site {
         self.service.alloc()
     }
 
-    /// The configuration.
-    pub fn config(&self) -> &Config
-        ensures { result.now ≡ self.now }
-    {
-        self.service.config()
-    }
-
-    /// The service.
+    /// The service, which has the configuration.
     pub fn service(&self) -> &Service
         ensures { result.now ≡ self.now }
     {

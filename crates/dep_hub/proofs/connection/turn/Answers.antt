@@ -3,7 +3,7 @@ use Rattle.dep_hub.specs.Conversation.{session, wire}
 use Rattle.dep_hub.specs.Standing.{intake_of}
 use Rattle.dep_hub.specs.declared.connections.Connection.{Connection}
 use Rattle.dep_hub.specs.declared.arrived.Arrived.TheVariants.{Open as StaysOpen, Closed as HasClosed, Cut}
-use Rattle.dep_hub.proofs.TurnLemmas.{arrives_flushed, one_turn, no_turn, none_read, gives_bytes, gives_none, has_room, kept_room, goes_then, goes_ahead}
+use Rattle.dep_hub.proofs.TurnLemmas.{arrives_flushed, one_turn, no_turn, none_read, gives_bytes, gives_none, has_room, goes_then, goes_ahead}
 use Rattle.dep_hub.proofs.connection.turn.Goals as goal
 use Rattle.dep_hub.proofs.connection.turn.Given as given
 

@@ -1,4 +1,3 @@
-use Rattle.std.proofs.Common.{refl}
 use Rattle.dep_hub.proofs.SendingLemmas.{given_uncut}
 use Rattle.dep_hub.proofs.sending.send_fault.Goals as goal
 
