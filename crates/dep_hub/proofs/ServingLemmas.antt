@@ -22,7 +22,7 @@ use Rattle.dep_hub.specs.Shut.{LeavesNoMore, IfShut, EndsFixed, has_ended}
 use Rattle.dep_hub.specs.Shut as fixed
 use Rattle.dep_hub.proofs.ShutLemmas.{leaves_same, leaves_both, shut_both, sends_up_to, is_fixed, continues_more, ends_fixed, sends_behind, sends_no_more}
 use Rattle.dep_hub.specs.declared.arrived.Arrived.{Arrived}
-use Rattle.dep_hub.specs.declared.arrived.Arrived.TheVariants.{Open as StaysOpen, Closed, Cut, NoSuch}
+use Rattle.dep_hub.specs.declared.arrived.Arrived.TheVariants.{Open as StaysOpen, Closed, Cut}
 use Rattle.dep_hub.specs.declared.sending.Answered.{Answered}
 use Rattle.dep_hub.specs.declared.sending.Answered.TheVariants.{Sent, GaveUp, CutShort}
 use Rattle.dep_hub.proofs.Leaving.{Settles, stays_as}
@@ -360,9 +360,3 @@ fed_dead reading piece dead = by_place reading.place dead
     by_place : (at : Place) → (at ≡ Shut → reading.is_dead ≡ true) → place_with at piece ≡ Shut → reading.is_dead ≡ true
     by_place (Open continued rest) d e = absurd (never_open continued (rest ++ piece) e)
     by_place Shut d e = d refl
-
--- an item was answered over a connection that is there
-pub never_such : (answer : Answered) → answer_after answer ≢ NoSuch
-never_such Sent e = cc
-never_such GaveUp e = cc
-never_such CutShort e = cc

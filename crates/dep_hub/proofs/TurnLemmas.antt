@@ -1,5 +1,5 @@
 -- One turn of a connection.
-use Rattle.std.proofs.Common.{◌≡◌, ◌≤◌, ◌<◌, ℕ, zero, suc, Ok, List, ◌++◌, length, take, drop, sym, ap, subst, ◌∙◌, arith, Option, Some, None, refl, take_at}
+use Rattle.std.proofs.Common.{◌≡◌, ◌≤◌, ◌<◌, ℕ, zero, suc, Ok, List, ◌++◌, length, take, sym, ap, subst, ◌∙◌, arith, Option, Some, None, refl, take_at}
 use Rattle.std.proofs.KnownBytes.{Appends-kept}
 use Rattle.std.specs.Io.KnownBytes.{Consumes, Keeps}
 use Rattle.dep_types.specs.Conditions.{Condition}
@@ -35,12 +35,6 @@ pub has_room : (buffer given items : List ℕ) → length buffer ≡ length give
 has_room buffer given items b same room =
     let known : length buffer ≡ most_read = b ∙ (ap (λ (xs : List ℕ). length xs) same ∙ room) in
     omega arith
-
--- the buffer that was read into is as long as it was
-pub kept_room : (len : ℕ) (buffer given items : List ℕ) → length buffer ≡ length given → given ≡ items → length given ≡ len → length items ≡ most_read
-    → length (take len (buffer ++ drop (length buffer) items)) ≡ most_read
-kept_room len buffer given items b same s room =
-    ap (λ (xs : List ℕ). length xs) (take_at buffer (drop (length buffer) items) len (b ∙ s)) ∙ (b ∙ (ap (λ (xs : List ℕ). length xs) same ∙ room))
 
 -- where no byte was read, the reader keeps what it had
 pub none_read : (n : ℕ) (buffer : List ℕ) (unread left : Option (List ℕ)) → n ≡ 0
