@@ -6,7 +6,7 @@ ghost use Rattle.dep_message.specs.Working.{HasLeft, IsAtHead, Keeps, FindsNext,
 ghost use Rattle.dep_message.specs.declared.progress.Progress.TheVariants.{Searched, Sized, Chunked};
 
 use crate::buffer::Buffer;
-use crate::first::{FirstHead, FramedHead, first_head, refusal_for};
+use crate::first::{FirstHead, FramedHead, SearchedBytes, first_head, refusal_for};
 use crate::heads::{is_hashed_early, is_without_body};
 use crate::message::Message;
 use crate::progress::{ChunkedRequest, Progress, SizedRequest};
@@ -86,7 +86,8 @@ impl Work {
         ensures { FindsNext self.old self.old.buffer self.new result }
     {
         let bytes = self.buffer.as_slice();
-        match first_head(self.alloc, self.limit, self.continued, searched, bytes)? {
+        let front = SearchedBytes { bytes, searched };
+        match first_head(self.alloc, self.limit, self.continued, front)? {
             FirstHead::Nothing => {
                 let searched = bytes.len();
                 self.keep_place(Progress::Searched(searched));
