@@ -102,20 +102,6 @@ module _ {A : Type 0} (condition : A → Condition) where
     pub rests : IsClean condition new → Leaves (store_of condition new) (λ found. found ≡ talked.state)
     pub stop : Leaves (store_of condition new) (LeftByExchanges exchanges)
 
-  pub talks_honest : (n : ℕ) (old new : Hub A) (failures failures_after : ℕ) (turns : List Turn) → Talks condition n old failures turns new failures_after → IsHonest condition new → IsHonest condition old
-  talks_honest n old new failures failures_after turns silent honest = honest
-  talks_honest n old new failures failures_after turns (turn {mid = mid} {before = between} {turns = before} t talks stays same a) honest =
-      talks_honest n old mid failures between before talks (a.honest honest)
-  talks_honest n old new failures failures_after turns (ahead {mid = mid} talks stays a) honest =
-      talks_honest n old mid failures failures_after turns talks (a.store.honest honest)
-
-  pub talks_clean : (n : ℕ) (old new : Hub A) (failures failures_after : ℕ) (turns : List Turn) → Talks condition n old failures turns new failures_after → IsClean condition new → IsClean condition old
-  talks_clean n old new failures failures_after turns silent clean = clean
-  talks_clean n old new failures failures_after turns (turn {mid = mid} {before = between} {turns = before} t talks stays same a) clean =
-      talks_clean n old mid failures between before talks (a.clean clean)
-  talks_clean n old new failures failures_after turns (ahead {mid = mid} talks stays a) clean =
-      talks_clean n old mid failures failures_after turns talks (a.store.was_open clean)
-
   -- one turn more, over a store that is open
   exchange_open : (config : Config) (n : ℕ) (mid new : Hub A) (between failures_after : ℕ) (before : List Turn) (t : Turn) (w : World) → last_answer before ≡ StaysOpen → mid.config ≡ config
       → IsArrival condition mid new n t.piece t.moment t.sent between failures_after t.answer → IsHonest condition new → IsClean condition mid

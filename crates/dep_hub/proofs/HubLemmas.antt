@@ -272,7 +272,7 @@ same_hub hub a i = record hub { ascends = Ascends-prop 0 hub.connections.items h
 
 module _ {A : Type 0} (condition : A → Condition) (old new : Hub A) (n i : ℕ) (piece : List ℕ) (moment : ℕ) (c : Connection) (now : Reading)
     (index : index_of n old.connections.items ≡ Some i) (item : c ≡ get_or old.connections.items i c)
-    (config : new.config ≡ old.config)
+    (config : new.config ≡ old.config) (next : new.next ≡ old.next)
     (changed : new.connections.items ≡ set old.connections.items i (record { number = c.number; intake = now }))
     (limit : now.limit ≡ c.intake.limit) (dead : IsDeadIfShut c.intake → IsDeadIfShut now) (law : IsClean condition new → IsHonest condition new) (settles : Settles (store_of condition new))
     (held holds : Option (List ℕ)) (failures failures_after : ℕ) where
@@ -349,6 +349,9 @@ module _ {A : Type 0} (condition : A → Condition) (old new : Hub A) (n i : ℕ
       answers = arrives_at answer v;
       shut = arrives_shut answer v;
     };
+    goes = record { config = config; next = next; clean = v.passes.clean; honest = v.passes.honest };
+    was_there = subst (λ (o : Option Reading). IsSome o) (sym (index_some n i old.connections.items c index item).1) refl;
+    is_there = subst (λ (cs : List Connection). IsSome (intake_of cs n)) (sym changed) (stays_there n i old.connections.items c index item now);
   }
 
   pub comes_to : (answer : Arrived) → answer ≢ NoSuch → Over answer → ComesTo condition held holds failures failures_after old new n piece moment answer

@@ -21,7 +21,7 @@ use Rattle.dep_hub.specs.declared.sending.Answered.{Answered}
 use Rattle.dep_hub.specs.declared.sending.Answered.TheVariants.{Sent, GaveUp, CutShort}
 use Rattle.dep_hub.proofs.Leaving.{Settles}
 use Rattle.dep_hub.proofs.SendingLemmas.{passes_none, passes_both, passes_at}
-use Rattle.dep_hub.proofs.ShutLemmas.{leaves_same, leaves_both, ends_sent}
+use Rattle.dep_hub.proofs.ShutLemmas.{leaves_same, leaves_both, ends_sent, there_sent}
 use Rattle.dep_hub.proofs.ServingLemmas.{served_more, serves_waiting, serves_last, serves_gives_up, first_at, answer_open}
 
 pub closed_more : next.Closed ≢ More
@@ -96,11 +96,11 @@ module _ (config : Config) (reading : Reading) (moment : ℕ) (old new : Outside
       (ends_by how (record { item = item; next = next; how = how; first = f; closes = e; answers = a; answer_is = refl }))
 
   -- memory ran out
-  pub ends_out : (ended : Arrived) → RunsOut reading.place old new ended → ended ≢ NoSuch → (n : Next) → n ≡ ended_as ended → AnswersNext config reading moment old new at n
-  ends_out StaysOpen o there n q = absurd (ends_sent want_of_memory o.sent o.sends)
-  ends_out Closed o there n q = subst (λ x. AnswersNext config reading moment old new at x) (sym q) (shut, inr (inl o))
-  ends_out Cut o there n q = subst (λ x. AnswersNext config reading moment old new at x) (sym q) (shut, inr (inl o))
-  ends_out NoSuch o there n q = absurd (there refl)
+  pub ends_out : (ended : Arrived) → RunsOut reading.place old new ended → (n : Next) → n ≡ ended_as ended → AnswersNext config reading moment old new at n
+  ends_out StaysOpen o n q = absurd (ends_sent want_of_memory o.sent o.sends)
+  ends_out Closed o n q = subst (λ x. AnswersNext config reading moment old new at x) (sym q) (shut, inr (inl o))
+  ends_out Cut o n q = subst (λ x. AnswersNext config reading moment old new at x) (sym q) (shut, inr (inl o))
+  ends_out NoSuch o n q = absurd (there_sent o.sends refl)
 
 -- nothing was read any more
 pub dead_ends : (config : Config) (reading : Reading) (moment : ℕ) (old : Outside) (now : Reading) → now ≡ reading → reading.place ≡ Shut

@@ -187,5 +187,8 @@ front_cut held holds before after store p bytes CutShort ready settles never fir
 pub sent_uncut : {P : Type 0} → Sent ≡ CutShort → P
 sent_uncut is = absurd (cc)
 
+pub given_uncut : {P : Type 0} → GaveUp ≡ CutShort → P
+given_uncut is = absurd (cc)
+
 pub cut_unsent : {P : Type 0} → CutShort ≡ Sent → P
 cut_unsent is = absurd (cc)

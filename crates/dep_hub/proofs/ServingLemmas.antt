@@ -22,7 +22,7 @@ use Rattle.dep_hub.specs.Shut.{LeavesNoMore, IfShut, EndsFixed, has_ended}
 use Rattle.dep_hub.specs.Shut as fixed
 use Rattle.dep_hub.proofs.ShutLemmas.{leaves_same, leaves_both, shut_both, sends_up_to, is_fixed, continues_more, ends_fixed, sends_behind, sends_no_more}
 use Rattle.dep_hub.specs.declared.arrived.Arrived.{Arrived}
-use Rattle.dep_hub.specs.declared.arrived.Arrived.TheVariants.{Open as StaysOpen, Closed, Cut, NoSuch}
+use Rattle.dep_hub.specs.declared.arrived.Arrived.TheVariants.{Open as StaysOpen, Closed, Cut}
 use Rattle.dep_hub.specs.declared.sending.Answered.{Answered}
 use Rattle.dep_hub.specs.declared.sending.Answered.TheVariants.{Sent, GaveUp, CutShort}
 use Rattle.dep_hub.proofs.Leaving.{Settles, stays_as}
@@ -116,10 +116,10 @@ module _ (config : Config) (old new : Outside) (item : Item) (moment : ℕ) (fau
     (gives : HasCleanDisk new.store → (s : State) → StandsFor old.store s → GivesUp config s item moment new.store)
     (asks : (sent : List ℕ) (answer : Answered) → IsFixedSent sent answer → IsAnsweredShut item sent answer)
     (shut : IfShut old.store new.store (LeavesNoMore old.store new.store)) where
-  pub answers_fixed : (answer : Answered) → SendsOver old.taken new.taken (reply_to fault) answer → (answer ≡ CutShort → HasRisen old.failures new.failures)
+  pub answers_fixed : (answer : Answered) → SendsOver old.taken new.taken old.failures new.failures (reply_to fault) answer
       → Answers config old new item moment answer
-  answers_fixed Sent x cause = absurd x.2
-  answers_fixed GaveUp x cause = record {
+  answers_fixed Sent x = absurd x.2
+  answers_fixed GaveUp x = record {
     sent = x.0;
     passes = record { appends = x.1; honest = honest; clean = clean };
     steps = λ disk s stands. let v = gives disk s stands in record {
@@ -131,7 +131,7 @@ module _ (config : Config) (old new : Outside) (item : Item) (moment : ℕ) (fau
     };
     shut = λ disk none. (asks x.0 GaveUp (reply_to fault, is_fixed fault, x.2), shut disk none);
   }
-  answers_fixed CutShort x cause = record {
+  answers_fixed CutShort x = record {
     sent = x.0;
     passes = record { appends = x.1; honest = honest; clean = clean };
     steps = λ disk s stands. let v = gives disk s stands in record {
@@ -139,7 +139,7 @@ module _ (config : Config) (old new : Outside) (item : Item) (moment : ℕ) (fau
       fails = given_up (is_fixed fault) (sends_up_to (reply_to fault) x.0 CutShort x.2) v.is_left;
       stands = v.stands;
       stop = v.stop;
-      cause = λ e. inl (cause refl);
+      cause = λ e. inl (x.3 refl);
     };
     shut = λ disk none. (asks x.0 CutShort (reply_to fault, is_fixed fault, x.2), shut disk none);
   }
@@ -360,9 +360,3 @@ fed_dead reading piece dead = by_place reading.place dead
     by_place : (at : Place) → (at ≡ Shut → reading.is_dead ≡ true) → place_with at piece ≡ Shut → reading.is_dead ≡ true
     by_place (Open continued rest) d e = absurd (never_open continued (rest ++ piece) e)
     by_place Shut d e = d refl
-
--- an item was answered over a connection that is there
-pub never_such : (answer : Answered) → answer_after answer ≢ NoSuch
-never_such Sent e = cc
-never_such GaveUp e = cc
-never_such CutShort e = cc

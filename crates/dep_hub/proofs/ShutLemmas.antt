@@ -14,7 +14,7 @@ use Rattle.dep_hub.specs.Turns.{Turn}
 use Rattle.dep_hub.specs.Conversation.{AreFixed, Talks, silent, turn, ahead}
 use Rattle.dep_hub.specs.declared.hub.Hub.{Hub}
 use Rattle.dep_hub.specs.declared.arrived.Arrived.{Arrived}
-use Rattle.dep_hub.specs.declared.arrived.Arrived.TheVariants.{Open as StaysOpen, Closed}
+use Rattle.dep_hub.specs.declared.arrived.Arrived.TheVariants.{Open as StaysOpen, Closed, Cut, NoSuch}
 use Rattle.dep_hub.specs.declared.sending.Answered.{Answered}
 use Rattle.dep_hub.specs.declared.sending.Answered.TheVariants.{Sent, GaveUp, CutShort}
 
@@ -42,9 +42,22 @@ sends_up_to whole sent Sent h = absurd h
 sends_up_to whole sent GaveUp h = subst (λ bytes. SendsUpTo whole bytes Closed) (sym h) all
 sends_up_to whole sent CutShort h = cut h
 
+-- a connection that is cut was sent a part
+pub was_cut : (answer : Answered) → answer_after answer ≡ Cut → answer ≡ CutShort
+was_cut Sent e = cc
+was_cut GaveUp e = cc
+was_cut CutShort e = refl
+
 -- and then the connection has ended
 pub ends_sent : (whole sent : List ℕ) → SendsUpTo whole sent StaysOpen → ⊥
 ends_sent whole sent h = elim h [ ]
+
+none_sent : (whole sent : List ℕ) → SendsUpTo whole sent NoSuch → ⊥
+none_sent whole sent h = elim h [ ]
+
+-- over a connection that is there
+pub there_sent : {whole sent : List ℕ} {answer : Arrived} → SendsUpTo whole sent answer → answer ≢ NoSuch
+there_sent {whole} {sent} h e = none_sent whole sent (subst (λ a. SendsUpTo whole sent a) e h)
 
 pub is_fixed : (fault : StoreFault) → IsFixed (reply_to fault)
 is_fixed Store = inr refl

@@ -9,15 +9,16 @@ use Rattle.dep_types.specs.Conditions.{Condition, HasCleanDisk, Leaves}
 use Rattle.dep_types.specs.Writing.{next_count}
 use Rattle.dep_types.specs.declared.inlet.LastRead.TheVariants.{Bytes}
 use Rattle.dep_hub.specs.Records.{World, Connect, Close, Record, stopped, first_world, Run, goes_on, Happens, connects, closes}
-use Rattle.dep_hub.specs.Standing.{StandsAt, StandsAfter, IsClean, IsHonest, Moves, intake_of, store_of}
+use Rattle.dep_hub.specs.Standing.{StandsAt, StandsAfter, IsClean, IsHonest, Moves, GoesOnAs, intake_of, store_of}
 use Rattle.dep_hub.specs.declared.hub.Hub.{Hub}
 use Rattle.dep_hub.specs.declared.arrived.Arrived.{Arrived}
 use Rattle.dep_hub.specs.declared.arrived.Arrived.TheVariants.{Open as StaysOpen, Closed as HasClosed, Cut}
 use Rattle.dep_hub.proofs.Leaving.{Settles, leaves_wider}
 use Rattle.dep_hub.proofs.SendingLemmas.{appends_none, appends_both}
 use Rattle.dep_hub.proofs.HubLemmas.{keeps_same}
-use Rattle.dep_hub.proofs.ExchangeLemmas.{last_more, exchanges_run, exchanged_along, talks_honest, talks_clean, talks_exchange, talks_stop}
+use Rattle.dep_hub.proofs.ExchangeLemmas.{last_more, exchanges_run, exchanged_along, talks_exchange, talks_stop}
 use Rattle.dep_hub.proofs.ShutLemmas.{conversation_shut}
+use Rattle.dep_hub.proofs.TurnLemmas.{goes_same, goes_then}
 use Rattle.dep_hub.specs.Turns.{Turn, pieces_of, replies_of, record_of, records_of, EndsAs, last_answer, IsPiece, ArePieces, most_reads, reads_made, reads_after, with_opened, with_closed, Exchanges, none_yet, one_more, LeftByExchanges, IsEndedBy}
 use Rattle.dep_hub.specs.Conversation.{Wire, Session, session, Transfers, GivesNothing, Clocks, Converses, IsAnswered, IsUnserved, ConversesOver, next_after, AddsAll, StopsAll, Talk, OneTurn, OpenTurn, NoTurn, TurnsTo, TalksUntil, Talks, silent, turn, ahead}
 use Rattle.dep_hub.specs.declared.connection.Served.{Served}
@@ -34,6 +35,12 @@ sent_more (u ∷ turns) t = ap (λ l. u.sent ++ l) (sent_more turns t) ∙ sym (
 folds_more : {C A : Type 0} (r : C → A → C → Type 0) (a : C) (xs : List A) (b c : C) (x : A) → FoldsTo r a xs b → r b x c → FoldsTo r a (xs ++ x ∷ []) c
 folds_more r a [] b c x f s = (c, subst (λ d. r d x c) (sym f) s, refl)
 folds_more r a (y ∷ xs) b c x f s = (f.0, f.1, folds_more r f.0 xs b c x f.2 s)
+
+-- what each answer of the clock keeps, all of them keep
+pub clocks_keep : {C : Type 0} (ticks : C → ℕ → C → Type 0) (P : C → Type 0) → ((a : C) (m : ℕ) (b : C) → ticks a m b → P a → P b)
+    → (a : C) (turns : List Turn) (b : C) → Clocks ticks a turns b → P a → P b
+clocks_keep ticks P keeps a [] b f p = subst P f p
+clocks_keep ticks P keeps a (t ∷ turns) b f p = clocks_keep ticks P keeps f.0 turns b f.2 (keeps a t.moment f.0 f.1 p)
 
 consumes_both : (a b c : Option (List ℕ)) (xs ys : List ℕ) → Consumes a b xs → Consumes b c ys → Consumes a c (xs ++ ys)
 consumes_both None b c xs ys h k = tt
@@ -114,32 +121,34 @@ module _ {A : Type 0} (condition : A → Condition) where
     transfers = record { pieces = consumes_none at.wire.unread; replies = appends_none at.wire.taken };
     moments = refl;
     answered = refl;
+    goes = goes_same condition at.hub;
   }
 
   -- one turn more
   pub talk_more : {C : Type 0} (ticks : C → ℕ → C → Type 0) (n : ℕ) (old mid new : Session A C) (answer : Arrived) (k : ℕ)
-      → mid.hub.config ≡ old.hub.config → Talk condition ticks n old mid k StaysOpen → OneTurn condition ticks n mid new answer
+      → Talk condition ticks n old mid k StaysOpen → OneTurn condition ticks n mid new answer
       → Talk condition ticks n old new (k + 1) answer
-  talk_more ticks n old mid new answer k same t o =
+  talk_more ticks n old mid new answer k t o =
       let u : Turn = record { piece = o.piece; moment = o.moment; sent = o.sent; answer = answer } in
       record {
         turns = t.turns ++ u ∷ [];
         counted = length_more t.turns u ∙ ap (λ m. m + 1) t.counted;
         sizes = all_more t.turns u t.sizes (o.some, o.small);
-        talks = turn u t.talks t.answered same o.arrives;
+        talks = turn u t.talks t.answered t.goes.config o.arrives;
         transfers = subst (λ l. Transfers old.wire new.wire l (replies_of (t.turns ++ u ∷ []))) (sym (pieces_more t.turns u))
             (subst (λ l. Transfers old.wire new.wire (pieces_of t.turns ++ o.piece) l) (sym (sent_more t.turns u))
             (transfers_both old.wire mid.wire new.wire (pieces_of t.turns) o.piece (replies_of t.turns) o.sent t.transfers o.transfers));
         moments = folds_more (λ before (v : Turn) after. ticks before v.moment after) old.clock t.turns mid.clock new.clock u t.moments o.ticked;
         answered = last_more t.turns u;
+        goes = goes_then condition t.goes o.goes;
       }
 
   -- one turn more that leaves the connection open, and then the store works ahead
   pub talk_open : {C : Type 0} (ticks : C → ℕ → C → Type 0) (n : ℕ) (old mid new : Session A C) (k : ℕ)
-      → mid.hub.config ≡ old.hub.config → Talk condition ticks n old mid k StaysOpen → OpenTurn condition ticks n mid new
+      → Talk condition ticks n old mid k StaysOpen → OpenTurn condition ticks n mid new
       → Talk condition ticks n old new (k + 1) StaysOpen
-  talk_open ticks n old mid new k same t o =
-      let u = talk_more ticks n old mid (session o.served new.wire new.clock) StaysOpen k same t o.turn in
+  talk_open ticks n old mid new k t o =
+      let u = talk_more ticks n old mid (session o.served new.wire new.clock) StaysOpen k t o.turn in
       record {
         turns = u.turns;
         counted = u.counted;
@@ -148,6 +157,7 @@ module _ {A : Type 0} (condition : A → Condition) where
         transfers = u.transfers;
         moments = u.moments;
         answered = u.answered;
+        goes = goes_then condition t.goes o.goes;
       }
 
   -- a turn of the same connection
@@ -169,26 +179,27 @@ module _ {A : Type 0} (condition : A → Condition) where
         (transfers_both old.wire mid.wire new.wire (pieces_of t.turns) [] (replies_of t.turns) [] t.transfers (rests_transfers mid.wire new.wire o.nothing)));
     moments = subst (λ c. Clocks ticks old.clock t.turns c) (sym o.same_clock) t.moments;
     answered = t.answered;
+    goes = subst (λ h. GoesOnAs condition old.hub h) (sym o.same_hub) t.goes;
   }
 
   -- a turn that was the last
   pub talk_last : {C : Type 0} (ticks : C → ℕ → C → Type 0) (n : ℕ) (old mid new : Session A C) (served : Served) (k : ℕ)
-      → k < most_reads → mid.hub.config ≡ old.hub.config → mid.wire.reads ≡ reads_after old.wire.reads k
+      → k < most_reads → mid.wire.reads ≡ reads_after old.wire.reads k
       → Talk condition ticks n old mid k StaysOpen → TurnsTo condition ticks n mid new (Some served) → TalksUntil condition ticks n old new served
-  talk_last ticks n old mid new Closed k b same count t o =
-      let u = talk_more ticks n old mid new HasClosed k same t o in
+  talk_last ticks n old mid new Closed k b count t o =
+      let u = talk_more ticks n old mid new HasClosed k t o in
       record { count = k + 1; answer = HasClosed; talk = u; ends = (u.answered, (omega (arith, b, u.counted))); reads = one_read old.wire.reads mid.wire.reads new.wire.reads k (length u.turns) u.counted count o.reads; last = o.last }
-  talk_last ticks n old mid new WriteFault k b same count t o =
-      let u = talk_more ticks n old mid new Cut k same t o in
+  talk_last ticks n old mid new WriteFault k b count t o =
+      let u = talk_more ticks n old mid new Cut k t o in
       record { count = k + 1; answer = Cut; talk = u; ends = (u.answered, (omega (arith, b, u.counted))); reads = one_read old.wire.reads mid.wire.reads new.wire.reads k (length u.turns) u.counted count o.reads; last = o.last }
-  talk_last ticks n old mid new Ended k b same count t o =
+  talk_last ticks n old mid new Ended k b count t o =
       let u = talk_same ticks n old mid new k t o.0 in
       record { count = k; answer = StaysOpen; talk = u; ends = (o.1, u.answered, (omega (arith, b, u.counted))); reads = one_read old.wire.reads mid.wire.reads new.wire.reads k (length u.turns + 1) (ap (λ m. m + 1) u.counted) count o.0.nothing.reads; last = o.2 }
-  talk_last ticks n old mid new ReadFault k b same count t o =
+  talk_last ticks n old mid new ReadFault k b count t o =
       let u = talk_same ticks n old mid new k t o.0 in
       record { count = k; answer = StaysOpen; talk = u; ends = (u.answered, (omega (arith, b, u.counted))); reads = one_read old.wire.reads mid.wire.reads new.wire.reads k (length u.turns + 1) (ap (λ m. m + 1) u.counted) count o.0.nothing.reads; last = o.1 }
-  talk_last ticks n old mid new Unserved k b same count t o = absurd o
-  talk_last ticks n old mid new Bound k b same count t o = absurd o
+  talk_last ticks n old mid new Unserved k b count t o = absurd o
+  talk_last ticks n old mid new Bound k b count t o = absurd o
 
   -- as many turns as there may be
   pub talk_bound : {C : Type 0} (ticks : C → ℕ → C → Type 0) (n : ℕ) (old new : Session A C) (k : ℕ)
@@ -369,13 +380,6 @@ module _ {A : Type 0} (condition : A → Condition) where
     serves_whole ReadFault t = converses ReadFault t
     serves_whole Bound t = converses Bound t
     serves_whole Unserved t = absurd t.ends
-
-  -- where the store is open, or honest, at the end of the turns, it was so before
-  pub later_clean : {C : Type 0} (ticks : C → ℕ → C → Type 0) (n : ℕ) (old new : Session A C) (served : Served) → TalksUntil condition ticks n old new served → IsClean condition new.hub → IsClean condition old.hub
-  later_clean ticks n old new came t clean = talks_clean condition n old.hub new.hub old.wire.failures new.wire.failures t.talk.turns t.talk.talks clean
-
-  pub later_honest : {C : Type 0} (ticks : C → ℕ → C → Type 0) (n : ℕ) (old new : Session A C) (served : Served) → TalksUntil condition ticks n old new served → IsHonest condition new.hub → IsHonest condition old.hub
-  later_honest ticks n old new came t honest = talks_honest condition n old.hub new.hub old.wire.failures new.wire.failures t.talk.turns t.talk.talks honest
 
   -- not opened
   pub unserved : {C : Type 0} (clock : C) (old new : Hub A) (wire : Wire) → ((w : World) → StandsAt condition old w → StandsAt condition new w) → new.store ≡ old.store

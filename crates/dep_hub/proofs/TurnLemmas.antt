@@ -1,5 +1,5 @@
 -- One turn of a connection.
-use Rattle.std.proofs.Common.{◌≡◌, ◌≤◌, ◌<◌, ℕ, zero, suc, Ok, List, ◌++◌, length, take, drop, sym, ap, subst, ◌∙◌, arith, Option, Some, None, refl, take_at}
+use Rattle.std.proofs.Common.{◌≡◌, ◌≤◌, ◌<◌, ℕ, zero, suc, Ok, List, ◌++◌, length, take, sym, ap, subst, ◌∙◌, arith, Option, Some, None, refl, take_at}
 use Rattle.std.proofs.KnownBytes.{Appends-kept}
 use Rattle.std.specs.Io.KnownBytes.{Consumes, Keeps}
 use Rattle.dep_types.specs.Conditions.{Condition}
@@ -8,7 +8,8 @@ use Rattle.dep_types.specs.Reading.{end_of_read}
 use Rattle.dep_types.specs.declared.inlet.ReadFailed.{ReadFailed}
 use Rattle.dep_types.specs.declared.inlet.LastRead.TheVariants.{Bytes, Nothing}
 use Rattle.dep_hub.specs.Turns.{most_read}
-use Rattle.dep_hub.specs.Standing.{ArrivesOver, IsArrival}
+use Rattle.dep_hub.specs.Standing.{ArrivesOver, IsArrival, GoesOnAs}
+use Rattle.dep_hub.specs.Holding.{RestsOn}
 use Rattle.dep_hub.specs.Conversation.{Session, OneTurn, NoTurn}
 use Rattle.dep_hub.specs.declared.hub.Hub.{Hub}
 use Rattle.dep_hub.specs.declared.arrived.Arrived.{Arrived}
@@ -35,12 +36,6 @@ has_room buffer given items b same room =
     let known : length buffer ≡ most_read = b ∙ (ap (λ (xs : List ℕ). length xs) same ∙ room) in
     omega arith
 
--- the buffer that was read into is as long as it was
-pub kept_room : (len : ℕ) (buffer given items : List ℕ) → length buffer ≡ length given → given ≡ items → length given ≡ len → length items ≡ most_read
-    → length (take len (buffer ++ drop (length buffer) items)) ≡ most_read
-kept_room len buffer given items b same s room =
-    ap (λ (xs : List ℕ). length xs) (take_at buffer (drop (length buffer) items) len (b ∙ s)) ∙ (b ∙ (ap (λ (xs : List ℕ). length xs) same ∙ room))
-
 -- where no byte was read, the reader keeps what it had
 pub none_read : (n : ℕ) (buffer : List ℕ) (unread left : Option (List ℕ)) → n ≡ 0
     → Consumes unread left (take n buffer) → Keeps unread left
@@ -61,6 +56,23 @@ keeps_itself None = tt
 keeps_itself (Some xs) = refl
 
 module _ {A : Type 0} (condition : A → Condition) where
+  -- nothing is asked of a hub
+  pub goes_same : (hub : Hub A) → GoesOnAs condition hub hub
+  goes_same hub = record { config = refl; next = refl; clean = λ h. h; honest = λ h. h }
+
+  -- one call, and another
+  pub goes_then : {old mid new : Hub A} → GoesOnAs condition old mid → GoesOnAs condition mid new → GoesOnAs condition old new
+  goes_then a b = record {
+    config = b.config ∙ a.config;
+    next = b.next ∙ a.next;
+    clean = λ h. a.clean (b.clean h);
+    honest = λ h. a.honest (b.honest h);
+  }
+
+  -- the store worked ahead
+  pub goes_ahead : {old new : Hub A} → RestsOn condition old new → GoesOnAs condition old new
+  goes_ahead r = record { config = r.config; next = r.next; clean = r.store.was_open; honest = r.store.honest }
+
   -- an arrival, and then the outlet was flushed
   pub arrives_flushed : (held sends holds : Option (List ℕ)) (failures fails failed : ℕ) (old new : Hub A) (number : ℕ) (piece : List ℕ) (moment : ℕ) (answer : Arrived)
       → Keeps sends holds → failed ≡ fails → ArrivesOver condition held sends failures fails old new number piece moment answer
@@ -69,6 +81,9 @@ module _ {A : Type 0} (condition : A → Condition) where
     sent = a.sent;
     appends = Appends-kept held sends holds a.sent a.appends kept;
     arrival = subst (λ (n : ℕ). IsArrival condition old new number piece moment a.sent failures n answer) (sym same) a.arrival;
+    goes = a.goes;
+    was_there = a.was_there;
+    is_there = a.is_there;
   }
 
   -- a piece was read, and it arrived
@@ -99,6 +114,7 @@ module _ {A : Type 0} (condition : A → Condition) where
         small = small_read n buffer given items fits long b same room;
         transfers = record { pieces = read; replies = came.appends };
         ticked = ticked;
+        goes = came.goes;
       }
 
   -- nothing was read

@@ -1,5 +1,5 @@
 -- One connection over a reader and an outlet, from its opening to its close.
-use Rattle.std.specs.Prelude.{◌<◌, ◌≤◌, ◌+◌, length, ◌≡◌, ℕ, List, [], ◌∷◌, ◌++◌, Option, Some, None, map}
+use Rattle.std.specs.Prelude.{◌<◌, ◌≤◌, ◌+◌, length, ◌≡◌, ℕ, List, [], ◌∷◌, ◌++◌, Option, Some, None, IsSome, map}
 use Rattle.std.specs.List.{FoldsTo}
 use Rattle.std.specs.Io.KnownBytes.{Appends, Consumes, Keeps, IsAtEnd}
 use Rattle.dep_types.specs.State.{State}
@@ -10,7 +10,7 @@ use Rattle.dep_types.specs.declared.inlet.LastRead.{LastRead}
 use Rattle.dep_types.specs.declared.inlet.LastRead.TheVariants as read
 use Rattle.dep_types.specs.declared.outlet.Outlet as outlet
 use Rattle.dep_hub.specs.Records.{World, Connect, Close, Record, stopped, Run, first_world}
-use Rattle.dep_hub.specs.Standing.{StandsAt, StandsAfter, IsClean, IsHonest, Moves, IsArrival, intake_of, store_of}
+use Rattle.dep_hub.specs.Standing.{StandsAt, StandsAfter, IsClean, IsHonest, Moves, IsArrival, GoesOnAs, intake_of, store_of}
 use Rattle.dep_hub.specs.Turns.{Turn, pieces_of, replies_of, record_of, records_of, most_read, most_reads, reads_made, reads_after, HasLastRead, ArePieces, last_answer, with_opened, with_closed, Exchanges, LeftByExchanges, EndsAs}
 use Rattle.dep_hub.specs.Archives.{KeepsAll}
 use Rattle.dep_hub.specs.Shut.{LeavesNoMore, IfShut, SendsFixed}
@@ -91,6 +91,12 @@ standing g h hub reader writer clock = session hub
     (wire (g.unread reader) (g.reads reader) (g.last reader) (h.taken writer) (h.failures writer))
     clock
 
+-- a turn may follow: the connection is there, and the clock can be asked
+pub record CanGoOn {A C : Type 0} (callable : C → Type 0) (number : ℕ) (hub : Hub A) (clock : C)
+    : Type 0 where
+  pub there : IsSome (intake_of hub.connections.items number)
+  pub call : callable clock
+
 module _ {A : Type 0} (condition : A → Condition) where
   -- for all records that it stood for, the hub stands for them with these after them, if its store
   -- is open
@@ -139,6 +145,7 @@ module _ {A : Type 0} (condition : A → Condition) where
     pub transfers : Transfers before.wire after.wire (pieces_of turns) (replies_of turns)
     pub moments : Clocks ticks before.clock turns after.clock
     pub answered : last_answer turns ≡ answer
+    pub goes : GoesOnAs condition before.hub after.hub
 
   -- one turn
   pub record OneTurn {C : Type 0} (ticks : C → ℕ → C → Type 0)
@@ -155,6 +162,7 @@ module _ {A : Type 0} (condition : A → Condition) where
     pub small : length piece ≤ most_read
     pub transfers : Transfers before.wire after.wire piece sent
     pub ticked : ticks before.clock moment after.clock
+    pub goes : GoesOnAs condition before.hub after.hub
 
   -- one turn that leaves the connection open, behind which the store works ahead
   pub record OpenTurn {C : Type 0} (ticks : C → ℕ → C → Type 0)
@@ -162,6 +170,7 @@ module _ {A : Type 0} (condition : A → Condition) where
     pub served : Hub A
     pub turn : OneTurn ticks number before (session served after.wire after.clock) StaysOpen
     pub ahead : WorksAhead served after.hub
+    pub goes : GoesOnAs condition before.hub after.hub
 
   -- nothing was read
   pub record NoTurn {C : Type 0} (before after : Session A C) : Type 0 where

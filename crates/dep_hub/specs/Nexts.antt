@@ -1,15 +1,16 @@
 -- The next item of an intake, answered.
-use Rattle.std.specs.Prelude.{◌≡◌, ◌⊎◌, ℕ, false, List, []}
+use Rattle.std.specs.Prelude.{◌≡◌, ◌⊎◌, ◌<◌, ℕ, false, List, [], Option}
+use Rattle.std.specs.Io.KnownBytes.{Appends}
 use Rattle.dep_types.specs.State.{State}
 use Rattle.dep_types.specs.Writing.{HasRisen}
 use Rattle.dep_types.specs.declared.config.Config.{Config}
 use Rattle.dep_types.specs.Conditions.{StandsFor}
-use Rattle.dep_message.specs.Places.{Place, Shut, Reading, IsOpen, HasBytes}
+use Rattle.dep_message.specs.Places.{Place, Shut, Reading, shut_reading, left_to_read, IsOpen, HasBytes}
 use Rattle.dep_message.specs.Stream.{Item, FirstAt, Waits}
 use Rattle.dep_hub.specs.Machine.{SendsUpTo, want_of_memory}
 use Rattle.dep_hub.specs.Sending.{Outside, Passes}
 use Rattle.dep_hub.specs.Shut.{LeavesNoMore}
-use Rattle.dep_hub.specs.Serving.{Answers, answer_after}
+use Rattle.dep_hub.specs.Serving.{Answers, KeepsIntake, answer_after}
 use Rattle.dep_hub.specs.declared.arrived.Arrived.{Arrived}
 use Rattle.dep_hub.specs.declared.arrived.Arrived.TheVariants as came
 use Rattle.dep_hub.specs.declared.next.Next.{Next}
@@ -83,6 +84,22 @@ AnswersNext config reading moment old new at Closed =
     Ends config reading moment old new at came.Closed
 AnswersNext config reading moment old new at Cut = Ends config reading moment old new at came.Cut
 AnswersNext config reading moment old new at NoSuch = ⊥
+
+-- The next item is answered, where one is complete: the intake stands where that leaves it, and where
+-- another may follow, less is left to read.
+pub record TakesNext (config : Config) (reading now : Reading) (moment : ℕ) (old new : Outside)
+    (answer : Next) : Type 0 where
+  pub answers : AnswersNext config reading moment old new now.place answer
+  pub keeps : KeepsIntake reading now
+  pub less : answer ≡ More → left_to_read now.place < left_to_read reading.place
+
+-- Memory ran out, by what an outlet tells before and after: the fixed reply for it was sent, or a part of
+-- it, and nothing is read any more.
+pub record TellsWant (taken takes : Option (List ℕ)) (failures failures_after : ℕ)
+    (reading now : Reading) (answer : Arrived) : Type 0 where
+  pub sent : (bytes : List ℕ) × Appends taken takes bytes × SendsUpTo want_of_memory bytes answer
+  pub cause : answer ≡ came.Cut → HasRisen failures failures_after
+  pub shut : now ≡ shut_reading reading
 
 -- what the end of a connection comes to
 abbrev pub ended_as : Arrived → Next

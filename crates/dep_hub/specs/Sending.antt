@@ -20,9 +20,12 @@ IsSentUpTo whole sent Sent = ⊥
 IsSentUpTo whole sent GaveUp = sent ≡ whole
 IsSentUpTo whole sent CutShort = IsProperPrefix sent whole
 
-abbrev pub SendsOver : Option (List ℕ) → Option (List ℕ) → List ℕ → Answered → Type 0
-SendsOver held holds whole answer =
+-- the same over an outlet, which has failed where it is a part
+abbrev pub SendsOver : (held holds : Option (List ℕ)) → (failures failures_after : ℕ) → List ℕ
+    → Answered → Type 0
+SendsOver held holds failures failures_after whole answer =
     (sent : List ℕ) × Appends held holds sent × IsSentUpTo whole sent answer
+    × (answer ≡ CutShort → HasRisen failures failures_after)
 
 -- an item's own reply was sent, or a part of it
 abbrev pub IsReplySent : List ℕ → List ℕ → Answered → Type 0

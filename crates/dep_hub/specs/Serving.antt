@@ -83,6 +83,11 @@ arrival_with reading piece = arrival_of reading piece.bytes.now piece.moment
 abbrev pub IsDeadIfShut : Reading → Type 0
 IsDeadIfShut reading = reading.place ≡ Shut → reading.is_dead ≡ true
 
+-- an intake keeps its limit, and is dead where it reads nothing more if it was so before
+pub record KeepsIntake (old new : Reading) : Type 0 where
+  pub limit : new.limit ≡ old.limit
+  pub dead : IsDeadIfShut old → IsDeadIfShut new
+
 -- these items are the first that are read with the piece, and the reading then stands at the place
 abbrev pub ReadsWith : Arrival → List Item → Place → Type 0
 ReadsWith a items at = Reads a.reading.limit (place_with a.reading.place a.piece) items at

@@ -1,5 +1,5 @@
 -- What a hub stands for: the lists of records that may have led to what it keeps.
-use Rattle.std.specs.Prelude.{◌≡◌, ◌==◌, ℕ, true, List, [], ◌∷◌, ◌++◌, if◌then◌else◌, Option, None, Some, IsTrue}
+use Rattle.std.specs.Prelude.{◌≡◌, ◌==◌, ℕ, true, List, [], ◌∷◌, ◌++◌, if◌then◌else◌, Option, None, Some, IsTrue, IsSome}
 use Rattle.std.specs.Io.KnownBytes.{Appends, Keeps}
 use Rattle.dep_types.specs.State.{State}
 use Rattle.dep_types.specs.declared.config.Config.{Config}
@@ -159,13 +159,17 @@ module _ {A : Type 0} (condition : A → Condition) where
         → ArrivesTo old.config new number piece moment sent failures failures_after answer w
     pub shut : IfShut (store_of old) (store_of new) (ArrivesShut old new number piece moment sent answer)
 
-  -- what was sent over an outlet for an arrival, by what the outlet tells before and after
+  -- what was sent over an outlet for an arrival, by what the outlet tells before and after; the
+  -- connection was there, and is there
   pub record ArrivesOver (held holds : Option (List ℕ)) (failures failures_after : ℕ)
       (old new : Hub A)
       (number : ℕ) (piece : List ℕ) (moment : ℕ) (answer : Arrived) : Type 0 where
     pub sent : List ℕ
     pub appends : Appends held holds sent
     pub arrival : IsArrival old new number piece moment sent failures failures_after answer
+    pub goes : GoesOnAs old new
+    pub was_there : IsSome (intake_of old.connections.items number)
+    pub is_there : IsSome (intake_of new.connections.items number)
 
   -- there is no such connection, and nothing happens
   pub record IsNoSuch (held holds : Option (List ℕ)) (old new : Hub A) (number : ℕ) : Type 0 where

@@ -2,7 +2,7 @@
 ghost use Rattle.std.specs.Prelude.{◌≡◌, ◌<◌, IsSome, length};
 ghost use Rattle.dep_hub.specs.Standing.{intake_of, ServesAs};
 ghost use Rattle.dep_hub.specs.Turns.{most_read};
-ghost use Rattle.dep_hub.specs.Conversation.{standing, ConversesOver, TalksUntil, TurnsTo, next_after};
+ghost use Rattle.dep_hub.specs.Conversation.{standing, ConversesOver, CanGoOn, TalksUntil, TurnsTo, next_after};
 ghost use Rattle.dep_hub.specs.Flushing.{IsFlushed};
 
 use crate::archive::Archive;
@@ -40,6 +40,7 @@ const MOST_READ: usize = 65_536;
 struct Incoming {
     connection: ConnId,
     buffer: Vec<u8>,
+    ghost room: { length buffer.items ≡ most_read },
 }
 
 /// Serves one fresh connection, from its opening to its close. It makes at most 1,048,576 reads, of at most
@@ -83,12 +84,7 @@ fn converse<A: Archive, R: Inlet, W: Flush, C: FnMut() -> Moment>(
     clock: &mut C,
     incoming: &mut Incoming,
 ) -> Served
-    requires call { C.IsAlwaysCallable clock.old }
-    requires there { IsSome (intake_of hub.old.connections.items incoming.old.connection) }
-    requires room { length incoming.old.buffer.items ≡ most_read }
-    ensures call { C.IsAlwaysCallable clock.new }
-    ensures config { hub.new.config ≡ hub.old.config }
-    ensures next { hub.new.next ≡ hub.old.next }
+    requires { CanGoOn C.IsAlwaysCallable incoming.old.connection hub.old clock.old }
     ensures talks { TalksUntil A.condition C.step incoming.old.connection
         (standing R.Inlet W.Outlet hub.old reader.old writer.old clock.old)
         (standing R.Inlet W.Outlet hub.new reader.new writer.new clock.new) result }
@@ -111,15 +107,9 @@ fn turn<A: Archive, R: Inlet, W: Flush, C: FnMut() -> Moment>(
     clock: &mut C,
     incoming: &mut Incoming,
 ) -> Option<Served>
-    requires call { C.IsAlwaysCallable clock.old }
-    requires there { IsSome (intake_of hub.old.connections.items incoming.old.connection) }
-    requires room { length incoming.old.buffer.items ≡ most_read }
-    ensures call { C.IsAlwaysCallable clock.new }
+    requires { CanGoOn C.IsAlwaysCallable incoming.old.connection hub.old clock.old }
     ensures there { IsSome (intake_of hub.new.connections.items incoming.old.connection) }
-    ensures room { length incoming.new.buffer.items ≡ most_read }
     ensures same { incoming.new.connection ≡ incoming.old.connection }
-    ensures config { hub.new.config ≡ hub.old.config }
-    ensures next { hub.new.next ≡ hub.old.next }
     ensures turn { TurnsTo A.condition C.step incoming.old.connection
         (standing R.Inlet W.Outlet hub.old reader.old writer.old clock.old)
         (standing R.Inlet W.Outlet hub.new reader.new writer.new clock.new) result }

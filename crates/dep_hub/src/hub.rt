@@ -111,7 +111,10 @@ impl<A: Archive> Hub<A> {
         let number = self.next;
         let connection = Connection {
             number,
-            intake: Intake::new(self.config.alloc(), self.config.config().max_upload),
+            intake: Intake::new(
+                self.config.alloc(),
+                self.config.service().config().max_upload,
+            ),
         };
         if let Err(refused) = self.connections.push(connection) {
             drop(refused);
@@ -129,12 +132,6 @@ impl<A: Archive> Hub<A> {
         moment: Moment,
         out: &mut O,
     ) -> Arrived
-        ensures goes { GoesOnAs A.condition self.old self.new }
-        ensures absent { intake_of self.old.connections.items connection ≡ None
-            → result ≡ Arrived.NoSuch }
-        // A connection that was there is there.
-        ensures there { IsSome (intake_of self.old.connections.items connection)
-            → (result ≢ Arrived.NoSuch) × IsSome (intake_of self.new.connections.items connection) }
         ensures arrival { ComesTo A.condition (O.taken out.old) (O.taken out.new)
             (O.failures out.old) (O.failures out.new)
             self.old self.new connection piece.now moment result }

@@ -1,7 +1,6 @@
 //! Replies that are sent over an outlet.
 ghost use Rattle.std.specs.Prelude.{◌≡◌};
 ghost use Rattle.dep_types.specs.Writing.{HasRisen};
-ghost use Rattle.dep_hub.specs.Machine.{want_of_memory, store_fault};
 ghost use Rattle.dep_hub.specs.Sending.{SendsOver, SendsReady, SendsReply, outside_of, reply_to};
 
 use crate::access_log::AccessLog;
@@ -26,29 +25,13 @@ const WANT_OF_MEMORY: &[u8] =
 const STORE_FAULT: &[u8] =
     b"HTTP/1.1 500 Internal Server Error\r\nContent-Length: 0\r\nConnection: close\r\n\r\n";
 
-/// Sends the fixed reply for want of memory (RFC 9110, section 15.6.4).
-pub(crate) fn send_want_of_memory<O: Outlet, L: AccessLog>(out: &mut O, log: &mut L) -> Answered
-    ensures sends { SendsOver (O.taken out.old) (O.taken out.new) want_of_memory result }
-    ensures cause { result ≡ Answered.CutShort
-        → HasRisen (O.failures out.old) (O.failures out.new) }
+// The fixed reply for a fault (RFC 9110, sections 15.6.1 and 15.6.4).
+fn fixed_reply(fault: StoreFault) -> &'static [u8]
+    ensures { result.now ≡ reply_to fault }
 {
-    log.reply(WANT_OF_MEMORY);
-    match out.write(WANT_OF_MEMORY) {
-        Ok(()) => Answered::GaveUp,
-        Err(WriteFailed) => Answered::CutShort,
-    }
-}
-
-// Sends the fixed reply for a fault of the store (RFC 9110, section 15.6.1).
-fn send_store_fault<O: Outlet, L: AccessLog>(out: &mut O, log: &mut L) -> Answered
-    ensures sends { SendsOver (O.taken out.old) (O.taken out.new) store_fault result }
-    ensures cause { result ≡ Answered.CutShort
-        → HasRisen (O.failures out.old) (O.failures out.new) }
-{
-    log.reply(STORE_FAULT);
-    match out.write(STORE_FAULT) {
-        Ok(()) => Answered::GaveUp,
-        Err(WriteFailed) => Answered::CutShort,
+    match fault {
+        StoreFault::Store => STORE_FAULT,
+        StoreFault::Memory => WANT_OF_MEMORY,
     }
 }
 
@@ -58,13 +41,14 @@ pub(crate) fn send_fault<O: Outlet, L: AccessLog>(
     out: &mut O,
     log: &mut L,
 ) -> Answered
-    ensures sends { SendsOver (O.taken out.old) (O.taken out.new) (reply_to fault) result }
-    ensures cause { result ≡ Answered.CutShort
-        → HasRisen (O.failures out.old) (O.failures out.new) }
+    ensures { SendsOver (O.taken out.old) (O.taken out.new)
+        (O.failures out.old) (O.failures out.new) (reply_to fault) result }
 {
-    match fault {
-        StoreFault::Store => send_store_fault(out, log),
-        StoreFault::Memory => send_want_of_memory(out, log),
+    let fixed = fixed_reply(fault);
+    log.reply(fixed);
+    match out.write(fixed) {
+        Ok(()) => Answered::GaveUp,
+        Err(WriteFailed) => Answered::CutShort,
     }
 }
 

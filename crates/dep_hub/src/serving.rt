@@ -1,23 +1,20 @@
 //! One arrival: the items that are complete now are answered in order.
-ghost use Rattle.std.specs.Prelude.{◌≡◌, ◌≢◌, ◌<◌, ℕ, List};
-ghost use Rattle.std.specs.Io.KnownBytes.{Appends};
-ghost use Rattle.dep_types.specs.Writing.{HasRisen};
-ghost use Rattle.dep_hub.specs.Machine.{SendsUpTo, want_of_memory};
-ghost use Rattle.dep_message.specs.Places.{Reading, shut_reading, left_to_read};
+ghost use Rattle.std.specs.Prelude.{◌≡◌, ◌≢◌};
+ghost use Rattle.dep_message.specs.Places.{shut_reading};
 ghost use Rattle.dep_hub.specs.Sending.{outside_of};
-ghost use Rattle.dep_hub.specs.Serving.{ServesOver, IsDeadIfShut, arrival_with, answer_after};
-ghost use Rattle.dep_hub.specs.Nexts.{AnswersNext, ended_as};
+ghost use Rattle.dep_hub.specs.Serving.{ServesOver, KeepsIntake, arrival_with, answer_after};
+ghost use Rattle.dep_hub.specs.Nexts.{TakesNext, TellsWant, ended_as};
 
 use crate::access_log::{AccessLog, NoLog};
 use crate::archive::Archive;
 use crate::arrived::Arrived;
 use crate::next::Next;
-use crate::sending::{Answered, send_want_of_memory};
+use crate::sending::{Answered, send_fault};
 use crate::site::{Context, Site};
 use crate::step::{StreamRefusal, answer_continue, answer_fault, answer_message};
 use dep_message::{Intake, Step, closes};
 use dep_moment::Moment;
-use dep_types::Outlet;
+use dep_types::{Outlet, StoreFault};
 use std::alloc::AllocError;
 
 /// A piece of a connection's stream, and when it came.
@@ -39,8 +36,7 @@ pub(crate) fn serve<A: Archive, O: Outlet>(
         (arrival_with intake.old piece.now)
         (outside_of O.Outlet out.old (A.condition store.old))
         (outside_of O.Outlet out.new (A.condition store.new)) intake.new.place result }
-    ensures limit { intake.new.limit ≡ intake.old.limit }
-    ensures dead { IsDeadIfShut intake.old → IsDeadIfShut intake.new }
+    ensures keeps { KeepsIntake intake.old intake.new }
     ensures there { result ≢ Arrived.NoSuch }
 {
     if let Err(AllocError) = intake.feed(piece.bytes) {
@@ -69,14 +65,9 @@ pub(crate) fn answer_next<A: Archive, O: Outlet, L: AccessLog>(
     out: &mut O,
     log: &mut L,
 ) -> Next
-    ensures answers { AnswersNext context.now.site.now intake.old context.now.moment
+    ensures { TakesNext context.now.site.now intake.old intake.new context.now.moment
         (outside_of O.Outlet out.old (A.condition store.old))
-        (outside_of O.Outlet out.new (A.condition store.new))
-        intake.new.place result }
-    ensures limit { intake.new.limit ≡ intake.old.limit }
-    ensures dead { IsDeadIfShut intake.old → IsDeadIfShut intake.new }
-    ensures less { result ≡ Next.More
-        → left_to_read intake.new.place < left_to_read intake.old.place }
+        (outside_of O.Outlet out.new (A.condition store.new)) result }
 {
     match intake.next() {
         Err(AllocError) => last(give_up(intake, out, log)),
@@ -123,13 +114,10 @@ pub(crate) fn give_up<O: Outlet, L: AccessLog>(
     out: &mut O,
     log: &mut L,
 ) -> Arrived
-    ensures sent { (sent : List ℕ) × Appends (O.taken out.old) (O.taken out.new) sent
-        × SendsUpTo want_of_memory sent result }
-    ensures shut { intake.new ≡ shut_reading intake.old }
-    ensures cause { result ≡ Arrived.Cut → HasRisen (O.failures out.old) (O.failures out.new) }
-    ensures there { result ≢ Arrived.NoSuch }
+    ensures { TellsWant (O.taken out.old) (O.taken out.new)
+        (O.failures out.old) (O.failures out.new) intake.old intake.new result }
 {
-    let answer = send_want_of_memory(out, log);
+    let answer = send_fault(StoreFault::Memory, out, log);
     end(intake, answer)
 }
 

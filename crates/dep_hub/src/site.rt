@@ -1,11 +1,9 @@
 //! What every request is answered from.
 ghost use Rattle.std.specs.Prelude.{◌≡◌, IfOk};
-ghost use Rattle.std.specs.String.{string_bytes};
-ghost use Rattle.dep_router.specs.Targets.{target};
 
 use dep_answers::Service;
 use dep_moment::Moment;
-use dep_router::{Routed, Routes};
+use dep_router::Routes;
 use dep_types::Config;
 use std::alloc::{AllocError, Global};
 use std::marker::Model;
@@ -15,7 +13,7 @@ use std::marker::Model;
 #[derive(Drop)]
 pub(crate) struct Site {
     service: Service,
-    routes: Routes,
+    pub routes: Routes,
 }
 
 /// What an item is answered from, and when.
@@ -53,24 +51,10 @@ impl Site {
         self.service.alloc()
     }
 
-    /// The configuration.
-    pub fn config(&self) -> &Config
-        ensures { result.now ≡ self.now }
-    {
-        self.service.config()
-    }
-
-    /// The service.
+    /// The service, which has the configuration.
     pub fn service(&self) -> &Service
         ensures { result.now ≡ self.now }
     {
         &self.service
-    }
-
-    /// What a method and a path name. It takes no memory.
-    pub fn route(&self, method: &[u8], path: String) -> Routed
-        ensures { result ≡ target method.now (string_bytes path) }
-    {
-        self.routes.route(method, path)
     }
 }

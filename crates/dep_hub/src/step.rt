@@ -50,7 +50,7 @@ pub(crate) fn answer_message<A: Archive, O: Outlet, L: AccessLog>(
 {
     let length = message.content.as_slice().len() as u64;
     log.request(message.head.method(), message.head.path(), length);
-    match store.tick(context.site.config(), context.moment) {
+    match store.tick(context.site.service().config(), context.moment) {
         Ok(clock) => match answer_routed(context.site, store, message, clock) {
             Ok(performed) => {
                 let answered = send_performed(store, &performed, out, log);
@@ -93,7 +93,7 @@ pub(crate) fn answer_fault<A: Archive, O: Outlet, L: AccessLog>(
         (outside_of O.Outlet out.new (A.condition store.new))
         (Fault fault.refusal fault.is_bare) context.now.moment result }
 {
-    match store.tick(context.site.config(), context.moment) {
+    match store.tick(context.site.service().config(), context.moment) {
         Ok(clock) => {
             let delivery = Delivery {
                 clock,
@@ -132,7 +132,7 @@ fn answer_routed<A: Archive>(
     let alloc = site.alloc();
     let mut message = message;
     let path = message.head.take_path();
-    match site.route(message.head.method(), path) {
+    match site.routes.route(message.head.method(), path) {
         Routed::To(target) => perform_operation(site.service(), store, message, target),
         Routed::NotFound => {
             drop(message);

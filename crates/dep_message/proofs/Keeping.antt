@@ -5,7 +5,7 @@ use Rattle.std.proofs.Math.Seq.{take-add, drop-append_seam}
 use Rattle.dep_head.specs.Head.{HeadParts}
 use Rattle.dep_body.specs.declared.frame.Framing.{Framing}
 use Rattle.dep_message.specs.Places.{Reading, Place, Open, HasBytes, place_with}
-use Rattle.dep_message.specs.Working.{IsFresh, IsKnown, IsBegun, ReadsChunks, Keeps, Finds, bytes_with, kept_bytes, reading_of}
+use Rattle.dep_message.specs.Working.{IsFresh, IsKnown, IsAtHead, IsBegun, ReadsChunks, Keeps, Finds, bytes_with, kept_bytes, reading_of}
 use Rattle.dep_message.specs.Stream.{Waits}
 use Rattle.dep_message.specs.declared.intake.Standing.{Standing}
 use Rattle.dep_message.specs.declared.intake.Standing.TheVariants.{Live}
@@ -33,6 +33,13 @@ keeps_fresh limit continued bytes work fresh same_limit same_continued same_byte
   known = subst (λ (p : Progress). IsKnown work.limit work.continued work.buffer p) (sym fresh) (searched_none work.buffer);
 }
 
+-- the bytes of a request went
+pub left_behind : (work new : Work) (n : ℕ) → IsFresh work → new ≡ record work { buffer = drop n work.buffer; continued = false }
+    → Keeps work.limit false (drop n work.buffer) new
+left_behind work new n fresh is =
+    subst (λ (w : Work). Keeps work.limit false (drop n work.buffer) w) (sym is)
+    (keeps_fresh work.limit false (drop n work.buffer) (record work { buffer = drop n work.buffer; continued = false }) fresh refl refl refl)
+
 -- the head of a request with some bytes behind it, which stand apart
 pub keeps_sized : (work : Work) (request : SizedRequest) → IsBegun work.limit work.continued work.buffer request.head (Length request.length)
     → Keeps work.limit work.continued (work.buffer ++ request.behind) (record work { progress = Sized request })
@@ -58,11 +65,12 @@ begun_bytes limit continued buffer n head frame within begun =
     has_bytes continued buffer (omega arith)
 
 -- where memory is refused behind a head, nothing changes
-pub unchanged : (work : Work) (n : ℕ) (head : HeadParts) (frame : Framing) → IsFresh work → n ≤ length work.buffer
-    → IsBegun work.limit work.continued (take n work.buffer) head frame
+pub unchanged : (work : Work) (n : ℕ) (head : HeadParts) (frame : Framing) → IsAtHead work n head frame
     → Keeps work.limit work.continued work.buffer work × HasBytes (Open work.continued work.buffer)
-unchanged work n head frame fresh within begun =
-    (keeps_fresh work.limit work.continued work.buffer work fresh refl refl refl, begun_bytes work.limit work.continued work.buffer n head frame within begun)
+unchanged work n head frame at = (
+  keeps_fresh work.limit work.continued work.buffer work at.fresh refl refl refl,
+  begun_bytes work.limit work.continued work.buffer n head frame at.within at.begun,
+)
 
 -- a whole request goes with its bytes
 pub takes_request : (limit : ℕ) (continued : Bool) (bytes : List ℕ) (n size : ℕ) (frame : Framing) (m : Message) (new : Work) → n ≤ length bytes

@@ -33,10 +33,6 @@ pub record IsBegun (limit : ℕ) (continued : Bool) (front : List ℕ) (head : H
   pub framed : framing limit head ≡ Ok frame
   pub due_is : is_due continued head frame ≡ false
 
--- the same by what the work keeps
-abbrev pub HasBegun : Work → List ℕ → HeadParts → Framing → Type 0
-HasBegun work front head frame = IsBegun work.limit work.continued front head frame
-
 -- the bytes that were used are the head, and behind it what the reader was fed, which is no whole body in chunks
 pub record ReadsChunks (limit : ℕ) (continued : Bool) (request : ChunkedRequest) : Type 0 where
   pub front : List ℕ
@@ -68,6 +64,17 @@ IsKnown limit continued buffer (Chunked request) = ReadsChunks limit continued r
 -- the request before is done with, and nothing is known of the next
 abbrev pub IsFresh : Work → Type 0
 IsFresh work = work.progress ≡ Searched 0
+
+-- this was known of the first request, and was taken out of what is kept
+pub record HasLeft (work : Work) (progress : Progress) : Type 0 where
+  pub fresh : IsFresh work
+  pub known : IsKnown work.limit work.continued work.buffer progress
+
+-- nothing is known of the first request yet, whose head is the first bytes of the buffer, so many
+pub record IsAtHead (work : Work) (size : ℕ) (head : HeadParts) (frame : Framing) : Type 0 where
+  pub fresh : IsFresh work
+  pub within : size ≤ length work.buffer
+  pub begun : IsBegun work.limit work.continued (take size work.buffer) head frame
 
 -- what the intake knows of the first request in its buffer is so
 abbrev pub IsWorking : Work → Type 0

@@ -68,13 +68,14 @@ impl Buffer {
         self.gone = 0;
     }
 
-    /// Keeps so many bytes at the front alone. It gives room back where memory allows, and never fails.
+    /// Keeps at most so many bytes, those at the front. It gives room back where memory allows, and never fails.
     pub fn truncate(&mut self, count: usize)
-        requires { count ≤ length self.old }
         ensures { self.new ≡ take count self.old }
     {
-        self.bytes.truncate(self.gone + count);
-        self.free_room();
+        if count < self.as_slice().len() {
+            self.bytes.truncate(self.gone + count);
+            self.free_room();
+        }
     }
 
     // Moves what is left into room of its own size, where it is less than a quarter of the room and memory allows. So no

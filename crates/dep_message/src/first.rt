@@ -31,20 +31,27 @@ pub(crate) enum FirstHead {
     Nothing,
 }
 
-/// The head that stands first in the bytes, of which the first `searched` hold no end of one. `continued` says that the
-/// client of the first request was told to go on.
+/// Bytes whose first ones were searched for the end of a head.
+#[derive(Clone, Copy)]
+pub(crate) struct SearchedBytes<'a> {
+    pub bytes: &'a [u8],
+    /// So many hold no end of one.
+    pub searched: usize,
+    ghost is_searched: { IsSearched searched bytes.now },
+}
+
+/// The head that stands first in the bytes. `continued` says that the client of the first request was told to go on.
 pub(crate) fn first_head(
     alloc: Global,
     limit: u64,
     continued: bool,
-    searched: usize,
-    bytes: &[u8],
+    front: SearchedBytes<'_>,
 ) -> Result<FirstHead, AllocError>
-    requires { IsSearched searched bytes.now }
-    ensures { MatchResult result (FindsHead limit continued bytes.now)
-        (λ _. HasBytes (Open continued bytes.now)) }
+    ensures { MatchResult result (FindsHead limit continued front.entry.bytes.now)
+        (λ _. HasBytes (Open continued front.entry.bytes.now)) }
 {
-    let Some(end) = find_end_from(searched, bytes) else {
+    let bytes = front.bytes;
+    let Some(end) = find_end_from(front) else {
         if bytes.len() >= HEAD_LIMIT {
             return Ok(FirstHead::Fault(Refusal::BadRequest, false));
         }
@@ -61,12 +68,11 @@ pub(crate) fn first_head(
 }
 
 // The end of the first head. Its last byte may be the first that was not searched, so three bytes are read again.
-fn find_end_from(searched: usize, bytes: &[u8]) -> Option<usize>
-    requires { IsSearched searched bytes.now }
-    ensures { result ≡ head_end bytes.now }
+fn find_end_from(front: SearchedBytes<'_>) -> Option<usize>
+    ensures { result ≡ head_end front.entry.bytes.now }
 {
-    let from = searched.saturating_sub(3);
-    match find_end(&bytes[from..]) {
+    let from = front.searched.saturating_sub(3);
+    match find_end(&front.bytes[from..]) {
         Some(end) => Some(from + end),
         None => None,
     }

@@ -1,11 +1,12 @@
 //! The bytes of a connection that no item has used, and what is known of them.
-ghost use Rattle.std.specs.Prelude.{◌≡◌, ◌≤◌, [], ◌++◌, false, length, take, drop, OnOk, OnErr};
+ghost use Rattle.std.specs.Prelude.{◌≡◌, ◌≤◌, [], ◌++◌, false, length, drop, OnOk, OnErr};
 ghost use Rattle.dep_message.specs.Stream.{refusal_of};
 ghost use Rattle.dep_message.specs.Heads.{is_bare};
-ghost use Rattle.dep_message.specs.Working.{IsFresh, IsSearched, HasBegun, ReadsChunks, Keeps, FindsNext, IsWorking, kept_bytes};
+ghost use Rattle.dep_message.specs.Working.{HasLeft, IsAtHead, Keeps, FindsNext, IsWorking, kept_bytes};
+ghost use Rattle.dep_message.specs.declared.progress.Progress.TheVariants.{Searched, Sized, Chunked};
 
 use crate::buffer::Buffer;
-use crate::first::{FirstHead, FramedHead, first_head, refusal_for};
+use crate::first::{FirstHead, FramedHead, SearchedBytes, first_head, refusal_for};
 use crate::heads::{is_hashed_early, is_without_body};
 use crate::message::Message;
 use crate::progress::{ChunkedRequest, Progress, SizedRequest};
@@ -81,12 +82,12 @@ impl Work {
 
     // Reads on where no head ends in so many bytes.
     fn search(&mut self, searched: usize) -> Result<Found, AllocError>
-        requires fresh { IsFresh self.old }
-        requires searched { IsSearched searched self.old.buffer }
+        requires { HasLeft self.old (Searched searched) }
         ensures { FindsNext self.old self.old.buffer self.new result }
     {
         let bytes = self.buffer.as_slice();
-        match first_head(self.alloc, self.limit, self.continued, searched, bytes)? {
+        let front = SearchedBytes { bytes, searched };
+        match first_head(self.alloc, self.limit, self.continued, front)? {
             FirstHead::Nothing => {
                 let searched = bytes.len();
                 self.keep_place(Progress::Searched(searched));
@@ -103,14 +104,14 @@ impl Work {
 
     // Reads the body behind the first head.
     fn begin(&mut self, first: FramedHead) -> Result<Found, AllocError>
-        requires fresh { IsFresh self.old }
-        requires within { first.length ≤ length self.old.buffer }
-        requires begun { HasBegun self.old (take first.length self.old.buffer) first.head
-            first.framing }
+        requires { IsAtHead self.old first.length first.head first.framing }
         ensures { FindsNext self.old self.old.buffer self.new result }
     {
         match first.framing {
-            Framing::Empty => Ok(self.take_plain(first.length, first.head, Vec::new(self.alloc))),
+            Framing::Empty => {
+                let octets = HashedOctets::from_vec(Vec::new(self.alloc));
+                Ok(self.take(first.length, first.head, octets))
+            }
             Framing::Length(length) => self.begin_sized(first.head, first.length, length as usize),
             Framing::Chunked => self.begin_chunks(first.head, first.length),
         }
@@ -122,32 +123,28 @@ impl Work {
         head_length: usize,
         size: usize,
     ) -> Result<Found, AllocError>
-        requires fresh { IsFresh self.old }
-        requires within { head_length ≤ length self.old.buffer }
-        requires begun { HasBegun self.old (take head_length self.old.buffer) head
-            (Framing.Length size) }
+        requires { IsAtHead self.old head_length head (Framing.Length size) }
         ensures { FindsNext self.old self.old.buffer self.new result }
     {
         let behind = &self.buffer.as_slice()[head_length..];
         let come = behind.len().min(size);
         let content = Vec::from_slice(self.alloc, &behind[..come])?;
+        let octets = HashedOctets::from_vec(content);
         if come == size {
-            return Ok(self.take_plain(head_length + size, head, content));
+            return Ok(self.take(head_length + size, head, octets));
         }
         self.buffer.truncate(head_length);
         self.keep_place(Progress::Sized(SizedRequest {
             is_hashed: is_hashed_early(&head),
             head,
             length: size,
-            behind: HashedOctets::from_vec(content),
+            behind: octets,
         }));
         Ok(Found::Nothing)
     }
 
     fn begin_chunks(&mut self, head: Head, head_length: usize) -> Result<Found, AllocError>
-        requires fresh { IsFresh self.old }
-        requires within { head_length ≤ length self.old.buffer }
-        requires begun { HasBegun self.old (take head_length self.old.buffer) head Framing.Chunked }
+        requires { IsAtHead self.old head_length head Framing.Chunked }
         ensures { FindsNext self.old self.old.buffer self.new result }
     {
         let used = UsedBytes::new().and(&self.buffer.as_slice()[..head_length]);
@@ -162,9 +159,7 @@ impl Work {
 
     // Reads on where the bytes are a head, and those behind it stand apart.
     fn read_sized(&mut self, mut request: SizedRequest) -> Result<Found, AllocError>
-        requires fresh { IsFresh self.old }
-        requires begun { HasBegun self.old self.old.buffer request.head
-            (Framing.Length request.length) }
+        requires { HasLeft self.old (Sized request) }
         ensures { FindsNext self.old (self.old.buffer ++ request.behind) self.new result }
     {
         if request.behind.as_slice().len() < request.length {
@@ -189,8 +184,7 @@ impl Work {
 
     // Reads on where the first request comes in chunks: the reader is fed the buffer, which is dropped then.
     fn read_chunks(&mut self, mut request: ChunkedRequest) -> Result<Found, AllocError>
-        requires fresh { IsFresh self.old }
-        requires reads { ReadsChunks self.old.limit self.old.continued request }
+        requires { HasLeft self.old (Chunked request) }
         ensures { FindsNext self.old (request.used.items ++ self.old.buffer) self.new result }
     {
         let bytes = self.buffer.as_slice();
@@ -217,22 +211,12 @@ impl Work {
         drop(mem::replace(&mut self.progress, progress));
     }
 
-    // Takes a whole request, of whose content nothing was hashed.
-    fn take_plain(&mut self, count: usize, head: Head, content: Vec<u8>) -> Found
-        requires fresh { IsFresh self.old }
-        requires within { count ≤ length self.old.buffer }
-        ensures whole { result ≡ Found.Message (record { head = head; content = content.items }) }
-        ensures left { Keeps self.old.limit false (drop count self.old.buffer) self.new }
-    {
-        self.take(count, head, HashedOctets::from_vec(content))
-    }
-
     // Takes a whole request, which has so many bytes of the buffer.
     fn take(&mut self, count: usize, head: Head, content: HashedOctets) -> Found
-        requires fresh { IsFresh self.old }
-        requires within { count ≤ length self.old.buffer }
+        requires { count ≤ length self.old.buffer }
         ensures whole { result ≡ Found.Message (record { head = head; content = content }) }
-        ensures left { Keeps self.old.limit false (drop count self.old.buffer) self.new }
+        ensures left { self.new
+            ≡ record self.old { buffer = drop count self.old.buffer; continued = false } }
     {
         self.buffer.drop_front(count);
         self.continued = false;

@@ -15,28 +15,35 @@ const ROOM: usize = 512;
 #[derive(Drop)]
 pub struct Folder<'a> {
     rt: &'a HostRuntime,
-    progress: Progress<'a>,
     path: &'a str,
     /// The path of the file or folder that was made last. Its room is taken at once.
     inside: String,
-    /// The file that was begun last, until it is ended.
-    file: Option<File>,
+    pub(crate) file: LastFile<'a>,
+}
+
+/// The file of a folder that was begun last, until it is ended.
+#[derive(Drop)]
+pub(crate) struct LastFile<'a> {
+    begun: Option<File>,
+    progress: Progress<'a>,
 }
 
 impl<'a> Folder<'a> {
     /// Makes the folder, which must not be there.
     pub fn new(rt: &'a HostRuntime, path: &'a str) -> io::Result<Folder<'a>>
         ensures path { IfOk result (λ folder. folder.path.now ≡ path.now) }
-        ensures none_begun { IfOk result (λ folder. folder.file ≡ None) }
+        ensures none_begun { IfOk result (λ folder. folder.file.begun ≡ None) }
     {
         let inside = String::with_capacity(rt.alloc(), path.len().saturating_add(ROOM))?;
         fs::create_dir(rt, path)?;
         Ok(Folder {
             rt,
-            progress: Progress::new(rt),
             path,
             inside,
-            file: None,
+            file: LastFile {
+                begun: None,
+                progress: Progress::new(rt),
+            },
         })
     }
 
@@ -47,7 +54,7 @@ impl<'a> Folder<'a> {
         ensures path { self.new.path ≡ self.old.path }
         ensures file { self.new.file ≡ self.old.file }
     {
-        self.turn_to(path)?;
+        put_path(&mut self.inside, self.path, path)?;
         fs::create_dir_all(self.rt, self.inside.as_str())
     }
 
@@ -56,24 +63,24 @@ impl<'a> Folder<'a> {
         ensures made { OnOk result
             (string_bytes self.new.inside ≡ path_in self.old.path.now path.now) }
         ensures path { self.new.path ≡ self.old.path }
-        ensures begun { OnOk result (IsSome self.new.file) }
+        ensures begun { OnOk result (IsSome self.new.file.begun) }
     {
         if let Some((above, _)) = path.rsplit_once('/') {
             self.make_folder(above)?;
         }
-        self.turn_to(path)?;
+        put_path(&mut self.inside, self.path, path)?;
         let file = File::create_new(self.rt, self.inside.as_str())?;
-        drop(self.file.replace(file));
+        drop(self.file.begun.replace(file));
         Ok(())
     }
+}
 
+impl LastFile<'_> {
     /// Writes on in the file that was begun last. There has to be one.
     pub fn write_on(&mut self, bytes: &[u8]) -> io::Result<()>
-        ensures begun { OnOk result (IsSome self.old.file) }
-        ensures path { self.new.path ≡ self.old.path }
-        ensures inside { self.new.inside ≡ self.old.inside }
+        ensures begun { OnOk result (IsSome self.old.begun) }
     {
-        match &mut self.file {
+        match &mut self.begun {
             Some(file) => file.write_all(bytes)?,
             None => return Err(ErrorKind::NotFound.into()),
         }
@@ -82,28 +89,25 @@ impl<'a> Folder<'a> {
     }
 
     /// Ends the file that was begun last, once the disk has it: so a write that fails late is seen.
-    pub fn end_file(&mut self) -> io::Result<()>
-        ensures ended { self.new.file ≡ None }
-        ensures path { self.new.path ≡ self.old.path }
+    pub fn end(&mut self) -> io::Result<()>
+        ensures ended { self.new.begun ≡ None }
     {
-        match self.file.take() {
+        match self.begun.take() {
             Some(file) => file.sync_all(),
             None => Ok(()),
         }
     }
+}
 
-    fn turn_to(&mut self, path: &str) -> io::Result<()>
-        ensures made { OnOk result
-            (string_bytes self.new.inside ≡ path_in self.old.path.now path.now) }
-        ensures path { self.new.path ≡ self.old.path }
-        ensures file { self.new.file ≡ self.old.file }
-    {
-        self.inside.clear();
-        self.inside.push_str(self.path)?;
-        self.inside.push_str("/")?;
-        self.inside.push_str(path)?;
-        Ok(())
-    }
+// Puts the path of a file or a folder in this folder into the room for it.
+fn put_path(inside: &mut String, folder: &str, path: &str) -> io::Result<()>
+    ensures { OnOk result (string_bytes inside.new ≡ path_in folder.now path.now) }
+{
+    inside.clear();
+    inside.push_str(folder)?;
+    inside.push_str("/")?;
+    inside.push_str(path)?;
+    Ok(())
 }
 
 /// What an export comes to where its folder can't be made.

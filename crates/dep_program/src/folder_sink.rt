@@ -28,7 +28,7 @@ impl Outlet for FolderSink<'_> {
     ghost failures = { λ s. s.failures };
 
     fn write(&mut self, bytes: &[u8]) -> Result<(), WriteFailed> {
-        if bytes.is_empty() || self.folder.write_on(bytes).is_ok() {
+        if bytes.is_empty() || self.folder.file.write_on(bytes).is_ok() {
             return Ok(());
         }
         self.failures = self.failures.saturating_add(1);
@@ -54,7 +54,7 @@ impl BagSink for FolderSink<'_> {
     }
 
     fn finish(&mut self) -> Result<(), SinkFailed> {
-        if self.folder.end_file().is_ok() {
+        if self.folder.file.end().is_ok() {
             return Ok(());
         }
         self.failures = self.failures.saturating_add(1);

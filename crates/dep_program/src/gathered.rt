@@ -67,17 +67,6 @@ impl<W: Write + Drop> Gathered<W> {
         if self.has_failed && !bytes.is_empty() {
             return Err(WriteFailed);
         }
-        self.gather(bytes)
-    }
-
-    /// Gives the bytes to the writer, which gathers them.
-    fn gather(&mut self, bytes: &[u8]) -> Result<(), WriteFailed>
-        ensures ok { OnOk result (Appends (told W.contents self.old)
-            (told W.contents self.new) bytes.now) }
-        ensures err { OnErr result (TakesPart (told W.contents self.old)
-            (told W.contents self.new) bytes.now) }
-        ensures failures { self.new.failures ≡ self.old.failures }
-    {
         let mut rest = bytes;
         while !rest.is_empty() {
             match self.writer.write(rest) {

@@ -1,6 +1,6 @@
 //! The words of the command line of `swordd_host`.
 ghost use Rattle.std.specs.Prelude.{◌≡◌, map, string_bytes, option_map};
-ghost use Rattle.dep_program.specs.HostCommands.{asked_in, asked_of, asked_of_one, is_option};
+ghost use Rattle.dep_program.specs.HostCommands as spec;
 
 /// What the words ask for.
 #[derive(Clone, Copy)]
@@ -16,7 +16,7 @@ pub enum HostCommand<'a> {
 impl<'a> HostCommand<'a> {
     /// Reads the words after the program's name. There is no command where they are none of these.
     pub fn read(words: &'a [String]) -> Option<HostCommand<'a>>
-        ensures { option_map asked_in result ≡ asked_of (map string_bytes words.now) }
+        ensures { option_map spec.asked_in result ≡ spec.asked_of (map string_bytes words.now) }
     {
         match words {
             [word] => of_one(word.as_str()),
@@ -33,7 +33,7 @@ impl<'a> HostCommand<'a> {
 }
 
 fn of_one<'a>(word: &'a str) -> Option<HostCommand<'a>>
-    ensures { option_map asked_in result ≡ asked_of_one word.now }
+    ensures { option_map spec.asked_in result ≡ spec.asked_of_one word.now }
 {
     if word == "--example" {
         return Some(HostCommand::Example);
@@ -46,7 +46,7 @@ fn of_one<'a>(word: &'a str) -> Option<HostCommand<'a>>
 
 /// Whether a word is no name of a file.
 fn is_option(word: &str) -> bool
-    ensures { result ≡ is_option word.now }
+    ensures { result ≡ spec.is_option word.now }
 {
     matches!(word.as_bytes().first(), Some(b'-'))
 }

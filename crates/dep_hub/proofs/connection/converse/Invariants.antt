@@ -1,8 +1,8 @@
-use Rattle.std.specs.Prelude.{IsSome, length, ◌≡◌, ◌⊎◌}
+use Rattle.std.specs.Prelude.{IsSome, ◌≡◌, ◌⊎◌}
 use Rattle.dep_types.specs.declared.inlet.LastRead.TheVariants.{Bytes}
 use Rattle.dep_hub.specs.Standing.{intake_of}
 use Rattle.dep_hub.specs.declared.arrived.Arrived.TheVariants.{Open as StaysOpen}
-use Rattle.dep_hub.specs.Turns.{most_read, reads_after}
+use Rattle.dep_hub.specs.Turns.{reads_after}
 use Rattle.dep_hub.specs.Conversation.{Talk, session, wire}
 use Rattle.dep_hub.specs.Flushing.{IsFlushed}
 use Rattle.dep_hub.proofs.connection.converse.Given as goal
@@ -10,11 +10,8 @@ use Rattle.dep_hub.proofs.connection.converse.Given as goal
 abbrev pub invariant-loop-count : goal.invariant-loop-count
 invariant-loop-count g l = record {
   call : goal.C-IsAlwaysCallable g l.clock;
-  room : length l.incoming.buffer.items ≡ most_read;
   same : l.incoming.connection ≡ l.fn.incoming.connection;
   there : IsSome (intake_of l.hub.connections.items l.fn.incoming.connection);
-  config : l.hub.config ≡ l.fn.hub.config;
-  next : l.hub.next ≡ l.fn.hub.next;
   reads : g.R.Inlet.reads l.reader ≡ reads_after (g.R.Inlet.reads l.fn.reader) l.count;
   last : (l.count ≡ 0) ⊎ (g.R.Inlet.last l.reader ≡ Bytes);
   flushed : IsFlushed (g.W.Flush.held l.fn.writer) (g.W.Flush.has_failed l.fn.writer)

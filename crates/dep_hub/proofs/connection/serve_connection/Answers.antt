@@ -1,27 +1,28 @@
 use Rattle.std.proofs.Common.{sym, ◌∙◌, refl, subst, IsTrue}
+use denote.Param.Always.{mut_next}
 use Rattle.dep_types.specs.Conditions.{HasCleanDisk}
 use Rattle.dep_hub.specs.Conversation.{wire, session}
 use Rattle.dep_hub.specs.Standing.{store_of}
 use Rattle.dep_hub.proofs.HubLemmas.{same_stands_for}
 use Rattle.dep_hub.proofs.Leaving.{stays_as}
-use Rattle.dep_hub.proofs.TalkLemmas.{serves_whole, unserved, next_served, later_clean, later_honest}
+use Rattle.dep_hub.proofs.TalkLemmas.{serves_whole, unserved, next_served, clocks_keep}
 use Rattle.dep_hub.proofs.connection.serve_connection.Goals as goal
+use Rattle.dep_hub.proofs.connection.serve_connection.Given as given
 
 pub returns : goal.returns
 returns g c =
     let store = c.close.new.self.store in
+    let talks = c.converse-served.ensures.talks in
     record {
-      call = c.converse-served.ensures.call;
+      call = clocks_keep (given.C-step g) (given.C-IsAlwaysCallable g) (λ a m b s p. mut_next g.C.FnMut a tt m b b s refl p) _ _ _ talks.talk.moments c.requires;
       goes = record {
-        config = c.close.ensures.kept.config ∙ (c.converse-served.ensures.config ∙ c.connect.ensures.config);
+        config = c.close.ensures.kept.config ∙ (talks.talk.goes.config ∙ c.connect.ensures.config);
         clean = λ is_open.
             subst (λ (x : _). IsTrue (g.A.Archive.condition x).is_open) c.connect.ensures.store
-            (later_clean g.A.Archive.condition _ c.in-Ok-connect.connection _ _ c.converse-served.result c.converse-served.ensures.talks
-            (subst (λ (x : _). IsTrue (g.A.Archive.condition x).is_open) c.close.ensures.kept.store is_open));
+            (talks.talk.goes.clean (subst (λ (x : _). IsTrue (g.A.Archive.condition x).is_open) c.close.ensures.kept.store is_open));
         honest = λ honest.
             subst (λ (x : _). HasCleanDisk (g.A.Archive.condition x)) c.connect.ensures.store
-            (later_honest g.A.Archive.condition _ c.in-Ok-connect.connection _ _ c.converse-served.result c.converse-served.ensures.talks
-            (subst (λ (x : _). HasCleanDisk (g.A.Archive.condition x)) c.close.ensures.kept.store honest));
+            (talks.talk.goes.honest (subst (λ (x : _). HasCleanDisk (g.A.Archive.condition x)) c.close.ensures.kept.store honest));
       };
       converses = serves_whole g.A.Archive.condition _ c.in-Ok-connect.connection
           (session c.args.hub.now (wire (g.R.Inlet.unread c.args.reader.now) (g.R.Inlet.reads c.args.reader.now) (g.R.Inlet.last c.args.reader.now) (g.W.Outlet.taken c.args.writer.now) (g.W.Outlet.failures c.args.writer.now)) c.args.clock.now)
@@ -29,10 +30,10 @@ returns g c =
           c.in-Ok-connect.ensures.next.0 c.in-Ok-connect.ensures.fresh c.in-Ok-connect.ensures.moves c.close.ensures.moves
           (g.met.A.Archive.settled c.connect.new.self.store)
           (g.met.A.Archive.honest_if_open store)
-          c.connect.ensures.config (c.close.ensures.kept.config ∙ (c.converse-served.ensures.config ∙ c.connect.ensures.config)) c.close.ensures.kept.store c.connect.ensures.store c.close.ensures.gone
-          c.converse-served.result c.converse-served.ensures.talks;
-      next = c.close.ensures.kept.next ∙ (c.converse-served.ensures.next ∙ (c.in-Ok-connect.ensures.next.1
-          ∙ sym (next_served g.A.Archive.condition _ c.in-Ok-connect.connection _ _ c.converse-served.result c.converse-served.ensures.talks c.args.hub.now.next)));
+          c.connect.ensures.config (c.close.ensures.kept.config ∙ (talks.talk.goes.config ∙ c.connect.ensures.config)) c.close.ensures.kept.store c.connect.ensures.store c.close.ensures.gone
+          c.converse-served.result talks;
+      next = c.close.ensures.kept.next ∙ (talks.talk.goes.next ∙ (c.in-Ok-connect.ensures.next.1
+          ∙ sym (next_served g.A.Archive.condition _ c.in-Ok-connect.connection _ _ c.converse-served.result talks c.args.hub.now.next)));
       flushed = c.converse-served.ensures.flushed;
     }
 

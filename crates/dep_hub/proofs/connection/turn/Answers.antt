@@ -1,24 +1,18 @@
 use Rattle.std.proofs.Common.{IsSome, Vec, Global, refl, sym, subst, length, drop, ◌∙◌}
-use denote.Param.Always.{mut_next}
 use Rattle.dep_hub.specs.Conversation.{session, wire}
 use Rattle.dep_hub.specs.Standing.{intake_of}
 use Rattle.dep_hub.specs.declared.connections.Connection.{Connection}
 use Rattle.dep_hub.specs.declared.arrived.Arrived.TheVariants.{Open as StaysOpen, Closed as HasClosed, Cut}
-use Rattle.dep_hub.proofs.TurnLemmas.{arrives_flushed, one_turn, no_turn, none_read, gives_bytes, gives_none, has_room, kept_room}
+use Rattle.dep_hub.proofs.TurnLemmas.{arrives_flushed, one_turn, no_turn, none_read, gives_bytes, gives_none, has_room, goes_then, goes_ahead}
 use Rattle.dep_hub.proofs.connection.turn.Goals as goal
 use Rattle.dep_hub.proofs.connection.turn.Given as given
 
 -- the connection goes on, and the store works ahead
 pub returns-in-Open : goal.returns-in-Open
 returns-in-Open g c = record {
-  call = mut_next g.C.FnMut c.args.clock.now tt c.clock-moment.result c.clock-moment.new.self c.clock-moment.new.self c.clock-moment.ensures refl c.requires.call;
   there = subst (λ (cs : Vec Connection Global). IsSome (intake_of cs.items c.args.incoming.now.connection)) (sym c.work_ahead-left.ensures.rests.connections)
-      (c.arrive-arrived.ensures.there c.requires.there).1;
-  room = kept_room c.args.incoming.now.buffer.len c.read.new.buffer c.as_mut_slice.result.now c.args.incoming.now.buffer.items
-      c.read.auto.buffer c.as_mut_slice.ensures.value c.as_mut_slice.ensures.len c.requires.room;
+      c.in-Open.ensures.arrival.is_there;
   same = refl;
-  config = c.work_ahead-left.ensures.rests.config ∙ c.arrive-arrived.ensures.goes.config;
-  next = c.work_ahead-left.ensures.rests.next ∙ c.arrive-arrived.ensures.goes.next;
   turn = record {
     served = c.arrive-arrived.new.self;
     turn = one_turn g.A.Archive.condition (given.C-step g) c.args.incoming.now.connection
@@ -26,13 +20,14 @@ returns-in-Open g c = record {
         (session c.arrive-arrived.new.self (wire (g.R.Inlet.unread c.read.new.self) (g.R.Inlet.reads c.read.new.self) (g.R.Inlet.last c.read.new.self) (g.W.Outlet.taken c.flush.new.self) (g.W.Outlet.failures c.flush.new.self)) c.clock-moment.new.self)
         StaysOpen c.in-Ok.n c.args.incoming.now.buffer.len c.clock-moment.result
         c.read.new.buffer (drop (length c.read.new.buffer) c.args.incoming.now.buffer.items) c.as_mut_slice.result.now c.args.incoming.now.buffer.items c.deref.result.now
-        c.deref.ensures.value c.read.auto.buffer c.as_mut_slice.ensures.len c.as_mut_slice.ensures.value c.requires.room
+        c.deref.ensures.value c.read.auto.buffer c.as_mut_slice.ensures.len c.as_mut_slice.ensures.value c.args.incoming.now.room
         c.in-Ok.ensures.bound.0 c.in-Ok.ensures.bound.1 c.in-Ok.n-test.1 c.in-Ok.ensures.bytes.0 c.read.ensures.count (c.in-Ok.ensures.last ∙ gives_bytes c.in-Ok.n c.in-Ok.n-test.1) c.clock-moment.ensures (arrives_flushed g.A.Archive.condition _ _ _ _ _ _ _ _ _ _ _ _ c.flush.ensures.taken c.flush.ensures.failures c.in-Open.ensures.arrival);
     ahead = record {
       same_config = c.work_ahead-left.ensures.rests.config;
       same_connections = c.work_ahead-left.ensures.rests.connections;
       store = c.work_ahead-left.ensures.rests.store;
     };
+    goes = goes_then g.A.Archive.condition c.in-Open.ensures.arrival.goes (goes_ahead g.A.Archive.condition c.work_ahead-left.ensures.rests);
   };
   flushed = λ _. c.flush.ensures.sends;
 }
@@ -40,19 +35,14 @@ returns-in-Open g c = record {
 -- a reply has closed it
 pub returns-in-Closed : goal.returns-in-Closed
 returns-in-Closed g c = record {
-  call = mut_next g.C.FnMut c.args.clock.now tt c.clock-moment.result c.clock-moment.new.self c.clock-moment.new.self c.clock-moment.ensures refl c.requires.call;
-  there = (c.arrive-arrived.ensures.there c.requires.there).1;
-  room = kept_room c.args.incoming.now.buffer.len c.read.new.buffer c.as_mut_slice.result.now c.args.incoming.now.buffer.items
-      c.read.auto.buffer c.as_mut_slice.ensures.value c.as_mut_slice.ensures.len c.requires.room;
+  there = c.in-Closed.ensures.arrival.is_there;
   same = refl;
-  config = c.arrive-arrived.ensures.goes.config;
-  next = c.arrive-arrived.ensures.goes.next;
   turn = one_turn g.A.Archive.condition (given.C-step g) c.args.incoming.now.connection
       (session c.args.hub.now (wire (g.R.Inlet.unread c.args.reader.now) (g.R.Inlet.reads c.args.reader.now) (g.R.Inlet.last c.args.reader.now) (g.W.Outlet.taken c.args.writer.now) (g.W.Outlet.failures c.args.writer.now)) c.args.clock.now)
       (session c.arrive-arrived.new.self (wire (g.R.Inlet.unread c.read.new.self) (g.R.Inlet.reads c.read.new.self) (g.R.Inlet.last c.read.new.self) (g.W.Outlet.taken c.flush.new.self) (g.W.Outlet.failures c.flush.new.self)) c.clock-moment.new.self)
       HasClosed c.in-Ok.n c.args.incoming.now.buffer.len c.clock-moment.result
       c.read.new.buffer (drop (length c.read.new.buffer) c.args.incoming.now.buffer.items) c.as_mut_slice.result.now c.args.incoming.now.buffer.items c.deref.result.now
-      c.deref.ensures.value c.read.auto.buffer c.as_mut_slice.ensures.len c.as_mut_slice.ensures.value c.requires.room
+      c.deref.ensures.value c.read.auto.buffer c.as_mut_slice.ensures.len c.as_mut_slice.ensures.value c.args.incoming.now.room
       c.in-Ok.ensures.bound.0 c.in-Ok.ensures.bound.1 c.in-Ok.n-test.1 c.in-Ok.ensures.bytes.0 c.read.ensures.count (c.in-Ok.ensures.last ∙ gives_bytes c.in-Ok.n c.in-Ok.n-test.1) c.clock-moment.ensures (arrives_flushed g.A.Archive.condition _ _ _ _ _ _ _ _ _ _ _ _ c.flush.ensures.taken c.flush.ensures.failures c.in-Closed.ensures.arrival);
   flushed = λ _. c.flush.ensures.sends;
 }
@@ -60,19 +50,14 @@ returns-in-Closed g c = record {
 -- a reply was cut
 pub returns-in-Cut : goal.returns-in-Cut
 returns-in-Cut g c = record {
-  call = mut_next g.C.FnMut c.args.clock.now tt c.clock-moment.result c.clock-moment.new.self c.clock-moment.new.self c.clock-moment.ensures refl c.requires.call;
-  there = (c.arrive-arrived.ensures.there c.requires.there).1;
-  room = kept_room c.args.incoming.now.buffer.len c.read.new.buffer c.as_mut_slice.result.now c.args.incoming.now.buffer.items
-      c.read.auto.buffer c.as_mut_slice.ensures.value c.as_mut_slice.ensures.len c.requires.room;
+  there = c.in-Cut.ensures.arrival.is_there;
   same = refl;
-  config = c.arrive-arrived.ensures.goes.config;
-  next = c.arrive-arrived.ensures.goes.next;
   turn = one_turn g.A.Archive.condition (given.C-step g) c.args.incoming.now.connection
       (session c.args.hub.now (wire (g.R.Inlet.unread c.args.reader.now) (g.R.Inlet.reads c.args.reader.now) (g.R.Inlet.last c.args.reader.now) (g.W.Outlet.taken c.args.writer.now) (g.W.Outlet.failures c.args.writer.now)) c.args.clock.now)
       (session c.arrive-arrived.new.self (wire (g.R.Inlet.unread c.read.new.self) (g.R.Inlet.reads c.read.new.self) (g.R.Inlet.last c.read.new.self) (g.W.Outlet.taken c.flush.new.self) (g.W.Outlet.failures c.flush.new.self)) c.clock-moment.new.self)
       Cut c.in-Ok.n c.args.incoming.now.buffer.len c.clock-moment.result
       c.read.new.buffer (drop (length c.read.new.buffer) c.args.incoming.now.buffer.items) c.as_mut_slice.result.now c.args.incoming.now.buffer.items c.deref.result.now
-      c.deref.ensures.value c.read.auto.buffer c.as_mut_slice.ensures.len c.as_mut_slice.ensures.value c.requires.room
+      c.deref.ensures.value c.read.auto.buffer c.as_mut_slice.ensures.len c.as_mut_slice.ensures.value c.args.incoming.now.room
       c.in-Ok.ensures.bound.0 c.in-Ok.ensures.bound.1 c.in-Ok.n-test.1 c.in-Ok.ensures.bytes.0 c.read.ensures.count (c.in-Ok.ensures.last ∙ gives_bytes c.in-Ok.n c.in-Ok.n-test.1) c.clock-moment.ensures (arrives_flushed g.A.Archive.condition _ _ _ _ _ _ _ _ _ _ _ _ c.flush.ensures.taken c.flush.ensures.failures c.in-Cut.ensures.arrival);
   flushed = λ _. c.flush.ensures.sends;
 }
@@ -80,13 +65,8 @@ returns-in-Cut g c = record {
 -- the read failed, or gave nothing
 pub returns-in-Err : goal.returns-in-Err
 returns-in-Err g c = record {
-  call = c.requires.call;
   there = c.requires.there;
-  room = kept_room c.args.incoming.now.buffer.len c.read.new.buffer c.as_mut_slice.result.now c.args.incoming.now.buffer.items
-      c.read.auto.buffer c.as_mut_slice.ensures.value c.as_mut_slice.ensures.len c.requires.room;
   same = refl;
-  config = refl;
-  next = refl;
   turn = (
     no_turn g.A.Archive.condition
         (session c.args.hub.now (wire (g.R.Inlet.unread c.args.reader.now) (g.R.Inlet.reads c.args.reader.now) (g.R.Inlet.last c.args.reader.now) (g.W.Outlet.taken c.args.writer.now) (g.W.Outlet.failures c.args.writer.now)) c.args.clock.now)
@@ -101,20 +81,15 @@ pub returns-in-Ok-eq0 : goal.returns-in-Ok-eq0
 returns-in-Ok-eq0 g c =
     let none = c.in-Ok-eq0.field-0-test in
     record {
-      call = c.requires.call;
       there = c.requires.there;
-      room = kept_room c.args.incoming.now.buffer.len c.read.new.buffer c.as_mut_slice.result.now c.args.incoming.now.buffer.items
-          c.read.auto.buffer c.as_mut_slice.ensures.value c.as_mut_slice.ensures.len c.requires.room;
       same = refl;
-      config = refl;
-      next = refl;
       turn = (
         no_turn g.A.Archive.condition
             (session c.args.hub.now (wire (g.R.Inlet.unread c.args.reader.now) (g.R.Inlet.reads c.args.reader.now) (g.R.Inlet.last c.args.reader.now) (g.W.Outlet.taken c.args.writer.now) (g.W.Outlet.failures c.args.writer.now)) c.args.clock.now)
             (session c.args.hub.now (wire (g.R.Inlet.unread c.read.new.self) (g.R.Inlet.reads c.read.new.self) (g.R.Inlet.last c.read.new.self) (g.W.Outlet.taken c.args.writer.now) (g.W.Outlet.failures c.args.writer.now)) c.args.clock.now)
             refl refl refl refl
             (none_read c.in-Ok-eq0.field-0 c.read.new.buffer (g.R.Inlet.unread c.args.reader.now) (g.R.Inlet.unread c.read.new.self) none c.in-Ok-eq0.ensures.bytes.0) c.read.ensures.count,
-        c.in-Ok-eq0.ensures.bytes.1 none (has_room c.read.new.buffer c.as_mut_slice.result.now c.args.incoming.now.buffer.items c.read.auto.buffer c.as_mut_slice.ensures.value c.requires.room),
+        c.in-Ok-eq0.ensures.bytes.1 none (has_room c.read.new.buffer c.as_mut_slice.result.now c.args.incoming.now.buffer.items c.read.auto.buffer c.as_mut_slice.ensures.value c.args.incoming.now.room),
         c.in-Ok-eq0.ensures.last ∙ gives_none c.in-Ok-eq0.field-0 none,
       );
       flushed = λ flushed. flushed;

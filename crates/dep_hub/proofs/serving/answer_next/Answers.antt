@@ -20,9 +20,11 @@ returns-in-Err g c =
           c.give_up.new.intake.place (ap (λ (r : Reading). r.place) shut) c.give_up.result
           (runs_out c.args.intake.now.place (g.O.Outlet.taken c.args.out.now) (g.O.Outlet.taken c.give_up.new.out) (g.O.Outlet.failures c.args.out.now) (g.O.Outlet.failures c.give_up.new.out) store
           c.give_up.result e.1 c.give_up.ensures.sent c.give_up.ensures.cause)
-          c.give_up.ensures.there c.last.result c.last.ensures;
-      limit = ap (λ (r : Reading). r.limit) shut ∙ ap (λ (r : Reading). r.limit) e.0;
-      dead = λ dead. ends_dead c.next.new.self c.give_up.new.intake shut;
+          c.last.result c.last.ensures;
+      keeps = record {
+        limit = ap (λ (r : Reading). r.limit) shut ∙ ap (λ (r : Reading). r.limit) e.0;
+        dead = λ dead. ends_dead c.next.new.self c.give_up.new.intake shut;
+      };
       less = λ m. absurd (never_more c.give_up.result c.last.result c.last.ensures m);
     }
 
@@ -36,8 +38,10 @@ returns-in-Ok-NeedMore g c =
         lives = h.2;
         rests = rests_same (outside (g.O.Outlet.taken c.args.out.now) (g.O.Outlet.failures c.args.out.now) (g.A.Archive.condition c.args.store.now));
       };
-      limit = ap (λ (r : Reading). r.limit) h.0;
-      dead = λ dead. subst IsDeadIfShut (sym h.0) dead;
+      keeps = record {
+        limit = ap (λ (r : Reading). r.limit) h.0;
+        dead = λ dead. subst IsDeadIfShut (sym h.0) dead;
+      };
       less = λ m. absurd (waiting_more m);
     }
 
@@ -47,8 +51,10 @@ returns-in-Ok-Dead g c =
     record {
       answers = dead_ends c.args.context.now.site.now c.args.intake.now c.args.context.now.moment
           (outside (g.O.Outlet.taken c.args.out.now) (g.O.Outlet.failures c.args.out.now) (g.A.Archive.condition c.args.store.now)) c.next.new.self h.0 h.1;
-      limit = ap (λ (r : Reading). r.limit) h.0;
-      dead = λ dead. subst IsDeadIfShut (sym h.0) dead;
+      keeps = record {
+        limit = ap (λ (r : Reading). r.limit) h.0;
+        dead = λ dead. subst IsDeadIfShut (sym h.0) dead;
+      };
       less = λ m. absurd (closed_more m);
     }
 
@@ -62,8 +68,10 @@ returns-in-Ok-Refused g c =
           (outside (g.O.Outlet.taken c.answer_fault-answer.new.out) (g.O.Outlet.failures c.answer_fault-answer.new.out) (g.A.Archive.condition c.answer_fault-answer.new.store))
           c.end.new.intake.place (ap (λ (r : Reading). r.place) c.end.ensures.shut) item c.next.new.self.place c.answer_fault-answer.result h.first
           (λ _. fault_shuts _ _ _ _ _ h.first) c.answer_fault-answer.ensures c.end.result c.end.ensures.answer c.last-in-Ok-Refused.result c.last-in-Ok-Refused.ensures;
-      limit = ap (λ (r : Reading). r.limit) c.end.ensures.shut ∙ h.limit;
-      dead = λ dead. ends_dead c.next.new.self c.end.new.intake c.end.ensures.shut;
+      keeps = record {
+        limit = ap (λ (r : Reading). r.limit) c.end.ensures.shut ∙ h.limit;
+        dead = λ dead. ends_dead c.next.new.self c.end.new.intake c.end.ensures.shut;
+      };
       less = λ m. absurd (never_more c.end.result c.last-in-Ok-Refused.result c.last-in-Ok-Refused.ensures m);
     }
 
@@ -77,8 +85,10 @@ returns-in-Sent g c =
         is_open = is_there c.next.new.self.place (continue_goes_on _ _ _ h.first);
         answers = c.in-Sent.ensures c.args.context.now.site.now c.args.context.now.moment;
       };
-      limit = h.limit;
-      dead = λ dead shut. absurd (continue_goes_on _ _ _ h.first shut);
+      keeps = record {
+        limit = h.limit;
+        dead = λ dead shut. absurd (continue_goes_on _ _ _ h.first shut);
+      };
       less = λ m. h.less;
     }
 
@@ -95,8 +105,10 @@ returns-in_default g c =
           (λ sent. absurd (c.in_default.not-Sent sent)) (c.answer_continue.ensures c.args.context.now.site.now c.args.context.now.moment)
           c.end-in_default.result c.end-in_default.ensures.answer
           c.last-in_default.result c.last-in_default.ensures;
-      limit = ap (λ (r : Reading). r.limit) shut ∙ h.limit;
-      dead = λ dead. ends_dead c.next.new.self c.end-in_default.new.intake shut;
+      keeps = record {
+        limit = ap (λ (r : Reading). r.limit) shut ∙ h.limit;
+        dead = λ dead. ends_dead c.next.new.self c.end-in_default.new.intake shut;
+      };
       less = λ m. absurd (never_more c.end-in_default.result c.last-in_default.result c.last-in_default.ensures m);
     }
 
@@ -112,8 +124,10 @@ returns-then-is_last g c =
           c.end-then-is_last.new.intake.place (ap (λ (r : Reading). r.place) shut) (Request c.in-Ok-Message.message) c.next.new.self.place Sent h.first
           (λ sent. request_shuts _ _ _ c.in-Ok-Message.message ends h.first) c.in-Sent-answer_message.ensures
           c.end-then-is_last.result c.end-then-is_last.ensures.answer c.last-then-is_last.result c.last-then-is_last.ensures;
-      limit = ap (λ (r : Reading). r.limit) shut ∙ h.limit;
-      dead = λ dead. ends_dead c.next.new.self c.end-then-is_last.new.intake shut;
+      keeps = record {
+        limit = ap (λ (r : Reading). r.limit) shut ∙ h.limit;
+        dead = λ dead. ends_dead c.next.new.self c.end-then-is_last.new.intake shut;
+      };
       less = λ m. absurd (never_more c.end-then-is_last.result c.last-then-is_last.result c.last-then-is_last.ensures m);
     }
 
@@ -128,8 +142,10 @@ returns-else-is_last g c =
         is_open = is_there c.next.new.self.place (request_goes_on _ _ _ c.in-Ok-Message.message goes h.first);
         answers = c.in-Sent-answer_message.ensures;
       };
-      limit = h.limit;
-      dead = λ dead shut. absurd (request_goes_on _ _ _ c.in-Ok-Message.message goes h.first shut);
+      keeps = record {
+        limit = h.limit;
+        dead = λ dead shut. absurd (request_goes_on _ _ _ c.in-Ok-Message.message goes h.first shut);
+      };
       less = λ m. h.less;
     }
 
@@ -146,7 +162,9 @@ returns-in_default-answer_message g c =
           (λ sent. absurd (c.in_default-answer_message.not-Sent sent)) c.answer_message.ensures
           c.end-in_default-answer_message.result c.end-in_default-answer_message.ensures.answer
           c.last-in_default-answer_message.result c.last-in_default-answer_message.ensures;
-      limit = ap (λ (r : Reading). r.limit) shut ∙ h.limit;
-      dead = λ dead. ends_dead c.next.new.self c.end-in_default-answer_message.new.intake shut;
+      keeps = record {
+        limit = ap (λ (r : Reading). r.limit) shut ∙ h.limit;
+        dead = λ dead. ends_dead c.next.new.self c.end-in_default-answer_message.new.intake shut;
+      };
       less = λ m. absurd (never_more c.end-in_default-answer_message.result c.last-in_default-answer_message.result c.last-in_default-answer_message.ensures m);
     }

@@ -1,7 +1,6 @@
-use Rattle.std.proofs.Common.{◌≡◌}
 use Rattle.dep_message.specs.Places.{left_to_read}
 use Rattle.dep_hub.specs.Sending.{outside}
-use Rattle.dep_hub.specs.Serving.{Progress, IsDeadIfShut, arrival_of}
+use Rattle.dep_hub.specs.Serving.{Progress, KeepsIntake, arrival_of}
 use Rattle.dep_hub.proofs.serving.serve.Given as goal
 
 -- what was read so far was answered
@@ -10,8 +9,7 @@ invariant-loop g l = record {
   served : Progress l.site (arrival_of l.fn.intake l.piece.bytes.now l.piece.moment)
       (outside (g.O.Outlet.taken l.fn.out) (g.O.Outlet.failures l.fn.out) (g.A.Archive.condition l.fn.store))
       (outside (g.O.Outlet.taken l.out) (g.O.Outlet.failures l.out) (g.A.Archive.condition l.store)) l.intake.place;
-  limit : l.intake.limit ≡ l.fn.intake.limit;
-  dead : IsDeadIfShut l.fn.intake → IsDeadIfShut l.intake;
+  keeps : KeepsIntake l.fn.intake l.intake;
 }
 
 abbrev pub decreases-loop : goal.decreases-loop

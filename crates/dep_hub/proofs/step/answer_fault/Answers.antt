@@ -1,4 +1,4 @@
-use Rattle.std.proofs.Common.{None, true, inl, inr, refl}
+use Rattle.std.proofs.Common.{◌∙◌, None, true, inl, inr, refl}
 use Rattle.dep_types.specs.State.{tick}
 use Rattle.dep_types.specs.declared.store_fault.StoreFault.TheVariants.{Memory}
 use Rattle.dep_message.specs.Stream.{Fault}
@@ -24,7 +24,7 @@ returns-in-Ok-refused g c =
         clean = λ h. c.tick.ensures.does.was_open (x.passes.clean h);
       };
       steps = λ disk s stands.
-          let t = (rw c.config.ensures at c.in-Ok.ensures.does).ok (x.passes.honest disk) s stands tt in
+          let t = (rw (c.config.ensures ∙ c.service.ensures) at c.in-Ok.ensures.does).ok (x.passes.honest disk) s stands tt in
           let now = tick config s c.args.context.now.moment in
           made_from config s (Fault c.args.fault.refusal c.args.fault.is_bare) c.args.context.now.moment x.sent _ _ _ c.send_performed-answered.result refl
           (answers_from config s (Fault c.args.fault.refusal c.args.fault.is_bare) c.args.context.now.moment x.sent _ _ c.send_performed-answered.result
@@ -41,7 +41,7 @@ returns-in-Err-refused g c =
     answers_fixed config (outside (g.O.Outlet.taken c.args.out.now) (g.O.Outlet.failures c.args.out.now) (g.A.Archive.condition c.args.store.now)) (outside (g.O.Outlet.taken c.send_fault.new.out) (g.O.Outlet.failures c.send_fault.new.out) (g.A.Archive.condition c.tick.new.self)) (Fault c.args.fault.refusal c.args.fault.is_bare) c.args.context.now.moment Memory
     c.tick.ensures.does.honest c.tick.ensures.does.was_open
     (λ disk s stands.
-    let t = (rw c.config.ensures at c.in-Ok.ensures.does).ok disk s stands tt in record {
+    let t = (rw (c.config.ensures ∙ c.service.ensures) at c.in-Ok.ensures.does).ok disk s stands tt in record {
       left = tick config s c.args.context.now.moment;
       is_left = inr refl;
       stands = λ _. t.1;
@@ -49,7 +49,7 @@ returns-in-Err-refused g c =
           (stays_as new (tick config s c.args.context.now.moment) (g.met.A.Archive.settled c.tick.new.self) t.1);
     })
     (λ sent answer h. h) (λ disk none. absurd (none (c.in-Ok.ensures.shut.opened disk)))
-    c.send_fault.result c.send_fault.ensures.sends c.send_fault.ensures.cause
+    c.send_fault.result c.send_fault.ensures
 
 pub returns-in-Err : goal.returns-in-Err
 unfolding step
@@ -61,7 +61,7 @@ returns-in-Err g c =
       left = s;
       is_left = inl refl;
       stands = λ is_open. c.in-Err.ensures.does.err is_open s stands;
-      stop = leaves_wider new _ _ (λ found e. elim e [ inl same ↦ inl same | inr next ↦ inr (inl next) ]) ((rw c.config.ensures at c.tick.ensures.does).stop disk s stands tt);
+      stop = leaves_wider new _ _ (λ found e. elim e [ inl same ↦ inl same | inr next ↦ inr (inl next) ]) ((rw (c.config.ensures ∙ c.service.ensures) at c.tick.ensures.does).stop disk s stands tt);
     })
     (λ sent answer h. h) c.tick.ensures.shut.left
-    c.send_fault-in-Err.result c.send_fault-in-Err.ensures.sends c.send_fault-in-Err.ensures.cause
+    c.send_fault-in-Err.result c.send_fault-in-Err.ensures

@@ -1,4 +1,4 @@
-use Rattle.std.proofs.Common.{inl, inr, refl}
+use Rattle.std.proofs.Common.{◌∙◌, inl, inr, refl}
 use Rattle.dep_types.specs.State.{tick}
 use Rattle.dep_message.specs.Stream.{Request}
 use Rattle.dep_message.specs.declared.message.Message.{Message}
@@ -23,7 +23,7 @@ returns-in-Ok-answer_routed g c =
       };
       steps = λ disk s stands.
           let between = x.passes.honest disk in
-          let t = (rw c.config.ensures at c.in-Ok.ensures.does).ok (c.answer_routed.ensures.honest between) s stands tt in
+          let t = (rw (c.config.ensures ∙ c.service.ensures) at c.in-Ok.ensures.does).ok (c.answer_routed.ensures.honest between) s stands tt in
           let p = c.in-Ok-answer_routed.ensures.ok between (tick config s c.args.context.now.moment) t.1 tt in
           made_from config s (Request m) c.args.context.now.moment x.sent _ _ _ c.send_performed-answered.result refl
           (answers_from config s (Request m) c.args.context.now.moment x.sent _ _ c.send_performed-answered.result (x.sends disk (step config s (Request m) c.args.context.now.moment) (record { state = p.1; ready = p.0 t.0 })));
@@ -39,14 +39,14 @@ returns-in-Err-answer_routed g c =
     answers_fixed config (outside (g.O.Outlet.taken c.args.out.now) (g.O.Outlet.failures c.args.out.now) (g.A.Archive.condition c.args.store.now)) (outside (g.O.Outlet.taken c.send_fault.new.out) (g.O.Outlet.failures c.send_fault.new.out) (g.A.Archive.condition c.answer_routed.new.store)) (Request m) c.args.context.now.moment c.in-Err-answer_routed.fault
     (λ h. c.tick.ensures.does.honest (c.answer_routed.ensures.honest h)) (λ h. c.tick.ensures.does.was_open (c.answer_routed.ensures.was_open h))
     (λ disk s stands.
-    let t = (rw c.config.ensures at c.in-Ok.ensures.does).ok (c.answer_routed.ensures.honest disk) s stands tt in record {
+    let t = (rw (c.config.ensures ∙ c.service.ensures) at c.in-Ok.ensures.does).ok (c.answer_routed.ensures.honest disk) s stands tt in record {
       left = tick config s c.args.context.now.moment;
       is_left = inr refl;
       stands = λ is_open. c.in-Err-answer_routed.ensures.err is_open (tick config s c.args.context.now.moment) t.1;
       stop = leaves_wider new _ _ (λ found e. inr e) (c.answer_routed.ensures.stop disk (tick config s c.args.context.now.moment) t.1 tt);
     })
     (λ sent answer h. h) (λ disk none. absurd (none (c.in-Ok.ensures.shut.opened (c.answer_routed.ensures.honest disk))))
-    c.send_fault.result c.send_fault.ensures.sends c.send_fault.ensures.cause
+    c.send_fault.result c.send_fault.ensures
 
 pub returns-in-Err : goal.returns-in-Err
 unfolding step
@@ -58,7 +58,7 @@ returns-in-Err g c =
       left = s;
       is_left = inl refl;
       stands = λ is_open. c.in-Err.ensures.does.err is_open s stands;
-      stop = leaves_wider new _ _ (λ found e. elim e [ inl same ↦ inl same | inr next ↦ inr (inl next) ]) ((rw c.config.ensures at c.tick.ensures.does).stop disk s stands tt);
+      stop = leaves_wider new _ _ (λ found e. elim e [ inl same ↦ inl same | inr next ↦ inr (inl next) ]) ((rw (c.config.ensures ∙ c.service.ensures) at c.tick.ensures.does).stop disk s stands tt);
     })
     (λ sent answer h. h) c.tick.ensures.shut.left
-    c.send_fault-in-Err.result c.send_fault-in-Err.ensures.sends c.send_fault-in-Err.ensures.cause
+    c.send_fault-in-Err.result c.send_fault-in-Err.ensures

@@ -8,7 +8,7 @@ use Rattle.dep_message.proofs.first.first_head.Goals as goal
 
 pub returns-then-bytes-ge-HEAD_LIMIT : goal.returns-then-bytes-ge-HEAD_LIMIT
 returns-then-bytes-ge-HEAD_LIMIT c =
-    let bytes = c.args.bytes.now in
+    let bytes = c.args.front.bytes.now in
     let none : head_end bytes ≡ None = sym c.find_end_from.ensures ∙ c.in_default.is in (
       take 16384 bytes,
       drop 16384 bytes,
@@ -18,7 +18,7 @@ returns-then-bytes-ge-HEAD_LIMIT c =
 
 pub returns-then-end-gt-HEAD_LIMIT : goal.returns-then-end-gt-HEAD_LIMIT
 returns-then-end-gt-HEAD_LIMIT c =
-    let bytes = c.args.bytes.now in
+    let bytes = c.args.front.bytes.now in
     let n = c.in-Some.end in
     let some : head_end bytes ≡ Some n = sym c.in-Some.ensures in
     let within : n ≤ length bytes = (end_within bytes n some).1 in
@@ -31,17 +31,17 @@ returns-then-end-gt-HEAD_LIMIT c =
 
 pub slice_bounds-read_head-end : goal.slice_bounds-read_head-end
 slice_bounds-read_head-end c =
-    let within : c.in-Some.end ≤ length c.args.bytes.now = (end_within c.args.bytes.now c.in-Some.end (sym c.in-Some.ensures)).1 in
+    let within : c.in-Some.end ≤ length c.args.front.bytes.now = (end_within c.args.front.bytes.now c.in-Some.end (sym c.in-Some.ensures)).1 in
     simp length-take (omega arith)
 
 pub returns-in-Err-Memory : goal.returns-in-Err-Memory
 returns-in-Err-Memory c =
-    let w = end_within c.args.bytes.now c.in-Some.end (sym c.in-Some.ensures) in
-    has_bytes c.args.continued c.args.bytes.now (omega (arith, w.0, w.1))
+    let w = end_within c.args.front.bytes.now c.in-Some.end (sym c.in-Some.ensures) in
+    has_bytes c.args.continued c.args.front.bytes.now (omega (arith, w.0, w.1))
 
 pub returns-in-Err-NotAHead : goal.returns-in-Err-NotAHead
 returns-in-Err-NotAHead c =
-    let bytes = c.args.bytes.now in
+    let bytes = c.args.front.bytes.now in
     let n = c.in-Some.end in (
       take n bytes,
       drop n bytes,

@@ -21,7 +21,7 @@ returns-clause-answers g c =
     c.index_mut-kept.ensures.value refl refl
     (g.met.A.Archive.settled c.answer_next.new.store)
     (g.O.Outlet.taken c.args.out.now) (g.O.Outlet.taken c.answer_next.new.out) (g.O.Outlet.failures c.args.out.now) (g.O.Outlet.failures c.answer_next.new.out)
-    c.args.moment c.answer_next.ensures.limit c.answer_next.ensures.dead c.answer_next.result c.answer_next.ensures.answers
+    c.args.moment c.answer_next.ensures.keeps.limit c.answer_next.ensures.keeps.dead c.answer_next.result c.answer_next.ensures.answers
 
 pub returns-clause-goes : goal.returns-clause-goes
 returns-clause-goes g c =

@@ -16,7 +16,7 @@ returns-clause-moves g c =
     connects_moves g.A.Archive.condition c.args.self.now _ refl c.new-2.result refl c.new-2.ensures
     (c.in_default.ensures.items ∙ (λ i. c.args.self.now.connections.items ++ record {
       number = sym c.new-2.ensures i;
-      intake = (c.new.ensures ∙ ap (λ (x : Config). record { limit = x.max_upload; place = Open false []; is_dead = false }) c.config.ensures) i;
+      intake = (c.new.ensures ∙ ap (λ (x : Config). record { limit = x.max_upload; place = Open false []; is_dead = false }) (c.config.ensures ∙ c.service.ensures)) i;
     } ∷ []))
 
 pub returns-clause-adds : goal.returns-clause-adds
@@ -102,7 +102,7 @@ returns-clause-holding g c =
     connects_line c.args.self.now.config.max_upload c.new-2.result c.args.self.now.next c.args.self.now.connections.items c.push.new.self.items c.args.self.now.ascends c.new-2.ensures
     (c.in_default.ensures.items ∙ (λ i. c.args.self.now.connections.items ++ record {
       number = sym c.new-2.ensures i;
-      intake = (c.new.ensures ∙ ap (λ (x : Config). record { limit = x.max_upload; place = Open false []; is_dead = false }) c.config.ensures) i;
+      intake = (c.new.ensures ∙ ap (λ (x : Config). record { limit = x.max_upload; place = Open false []; is_dead = false }) (c.config.ensures ∙ c.service.ensures)) i;
     } ∷ []))
 
 pub returns-then-len-ge-MOST_CONNECTIONS-clause-holding : goal.returns-then-len-ge-MOST_CONNECTIONS-clause-holding

@@ -5,6 +5,7 @@ use Rattle.dep_hub.proofs.ConnectionLemmas.{index_none, ascends_set}
 use Rattle.dep_hub.proofs.HubLemmas.{stays_there, none_there, keeps_same, not_absent, same_hub}
 use Rattle.dep_hub.proofs.HoldingLemmas.{held_fed, refuses}
 use Rattle.dep_hub.proofs.NextLemmas.{open_there, runs_out}
+use Rattle.dep_hub.proofs.ShutLemmas.{there_sent}
 use Rattle.dep_hub.proofs.hub.Hub.offer.Goals as goal
 
 pub returns-in_default-clause-offers : goal.returns-in_default-clause-offers
@@ -50,11 +51,11 @@ returns-in-Err-clause-offers g c =
     (g.O.Outlet.taken c.args.out.now) (g.O.Outlet.taken c.give_up.new.out) (g.O.Outlet.failures c.args.out.now) (g.O.Outlet.failures c.give_up.new.out) c.args.piece.now c.give_up.result
     (runs_out (place_with c.index_mut-kept.result.now.intake.place c.args.piece.now) (g.O.Outlet.taken c.args.out.now) (g.O.Outlet.taken c.give_up.new.out)
     (g.O.Outlet.failures c.args.out.now) (g.O.Outlet.failures c.give_up.new.out) (g.A.Archive.condition c.args.self.now.store) c.give_up.result e.1 c.give_up.ensures.sent c.give_up.ensures.cause)
-    c.give_up.ensures.there (c.give_up.ensures.shut ∙ ap shut_reading e.0)
+    (there_sent c.give_up.ensures.sent.2) (c.give_up.ensures.shut ∙ ap shut_reading e.0)
 
 pub returns-in-Err-clause-there : goal.returns-in-Err-clause-there
 returns-in-Err-clause-there g c = λ there. (
-  c.give_up.ensures.there,
+  there_sent c.give_up.ensures.sent.2,
   stays_there c.args.connection c.in-Some.i c.args.self.now.connections.items c.index_mut-kept.result.now
       ((λ i. index_of (sym c.number.ensures i) (sym c.as_slice.ensures.value i)) ∙ sym c.in-Some.ensures.value)
       c.index_mut-kept.ensures.value c.give_up.new.intake,

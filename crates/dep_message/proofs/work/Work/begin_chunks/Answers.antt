@@ -4,12 +4,12 @@ use Rattle.dep_message.specs.Working.{FindsNext}
 use Rattle.dep_message.proofs.Chunks.{reads_none}
 use Rattle.dep_message.proofs.work.Work.begin_chunks.Goals as goal
 
-pub read_chunks-requires-clause-reads : goal.read_chunks-requires-clause-reads
-read_chunks-requires-clause-reads c =
+pub read_chunks-requires : goal.read_chunks-requires
+read_chunks-requires c =
     let n = c.args.head_length in
     let front : c.and-used.result.items ≡ take n c.args.self.now.buffer =
     c.and-used.ensures ∙ (ap (λ (l : List ℕ). l ++ take n c.as_slice.result.now) c.new.ensures ∙ ap (take n) c.as_slice.ensures) in
-    reads_none _ _ (take n c.args.self.now.buffer) _ front c.requires.begun c.new-2.ensures.limit c.new-2.ensures.fed
+    record { fresh = c.requires.fresh; known = reads_none _ _ (take n c.args.self.now.buffer) _ front c.requires.begun c.new-2.ensures.limit c.new-2.ensures.fed }
 
 pub returns : goal.returns
 returns c =

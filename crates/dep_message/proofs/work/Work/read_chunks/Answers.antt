@@ -4,16 +4,16 @@ use Rattle.dep_message.specs.declared.progress.Progress.TheVariants.{Chunked}
 use Rattle.dep_message.specs.declared.work.Found.TheVariants as F
 use Rattle.dep_message.specs.declared.work.Work.{Work}
 use Rattle.dep_message.proofs.Chunks.{used_bytes, part_now, waits_on, takes_chunks, faulty_now, reads_on}
-use Rattle.dep_message.proofs.Keeping.{keeps_fresh, keeps_chunked, keeps_used}
+use Rattle.dep_message.proofs.Keeping.{keeps_fresh, left_behind, keeps_chunked, keeps_used}
 use Rattle.dep_message.proofs.work.Work.read_chunks.Goals as goal
 
 pub returns-in-Err : goal.returns-in-Err
 returns-in-Err c =
     let w = c.args.self.now in
     let r = c.args.request in
-    let on : ReadsChunks w.limit w.continued (record r { reader = c.feed.new.self }) = rw c.in-Err.ensures.err c.requires.reads in (
+    let on : ReadsChunks w.limit w.continued (record r { reader = c.feed.new.self }) = rw c.in-Err.ensures.err c.requires.known in (
       subst (λ (new : Work). Keeps w.limit w.continued (r.used.items ++ w.buffer) new) (sym c.keep_place.ensures) (keeps_chunked w _ on),
-      used_bytes w.limit w.continued r w.buffer c.requires.reads,
+      used_bytes w.limit w.continued r w.buffer c.requires.known,
     )
 
 pub returns-in-Ok-More : goal.returns-in-Ok-More
@@ -21,7 +21,7 @@ returns-in-Ok-More c =
     let w = c.args.self.now in
     let r = c.args.request in
     let piece = c.as_slice-bytes.result.now in
-    let reads = c.requires.reads in
+    let reads = c.requires.known in
     let fed = c.in-Ok-More.ensures in
     let same = c.as_slice-bytes.ensures in
     let told = rw c.in-Ok-More.field-0-is at (fed.told reads.fed reads.has_fed) in
@@ -38,19 +38,20 @@ returns-in-Ok-Done c =
     let w = c.args.self.now in
     let r = c.args.request in
     let piece = c.as_slice-bytes.result.now in
-    let reads = c.requires.reads in
+    let reads = c.requires.known in
     let fed = c.in-Ok-Done.ensures in
     let content = c.feed.new.self.content in
     let told = rw c.in-Ok-Done.field-0-is at (fed.told reads.fed reads.has_fed) in
     rw c.take.ensures.whole
     (subst (λ (l : List ℕ). Finds w.limit w.continued (r.used.items ++ w.buffer) c.take.new.self (F.Message (record { head = r.head; content = l }))) (sym c.content.ensures)
-    (takes_chunks w.limit w.continued r piece w.buffer reads c.as_slice-bytes.ensures c.feed.new.self.limit content (fed.limit ∙ reads.limit_is) c.in-Ok-Done.used c.take.new.self told c.take.ensures.left))
+    (takes_chunks w.limit w.continued r piece w.buffer reads c.as_slice-bytes.ensures c.feed.new.self.limit content (fed.limit ∙ reads.limit_is) c.in-Ok-Done.used c.take.new.self told
+    (left_behind w c.take.new.self c.in-Ok-Done.used c.requires.fresh c.take.ensures.left)))
 
 pub returns-in-Ok-Bad : goal.returns-in-Ok-Bad
 returns-in-Ok-Bad c =
     let w = c.args.self.now in
     let r = c.args.request in
-    let reads = c.requires.reads in
+    let reads = c.requires.known in
     let fed = c.in-Ok-Bad.ensures in
     let told = rw c.in-Ok-Bad.field-0-is at (fed.told reads.fed reads.has_fed) in
     rw c.fault_of.ensures (
@@ -63,7 +64,7 @@ pub returns-in-Ok-TooLarge : goal.returns-in-Ok-TooLarge
 returns-in-Ok-TooLarge c =
     let w = c.args.self.now in
     let r = c.args.request in
-    let reads = c.requires.reads in
+    let reads = c.requires.known in
     let fed = c.in-Ok-TooLarge.ensures in
     let told = rw c.in-Ok-TooLarge.field-0-is at (fed.told reads.fed reads.has_fed) in
     rw c.fault_of-in-Ok-TooLarge.ensures (

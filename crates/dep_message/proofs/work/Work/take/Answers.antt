@@ -1,6 +1,5 @@
-use Rattle.std.proofs.Common.{refl}
-use Rattle.dep_message.proofs.Keeping.{keeps_fresh}
+use Rattle.std.proofs.Common.{false, List, ℕ, ap}
 use Rattle.dep_message.proofs.work.Work.take.Goals as goal
 
 pub returns-clause-left : goal.returns-clause-left
-returns-clause-left c = keeps_fresh _ _ _ _ c.requires.fresh refl refl c.drop_front.ensures
+returns-clause-left c = ap (λ (b : List ℕ). record c.args.self.now { buffer = b; continued = false }) c.drop_front.ensures

@@ -1,7 +1,7 @@
 use Rattle.std.proofs.Common.{◌≡◌, ◌++◌, ◌-◌, ◌∙◌, List, [], ℕ, refl, sym, ap, arith, length, take, drop, append_assoc, length-drop}
 use Rattle.std.proofs.lemmas.List.{take_all, take-append-drop}
 use Rattle.std.proofs.KnownBytes.{Appends-nil, Appends-trans}
-use Rattle.dep_program.proofs.gathered.Gathered.gather.Goals as goal
+use Rattle.dep_program.proofs.gathered.Gathered.take.Goals as goal
 
 -- what is left after the first n bytes of the rest
 cut : (bytes front rest : List ℕ) (n : ℕ) → bytes ≡ front ++ rest → bytes ≡ (front ++ take n rest) ++ take (length rest - n) (drop n rest)

@@ -1,7 +1,7 @@
 use Rattle.std.proofs.Common.{◌≡◌, List, ◌++◌, ℕ, length}
 use Rattle.std.specs.Io.KnownBytes.{Appends}
 use Rattle.dep_program.specs.Gathering.{told}
-use Rattle.dep_program.proofs.gathered.Gathered.gather.Given as goal
+use Rattle.dep_program.proofs.gathered.Gathered.take.Given as goal
 
 -- the front of the bytes was taken, and no failure counted
 abbrev pub invariant-loop-rest : goal.invariant-loop-rest
