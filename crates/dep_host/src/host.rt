@@ -203,7 +203,7 @@ impl<A: Archive, R: Source + Drop, K: Sink + Drop, S: Spool + Drop> Host<A, R, K
     /// is too slow. Where more bytes of unfinished requests are kept than may be, it reads no more of
     /// these, and closes the one that has most. It answers whether one of them can go on at once.
     pub fn round<L: HostLog>(&mut self, buffer: &mut ReadBuffer, time: &Time, log: &mut L) -> bool
-        ensures goes { GoesRound A.condition R.unread K.taken S.held (position self.old)
+        ensures goes { GoesRound A.condition R.unread K.taken S.held S.size (position self.old)
             (position self.new) time.now }
         ensures left { (at : ℕ)
             → HasTime time.now.second self.new.limits (slot at self.new.seats.items) }
@@ -235,7 +235,7 @@ impl<A: Archive, R: Source + Drop, K: Sink + Drop, S: Spool + Drop> Host<A, R, K
     ) -> bool
         requires there { at < length self.old.seats.items }
         requires shut { turn.now.is_shut ≡ is_some self.old.shut_since }
-        ensures goes { Serves A.condition R.unread K.taken S.held (position self.old)
+        ensures goes { Serves A.condition R.unread K.taken S.held S.size (position self.old)
             (position self.new) at turn.now.time turn.now.is_full }
         ensures here { HasTime turn.now.time.second self.new.limits
             (slot at self.new.seats.items) }

@@ -4,14 +4,14 @@ use Rattle.dep_host.proofs.host.Host.round.Goals as goal
 
 pub loop-at-init : goal.loop-at-init
 loop-at-init g c = record {
-  goes = round_begins g.A.Archive.condition g.R.Source.unread g.K.Sink.taken g.S.Spool.held _ _ _;
+  goes = round_begins g.A.Archive.condition g.R.Source.unread g.K.Sink.taken g.S.Spool.held g.S.Spool.size _ _ _;
   left = λ place h. absurd (let none : ⊥ = omega (arith, h) in none);
   stays = stays_same _;
 }
 
 pub loop-at-preserved : goal.loop-at-preserved
 loop-at-preserved g c = record {
-  goes = round_goes_on g.A.Archive.condition g.R.Source.unread g.K.Sink.taken g.S.Spool.held _ _ _ _ _ _ _ c.loop-at.invariant.goes c.serve_at.ensures.goes c.serve_at.ensures.others refl;
+  goes = round_goes_on g.A.Archive.condition g.R.Source.unread g.K.Sink.taken g.S.Spool.held g.S.Spool.size _ _ _ _ _ _ _ c.loop-at.invariant.goes c.serve_at.ensures.goes c.serve_at.ensures.others refl c.loop-at.invariant.stays.shut;
   left = left_goes_on _ _ _ _ _ _ _ c.loop-at.invariant.left c.serve_at.ensures.here c.serve_at.ensures.stays.limits c.serve_at.ensures.others refl;
   stays = stays_on _ _ _ c.loop-at.invariant.stays c.serve_at.ensures.stays;
 }
@@ -20,8 +20,8 @@ pub serve_at-requires-clause-shut : goal.serve_at-requires-clause-shut
 serve_at-requires-clause-shut g c = c.is_some.ensures ∙ ap (λ (o : Option ℕ). is_some o) (sym c.loop-at.invariant.stays.shut)
 
 pub returns-clause-goes : goal.returns-clause-goes
-returns-clause-goes g c = round_sheds g.A.Archive.condition g.R.Source.unread g.K.Sink.taken g.S.Spool.held _ _ _ _
-    (round_ends g.A.Archive.condition g.R.Source.unread g.K.Sink.taken g.S.Spool.held _ _ _ _ _ c.loop-at.invariant.goes c.is_full.ensures) c.shed.ensures.goes
+returns-clause-goes g c = round_sheds g.A.Archive.condition g.R.Source.unread g.K.Sink.taken g.S.Spool.held g.S.Spool.size _ _ _ _
+    (round_ends g.A.Archive.condition g.R.Source.unread g.K.Sink.taken g.S.Spool.held g.S.Spool.size _ _ _ _ _ c.loop-at.invariant.goes c.is_full.ensures (omega (arith, c.loop-at.invariant.stays.places))) c.shed.ensures.goes
 
 pub returns-clause-left : goal.returns-clause-left
 returns-clause-left g c = left_sheds _ _ _ _ _ (left_ends c.loop-at.self.seats.items c.loop-at.at c.args.time.now.second c.loop-at.self.limits (omega arith) c.loop-at.invariant.left) c.shed.ensures.stays.limits c.shed.ensures.left
