@@ -89,6 +89,25 @@ left_sheds {R = R} {K = K} {S = S} old new second was limits before same stays p
   | inr e ↦ subst (λ (x : Option (Seat R K S)). HasTime second limits x) (sym e) tt
 ]
 
+-- what holds at the places so far, and at one more
+pub each_goes_on : {X : Type 0} (P : Option X → Type 0) (old new : List (Option X)) (at next : ℕ) → ((place : ℕ) → place < at → P (slot place old)) → P (slot at new)
+    → ((place : ℕ) → (place ≡ at → ⊥) → slot place new ≡ slot place old) → next ≡ at + 1 → (place : ℕ) → place < next → P (slot place new)
+each_goes_on {X = X} P old new at next before here others e place h = elim (cases_lt place at) [
+  | inl lt ↦ subst (λ (x : Option X). P x) (sym (others place (λ is. omega (arith, is, lt)))) (before place lt)
+  | inr ge ↦ let is : place ≡ at = omega (arith, ge, h, e) in subst (λ (n : ℕ). P (slot n new)) (sym is) here
+]
+
+-- so at all places, where it holds where nobody sits, also once one was closed
+pub each_sheds : {X : Type 0} (P : Option X → Type 0) (old new : List (Option X)) (at : ℕ) → P None → at ≡ length old → ((place : ℕ) → place < at → P (slot place old))
+    → ((place : ℕ) → (slot place new ≡ slot place old) ⊎ (slot place new ≡ None)) → (place : ℕ) → P (slot place new)
+each_sheds {X = X} P old new at none all before stays place = elim (stays place) [
+  | inl e ↦ subst (λ (x : Option X). P x) (sym e) (elim (cases_lt place at) [
+    | inl lt ↦ before place lt
+    | inr ge ↦ subst (λ (x : Option X). P x) (sym (get_or_past old place None (omega (arith, ge, all)))) none
+  ])
+  | inr e ↦ subst (λ (x : Option X). P x) (sym e) none
+]
+
 -- who sits at a place is closed for a reason, or has time left
 pub closes_there : {A R K S : Type 0} (p : Position A R K S) (at second : ℕ) (seat : Seat R K S) (reason : Closing) → slot at p.seats ≡ Some seat → Some reason ≡ why seat.course second p.limits
     → MayGo p second reason (slot at p.seats)

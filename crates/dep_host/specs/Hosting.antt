@@ -18,7 +18,7 @@ use Rattle.dep_host.specs.declared.limits.Limits.{Limits}
 use Rattle.dep_host.specs.declared.log.Closing.{Closing}
 use Rattle.dep_host.specs.declared.log.Closing.TheVariants as ends
 use Rattle.dep_host.specs.Courses.{closing, duty, is_ended, is_held_back, phase_begun}
-use Rattle.dep_host.specs.Seats.{HubStays, SameClient, SendsOn, IsUnknown, Rests, Offers, Refuses, Answers}
+use Rattle.dep_host.specs.Seats.{HubStays, SameClient, SendsOn, next_duty, IsUnknown, Rests, Offers, Refuses, Answers}
 
 -- the hub, who sits where, what bounds them, and at which second it was told that the store is shut
 pub record Position (A R K S : Type 0) : Type 0 where
@@ -316,6 +316,11 @@ module _ {A R K S : Type 0} (condition : A → Condition) (unread : R → Option
 abbrev pub HasTime : {R K S : Type 0} → (second : ℕ) → Limits → Option (Seat R K S) → Type 0
 HasTime second limits None = Unit {0}
 HasTime second limits (Some seat) = closing seat.course second limits ≡ None
+
+-- who sits at a place has nothing to do before its socket is ready or its time is up
+abbrev pub IsWaiting : {R K S : Type 0} → (S → ℕ) → Option (Seat R K S) → Type 0
+IsWaiting size None = Unit {0}
+IsWaiting size (Some seat) = next_duty size seat ≡ to.Wait
 
 -- a further connection can be seated at a place
 abbrev pub IsVacant : {A R K S : Type 0} → Host A R K S → ℕ → Type 0

@@ -115,7 +115,10 @@ impl<R: Source, K: Sink, S: Spool> Seat<R, K, S> {
     }
 
     /// Whether it can go on at once.
-    pub(crate) fn is_busy(&self) -> bool {
+    pub(crate) fn is_busy(&self) -> bool
+        ensures waits { result ≡ false → next_duty S.size self.now ≡ Duty.Wait }
+        ensures busy { next_duty S.size self.now ≡ Duty.Wait → result ≡ false }
+    {
         self.course.duty(self.wire.owes()) != Duty::Wait
     }
 
