@@ -265,8 +265,8 @@ module _ {A R K S : Type 0} (condition : A → Condition) (unread : R → Option
     pub absent : IsUnknown mid.hub number
 
   -- What was to be done for a connection was done, after which it is this, or was closed: its next
-  -- item was answered; what is owed was sent, as far as its socket takes it; a piece was read, where
-  -- one may be and the socket had one; or its client was told that nothing more is sent.
+  -- item was answered; what is owed was sent, as far as its socket takes it; a piece was read,
+  -- where one may be and the socket had one; or its client was told that nothing more is sent.
   abbrev pub IsServed : Position A R K S → (is_full : Bool) → (before : Seat R K S)
       → (after : Option (Seat R K S)) → (answered read : ℕ) → Duty → Type 0
   IsServed p is_full before after answered read to.Flush =
@@ -300,8 +300,9 @@ module _ {A R K S : Type 0} (condition : A → Condition) (unread : R → Option
     pub served : IsServedAt p q is_full deeds at (slot at p.seats)
     pub in_time : AreDoneAt time deeds
 
-  -- each place has its turn, in which it is served: of no connection more than one item is answered,
-  -- and where too many bytes of unfinished requests are kept, nothing more is read of these
+  -- each place has its turn, in which it is served: of no connection more than one item is
+  -- answered, and where too many bytes of unfinished requests are kept, nothing more is read of
+  -- these
   pub record GoesRound (p q : Position A R K S) (time : Time) : Type 0 where
     pub deeds : List Deed
     pub steps : Steps condition unread taken held p deeds q

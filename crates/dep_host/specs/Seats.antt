@@ -139,8 +139,8 @@ module _ {A R K S : Type 0} (condition : A → Condition) (unread : R → Option
   -- Why nothing comes to the hub in a turn, by what comes next. Where an item is to be answered, no
   -- connection is there; where a piece is to be read, it isn't to be read now, or the socket gave
   -- none, or the connection is over, and no piece was thrown away.
-  abbrev pub MayRest : (S → ℕ) → Hub A → (before after : Seat R K S) → (is_full is_shut : Bool) → Duty
-      → Type 0
+  abbrev pub MayRest : (S → ℕ) → Hub A → (before after : Seat R K S) → (is_full is_shut : Bool)
+      → Duty → Type 0
   MayRest size hub before after is_full is_shut to.Flush = SendsOn size before after
   MayRest size hub before after is_full is_shut to.Answer = IsUnknown hub before.connection
   MayRest size hub before after is_full is_shut to.Read =

@@ -1,6 +1,7 @@
 use Rattle.std.proofs.Common.{◌≡◌, ℕ, Option, true, false, is_some, refl, sym, ap, ◌∙◌, arith}
 use Rattle.dep_host.specs.Hosting.{IsWaiting}
-use Rattle.dep_host.proofs.HostLemmas.{each_goes_on, each_sheds, round_begins, round_goes_on, round_ends, round_sheds, left_goes_on, left_ends, left_sheds, stays_same, stays_on}
+use Rattle.dep_host.proofs.HostLemmas.{each_goes_on, each_sheds, left_goes_on, left_ends, left_sheds, stays_same, stays_on}
+use Rattle.dep_host.proofs.ServeLemmas.{round_begins, round_goes_on, round_ends, round_sheds}
 use Rattle.dep_host.proofs.host.Host.round.Goals.{then-serve_at, else-serve_at}
 use Rattle.dep_host.proofs.host.Host.round.Goals as goal
 

@@ -1,6 +1,7 @@
 use Rattle.std.proofs.Common.{None, refl, sym, ◌∙◌}
 use Rattle.std.proofs.lemmas.List.{get_or-set_same, get_or-set_other}
-use Rattle.dep_host.proofs.HostLemmas.{there_still, slot_read, served, served_none, closes_there, closes_served, time_there, stays_after, stays_set}
+use Rattle.dep_host.proofs.HostLemmas.{there_still, slot_read, closes_there, time_there, stays_after, stays_set}
+use Rattle.dep_host.proofs.ServeLemmas.{served, served_none, closes_served}
 use Rattle.dep_host.proofs.host.Host.serve_at.Goals as goal
 
 pub returns-in_default-clause-goes : goal.returns-in_default-clause-goes
