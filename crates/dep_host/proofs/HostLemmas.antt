@@ -1,8 +1,8 @@
 -- How a host goes on.
-use Rattle.std.proofs.Common.{◌≡◌, ◌⊎◌, ◌<◌, ◌≤◌, ◌+◌, ◌==◌, ℕ, zero, suc, Bool, true, false, if◌then◌else◌, List, [], ◌∷◌, ◌++◌, Option, None, Some, refl, sym, ap, subst, ◌∙◌, append_assoc, length, get_or, set, take, nat_lt, is_some, IsTrue, add-one, inl, inr, arith}
-use Rattle.std.proofs.lemmas.List.{append-nil, get_or_default, get_or-set_same, set-get_or, get_or_past}
+use Rattle.std.proofs.Common.{◌≡◌, ◌⊎◌, ◌<◌, ◌≤◌, ◌+◌, ℕ, zero, suc, Bool, true, false, List, [], ◌∷◌, ◌++◌, Option, None, Some, refl, sym, ap, subst, ◌∙◌, append_assoc, length, get_or, set, take, IsTrue, add-one, inl, inr, arith}
+use Rattle.std.proofs.lemmas.List.{append-nil, get_or_default, set-get_or, get_or_past}
 use Rattle.std.proofs.Math.ListN.{length-set}
-use Rattle.std.proofs.lemmas.Bool.{ne_eqb, cases_eq, cases_lt, lt-ltb}
+use Rattle.std.proofs.lemmas.Bool.{cases_lt}
 use Rattle.std.proofs.KnownBytes.{Keeps-refl}
 use Rattle.std.specs.Prelude.{IfSome, IsSomeAnd}
 use Rattle.std.specs.Io.KnownBytes.{Keeps}
@@ -15,20 +15,13 @@ use Rattle.dep_outbox.specs.declared.wire.Wire.{Wire}
 use Rattle.dep_outbox.specs.Wires.{told}
 use Rattle.dep_host.specs.Courses.{is_ended, closing as why}
 use Rattle.dep_host.specs.declared.seat.Seat.{Seat}
-use Rattle.dep_host.specs.declared.seat.Time.{Time}
 use Rattle.dep_host.specs.declared.host.Host.{Host}
 use Rattle.dep_host.specs.declared.limits.Limits.{Limits}
 use Rattle.dep_host.specs.declared.log.Closing.{Closing}
 use Rattle.dep_host.specs.declared.log.Closing.TheVariants.{Large}
 use Rattle.dep_host.specs.declared.course.Phase.TheVariants.{Open}
-use Rattle.dep_host.specs.Seats.{SameClient, ActsOnce, TakesTurn}
-use Rattle.dep_host.specs.Hosting.{Position, slot, HasTime, MayGo, Stays, Deed, Takes, Replies, Declines, Closes, answers_at, pieces_at, unfinished_of, unfinished_in, AreDoneAt, HasTurn, Goes, Asks, Refused, Step, refused, asks, rests, offers, refuses, answers, leaves, Steps, begins, goes_on, GoesOn, Serves, GoesRound, Sheds}
-
--- what was set twice is as it was set last
-set_again : {X : Type 0} (l : List X) (at : ℕ) (x y : X) → set (set l at x) at y ≡ set l at y
-set_again [] at x y = refl
-set_again (z ∷ l) zero x y = refl
-set_again {X = X} (z ∷ l) (suc at) x y = ap (λ (k : List X). z ∷ k) (set_again l at x y)
+use Rattle.dep_host.specs.Seats.{SameClient}
+use Rattle.dep_host.specs.Hosting.{Position, slot, HasTime, MayGo, Stays, Deed, unfinished_of, unfinished_in, Goes, Asks, Refused, Step, refused, asks, rests, Steps, begins, goes_on, GoesOn, Sheds}
 
 -- the places that there are stay
 pub there_still : {X : Type 0} (l : List X) (at : ℕ) (x : X) → at < length l → at < length (set l at x)
@@ -37,25 +30,6 @@ there_still l at x there = omega (arith, there, length-set l at x)
 -- what was read at a place is what stands there
 pub slot_read : {X : Type 0} (at : ℕ) (seats : List (Option X)) (x : Option X) → at < length seats → x ≡ get_or seats at x → slot at seats ≡ x
 slot_read at seats x there read = get_or_default seats at None x there ∙ sym read
-
-answers_append : (place : ℕ) (xs ys : List Deed) → answers_at place (xs ++ ys) ≡ answers_at place xs + answers_at place ys
-answers_append place [] ys = let none : answers_at place [] ≡ 0 = refl in omega (arith, none)
-answers_append place (d ∷ xs) ys = let e = answers_append place xs ys in omega (arith, e)
-
-pieces_append : (place : ℕ) (xs ys : List Deed) → pieces_at place (xs ++ ys) ≡ pieces_at place xs + pieces_at place ys
-pieces_append place [] ys = let none : pieces_at place [] ≡ 0 = refl in omega (arith, none)
-pieces_append place (d ∷ xs) ys = let e = pieces_append place xs ys in omega (arith, e)
-
-in_time_append : (time : Time) (xs ys : List Deed) → AreDoneAt time xs → AreDoneAt time ys → AreDoneAt time (xs ++ ys)
-in_time_append time [] ys h k = k
-in_time_append time (d ∷ xs) ys h k = (h.0, in_time_append time xs ys h.1 k)
-
-one_at_most : (b : Bool) → (if b then 1 else 0) + 0 ≤ 1
-one_at_most true = omega arith
-one_at_most false = omega arith
-
-none_elsewhere : (at place : ℕ) → (place ≡ at → ⊥) → (if at == place then 1 else 0) + 0 ≡ 0
-none_elsewhere at place ne = ap (λ (b : Bool). (if b then 1 else 0) + 0) (ne_eqb at place (λ e. ne (sym e)))
 
 -- who has time left at the places so far, and at one more
 pub left_goes_on : {R K S : Type 0} (old new : List (Option (Seat R K S))) (at next second : ℕ) (was limits : Limits) → ((place : ℕ) → place < at → HasTime second was (slot place old))
@@ -81,6 +55,25 @@ pub left_sheds : {R K S : Type 0} (old new : List (Option (Seat R K S))) (second
 left_sheds {R = R} {K = K} {S = S} old new second was limits before same stays place = elim (stays place) [
   | inl e ↦ subst (λ (x : Option (Seat R K S)). HasTime second limits x) (sym e) (subst (λ (n : Limits). HasTime second n (slot place old)) (sym same) (before place))
   | inr e ↦ subst (λ (x : Option (Seat R K S)). HasTime second limits x) (sym e) tt
+]
+
+-- what holds at the places so far, and at one more
+pub each_goes_on : {X : Type 0} (P : Option X → Type 0) (old new : List (Option X)) (at next : ℕ) → ((place : ℕ) → place < at → P (slot place old)) → P (slot at new)
+    → ((place : ℕ) → (place ≡ at → ⊥) → slot place new ≡ slot place old) → next ≡ at + 1 → (place : ℕ) → place < next → P (slot place new)
+each_goes_on {X = X} P old new at next before here others e place h = elim (cases_lt place at) [
+  | inl lt ↦ subst (λ (x : Option X). P x) (sym (others place (λ is. omega (arith, is, lt)))) (before place lt)
+  | inr ge ↦ let is : place ≡ at = omega (arith, ge, h, e) in subst (λ (n : ℕ). P (slot n new)) (sym is) here
+]
+
+-- so at all places, where it holds where nobody sits, also once one was closed
+pub each_sheds : {X : Type 0} (P : Option X → Type 0) (old new : List (Option X)) (at : ℕ) → P None → at ≡ length old → ((place : ℕ) → place < at → P (slot place old))
+    → ((place : ℕ) → (slot place new ≡ slot place old) ⊎ (slot place new ≡ None)) → (place : ℕ) → P (slot place new)
+each_sheds {X = X} P old new at none all before stays place = elim (stays place) [
+  | inl e ↦ subst (λ (x : Option X). P x) (sym e) (elim (cases_lt place at) [
+    | inl lt ↦ before place lt
+    | inr ge ↦ subst (λ (x : Option X). P x) (sym (get_or_past old place None (omega (arith, ge, all)))) none
+  ])
+  | inr e ↦ subst (λ (x : Option X). P x) (sym e) none
 ]
 
 -- who sits at a place is closed for a reason, or has time left
@@ -200,7 +193,7 @@ module _ {A R K S : Type 0} (condition : A → Condition) (unread : R → Option
   }
 
   -- a place was looked at, and stands as it stood
-  unchanged : (p q : Position A R K S) (at : ℕ) (x : Option (Seat R K S)) → q.hub ≡ p.hub → q.limits ≡ p.limits → q.shut ≡ p.shut → q.seats ≡ set p.seats at x → at < length p.seats → x ≡ get_or p.seats at x
+  pub unchanged : (p q : Position A R K S) (at : ℕ) (x : Option (Seat R K S)) → q.hub ≡ p.hub → q.limits ≡ p.limits → q.shut ≡ p.shut → q.seats ≡ set p.seats at x → at < length p.seats → x ≡ get_or p.seats at x
       → Step condition unread taken held p q []
   unchanged p q at x hub limits shut seats there read =
       refused (untouched p q hub limits shut (seats ∙ (ap (λ (y : Option (Seat R K S)). set p.seats at y) read ∙ set-get_or p.seats at x)))
@@ -240,113 +233,6 @@ module _ {A R K S : Type 0} (condition : A → Condition) (unread : R → Option
     keeps_count = λ h. count;
   }))
 
-  -- nothing was done at a place
-  pub served_none : (p q : Position A R K S) (at : ℕ) (time : Time) (is_full : Bool) (x : Option (Seat R K S)) → q.hub ≡ p.hub → q.limits ≡ p.limits → q.shut ≡ p.shut → q.seats ≡ set p.seats at x → at < length p.seats → x ≡ get_or p.seats at x
-      → Serves condition unread taken held p q at time is_full
-  served_none p q at time is_full x hub limits shut seats there read = record {
-    deeds = [];
-    steps = goes_on begins (unchanged p q at x hub limits shut seats there read);
-    once = omega arith;
-    others = λ place ne. refl;
-    waits = λ full some. refl;
-    unread_others = λ place ne. refl;
-    in_time = tt;
-  }
-
-  -- of a request of which something is kept no more was read
-  none_read : (p : Position A R K S) (at n : ℕ) (before : Seat R K S) → slot at p.seats ≡ Some before → before.course.unfinished ≡ 0 → 0 < unfinished_of (slot at p.seats) → n ≡ 0
-  none_read p at n before sat none some = absurd (
-      let kept : unfinished_of (slot at p.seats) ≡ before.course.unfinished = ap (λ (x : Option (Seat R K S)). unfinished_of x) sat in
-      let no : ⊥ = omega (arith, kept, none, some) in no)
-
-  -- a connection had its turn
-  took_turn : (p q : Position A R K S) (at : ℕ) (time : Time) (is_full : Bool) (before after : Seat R K S) → HasTurn condition unread taken held p q at before after
-      → ActsOnce condition unread taken held p.hub q.hub before after time.moment is_full (is_some p.shut) → Serves condition unread taken held p q at time is_full
-  took_turn p q at time is_full before after t (inl r) = record {
-    deeds = [];
-    steps = goes_on begins (rests t r);
-    once = omega arith;
-    others = λ place ne. refl;
-    waits = λ full some. refl;
-    unread_others = λ place ne. refl;
-    in_time = tt;
-  }
-  took_turn p q at time is_full before after t (inr (inl o)) = record {
-    deeds = Takes at before.connection o.piece ∷ [];
-    steps = goes_on begins (offers t o);
-    once = omega arith;
-    others = λ place ne. refl;
-    waits = λ full some. none_read p at _ before t.sat (o.read.allowed full) some;
-    unread_others = λ place ne. none_elsewhere at place ne;
-    in_time = (tt, tt);
-  }
-  took_turn p q at time is_full before after t (inr (inr (inl r))) = record {
-    deeds = Declines at before.connection r.piece time.moment r.answers.sent ∷ [];
-    steps = goes_on begins (refuses t r);
-    once = one_at_most (at == at);
-    others = λ place ne. none_elsewhere at place ne;
-    waits = λ full some. none_read p at _ before t.sat (r.read.allowed full) some;
-    unread_others = λ place ne. none_elsewhere at place ne;
-    in_time = (refl, tt);
-  }
-  took_turn p q at time is_full before after t (inr (inr (inr a))) = record {
-    deeds = Replies at before.connection time.moment a.answers.sent ∷ [];
-    steps = goes_on begins (answers t a);
-    once = one_at_most (at == at);
-    others = λ place ne. none_elsewhere at place ne;
-    waits = λ full some. refl;
-    unread_others = λ place ne. refl;
-    in_time = (refl, tt);
-  }
-
-  -- a connection had its turn, once that had begun
-  pub served : (p q : Position A R K S) (at : ℕ) (time : Time) (is_full is_shut : Bool) (before mid after : Seat R K S) → at < length p.seats → slot at p.seats ≡ Some before
-      → q.seats ≡ set p.seats at (Some after) → q.limits ≡ p.limits → q.shut ≡ p.shut → mid ≡ record before { course = mid.course }
-      → (mid.course.phase ≡ Open → before.course.phase ≡ Open) → (is_ended before.course.phase ≡ true → is_ended mid.course.phase ≡ true)
-      → mid.course.unfinished ≡ before.course.unfinished → is_shut ≡ is_some p.shut
-      → TakesTurn condition unread taken held p.hub q.hub mid after time.moment is_full is_shut → Serves condition unread taken held p q at time is_full
-  served p q at time is_full is_shut before mid after there sat sits limits shut same opens ended count told t =
-      let m : Position A R K S = record p { seats = set p.seats at (Some mid) } in
-      let begun : slot at m.seats ≡ Some mid = get_or-set_same p.seats at (Some mid) None there in
-      let unfinished : unfinished_of (slot at m.seats) ≡ unfinished_of (slot at p.seats) =
-      ap (λ (o : Option (Seat R K S)). unfinished_of o) begun ∙ (count ∙ sym (ap (λ (o : Option (Seat R K S)). unfinished_of o) sat)) in
-      let s = took_turn m q at time is_full mid after (record {
-        there = omega (arith, there, length-set p.seats at (Some mid));
-        sat = begun;
-        sits = sits ∙ sym (set_again p.seats at (Some mid) (Some after));
-        client = t.client;
-        hub = t.hub;
-        ended = t.ended;
-        same_limits = limits;
-        same_shut = shut;
-      }) (subst (λ (b : Bool). ActsOnce condition unread taken held p.hub q.hub mid after time.moment is_full b) told t.acts) in
-      record {
-        deeds = s.deeds;
-        steps = steps_join (woken p m at before mid there sat refl refl refl refl
-            (record { connection = ap (λ (x : Seat R K S). x.connection) same; address = ap (λ (x : Seat R K S). x.address) same })
-            (ap (λ (x : Seat R K S). x.source) same) (ap (λ (x : Seat R K S). x.wire) same) opens ended count) s.steps;
-        once = s.once;
-        others = s.others;
-        waits = λ full some. s.waits full (omega (arith, unfinished, some));
-        unread_others = s.unread_others;
-        in_time = s.in_time;
-      }
-
-  -- and was closed after it
-  pub then_closed : (p q r : Position A R K S) (at : ℕ) (time : Time) (is_full : Bool) (seat : Seat R K S) → Serves condition unread taken held p q at time is_full → Goes condition unread taken held q r at time.second seat
-      → Serves condition unread taken held p r at time is_full
-  then_closed p q r at time is_full seat s g =
-      let more : List Deed = Closes at seat.connection time.second ∷ [] in
-      record {
-        deeds = s.deeds ++ more;
-        steps = goes_on s.steps (leaves g);
-        once = let e = answers_append at s.deeds more in let f : answers_at at more ≡ 0 = refl in let o = s.once in omega (arith, e, f, o);
-        others = λ place ne. let e = answers_append place s.deeds more in let f : answers_at place more ≡ 0 = refl in let o = s.others place ne in omega (arith, e, f, o);
-        waits = λ full some. let e = pieces_append at s.deeds more in let f : pieces_at at more ≡ 0 = refl in let o = s.waits full some in omega (arith, e, f, o);
-        unread_others = λ place ne. let e = pieces_append place s.deeds more in let f : pieces_at place more ≡ 0 = refl in let o = s.unread_others place ne in omega (arith, e, f, o);
-        in_time = in_time_append time s.deeds more s.in_time (refl, tt);
-      }
-
   -- who was at a place was closed, or nobody was there
   pub closing : (p q : Position A R K S) (at second : ℕ) (x : Option (Seat R K S)) (seat : Seat R K S) → x ≡ Some seat → Goes condition unread taken held p q at second seat
       → IfSome x (Goes condition unread taken held p q at second)
@@ -354,85 +240,6 @@ module _ {A R K S : Type 0} (condition : A → Condition) (unread : R → Option
 
   pub closing_none : (p q : Position A R K S) (at second : ℕ) (x : Option (Seat R K S)) → x ≡ None → IfSome x (Goes condition unread taken held p q at second)
   closing_none p q at second x e = subst (λ (o : Option (Seat R K S)). IfSome o (Goes condition unread taken held p q at second)) (sym e) tt
-
-  pub closes_served : (p q r : Position A R K S) (at : ℕ) (time : Time) (is_full : Bool) (reason : Closing) (x : Option (Seat R K S)) → IfSome x (Goes condition unread taken held q r at time.second) → MayGo q time.second reason x
-      → Serves condition unread taken held p q at time is_full → Serves condition unread taken held p r at time is_full
-  closes_served p q r at time is_full reason None g d s = absurd d
-  closes_served p q r at time is_full reason (Some seat) g d s = then_closed p q r at time is_full seat s g
-
-  -- the places so far had their turns
-  pub record RoundSoFar (p q : Position A R K S) (at : ℕ) (time : Time) (is_full : Bool) : Type 0 where
-    deeds : List Deed
-    steps : Steps condition unread taken held p deeds q
-    once : (place : ℕ) → answers_at place deeds ≤ 1
-    later : (place : ℕ) → at ≤ place → answers_at place deeds ≡ 0
-    waits : is_full ≡ true → (place : ℕ) → 0 < unfinished_of (slot place p.seats) → pieces_at place deeds ≡ 0
-    unread_later : (place : ℕ) → at ≤ place → pieces_at place deeds ≡ 0
-    stays : (place : ℕ) → at ≤ place → slot place q.seats ≡ slot place p.seats
-    in_time : AreDoneAt time deeds
-
-  pub round_begins : (p : Position A R K S) (time : Time) (is_full : Bool) → RoundSoFar p p 0 time is_full
-  round_begins p time is_full = record {
-    deeds = [];
-    steps = begins;
-    once = λ place. omega arith;
-    later = λ place h. refl;
-    waits = λ full place some. refl;
-    unread_later = λ place h. refl;
-    stays = λ place h. refl;
-    in_time = tt;
-  }
-
-  pub round_goes_on : (p q r : Position A R K S) (at next : ℕ) (time : Time) (is_full : Bool) → RoundSoFar p q at time is_full → Serves condition unread taken held q r at time is_full
-      → ((place : ℕ) → (place ≡ at → ⊥) → slot place r.seats ≡ slot place q.seats) → next ≡ at + 1 → RoundSoFar p r next time is_full
-  round_goes_on p q r at next time is_full s t same e = record {
-    deeds = s.deeds ++ t.deeds;
-    steps = steps_join s.steps t.steps;
-    once = λ place. elim (cases_eq place at) [
-      | inl h ↦ let a = answers_append place s.deeds t.deeds in let b = s.later place (omega (arith, h)) in
-          let c : answers_at place t.deeds ≤ 1 = subst (λ (n : ℕ). answers_at n t.deeds ≤ 1) (sym h) t.once in omega (arith, a, b, c)
-      | inr ne ↦ let a = answers_append place s.deeds t.deeds in let b = t.others place ne in let c = s.once place in omega (arith, a, b, c)
-    ];
-    later = λ place h.
-        let a = answers_append place s.deeds t.deeds in let b = s.later place (omega (arith, h, e)) in
-        let c = t.others place (λ is. omega (arith, is, h, e)) in omega (arith, a, b, c);
-    waits = λ full place some. elim (cases_eq place at) [
-      | inl h ↦ let a = pieces_append place s.deeds t.deeds in let b = s.unread_later place (omega (arith, h)) in
-          let stands = ap (λ (x : Option (Seat R K S)). unfinished_of x) (s.stays place (omega (arith, h))) in
-          let kept : 0 < unfinished_of (slot place q.seats) = omega (arith, stands, some) in
-          let c : pieces_at place t.deeds ≡ 0 = subst (λ (n : ℕ). pieces_at n t.deeds ≡ 0) (sym h) (t.waits full (subst (λ (n : ℕ). 0 < unfinished_of (slot n q.seats)) h kept)) in omega (arith, a, b, c)
-      | inr ne ↦ let a = pieces_append place s.deeds t.deeds in let b = t.unread_others place ne in let c = s.waits full place some in omega (arith, a, b, c)
-    ];
-    unread_later = λ place h.
-        let a = pieces_append place s.deeds t.deeds in let b = s.unread_later place (omega (arith, h, e)) in
-        let c = t.unread_others place (λ is. omega (arith, is, h, e)) in omega (arith, a, b, c);
-    stays = λ place h. same place (λ is. omega (arith, is, h, e)) ∙ s.stays place (omega (arith, h, e));
-    in_time = in_time_append time s.deeds t.deeds s.in_time t.in_time;
-  }
-
-  pub round_ends : (p q : Position A R K S) (at : ℕ) (time : Time) (is_full : Bool) → RoundSoFar p q at time is_full → is_full ≡ nat_lt p.limits.unfinished_bytes (unfinished_in p.seats)
-      → GoesRound condition unread taken held p q time
-  round_ends p q at time is_full s e = record {
-    deeds = s.deeds;
-    steps = s.steps;
-    once = s.once;
-    waits = λ more place some. s.waits (e ∙ lt-ltb p.limits.unfinished_bytes (unfinished_in p.seats) more) place some;
-    in_time = s.in_time;
-  }
-
-  -- the largest was closed after it
-  pub round_sheds : (p q r : Position A R K S) (time : Time) → GoesRound condition unread taken held p q time → Sheds condition unread taken held q r time.second
-      → GoesRound condition unread taken held p r time
-  round_sheds p q r time s (inl e) = subst (λ (x : Position A R K S). GoesRound condition unread taken held p x time) (sym e) s
-  round_sheds p q r time s (inr (at, seat, g)) =
-      let more : List Deed = Closes at seat.connection time.second ∷ [] in
-      record {
-        deeds = s.deeds ++ more;
-        steps = goes_on s.steps (leaves g);
-        once = λ place. let e = answers_append place s.deeds more in let f : answers_at place more ≡ 0 = refl in let o = s.once place in omega (arith, e, f, o);
-        waits = λ full place some. let e = pieces_append place s.deeds more in let f : pieces_at place more ≡ 0 = refl in let o = s.waits full place some in omega (arith, e, f, o);
-        in_time = in_time_append time s.deeds more s.in_time (refl, tt);
-      }
 
   -- the largest was closed
   pub shed_one : (p q : Position A R K S) (at second : ℕ) (x : Option (Seat R K S)) → slot at p.seats ≡ x → IsSomeAnd x (λ seat. seat.course.phase ≡ Open)

@@ -1,5 +1,6 @@
 mod SeatLemmas
 mod HostLemmas
+mod ServeLemmas
 mod RunLemmas
 mod TellLemmas
 mod ReadLemmas

@@ -3,6 +3,7 @@ use Rattle.std.proofs.Common.{◌≡◌, ◌⊎◌, inl, inr, ◌<◌, ◌≤◌
 use Rattle.std.proofs.lemmas.List.{length-take}
 use Rattle.std.proofs.lemmas.Bool.{lt-ltb}
 use Rattle.std.proofs.Math.Bool.{or-true, true-or}
+use Rattle.std.proofs.KnownBytes.{Keeps-refl}
 use Rattle.std.specs.Io.KnownBytes.{Keeps, Appends, Consumes, IsAtEnd}
 use Rattle.dep_types.specs.Conditions.{Condition}
 use Rattle.dep_hub.specs.Holding.{AnswersOver, ComesToNext, OffersTo, Outcome, IsNext, IsRefused, arrived_by}
@@ -13,13 +14,15 @@ use Rattle.dep_hub.specs.declared.arrived.Arrived.TheVariants as came
 use Rattle.dep_hub.specs.declared.next.Next.{Next}
 use Rattle.dep_hub.specs.declared.next.Next.TheVariants.{More, Waiting, Closed, Cut, NoSuch}
 use Rattle.dep_outbox.specs.declared.wire.Wire.{Wire}
-use Rattle.dep_outbox.specs.Wires.{told, owed}
+use Rattle.dep_outbox.specs.Wires.{told, owed, owed_count}
 use Rattle.dep_host.specs.declared.seat.Seat.{Seat}
 use Rattle.dep_host.specs.declared.course.Course.{Course}
 use Rattle.dep_host.specs.declared.course.Phase.{Phase}
-use Rattle.dep_host.specs.declared.course.Phase.TheVariants.{Open, Answering, Last, Over}
-use Rattle.dep_host.specs.Courses.{is_ended}
-use Rattle.dep_host.specs.Seats.{HubStays, SameClient, Rests, Answers, IsRead, ActsOnce, TakesTurn, phase_offered, phase_answered, left_unfinished}
+use Rattle.dep_host.specs.declared.course.Phase.TheVariants.{Open, Answering, Last, Draining, Over}
+use Rattle.dep_host.specs.declared.course.Duty.{Duty}
+use Rattle.dep_host.specs.declared.course.Duty.TheVariants.{Flush, Answer, Read, Finish, Drain, Wait}
+use Rattle.dep_host.specs.Courses.{is_ended, StaysOrEnds}
+use Rattle.dep_host.specs.Seats.{HubStays, SameClient, SendsOn, IsUnknown, Rests, Answers, IsRead, MayRest, ActsOnce, TakesTurn, next_duty, phase_offered, phase_answered, left_unfinished}
 
 appends_kept : (a b c : Option (List ℕ)) (bytes : List ℕ) → Appends a b bytes → Keeps b c → Appends a c bytes
 appends_kept None b c bytes p q = tt
@@ -70,6 +73,15 @@ offered_to {R = R} {K = K} {S = S} before after got w c n p = (
   ap (λ (s : Seat R K S). s.source) p,
 )
 
+-- who goes on as he was, or is over, has ended where he had, and is read only where he was
+ended_still : (before after : Phase) → (after ≡ before) ⊎ (after ≡ Over) → is_ended before ≡ true → is_ended after ≡ true
+ended_still before after (inl s) e = ap is_ended s ∙ e
+ended_still before after (inr o) e = ap is_ended o
+
+opened_still : (before after : Phase) → (after ≡ before) ⊎ (after ≡ Over) → after ≡ Open → before ≡ Open
+opened_still before after (inl s) h = sym s ∙ h
+opened_still before after (inr o) h = absurd (not_open after o h)
+
 -- who is read or answered has not ended
 not_yet : (before after p : Phase) → before ≡ p → is_ended p ≡ false → is_ended before ≡ true → is_ended after ≡ true
 not_yet before after p b going e = absurd (let bad : true ≡ false = sym e ∙ (ap is_ended b ∙ going) in cc)
@@ -89,16 +101,19 @@ module _ {A R K S : Type 0} (condition : A → Condition) (unread : R → Option
       → Keeps (told taken held mid.wire) (told taken held after.wire) → after.wire.failures ≡ mid.wire.failures → after.source ≡ mid.source
       → (after.course.phase ≡ mid.course.phase) ⊎ (after.course.phase ≡ Over)
       → after.course.has_moved ≡ true → after.course.unfinished ≡ left_unfinished next before.course.unfinished
-      → Rests condition unread taken held old new before after ⊎ Answers condition unread taken held old new before after moment
+      → (Rests condition unread taken held old new before after × IsUnknown old before.connection) ⊎ Answers condition unread taken held old new before after moment
   answered old new before mid after moment NoSuch none was c m s k f t p stirs leaves =
       let over = is_over mid.course.phase after.course.phase m p in
-      inl (record {
-        same = c.same;
-        keeps = keeps_kept (told taken held before.wire) (told taken held mid.wire) (told taken held after.wire) c.sends_nothing k;
-        gives = λ h. absurd (not_ended after.course.phase over h);
-        opens = λ h. absurd (not_open after.course.phase over h);
-        keeps_count = λ h. absurd (not_ended after.course.phase over h);
-      })
+      inl (
+        record {
+          same = c.same;
+          keeps = keeps_kept (told taken held before.wire) (told taken held mid.wire) (told taken held after.wire) c.sends_nothing k;
+          gives = λ h. absurd (not_ended after.course.phase over h);
+          opens = λ h. absurd (not_open after.course.phase over h);
+          keeps_count = λ h. absurd (not_ended after.course.phase over h);
+        },
+        c.absent,
+      )
   answered old new before mid after moment More none was c m s k f t p stirs leaves = inr (record {
     unowed = none;
     was_read = was;
@@ -140,6 +155,97 @@ module _ {A R K S : Type 0} (condition : A → Condition) (unread : R → Option
     leaves = leaves;
   })
 
+  -- by what comes next it may rest
+  rests_as : (size : S → ℕ) (hub : Hub A) (before after : Seat R K S) (is_full is_shut : Bool) (d : Duty) → next_duty size before ≡ d
+      → MayRest condition unread taken held size hub before after is_full is_shut d → MayRest condition unread taken held size hub before after is_full is_shut (next_duty size before)
+  rests_as size hub before after is_full is_shut d due may = subst (λ (x : Duty). MayRest condition unread taken held size hub before after is_full is_shut x) (sym due) may
+
+  -- nothing came to the hub
+  pub rested : (size : S → ℕ) (hub : Hub A) (before after : Seat R K S) (moment : ℕ) (is_full is_shut : Bool) (d : Duty) → SameClient before after → (is_ended before.course.phase ≡ true → is_ended after.course.phase ≡ true)
+      → next_duty size before ≡ d → MayRest condition unread taken held size hub before after is_full is_shut d → Rests condition unread taken held hub hub before after
+      → TakesTurn condition unread taken held size hub hub before after moment is_full is_shut
+  rested size hub before after moment is_full is_shut d client ended due may rests = record {
+    client = client;
+    hub = record { next = refl; same_config = refl; clean = λ h. h; honest = λ h. h };
+    ended = ended;
+    acts = inl (rests, rests_as size hub before after is_full is_shut d due may);
+  }
+
+  -- it changed in nothing
+  pub rested_so : (size : S → ℕ) (hub : Hub A) (before : Seat R K S) (moment : ℕ) (is_full is_shut : Bool) (d : Duty) → next_duty size before ≡ d → MayRest condition unread taken held size hub before before is_full is_shut d
+      → TakesTurn condition unread taken held size hub hub before before moment is_full is_shut
+  rested_so size hub before moment is_full is_shut d due may =
+      rested size hub before before moment is_full is_shut d (record { connection = refl; address = refl }) (λ h. h) due may (record {
+        same = refl;
+        keeps = Keeps-refl (told taken held before.wire);
+        gives = λ h. Keeps-refl (unread before.source);
+        opens = λ h. h;
+        keeps_count = λ h. refl;
+      })
+
+  -- what is owed was sent, as far as the socket takes it
+  pub flushed : (size : S → ℕ) (hub : Hub A) (before after : Seat R K S) (moment : ℕ) (is_full is_shut : Bool) (w : Wire K S) (c : Course) → after ≡ record before { wire = w; course = c }
+      → Keeps (told taken held before.wire) (told taken held after.wire) → StaysOrEnds before.course after.course → next_duty size before ≡ Flush → SendsOn size before after
+      → TakesTurn condition unread taken held size hub hub before after moment is_full is_shut
+  flushed size hub before after moment is_full is_shut w c same keeps stays due sends =
+      rested size hub before after moment is_full is_shut Flush (record { connection = ap (λ (s : Seat R K S). s.connection) same; address = ap (λ (s : Seat R K S). s.address) same })
+      (ended_still before.course.phase after.course.phase stays.phase) due sends (record {
+        same = refl;
+        keeps = keeps;
+        gives = λ h. subst (λ (r : R). Keeps (unread before.source) (unread r)) (sym (ap (λ (s : Seat R K S). s.source) same)) (Keeps-refl (unread before.source));
+        opens = opened_still before.course.phase after.course.phase stays.phase;
+        keeps_count = λ h. stays.unfinished;
+      })
+
+  -- its client was told that nothing more is sent
+  pub finished : (size : S → ℕ) (hub : Hub A) (before after : Seat R K S) (moment : ℕ) (is_full is_shut : Bool) (w : Wire K S) (c : Course) → after ≡ record before { wire = w; course = c }
+      → told taken held after.wire ≡ told taken held before.wire → after.course.phase ≡ Draining → next_duty size before ≡ Finish
+      → TakesTurn condition unread taken held size hub hub before after moment is_full is_shut
+  finished size hub before after moment is_full is_shut w c same keeps phase due =
+      rested size hub before after moment is_full is_shut Finish (record { connection = ap (λ (s : Seat R K S). s.connection) same; address = ap (λ (s : Seat R K S). s.address) same })
+      (λ h. ap is_ended phase) due phase (record {
+        same = refl;
+        keeps = subst (λ (o : Option (List ℕ)). Keeps (told taken held before.wire) o) (sym keeps) (Keeps-refl (told taken held before.wire));
+        gives = λ h. absurd (let bad : true ≡ false = sym (ap is_ended phase) ∙ h in cc);
+        opens = λ h. absurd (let bad : Draining ≡ Open = sym phase ∙ h in cc);
+        keeps_count = λ h. absurd (let bad : true ≡ false = sym (ap is_ended phase) ∙ h in cc);
+      })
+
+  -- a piece was thrown away
+  pub drained : (size : S → ℕ) (hub : Hub A) (before after : Seat R K S) (moment : ℕ) (is_full is_shut : Bool) (r : R) (c : Course) → after ≡ record before { source = r; course = c }
+      → StaysOrEnds before.course after.course → next_duty size before ≡ Drain → is_ended before.course.phase ≡ true
+      → TakesTurn condition unread taken held size hub hub before after moment is_full is_shut
+  drained size hub before after moment is_full is_shut r c same stays due ends =
+      let ended = ended_still before.course.phase after.course.phase stays.phase ends in
+      rested size hub before after moment is_full is_shut Drain (record { connection = ap (λ (s : Seat R K S). s.connection) same; address = ap (λ (s : Seat R K S). s.address) same })
+      (λ h. ended) due tt (record {
+        same = refl;
+        keeps = subst (λ (w : Wire K S). Keeps (told taken held before.wire) (told taken held w)) (sym (ap (λ (s : Seat R K S). s.wire) same)) (Keeps-refl (told taken held before.wire));
+        gives = λ h. absurd (let bad : true ≡ false = sym ended ∙ h in cc);
+        opens = opened_still before.course.phase after.course.phase stays.phase;
+        keeps_count = λ h. stays.unfinished;
+      })
+
+  gave_none : (size : S → ℕ) (hub : Hub A) (before after : Seat R K S) (is_full is_shut : Bool) → Keeps (unread before.source) (unread after.source) → (after.course.is_readable ≡ false) ⊎ (after.course.phase ≡ Over)
+      → MayRest condition unread taken held size hub before after is_full is_shut Read
+  gave_none size hub before after is_full is_shut keeps (inl later) = inr (inl later)
+  gave_none size hub before after is_full is_shut keeps (inr over) = inr (inr (over, inl keeps))
+
+  -- its socket gave no piece
+  pub none_read : (size : S → ℕ) (hub : Hub A) (before after : Seat R K S) (is_full is_shut : Bool) (moment : ℕ) (r : R) (c : Course) → after ≡ record before { source = r; course = c }
+      → Keeps (unread before.source) (unread after.source) → next_duty size before ≡ Read → before.course.phase ≡ Open
+      → (after.course.is_readable ≡ false) ⊎ (after.course.phase ≡ Over) → after.course.unfinished ≡ before.course.unfinished
+      → TakesTurn condition unread taken held size hub hub before after moment is_full is_shut
+  none_read size hub before after is_full is_shut moment r c same gives due was how count =
+      rested size hub before after moment is_full is_shut Read (record { connection = ap (λ (s : Seat R K S). s.connection) same; address = ap (λ (s : Seat R K S). s.address) same })
+      (not_yet before.course.phase after.course.phase Open was refl) due (gave_none size hub before after is_full is_shut gives how) (record {
+        same = refl;
+        keeps = subst (λ (w : Wire K S). Keeps (told taken held before.wire) (told taken held w)) (sym (ap (λ (s : Seat R K S). s.wire) same)) (Keeps-refl (told taken held before.wire));
+        gives = λ h. gives;
+        opens = λ h. was;
+        keeps_count = λ h. count;
+      })
+
   read_counted : (before mid after : Seat R K S) (piece : List ℕ) (is_full is_shut : Bool) → IsRead condition unread taken held before mid piece is_full is_shut → after.source ≡ mid.source
       → (mid.course.has_moved ≡ true → after.course.has_moved ≡ true) → min mid.course.moved (2 ^ 64 - 1) ≤ after.course.moved → after.course.unfinished ≡ mid.course.unfinished
       → IsRead condition unread taken held before after piece is_full is_shut
@@ -157,55 +263,67 @@ module _ {A R K S : Type 0} (condition : A → Condition) (unread : R → Option
   }
 
   -- a piece that was read was offered
-  offered : (old new : Hub A) (before after : Seat R K S) (piece : List ℕ) (answer : Arrived) (is_full is_shut : Bool) → IsRead condition unread taken held before after piece is_full is_shut → new.store ≡ old.store
+  offered : (size : S → ℕ) (old new : Hub A) (before after : Seat R K S) (piece : List ℕ) (answer : Arrived) (is_full is_shut : Bool) → next_duty size before ≡ Read → IsRead condition unread taken held before after piece is_full is_shut → new.store ≡ old.store
       → OffersTo condition (told taken held before.wire) (told taken held after.wire) before.wire.failures after.wire.failures old new before.connection piece answer
-      → after.course.phase ≡ phase_offered answer → (moment : ℕ) → ActsOnce condition unread taken held old new before after moment is_full is_shut
-  offered old new before after piece came.Open is_full is_shut read store o p moment = inr (inl (record {
-    piece = piece;
-    read = read;
-    answers_next = p;
-    keeps = o.sends_nothing;
-    same_store = store;
-    holds = o.holds;
-  }))
-  offered old new before after piece came.Closed is_full is_shut read store o p moment = inr (inr (inl (record {
-    piece = piece;
-    read = read;
-    ends = ap is_ended p;
-    answer = came.Closed;
-    answers = o moment;
-  })))
-  offered old new before after piece came.Cut is_full is_shut read store o p moment = inr (inr (inl (record {
-    piece = piece;
-    read = read;
-    ends = ap is_ended p;
-    answer = came.Cut;
-    answers = o moment;
-  })))
-  offered old new before after piece came.NoSuch is_full is_shut read store o p moment = inl (record {
-    same = o.same;
-    keeps = o.sends_nothing;
-    gives = λ h. absurd (not_ended after.course.phase p h);
-    opens = λ h. absurd (not_open after.course.phase p h);
-    keeps_count = λ h. absurd (not_ended after.course.phase p h);
-  })
+      → after.course.phase ≡ phase_offered answer → (moment : ℕ) → ActsOnce condition unread taken held size old new before after moment is_full is_shut
+  offered size old new before after piece came.Open is_full is_shut due read store o p moment = inr (inl (
+    record {
+      piece = piece;
+      read = read;
+      answers_next = p;
+      keeps = o.sends_nothing;
+      same_store = store;
+      holds = o.holds;
+    },
+    due,
+  ))
+  offered size old new before after piece came.Closed is_full is_shut due read store o p moment = inr (inr (inl (
+    record {
+      piece = piece;
+      read = read;
+      ends = ap is_ended p;
+      answer = came.Closed;
+      answers = o moment;
+    },
+    due,
+  )))
+  offered size old new before after piece came.Cut is_full is_shut due read store o p moment = inr (inr (inl (
+    record {
+      piece = piece;
+      read = read;
+      ends = ap is_ended p;
+      answer = came.Cut;
+      answers = o moment;
+    },
+    due,
+  )))
+  offered size old new before after piece came.NoSuch is_full is_shut due read store o p moment = inl (
+    record {
+      same = o.same;
+      keeps = o.sends_nothing;
+      gives = λ h. absurd (not_ended after.course.phase p h);
+      opens = λ h. absurd (not_open after.course.phase p h);
+      keeps_count = λ h. absurd (not_ended after.course.phase p h);
+    },
+    rests_as size old before after is_full is_shut Read due (inr (inr (p, inr o.absent))),
+  )
 
   -- a front of the room was received, and offered
-  pub received : (old new : Hub A) (before after : Seat R K S) (got : R) (room : List ℕ) (n : ℕ) (answer : Arrived) (is_full is_shut : Bool) → SameClient before after → HubStays condition old new → IsAtEnd (owed held before.wire) → before.course.phase ≡ Open
+  pub received : (size : S → ℕ) (old new : Hub A) (before after : Seat R K S) (got : R) (room : List ℕ) (n : ℕ) (answer : Arrived) (is_full is_shut : Bool) → next_duty size before ≡ Read → SameClient before after → HubStays condition old new → IsAtEnd (owed held before.wire) → before.course.phase ≡ Open
       → 0 < n → n ≤ length room → length room ≤ most_read → Consumes (unread before.source) (unread got) (take n room) → after.source ≡ got → new.store ≡ old.store
       → OffersTo condition (told taken held before.wire) (told taken held after.wire) before.wire.failures after.wire.failures old new before.connection (take n room) answer
       → after.course.phase ≡ phase_offered answer → (is_full ≡ true → before.course.unfinished ≡ 0) → is_shut ≡ false
       → after.course.has_moved ≡ (before.course.has_moved || nat_lt 0 (length (take n room)))
       → after.course.moved ≡ min (before.course.moved + length (take n room)) (2 ^ 64 - 1)
       → after.course.unfinished ≡ min (before.course.unfinished + length (take n room)) (2 ^ 64 - 1)
-      → (moment : ℕ) → TakesTurn condition unread taken held old new before after moment is_full is_shut
-  received old new before after got room n answer is_full is_shut client hub none was some within small gives same store o p allowed is_open stirs moved counts moment =
+      → (moment : ℕ) → TakesTurn condition unread taken held size old new before after moment is_full is_shut
+  received size old new before after got room n answer is_full is_shut due client hub none was some within small gives same store o p allowed is_open stirs moved counts moment =
       let long : 0 < length (take n room) = let e = length-take n room in omega (arith, e, some, within) in
       record {
         client = client;
         hub = hub;
         ended = not_yet before.course.phase after.course.phase Open was refl;
-        acts = offered old new before after (take n room) answer is_full is_shut (record {
+        acts = offered size old new before after (take n room) answer is_full is_shut due (record {
           unowed = none;
           waits = was;
           some = long;
@@ -220,63 +338,100 @@ module _ {A R K S : Type 0} (condition : A → Condition) (unread : R → Option
       }
 
   -- what was sent in a turn was counted behind it
-  acts_counted : (old new : Hub A) (before mid after : Seat R K S) (moment : ℕ) (is_full is_shut : Bool) → ActsOnce condition unread taken held old new before mid moment is_full is_shut
-      → after.wire ≡ mid.wire → after.source ≡ mid.source → after.course.phase ≡ mid.course.phase → (mid.course.has_moved ≡ true → after.course.has_moved ≡ true)
-      → min mid.course.moved (2 ^ 64 - 1) ≤ after.course.moved → after.course.unfinished ≡ mid.course.unfinished → ActsOnce condition unread taken held old new before after moment is_full is_shut
-  acts_counted old new before mid after moment is_full is_shut (inl r) wire source phase stirs moves count = inl (record {
-    same = r.same;
-    keeps = subst (λ (w : Wire K S). Keeps (told taken held before.wire) (told taken held w)) (sym wire) r.keeps;
-    gives = λ h. subst (λ (x : R). Keeps (unread before.source) (unread x)) (sym source) (r.gives (sym (ap is_ended phase) ∙ h));
-    opens = λ h. r.opens (sym phase ∙ h);
-    keeps_count = λ h. count ∙ r.keeps_count (sym (ap is_ended phase) ∙ h);
-  })
-  acts_counted old new before mid after moment is_full is_shut (inr (inl o)) wire source phase stirs moves count = inr (inl (record {
-    piece = o.piece;
-    read = read_counted before mid after o.piece is_full is_shut o.read source stirs moves count;
-    answers_next = phase ∙ o.answers_next;
-    keeps = subst (λ (w : Wire K S). Keeps (told taken held before.wire) (told taken held w)) (sym wire) o.keeps;
-    same_store = o.same_store;
-    holds = o.holds;
-  }))
-  acts_counted old new before mid after moment is_full is_shut (inr (inr (inl r))) wire source phase stirs moves count = inr (inr (inl (record {
-    piece = r.piece;
-    read = read_counted before mid after r.piece is_full is_shut r.read source stirs moves count;
-    ends = ap is_ended phase ∙ r.ends;
-    answer = r.answer;
-    answers = subst (λ (w : Wire K S). AnswersOver condition (told taken held before.wire) (told taken held w) before.wire.failures w.failures old new before.connection
-        (λ kept. kept ++ r.piece) moment r.answer (IsRefused r.answer)) (sym wire) r.answers;
-  })))
-  acts_counted old new before mid after moment is_full is_shut (inr (inr (inr a))) wire source phase stirs moves count = inr (inr (inr (record {
-    unowed = a.unowed;
-    was_read = a.was_read;
-    same_source = source ∙ a.same_source;
-    next = a.next;
-    answers = subst (λ (w : Wire K S). AnswersOver condition (told taken held before.wire) (told taken held w) before.wire.failures w.failures old new before.connection
-        (λ kept. kept) moment (arrived_by a.next) (IsNext a.next)) (sym wire) a.answers;
-    opens = λ h. a.opens (sym phase ∙ h);
-    stirs = stirs a.stirs;
-    leaves = count ∙ a.leaves;
-  })))
+  rest_counted : (size : S → ℕ) (hub : Hub A) (before mid after : Seat R K S) (is_full is_shut : Bool) (d : Duty) → MayRest condition unread taken held size hub before mid is_full is_shut d
+      → after.wire ≡ mid.wire → after.source ≡ mid.source → after.course.phase ≡ mid.course.phase → after.course.is_readable ≡ mid.course.is_readable → after.course.is_writable ≡ mid.course.is_writable
+      → MayRest condition unread taken held size hub before after is_full is_shut d
+  rest_counted size hub before mid after is_full is_shut Flush (inl fewer) wire source phase readable writable = inl (subst (λ (w : Wire K S). owed_count size w < owed_count size before.wire) (sym wire) fewer)
+  rest_counted size hub before mid after is_full is_shut Flush (inr (inl later)) wire source phase readable writable = inr (inl (writable ∙ later))
+  rest_counted size hub before mid after is_full is_shut Flush (inr (inr over)) wire source phase readable writable = inr (inr (phase ∙ over))
+  rest_counted size hub before mid after is_full is_shut Answer may wire source phase readable writable = may
+  rest_counted size hub before mid after is_full is_shut Read (inl back) wire source phase readable writable = inl back
+  rest_counted size hub before mid after is_full is_shut Read (inr (inl later)) wire source phase readable writable = inr (inl (readable ∙ later))
+  rest_counted size hub before mid after is_full is_shut Read (inr (inr (over, inl keeps))) wire source phase readable writable =
+      inr (inr (phase ∙ over, inl (subst (λ (r : R). Keeps (unread before.source) (unread r)) (sym source) keeps)))
+  rest_counted size hub before mid after is_full is_shut Read (inr (inr (over, inr unknown))) wire source phase readable writable = inr (inr (phase ∙ over, inr unknown))
+  rest_counted size hub before mid after is_full is_shut Finish may wire source phase readable writable = phase ∙ may
+  rest_counted size hub before mid after is_full is_shut Drain may wire source phase readable writable = tt
+  rest_counted size hub before mid after is_full is_shut Wait may wire source phase readable writable = tt
 
-  pub counted : (old new : Hub A) (before mid : Seat R K S) (course : Course) (bytes moment : ℕ) (is_full is_shut : Bool) → TakesTurn condition unread taken held old new before mid moment is_full is_shut
+  acts_counted : (size : S → ℕ) (old new : Hub A) (before mid after : Seat R K S) (moment : ℕ) (is_full is_shut : Bool) → ActsOnce condition unread taken held size old new before mid moment is_full is_shut
+      → after.wire ≡ mid.wire → after.source ≡ mid.source → after.course.phase ≡ mid.course.phase → after.course.is_readable ≡ mid.course.is_readable → after.course.is_writable ≡ mid.course.is_writable → (mid.course.has_moved ≡ true → after.course.has_moved ≡ true)
+      → min mid.course.moved (2 ^ 64 - 1) ≤ after.course.moved → after.course.unfinished ≡ mid.course.unfinished → ActsOnce condition unread taken held size old new before after moment is_full is_shut
+  acts_counted size old new before mid after moment is_full is_shut (inl (r, may)) wire source phase readable writable stirs moves count = inl (
+    record {
+      same = r.same;
+      keeps = subst (λ (w : Wire K S). Keeps (told taken held before.wire) (told taken held w)) (sym wire) r.keeps;
+      gives = λ h. subst (λ (x : R). Keeps (unread before.source) (unread x)) (sym source) (r.gives (sym (ap is_ended phase) ∙ h));
+      opens = λ h. r.opens (sym phase ∙ h);
+      keeps_count = λ h. count ∙ r.keeps_count (sym (ap is_ended phase) ∙ h);
+    },
+    rest_counted size old before mid after is_full is_shut (next_duty size before) may wire source phase readable writable,
+  )
+  acts_counted size old new before mid after moment is_full is_shut (inr (inl (o, due))) wire source phase readable writable stirs moves count = inr (inl (
+    record {
+      piece = o.piece;
+      read = read_counted before mid after o.piece is_full is_shut o.read source stirs moves count;
+      answers_next = phase ∙ o.answers_next;
+      keeps = subst (λ (w : Wire K S). Keeps (told taken held before.wire) (told taken held w)) (sym wire) o.keeps;
+      same_store = o.same_store;
+      holds = o.holds;
+    },
+    due,
+  ))
+  acts_counted size old new before mid after moment is_full is_shut (inr (inr (inl (r, due)))) wire source phase readable writable stirs moves count = inr (inr (inl (
+    record {
+      piece = r.piece;
+      read = read_counted before mid after r.piece is_full is_shut r.read source stirs moves count;
+      ends = ap is_ended phase ∙ r.ends;
+      answer = r.answer;
+      answers = subst (λ (w : Wire K S). AnswersOver condition (told taken held before.wire) (told taken held w) before.wire.failures w.failures old new before.connection
+          (λ kept. kept ++ r.piece) moment r.answer (IsRefused r.answer)) (sym wire) r.answers;
+    },
+    due,
+  )))
+  acts_counted size old new before mid after moment is_full is_shut (inr (inr (inr (a, due)))) wire source phase readable writable stirs moves count = inr (inr (inr (
+    record {
+      unowed = a.unowed;
+      was_read = a.was_read;
+      same_source = source ∙ a.same_source;
+      next = a.next;
+      answers = subst (λ (w : Wire K S). AnswersOver condition (told taken held before.wire) (told taken held w) before.wire.failures w.failures old new before.connection
+          (λ kept. kept) moment (arrived_by a.next) (IsNext a.next)) (sym wire) a.answers;
+      opens = λ h. a.opens (sym phase ∙ h);
+      stirs = stirs a.stirs;
+      leaves = count ∙ a.leaves;
+    },
+    due,
+  )))
+
+  pub counted : (size : S → ℕ) (old new : Hub A) (before mid : Seat R K S) (course : Course) (bytes moment : ℕ) (is_full is_shut : Bool) → TakesTurn condition unread taken held size old new before mid moment is_full is_shut
       → course ≡ record mid.course { has_moved = mid.course.has_moved || nat_lt 0 bytes; moved = min (mid.course.moved + bytes) (2 ^ 64 - 1) }
-      → TakesTurn condition unread taken held old new before (record mid { course = course }) moment is_full is_shut
-  counted old new before mid course bytes moment is_full is_shut t e =
+      → TakesTurn condition unread taken held size old new before (record mid { course = course }) moment is_full is_shut
+  counted size old new before mid course bytes moment is_full is_shut t e =
       let phase : course.phase ≡ mid.course.phase = ap (λ (c : Course). c.phase) e in
       record {
         client = record { connection = t.client.connection; address = t.client.address };
         hub = t.hub;
         ended = λ h. ap is_ended phase ∙ t.ended h;
-        acts = acts_counted old new before mid (record mid { course = course }) moment is_full is_shut t.acts refl refl phase
+        acts = acts_counted size old new before mid (record mid { course = course }) moment is_full is_shut t.acts refl refl phase
+            (ap (λ (c : Course). c.is_readable) e) (ap (λ (c : Course). c.is_writable) e)
             (λ h. ap (λ (c : Course). c.has_moved) e ∙ (ap (λ (b : Bool). b || nat_lt 0 bytes) h ∙ true-or (nat_lt 0 bytes)))
             (omega (arith, ap (λ (c : Course). c.moved) e)) (ap (λ (c : Course). c.unfinished) e);
       }
 
   -- an item was answered, whatever else may be
-  pub answers_turn : (old new : Hub A) (before after : Seat R K S) (moment : ℕ) → SameClient before after → HubStays condition old new → before.course.phase ≡ Answering
-      → Rests condition unread taken held old new before after ⊎ Answers condition unread taken held old new before after moment
-      → (is_full is_shut : Bool) → TakesTurn condition unread taken held old new before after moment is_full is_shut
-  answers_turn old new before after moment client hub was (inl r) is_full is_shut =
-      record { client = client; hub = hub; ended = not_yet before.course.phase after.course.phase Answering was refl; acts = inl r }
-  answers_turn old new before after moment client hub was (inr a) is_full is_shut =
-      record { client = client; hub = hub; ended = not_yet before.course.phase after.course.phase Answering was refl; acts = inr (inr (inr a)) }
+  pub answers_turn : (size : S → ℕ) (old new : Hub A) (before after : Seat R K S) (moment : ℕ) → SameClient before after → HubStays condition old new → before.course.phase ≡ Answering → next_duty size before ≡ Answer
+      → (Rests condition unread taken held old new before after × IsUnknown old before.connection) ⊎ Answers condition unread taken held old new before after moment
+      → (is_full is_shut : Bool) → TakesTurn condition unread taken held size old new before after moment is_full is_shut
+  answers_turn size old new before after moment client hub was due (inl (r, unknown)) is_full is_shut = record {
+    client = client;
+    hub = hub;
+    ended = not_yet before.course.phase after.course.phase Answering was refl;
+    acts = inl (r, rests_as size old before after is_full is_shut Answer due unknown);
+  }
+  answers_turn size old new before after moment client hub was due (inr a) is_full is_shut = record {
+    client = client;
+    hub = hub;
+    ended = not_yet before.course.phase after.course.phase Answering was refl;
+    acts = inr (inr (inr (a, due)));
+  }

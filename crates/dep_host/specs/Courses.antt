@@ -21,6 +21,19 @@ duty Last false r w = Finish
 duty Draining true r w = if w then Flush else Wait
 duty Draining false r w = if r then Drain else Wait
 
+-- how far it is once its turn begins: once the store is shut it is read no more
+abbrev pub phase_begun : Phase → (is_shut : Bool) → Phase
+phase_begun Open is_shut = if is_shut then Last else Open
+phase_begun Answering is_shut = Answering
+phase_begun Last is_shut = Last
+phase_begun Draining is_shut = Draining
+phase_begun Over is_shut = Over
+
+-- it isn't read though it could be: the store is shut, or too many bytes of unfinished requests are
+-- kept, and some of these are its
+abbrev pub is_held_back : Course → (is_full is_shut : Bool) → Bool
+is_held_back c is_full is_shut = is_shut || (is_full && nat_lt 0 c.unfinished)
+
 -- an idle time has passed since a second
 abbrev pub is_past : (since second : ℕ) → Limits → Bool
 is_past since second limits = nat_lt limits.idle_seconds (second - since)

@@ -1,5 +1,5 @@
 -- How a host goes on: what becomes of its places, what comes to its hub, and what its wires take for it.
-use Rattle.std.specs.Prelude.{◌≡◌, ◌⊎◌, ◌<◌, ◌≤◌, ◌+◌, ◌==◌, ℕ, Bool, List, [], ◌∷◌, ◌++◌, length, get_or, set, Option, None, Some, is_some, IsSome, IsNone, if◌then◌else◌, true}
+use Rattle.std.specs.Prelude.{◌≡◌, ◌⊎◌, ◌<◌, ◌≤◌, ◌+◌, ◌==◌, nat_lt, ℕ, Bool, List, [], ◌∷◌, ◌++◌, length, get_or, set, Option, None, Some, is_some, IsSome, IfSome, IsNone, if◌then◌else◌, true, false}
 use Rattle.std.specs.List.{flat_map}
 use Rattle.std.specs.Io.KnownBytes.{IsAtEnd}
 use Rattle.dep_types.specs.Conditions.{Condition}
@@ -7,16 +7,18 @@ use Rattle.dep_hub.specs.Records.{Line, Live, Absent}
 use Rattle.dep_hub.specs.Standing.{IsClean}
 use Rattle.dep_hub.specs.Holding.{KeepsHolding, MovesLine, StandsOn, with_held}
 use Rattle.dep_hub.specs.declared.hub.Hub.{Hub}
-use Rattle.dep_outbox.specs.Wires.{told}
-use Rattle.dep_host.specs.declared.course.Phase.TheVariants.{Open}
+use Rattle.dep_outbox.specs.Wires.{told, owed_count}
+use Rattle.dep_host.specs.declared.course.Phase.TheVariants.{Open, Draining, Over}
+use Rattle.dep_host.specs.declared.course.Duty.{Duty}
+use Rattle.dep_host.specs.declared.course.Duty.TheVariants as to
 use Rattle.dep_host.specs.declared.seat.Seat.{Seat}
 use Rattle.dep_host.specs.declared.seat.Time.{Time}
 use Rattle.dep_host.specs.declared.host.Host.{Host}
 use Rattle.dep_host.specs.declared.limits.Limits.{Limits}
 use Rattle.dep_host.specs.declared.log.Closing.{Closing}
 use Rattle.dep_host.specs.declared.log.Closing.TheVariants as ends
-use Rattle.dep_host.specs.Courses.{closing, is_ended}
-use Rattle.dep_host.specs.Seats.{HubStays, SameClient, Rests, Offers, Refuses, Answers}
+use Rattle.dep_host.specs.Courses.{closing, duty, is_ended, is_held_back, phase_begun}
+use Rattle.dep_host.specs.Seats.{HubStays, SameClient, SendsOn, next_duty, IsUnknown, Rests, Offers, Refuses, Answers}
 
 -- the hub, who sits where, what bounds them, and at which second it was told that the store is shut
 pub record Position (A R K S : Type 0) : Type 0 where
@@ -244,34 +246,82 @@ module _ {A R K S : Type 0} (condition : A → Condition) (unread : R → Option
   abbrev pub GoesOn : Position A R K S → Position A R K S → Type 0
   GoesOn first last = (deeds : List Deed) × Steps first deeds last
 
+  -- the largest is closed, or nothing is done
+  abbrev pub Sheds : Position A R K S → Position A R K S → (second : ℕ) → Type 0
+  Sheds p q second = (q ≡ p) ⊎ ((at : ℕ) × (seat : Seat R K S) × Goes p q at second seat)
+
+-- what a connection does next once its turn begins
+abbrev pub turn_duty : {R K S : Type 0} → (S → ℕ) → (shut : Option ℕ) → Seat R K S → Duty
+turn_duty size shut seat = duty (phase_begun seat.course.phase (is_some shut))
+    (nat_lt 0 (owed_count size seat.wire)) seat.course.is_readable seat.course.is_writable
+
+module _ {A R K S : Type 0} (condition : A → Condition) (unread : R → Option (List ℕ))
+    (taken : K → Option (List ℕ)) (held : S → Option (List ℕ)) (size : S → ℕ) where
+  -- behind some deeds the hub had no connection of that number
+  pub record IsLost (p : Position A R K S) (number : ℕ) : Type 0 where
+    pub deeds : List Deed
+    pub mid : Position A R K S
+    pub steps : Steps condition unread taken held p deeds mid
+    pub absent : IsUnknown mid.hub number
+
+  -- What was to be done for a connection was done, after which it is this, or was closed: its next
+  -- item was answered; what is owed was sent, as far as its socket takes it; a piece was read,
+  -- where one may be and the socket had one; or its client was told that nothing more is sent.
+  abbrev pub IsServed : Position A R K S → (is_full : Bool) → (before : Seat R K S)
+      → (after : Option (Seat R K S)) → (answered read : ℕ) → Duty → Type 0
+  IsServed p is_full before after answered read to.Flush =
+      IfSome after (λ seat. SendsOn size before seat)
+  IsServed p is_full before after answered read to.Answer =
+      (answered ≡ 1) ⊎ IsLost p before.connection
+  IsServed p is_full before after answered read to.Read = (read ≡ 1)
+      ⊎ ((is_held_back before.course is_full (is_some p.shut) ≡ true)
+      ⊎ IfSome after (λ seat. (seat.course.is_readable ≡ false) ⊎ (seat.course.phase ≡ Over)))
+  IsServed p is_full before after answered read to.Finish =
+      IfSome after (λ seat. seat.course.phase ≡ Draining)
+  IsServed p is_full before after answered read to.Drain = Unit {0}
+  IsServed p is_full before after answered read to.Wait = Unit {0}
+
+  -- so was who sat at a place, where somebody did
+  abbrev pub IsServedAt : (p q : Position A R K S) → (is_full : Bool) → (deeds : List Deed)
+      → (place : ℕ) → Option (Seat R K S) → Type 0
+  IsServedAt p q is_full deeds place None = Unit {0}
+  IsServedAt p q is_full deeds place (Some seat) =
+      IsServed p is_full seat (slot place q.seats) (answers_at place deeds) (pieces_at place deeds)
+      (turn_duty size p.shut seat)
+
   -- one place has its turn, where too many bytes of unfinished requests are kept or not
   pub record Serves (p q : Position A R K S) (at : ℕ) (time : Time) (is_full : Bool) : Type 0 where
     pub deeds : List Deed
-    pub steps : Steps p deeds q
+    pub steps : Steps condition unread taken held p deeds q
     pub once : answers_at at deeds ≤ 1
     pub others : (place : ℕ) → (place ≡ at → ⊥) → answers_at place deeds ≡ 0
     pub waits : is_full ≡ true → 0 < unfinished_of (slot at p.seats) → pieces_at at deeds ≡ 0
     pub unread_others : (place : ℕ) → (place ≡ at → ⊥) → pieces_at place deeds ≡ 0
+    pub served : IsServedAt p q is_full deeds at (slot at p.seats)
     pub in_time : AreDoneAt time deeds
 
-  -- each place has its turn: of no connection more than one item is answered, and where too many
-  -- bytes of unfinished requests are kept, nothing more is read of these
+  -- each place has its turn, in which it is served: of no connection more than one item is
+  -- answered, and where too many bytes of unfinished requests are kept, nothing more is read of
+  -- these
   pub record GoesRound (p q : Position A R K S) (time : Time) : Type 0 where
     pub deeds : List Deed
-    pub steps : Steps p deeds q
+    pub steps : Steps condition unread taken held p deeds q
     pub once : (place : ℕ) → answers_at place deeds ≤ 1
     pub waits : p.limits.unfinished_bytes < unfinished_in p.seats → (place : ℕ)
         → 0 < unfinished_of (slot place p.seats) → pieces_at place deeds ≡ 0
+    pub served : (place : ℕ) → IsServedAt p q
+        (nat_lt p.limits.unfinished_bytes (unfinished_in p.seats)) deeds place (slot place p.seats)
     pub in_time : AreDoneAt time deeds
-
-  -- the largest is closed, or nothing is done
-  abbrev pub Sheds : Position A R K S → Position A R K S → (second : ℕ) → Type 0
-  Sheds p q second = (q ≡ p) ⊎ ((at : ℕ) × (seat : Seat R K S) × Goes p q at second seat)
 
 -- who sits at a place has time left, and is not over
 abbrev pub HasTime : {R K S : Type 0} → (second : ℕ) → Limits → Option (Seat R K S) → Type 0
 HasTime second limits None = Unit {0}
 HasTime second limits (Some seat) = closing seat.course second limits ≡ None
+
+-- who sits at a place has nothing to do before its socket is ready or its time is up
+abbrev pub IsWaiting : {R K S : Type 0} → (S → ℕ) → Option (Seat R K S) → Type 0
+IsWaiting size None = Unit {0}
+IsWaiting size (Some seat) = next_duty size seat ≡ to.Wait
 
 -- a further connection can be seated at a place
 abbrev pub IsVacant : {A R K S : Type 0} → Host A R K S → ℕ → Type 0

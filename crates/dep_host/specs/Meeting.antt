@@ -85,9 +85,9 @@ module _ {A R K S : Type 0} (condition : A → Condition) (unread : R → Option
     pub stays : Stays mid q
 
   -- each place had its turn at that time, and then it was asked whether the store is open
-  pub record MakesRound (p q : Host A R K S) (time : Time) : Type 0 where
+  pub record MakesRound (size : S → ℕ) (p q : Host A R K S) (time : Time) : Type 0 where
     pub mid : Host A R K S
-    pub goes : GoesRound condition unread taken held (position p) (position mid) time
+    pub goes : GoesRound condition unread taken held size (position p) (position mid) time
     pub left : (at : ℕ) → HasTime time.second mid.limits (slot at mid.seats.items)
     pub stays : Stays p mid
     pub asks : AsksOn mid q time.second
@@ -121,16 +121,22 @@ module _ {A R K S L : Type 0} (condition : A → Condition) (unread : R → Opti
   Admits p q l m at client (result.Ok _) = LetsIn p q l m at client
   Admits p q l m at client (result.Err why) = TurnsAway p q l m client why
 
+module _ {A R K S L : Type 0} (condition : A → Condition) (unread : R → Option (List ℕ))
+    (taken : K → Option (List ℕ)) (held : S → Option (List ℕ)) (size : S → ℕ)
+    (notes : L → Option (List Note)) where
   -- what it makes of one event, before which this place was offered: who is let in sits there
   pub data Meets (p q : Host A R K S) (l m : L) : (offer : Option ℕ) → Event R K S → Type 0 where
     wakes : {offer : Option ℕ} {at : ℕ} {r w : Bool} → Wakes p q at r w → m ≡ l
         → Meets p q l m offer (came.Ready at r w)
-    lets_in : {client : Client R K S} {at : ℕ} → LetsIn p q l m at client
+    lets_in : {client : Client R K S} {at : ℕ}
+        → LetsIn condition unread taken held notes p q l m at client
         → Meets p q l m (Some at) (came.Client client)
     turns_away : {offer : Option ℕ} {client : Client R K S} {why : Refusal}
-        → TurnsAway p q l m client why → Meets p q l m offer (came.Client client)
+        → TurnsAway condition unread taken held notes p q l m client why
+        → Meets p q l m offer (came.Client client)
     makes_round : {offer : Option ℕ} {time : Time}
-        → MakesRound condition unread taken held p q time → Meets p q l m offer (came.Round time)
+        → MakesRound condition unread taken held size p q time
+        → Meets p q l m offer (came.Round time)
 
   -- an event was met, or was the end, by whether it goes on
   abbrev pub IsMet : {T : Type 0} → (p q : Host A R K S) → (l m : L) → (offer : Option ℕ)

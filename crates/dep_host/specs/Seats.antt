@@ -1,21 +1,23 @@
 -- What a turn of a connection comes to: what of it comes to the hub, and what is sent for it.
-use Rattle.std.specs.Prelude.{◌≡◌, ◌⊎◌, ◌<◌, ◌≤◌, ◌+◌, ◌-◌, ◌^◌, min, ℕ, Bool, List, ◌++◌, length, Option, true, false}
+use Rattle.std.specs.Prelude.{◌≡◌, ◌⊎◌, ◌<◌, ◌≤◌, ◌+◌, ◌-◌, ◌^◌, min, nat_lt, ℕ, Bool, List, ◌++◌, length, Option, None, true, false}
 use Rattle.std.specs.Io.KnownBytes.{Keeps, Consumes, IsAtEnd}
 use Rattle.dep_types.specs.Conditions.{Condition}
 use Rattle.dep_hub.specs.Records.{Line}
 use Rattle.dep_hub.specs.Turns.{most_read}
-use Rattle.dep_hub.specs.Standing.{IsClean, IsHonest}
+use Rattle.dep_hub.specs.Standing.{IsClean, IsHonest, intake_of}
 use Rattle.dep_hub.specs.Holding.{KeepsHolding, AnswersOver, OffersTo, IsNext, IsRefused, arrived_by, with_held}
 use Rattle.dep_hub.specs.declared.hub.Hub.{Hub}
 use Rattle.dep_hub.specs.declared.arrived.Arrived.{Arrived}
 use Rattle.dep_hub.specs.declared.arrived.Arrived.TheVariants as came
 use Rattle.dep_hub.specs.declared.next.Next.{Next}
 use Rattle.dep_hub.specs.declared.next.Next.TheVariants.{More, Waiting, Closed, Cut, NoSuch}
-use Rattle.dep_outbox.specs.Wires.{told, owed}
+use Rattle.dep_outbox.specs.Wires.{told, owed, owed_count}
 use Rattle.dep_host.specs.declared.seat.Seat.{Seat}
 use Rattle.dep_host.specs.declared.course.Phase.{Phase}
-use Rattle.dep_host.specs.declared.course.Phase.TheVariants.{Open, Answering, Last, Over}
-use Rattle.dep_host.specs.Courses.{is_ended, woken}
+use Rattle.dep_host.specs.declared.course.Phase.TheVariants.{Open, Answering, Last, Draining, Over}
+use Rattle.dep_host.specs.declared.course.Duty.{Duty}
+use Rattle.dep_host.specs.declared.course.Duty.TheVariants as to
+use Rattle.dep_host.specs.Courses.{duty, is_ended, is_held_back, woken}
 
 -- its socket may be ready
 abbrev pub woken_seat : {R K S : Type 0} → Seat R K S → (is_readable is_writable : Bool) → Seat R K S
@@ -48,6 +50,20 @@ left_unfinished NoSuch n = 0
 pub record SameClient {R K S : Type 0} (before after : Seat R K S) : Type 0 where
   pub connection : after.connection ≡ before.connection
   pub address : after.address ≡ before.address
+
+-- what a connection does next
+abbrev pub next_duty : {R K S : Type 0} → (S → ℕ) → Seat R K S → Duty
+next_duty size seat = duty seat.course.phase (nat_lt 0 (owed_count size seat.wire))
+    seat.course.is_readable seat.course.is_writable
+
+-- fewer bytes are owed, or the socket takes no more now, or it or the spool failed
+abbrev pub SendsOn : {R K S : Type 0} → (S → ℕ) → (before after : Seat R K S) → Type 0
+SendsOn size before after = (owed_count size after.wire < owed_count size before.wire)
+    ⊎ ((after.course.is_writable ≡ false) ⊎ (after.course.phase ≡ Over))
+
+-- the hub has no connection of that number
+abbrev pub IsUnknown : {A : Type 0} → Hub A → ℕ → Type 0
+IsUnknown hub number = intake_of hub.connections.items number ≡ None
 
 -- no connection was opened, and the store is open only where it was before, and the disk honest
 pub record HubStays {A : Type 0} (condition : A → Condition) (old new : Hub A) : Type 0 where
@@ -120,32 +136,51 @@ module _ {A R K S : Type 0} (condition : A → Condition) (unread : R → Option
     pub stirs : after.course.has_moved ≡ true
     pub leaves : after.course.unfinished ≡ left_unfinished next before.course.unfinished
 
-  -- a turn is one of these: at most one piece is read, and at most one item answered
-  abbrev pub ActsOnce : (old new : Hub A) → (before after : Seat R K S) → (moment : ℕ)
+  -- Why nothing comes to the hub in a turn, by what comes next. Where an item is to be answered, no
+  -- connection is there; where a piece is to be read, it isn't to be read now, or the socket gave
+  -- none, or the connection is over, and no piece was thrown away.
+  abbrev pub MayRest : (S → ℕ) → Hub A → (before after : Seat R K S) → (is_full is_shut : Bool)
+      → Duty → Type 0
+  MayRest size hub before after is_full is_shut to.Flush = SendsOn size before after
+  MayRest size hub before after is_full is_shut to.Answer = IsUnknown hub before.connection
+  MayRest size hub before after is_full is_shut to.Read =
+      (is_held_back before.course is_full is_shut ≡ true)
+      ⊎ ((after.course.is_readable ≡ false) ⊎ ((after.course.phase ≡ Over)
+      × (Keeps (unread before.source) (unread after.source) ⊎ IsUnknown hub before.connection)))
+  MayRest size hub before after is_full is_shut to.Finish = after.course.phase ≡ Draining
+  MayRest size hub before after is_full is_shut to.Drain = Unit {0}
+  MayRest size hub before after is_full is_shut to.Wait = Unit {0}
+
+  -- a turn is one of these, by what comes next: at most one piece is read, and at most one item
+  -- answered
+  abbrev pub ActsOnce : (S → ℕ) → (old new : Hub A) → (before after : Seat R K S) → (moment : ℕ)
       → (is_full is_shut : Bool) → Type 0
-  ActsOnce old new before after moment is_full is_shut =
-      Rests old new before after
-      ⊎ (Offers old new before after is_full is_shut
-      ⊎ (Refuses old new before after moment is_full is_shut ⊎ Answers old new before after moment))
+  ActsOnce size old new before after moment is_full is_shut =
+      (Rests old new before after
+      × MayRest size old before after is_full is_shut (next_duty size before))
+      ⊎ ((Offers old new before after is_full is_shut × (next_duty size before ≡ to.Read))
+      ⊎ ((Refuses old new before after moment is_full is_shut × (next_duty size before ≡ to.Read))
+      ⊎ (Answers old new before after moment × (next_duty size before ≡ to.Answer))))
 
   -- a turn of a connection, which stays the one that it was
-  pub record TakesTurn (old new : Hub A) (before after : Seat R K S) (moment : ℕ)
+  pub record TakesTurn (size : S → ℕ) (old new : Hub A) (before after : Seat R K S) (moment : ℕ)
       (is_full is_shut : Bool) : Type 0 where
     pub client : SameClient before after
     pub hub : HubStays condition old new
     pub ended : is_ended before.course.phase ≡ true → is_ended after.course.phase ≡ true
-    pub acts : ActsOnce old new before after moment is_full is_shut
+    pub acts : ActsOnce size old new before after moment is_full is_shut
 
   -- a turn in which a piece may be read, where it may be
-  abbrev pub MayRead : (old new : Hub A) → (before after : Seat R K S) → Type 0
-  MayRead old new before after = (moment : ℕ) (is_full is_shut : Bool)
+  abbrev pub MayRead : (S → ℕ) → (old new : Hub A) → (before after : Seat R K S) → Type 0
+  MayRead size old new before after = (moment : ℕ) (is_full is_shut : Bool)
       → (is_full ≡ true → before.course.unfinished ≡ 0) → is_shut ≡ false
-      → TakesTurn old new before after moment is_full is_shut
+      → TakesTurn size old new before after moment is_full is_shut
 
   -- a turn in which an item may be answered, also where no piece may be read
-  abbrev pub MayAnswer : (old new : Hub A) → (before after : Seat R K S) → (moment : ℕ) → Type 0
-  MayAnswer old new before after moment = (is_full is_shut : Bool)
-      → TakesTurn old new before after moment is_full is_shut
+  abbrev pub MayAnswer : (S → ℕ) → (old new : Hub A) → (before after : Seat R K S) → (moment : ℕ)
+      → Type 0
+  MayAnswer size old new before after moment = (is_full is_shut : Bool)
+      → TakesTurn size old new before after moment is_full is_shut
 
   -- what becomes of a piece that was offered
   abbrev pub IsOffered : (old new : Hub A) → (before after : Seat R K S) → (piece : List ℕ) → Type 0

@@ -115,6 +115,8 @@ impl Course {
     /// silence, since a turn may take long, and its client is told of the end first.
     pub fn begin_turn(&mut self, owes: bool, second: u64, limits: &Limits)
         ensures phase { self.new.phase ≡ self.old.phase }
+        ensures readable { self.new.is_readable ≡ self.old.is_readable }
+        ensures writable { self.new.is_writable ≡ self.old.is_writable }
         ensures moved { self.new.has_moved ≡ false }
         ensures since { self.new.since
             ≡ (if self.old.has_moved then second else self.old.since) }

@@ -2,7 +2,7 @@
 ghost use Rattle.std.specs.Prelude.{◌≡◌, ◌⊎◌, ◌<◌, ◌≤◌, ℕ, [], None, length, nat_lt, IfOk, IfErr, IfSome, IsSomeAnd, is_some, IsSome, IsNone, if◌then◌else◌, ◌∷◌, true, false};
 ghost use Rattle.std.specs.Io.KnownBytes.{IsAtEnd};
 ghost use Rattle.dep_outbox.specs.Wires.{told};
-ghost use Rattle.dep_host.specs.Hosting.{Steps, Serves, Goes, GoesRound, Sheds, Stays, HasTime, MayGo, IsEmpty, IsVacant, position, slot, unfinished_of, unfinished_in};
+ghost use Rattle.dep_host.specs.Hosting.{Steps, Serves, Goes, GoesRound, Sheds, Stays, HasTime, MayGo, IsEmpty, IsVacant, IsWaiting, position, slot, unfinished_of, unfinished_in};
 ghost use Rattle.dep_host.specs.Coming.{origin, seated_from};
 ghost use Rattle.dep_host.specs.Courses.{is_overdue};
 ghost use Rattle.dep_host.specs.Meeting.{Admits, IsAsked, IsOffer, Wakes};
@@ -203,10 +203,12 @@ impl<A: Archive, R: Source + Drop, K: Sink + Drop, S: Spool + Drop> Host<A, R, K
     /// is too slow. Where more bytes of unfinished requests are kept than may be, it reads no more of
     /// these, and closes the one that has most. It answers whether one of them can go on at once.
     pub fn round<L: HostLog>(&mut self, buffer: &mut ReadBuffer, time: &Time, log: &mut L) -> bool
-        ensures goes { GoesRound A.condition R.unread K.taken S.held (position self.old)
+        ensures goes { GoesRound A.condition R.unread K.taken S.held S.size (position self.old)
             (position self.new) time.now }
         ensures left { (at : ℕ)
             → HasTime time.now.second self.new.limits (slot at self.new.seats.items) }
+        ensures waits { result ≡ false
+            → (at : ℕ) → IsWaiting S.size (slot at self.new.seats.items) }
         ensures stays { Stays self.old self.new }
     {
         let turn = Turn {
@@ -235,10 +237,11 @@ impl<A: Archive, R: Source + Drop, K: Sink + Drop, S: Spool + Drop> Host<A, R, K
     ) -> bool
         requires there { at < length self.old.seats.items }
         requires shut { turn.now.is_shut ≡ is_some self.old.shut_since }
-        ensures goes { Serves A.condition R.unread K.taken S.held (position self.old)
+        ensures goes { Serves A.condition R.unread K.taken S.held S.size (position self.old)
             (position self.new) at turn.now.time turn.now.is_full }
         ensures here { HasTime turn.now.time.second self.new.limits
             (slot at self.new.seats.items) }
+        ensures waits { result ≡ false → IsWaiting S.size (slot at self.new.seats.items) }
         ensures others { (place : ℕ) → (place ≡ at → ⊥)
             → slot place self.new.seats.items ≡ slot place self.old.seats.items }
         ensures stays { Stays self.old self.new }

@@ -2,9 +2,9 @@
 ghost use Rattle.std.specs.Prelude.{◌≡◌, ◌≢◌, ◌<◌, ◌≤◌, ◌+◌, ◌-◌, ◌^◌, ◌||◌, min, nat_lt, length, true, false};
 ghost use Rattle.std.specs.Io.KnownBytes.{Keeps, IsAtEnd};
 ghost use Rattle.dep_hub.specs.Holding.{ComesToNext};
-ghost use Rattle.dep_outbox.specs.Wires.{told, owed};
-ghost use Rattle.dep_host.specs.Courses.{StaysOrEnds, is_ended};
-ghost use Rattle.dep_host.specs.Seats.{HubStays, TakesTurn, MayRead, MayAnswer, IsOffered, phase_answered, left_unfinished, woken_seat};
+ghost use Rattle.dep_outbox.specs.Wires.{told, owed, owed_count};
+ghost use Rattle.dep_host.specs.Courses.{StaysOrEnds, is_ended, is_held_back, phase_begun};
+ghost use Rattle.dep_host.specs.Seats.{HubStays, TakesTurn, MayRead, MayAnswer, IsOffered, SendsOn, next_duty, phase_answered, left_unfinished, woken_seat};
 
 use crate::course::{Course, Duty, Phase};
 use crate::events::Client;
@@ -97,6 +97,9 @@ impl<R: Source, K: Sink, S: Spool> Seat<R, K, S> {
     /// Begins its turn. Once the store is shut it is read no more.
     pub(crate) fn begin_turn(&mut self, second: u64, limits: &Limits, is_shut: bool)
         ensures same { self.new ≡ record self.old { course = self.new.course } }
+        ensures phase { self.new.course.phase ≡ phase_begun self.old.course.phase is_shut }
+        ensures readable { self.new.course.is_readable ≡ self.old.course.is_readable }
+        ensures writable { self.new.course.is_writable ≡ self.old.course.is_writable }
         ensures opens { self.new.course.phase ≡ Phase.Open
             → self.old.course.phase ≡ Phase.Open }
         ensures ended { is_ended self.old.course.phase ≡ true
@@ -112,7 +115,10 @@ impl<R: Source, K: Sink, S: Spool> Seat<R, K, S> {
     }
 
     /// Whether it can go on at once.
-    pub(crate) fn is_busy(&self) -> bool {
+    pub(crate) fn is_busy(&self) -> bool
+        ensures waits { result ≡ false → next_duty S.size self.now ≡ Duty.Wait }
+        ensures busy { next_duty S.size self.now ≡ Duty.Wait → result ≡ false }
+    {
         self.course.duty(self.wire.owes()) != Duty::Wait
     }
 
@@ -125,7 +131,7 @@ impl<R: Source, K: Sink, S: Spool> Seat<R, K, S> {
         turn: &Turn,
         log: &mut L,
     )
-        ensures turn { TakesTurn A.condition R.unread K.taken S.held hub.old hub.new
+        ensures turn { TakesTurn A.condition R.unread K.taken S.held S.size hub.old hub.new
             self.old self.new turn.now.time.moment turn.now.is_full turn.now.is_shut }
         // What its socket took counts.
         ensures stirs { self.old.wire.delivered < self.new.wire.delivered
@@ -146,6 +152,8 @@ impl<R: Source, K: Sink, S: Spool> Seat<R, K, S> {
         ensures first { result ≡ true → turn.now.is_full ≡ true
             → self.now.course.unfinished ≡ 0 }
         ensures shut { result ≡ true → turn.now.is_shut ≡ false }
+        ensures held_back { result ≡ false
+            → is_held_back self.now.course turn.now.is_full turn.now.is_shut ≡ true }
     {
         !turn.is_shut && (!turn.is_full || self.course.unfinished == 0)
     }
@@ -158,7 +166,7 @@ impl<R: Source, K: Sink, S: Spool> Seat<R, K, S> {
         turn: &Turn,
         log: &mut L,
     )
-        ensures turn { TakesTurn A.condition R.unread K.taken S.held hub.old hub.new
+        ensures turn { TakesTurn A.condition R.unread K.taken S.held S.size hub.old hub.new
             self.old self.new turn.now.time.moment turn.now.is_full turn.now.is_shut }
         ensures moved { min self.old.course.moved (2 ^ 64 - 1) ≤ self.new.course.moved }
     {
@@ -178,7 +186,8 @@ impl<R: Source, K: Sink, S: Spool> Seat<R, K, S> {
     fn answer<A: Archive, L: HostLog>(&mut self, hub: &mut Hub<A>, moment: Moment, log: &mut L)
         requires unowed { IsAtEnd (owed S.held self.old.wire) }
         requires phase { self.old.course.phase ≡ Phase.Answering }
-        ensures turn { MayAnswer A.condition R.unread K.taken S.held hub.old hub.new
+        requires due { next_duty S.size self.old ≡ Duty.Answer }
+        ensures turn { MayAnswer A.condition R.unread K.taken S.held S.size hub.old hub.new
             self.old self.new moment }
         ensures moved { self.new.course.moved ≡ self.old.course.moved }
     {
@@ -231,7 +240,8 @@ impl<R: Source, K: Sink, S: Spool> Seat<R, K, S> {
     fn read<A: Archive>(&mut self, hub: &mut Hub<A>, buffer: &mut ReadBuffer)
         requires unowed { IsAtEnd (owed S.held self.old.wire) }
         requires phase { self.old.course.phase ≡ Phase.Open }
-        ensures turn { MayRead A.condition R.unread K.taken S.held hub.old hub.new
+        requires due { next_duty S.size self.old ≡ Duty.Read }
+        ensures turn { MayRead A.condition R.unread K.taken S.held S.size hub.old hub.new
             self.old self.new }
         ensures moved { min self.old.course.moved (2 ^ 64 - 1) ≤ self.new.course.moved }
     {
@@ -281,6 +291,7 @@ impl<R: Source, K: Sink, S: Spool> Seat<R, K, S> {
           course = self.new.course;
         } }
         ensures course { StaysOrEnds self.old.course self.new.course }
+        ensures sends { 0 < owed_count S.size self.old.wire → SendsOn S.size self.old self.new }
     {
         match self.wire.flush() {
             Flushed::All | Flushed::Part => {}

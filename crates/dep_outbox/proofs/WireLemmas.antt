@@ -1,9 +1,9 @@
 -- What becomes of the bytes of a wire.
-use Rattle.std.proofs.Common.{◌≡◌, ℕ, ◌+◌, List, [], ◌++◌, Option, None, Some, refl, sym, ap, ◌∙◌, append_assoc, length, take, drop, subst, ◌≢◌, arith}
+use Rattle.std.proofs.Common.{◌≡◌, ℕ, suc, ◌+◌, List, [], ◌∷◌, ◌++◌, Option, None, Some, refl, sym, ap, ◌∙◌, append_assoc, length, take, drop, subst, ◌≢◌, arith}
 use Rattle.std.proofs.lemmas.List.{append-nil, take-append-drop, drop-drop, drop_all}
 use Rattle.std.specs.Io.KnownBytes.{Appends, Consumes, Keeps, IsAtEnd, prepend_known}
 use Rattle.dep_types.specs.Writing.{TakesPart}
-use Rattle.dep_outbox.specs.Wires.{joined}
+use Rattle.dep_outbox.specs.Wires.{joined, AreCounted}
 
 -- what is owed changes, and the socket took nothing
 pub keeps_behind : (a h k : Option (List ℕ)) → Keeps h k → Keeps (joined a h) (joined a k)
@@ -70,9 +70,15 @@ none_taken (Some x) None bytes some p = absurd p
 none_taken (Some x) (Some y) bytes some p = ([], record { rest = bytes; joined = refl; short = some }, p ∙ sym (append-nil x))
 
 -- without bytes in memory none wait but those in the spool
-pub none_waiting : (h : Option (List ℕ)) (f : List ℕ) (s : ℕ) → f ≡ [] → IsAtEnd h → IsAtEnd (prepend_known (drop s f) h)
+pub none_waiting : (h : Option (List ℕ)) (f : List ℕ) (s : ℕ) → length f ≡ 0 → IsAtEnd h → IsAtEnd (prepend_known (drop s f) h)
 none_waiting None f s none q = tt
-none_waiting (Some y) f s none q = rw q (rw none (append-nil (drop s []) ∙ drop_all s [] (omega arith)))
+none_waiting (Some y) f s none q = rw q (append-nil (drop s f) ∙ drop_all s f (omega (arith, none)))
+
+-- no byte is known where none is counted
+pub none_counted : (h : Option (List ℕ)) (n : ℕ) → AreCounted h n → n ≡ 0 → IsAtEnd h
+none_counted None n counts none = tt
+none_counted (Some []) n counts none = refl
+none_counted (Some (x ∷ xs)) n counts none = absurd (let bad : suc (length xs) ≡ 0 = counts ∙ none in cc)
 
 -- a wire over a socket that took nothing has taken nothing, where none wait
 pub nothing_told : (a h : Option (List ℕ)) → IsAtEnd a → IsAtEnd h → IsAtEnd (joined a h)

@@ -1,5 +1,5 @@
 -- What a wire has sent, and what it still owes.
-use Rattle.std.specs.Prelude.{ℕ, List, drop, Option, None, Some}
+use Rattle.std.specs.Prelude.{◌≡◌, ℕ, ◌+◌, ◌-◌, List, length, drop, Option, None, Some}
 use Rattle.std.specs.Io.KnownBytes.{prepend_known}
 use Rattle.dep_outbox.specs.declared.backlog.Backlog.{Backlog}
 use Rattle.dep_outbox.specs.declared.wire.Wire.{Wire}
@@ -8,6 +8,11 @@ use Rattle.dep_outbox.specs.declared.wire.Wire.{Wire}
 abbrev pub joined : Option (List ℕ) → Option (List ℕ) → Option (List ℕ)
 joined None behind = None
 joined (Some xs) behind = prepend_known xs behind
+
+-- so many bytes are known, where they are
+abbrev pub AreCounted : Option (List ℕ) → ℕ → Type 0
+AreCounted None n = Unit {0}
+AreCounted (Some xs) n = length xs ≡ n
 
 module _ {S : Type 0} where
   -- those in memory that wait
@@ -18,10 +23,18 @@ module _ {S : Type 0} where
   abbrev pub waiting : (S → Option (List ℕ)) → Backlog S → Option (List ℕ)
   waiting held b = prepend_known (front_of b) (held b.spool)
 
+  -- how many wait
+  abbrev pub waiting_count : (S → ℕ) → Backlog S → ℕ
+  waiting_count size b = (length b.front.items - b.sent) + size b.spool
+
 module _ {K S : Type 0} where
   -- the bytes that the socket hasn't taken yet
   abbrev pub owed : (S → Option (List ℕ)) → Wire K S → Option (List ℕ)
   owed held w = waiting held w.backlog
+
+  -- how many bytes it hasn't taken yet
+  abbrev pub owed_count : (S → ℕ) → Wire K S → ℕ
+  owed_count size w = waiting_count size w.backlog
 
   -- the bytes that the wire took: those that the socket took, and those that are owed behind them
   abbrev pub told : (K → Option (List ℕ)) → (S → Option (List ℕ)) → Wire K S → Option (List ℕ)

@@ -1,5 +1,5 @@
 //! The bytes that wait to be sent.
-ghost use Rattle.std.specs.Prelude.{◌≡◌, ◌≤◌, length, take, OnOk, OnErr, true, false};
+ghost use Rattle.std.specs.Prelude.{◌≡◌, ◌==◌, ◌<◌, ◌≤◌, ◌+◌, ◌-◌, length, take, OnOk, OnErr, true, false};
 ghost use Rattle.std.specs.Io.KnownBytes.{Keeps, Appends, Consumes, IsAtEnd};
 ghost use Rattle.dep_types.specs.Writing.{TakesPart};
 
@@ -16,16 +16,17 @@ pub(crate) struct Backlog<S> {
     front: Vec<u8>,
     sent: usize,
     spool: S,
-    ghost within: { sent ≤ length front.items },
+    ghost within: { sent ≤ length front.items - 1 },
 }
 
 impl<S: Spool> Backlog<S> {
-    ghost use Rattle.dep_outbox.specs.Wires.{front_of, waiting};
+    ghost use Rattle.dep_outbox.specs.Wires.{front_of, waiting, waiting_count};
 
     /// Those that the spool holds.
     pub fn new(alloc: Global, spool: S) -> Backlog<S>
         ensures spool { result.spool ≡ spool }
         ensures empty { IsAtEnd (S.held spool) → IsAtEnd (waiting S.held result) }
+        ensures count { waiting_count S.size result ≡ S.size spool }
     {
         Backlog {
             front: Vec::new(alloc),
@@ -36,14 +37,16 @@ impl<S: Spool> Backlog<S> {
 
     /// Whether none waits.
     pub fn is_empty(&self) -> bool
-        ensures { result ≡ true → IsAtEnd (waiting S.held self.now) }
+        ensures empty { result ≡ true → IsAtEnd (waiting S.held self.now) }
+        ensures exact { result ≡ (waiting_count S.size self.now == 0) }
     {
         self.front.is_empty() && self.spool.is_empty()
     }
 
     /// Takes bytes out of the spool, where none in memory waits.
     pub fn fill(&mut self) -> Result<(), SpoolFailed>
-        ensures { Keeps (waiting S.held self.old) (waiting S.held self.new) }
+        ensures keeps { Keeps (waiting S.held self.old) (waiting S.held self.new) }
+        ensures count { waiting_count S.size self.new ≡ waiting_count S.size self.old }
     {
         if self.front.is_empty() {
             self.spool.pull(&mut self.front)?;
@@ -61,8 +64,10 @@ impl<S: Spool> Backlog<S> {
     /// Takes so many off the front, which were sent.
     pub fn consume(&mut self, count: usize)
         requires { count ≤ length (front_of self.old) }
-        ensures { Consumes (waiting S.held self.old) (waiting S.held self.new)
+        ensures bytes { Consumes (waiting S.held self.old) (waiting S.held self.new)
             (take count (front_of self.old)) }
+        ensures count { waiting_count S.size self.new + count
+            ≡ waiting_count S.size self.old }
     {
         self.sent += count;
         if self.sent == self.front.len() {

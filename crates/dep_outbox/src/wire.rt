@@ -1,5 +1,5 @@
 //! The way to a client: its socket, and the bytes that the socket hasn't taken yet.
-ghost use Rattle.std.specs.Prelude.{◌≡◌, Some, OnOk, OnErr, false};
+ghost use Rattle.std.specs.Prelude.{◌≡◌, ◌≢◌, ◌<◌, ◌≤◌, ◌+◌, ◌-◌, ◌^◌, min, nat_lt, None, Some, OnOk, OnErr, false};
 ghost use Rattle.std.specs.Io.KnownBytes.{Keeps, Appends, IsAtEnd};
 ghost use Rattle.dep_types.specs.Writing.{TakesPart};
 
@@ -37,13 +37,14 @@ pub struct Wire<K, S> {
 }
 
 impl<K: Sink, S: Spool> Wire<K, S> {
-    ghost use Rattle.dep_outbox.specs.Wires.{told, owed};
+    ghost use Rattle.dep_outbox.specs.Wires.{told, owed, owed_count};
 
     /// A wire that owes what the spool holds.
     #[tactic(auto, using(crate::proofs::WireLemmas::nothing_told))]
     pub fn new(alloc: Global, sink: K, spool: S) -> Wire<K, S>
         ensures sink { result.sink ≡ sink }
         ensures spool { result.backlog.spool ≡ spool }
+        ensures count { owed_count S.size result ≡ S.size spool }
         // Over a socket that took nothing and an empty spool it took nothing.
         ensures fresh { IsAtEnd (K.taken sink) → IsAtEnd (S.held spool)
             → IsAtEnd (told K.taken S.held result) }
@@ -61,9 +62,18 @@ impl<K: Sink, S: Spool> Wire<K, S> {
     pub fn flush(&mut self) -> Flushed
         ensures keeps { Keeps (told K.taken S.held self.old) (told K.taken S.held self.new) }
         ensures all { result ≡ Flushed.All → IsAtEnd (owed S.held self.new) }
+        ensures none { result ≡ Flushed.All → owed_count S.size self.new ≡ 0 }
+        ensures fewer { result ≡ Flushed.Part
+            → owed_count S.size self.new < owed_count S.size self.old }
+        ensures delivers { min (self.old.delivered
+            + (owed_count S.size self.old - owed_count S.size self.new)) (2 ^ 64 - 1)
+            ≤ self.new.delivered }
+        ensures no_less { self.new.delivered + owed_count S.size self.new
+            ≤ self.old.delivered + owed_count S.size self.old }
+        ensures no_more { owed_count S.size self.new ≤ owed_count S.size self.old }
         ensures failures { self.new.failures ≡ self.old.failures }
     {
-        for _ in 0..MOST_SENDS {
+        for sends in 0..MOST_SENDS {
             if let Some(flushed) = self.send_once() {
                 return flushed;
             }
@@ -75,6 +85,16 @@ impl<K: Sink, S: Spool> Wire<K, S> {
     fn send_once(&mut self) -> Option<Flushed>
         ensures keeps { Keeps (told K.taken S.held self.old) (told K.taken S.held self.new) }
         ensures all { result ≡ Some Flushed.All → IsAtEnd (owed S.held self.new) }
+        ensures none { result ≡ Some Flushed.All → owed_count S.size self.new ≡ 0 }
+        ensures part { result ≢ Some Flushed.Part }
+        ensures fewer { result ≡ None
+            → owed_count S.size self.new < owed_count S.size self.old }
+        ensures delivers { min (self.old.delivered
+            + (owed_count S.size self.old - owed_count S.size self.new)) (2 ^ 64 - 1)
+            ≤ self.new.delivered }
+        ensures no_less { self.new.delivered + owed_count S.size self.new
+            ≤ self.old.delivered + owed_count S.size self.old }
+        ensures no_more { owed_count S.size self.new ≤ owed_count S.size self.old }
         ensures failures { self.new.failures ≡ self.old.failures }
     {
         if self.backlog.is_empty() {
@@ -114,7 +134,8 @@ impl<K: Sink, S: Spool> Wire<K, S> {
 
     /// Whether the socket hasn't taken all bytes yet.
     pub fn owes(&self) -> bool
-        ensures { result ≡ false → IsAtEnd (owed S.held self.now) }
+        ensures none { result ≡ false → IsAtEnd (owed S.held self.now) }
+        ensures exact { result ≡ nat_lt 0 (owed_count S.size self.now) }
     {
         !self.backlog.is_empty()
     }

@@ -1,5 +1,5 @@
 //! A spool in a file without a name.
-ghost use Rattle.std.specs.Prelude.{◌≡◌, ◌≤◌, ◌<◌, ◌+◌, length, OnOk, OnErr, vec_len};
+ghost use Rattle.std.specs.Prelude.{◌≡◌, ◌≤◌, ◌<◌, ◌+◌, ◌-◌, length, OnOk, OnErr, vec_len};
 
 use crate::spools::Spools;
 use dep_outbox::{Spool, SpoolFailed};
@@ -77,6 +77,7 @@ impl<'a, R: Files> FileSpool<'a, R> {
         ensures some { OnOk result (self.old.begin < self.old.end
             → self.old.begin < self.new.begin) }
         ensures same { OnErr result (self.new.begin ≡ self.old.begin) }
+        ensures kept { OnErr result (vec_len into.new ≡ vec_len into.old) }
         ensures end { self.new.end ≡ self.old.end }
     {
         let count = (self.end - self.begin).min(MOST_PULLED);
@@ -90,7 +91,9 @@ impl<'a, R: Files> FileSpool<'a, R> {
     }
 
     /// Gives the file up, once all that it holds was taken.
-    fn forget_file(&mut self) {
+    fn forget_file(&mut self)
+        ensures { self.new.begin ≡ self.new.end }
+    {
         self.spools.give_back(self.end);
         self.begin = 0;
         self.end = 0;
@@ -129,8 +132,10 @@ impl<R: Files> Drop for FileSpool<'_, R> {
 }
 
 impl<R: Files> Spool for FileSpool<'_, R> {
+    ghost size = { λ s. s.end - s.begin };
+
     fn is_empty(&self) -> bool {
-        self.begin == self.end
+        self.end - self.begin == 0
     }
 
     fn push(&mut self, bytes: &[u8]) -> Result<(), SpoolFailed> {

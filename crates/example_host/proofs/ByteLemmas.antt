@@ -1,15 +1,15 @@
 -- What becomes of bytes of which those before a place have gone.
 use Rattle.std.proofs.Common.{◌≡◌, ◌≢◌, ℕ, ◌+◌, ◌-◌, ◌≤◌, List, [], ◌++◌, refl, sym, ap, ◌∙◌, append_assoc, length, take, drop, Some, arith}
-use Rattle.std.proofs.lemmas.List.{append-nil, take-append-drop, take-append-le, take_all, drop-drop, drop_all, drop-append-le, length-take}
+use Rattle.std.proofs.lemmas.List.{append-nil, take-append-drop, take-append-le, take_all, drop-drop, drop-append-le, length-drop, length-take}
 use Rattle.dep_types.specs.Writing.{TakesPart}
 
 -- more come behind what is left
 pub left_longer : (n : ℕ) (old new bytes : List ℕ) → n ≤ length old → new ≡ old ++ bytes → drop n new ≡ drop n old ++ bytes
 left_longer n old new bytes within grown = ap (drop n) grown ∙ drop-append-le n old bytes within
 
--- none is left
-pub none_left : (n : ℕ) (all : List ℕ) → length all ≤ n → drop n all ≡ []
-none_left n all past = drop_all n all past
+-- how many are left
+pub left_counted : (n : ℕ) (all : List ℕ) → length (drop n all) ≡ length all - n
+left_counted n all = let e = length-drop n all in omega (arith, e)
 
 -- the front of what is left goes
 pub front_goes : (n m : ℕ) (all front : List ℕ) → front ≡ take m (drop n all) → drop n all ≡ front ++ drop (n + m) all

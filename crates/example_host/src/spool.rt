@@ -31,13 +31,15 @@ impl MemorySpool {
 }
 
 impl Spool for MemorySpool {
-    ghost use Rattle.std.specs.Prelude.{drop, Some};
+    ghost use Rattle.std.specs.Prelude.{◌-◌, drop, length, Some};
 
     ghost held = { λ s. Some (drop s.begin s.bytes.items) };
 
-    #[tactic(auto, using(crate::proofs::ByteLemmas::none_left))]
+    ghost size = { λ s. length s.bytes.items - s.begin };
+
+    #[tactic(auto, using(crate::proofs::ByteLemmas::left_counted))]
     fn is_empty(&self) -> bool {
-        self.begin >= self.bytes.len()
+        self.bytes.len() - self.begin == 0
     }
 
     #[tactic(auto, using(crate::proofs::ByteLemmas::left_longer, crate::proofs::ByteLemmas::none_taken))]

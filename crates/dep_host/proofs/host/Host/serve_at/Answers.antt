@@ -1,17 +1,18 @@
 use Rattle.std.proofs.Common.{None, refl, sym, ◌∙◌}
 use Rattle.std.proofs.lemmas.List.{get_or-set_same, get_or-set_other}
-use Rattle.dep_host.proofs.HostLemmas.{there_still, slot_read, served, served_none, closes_there, closes_served, time_there, stays_after, stays_set}
+use Rattle.dep_host.proofs.HostLemmas.{there_still, slot_read, closes_there, time_there, stays_after, stays_set}
+use Rattle.dep_host.proofs.ServeLemmas.{served, served_none, closes_served}
 use Rattle.dep_host.proofs.host.Host.serve_at.Goals as goal
 
 pub returns-in_default-clause-goes : goal.returns-in_default-clause-goes
 returns-in_default-clause-goes g c =
-    served_none g.A.Archive.condition g.R.Source.unread g.K.Sink.taken g.S.Spool.held _ _ c.args.at c.args.turn.now.time c.args.turn.now.is_full c.index_mut.result.now refl refl refl refl c.requires.there c.index_mut.ensures.value
+    served_none g.A.Archive.condition g.R.Source.unread g.K.Sink.taken g.S.Spool.held g.S.Spool.size _ _ c.args.at c.args.turn.now.time c.args.turn.now.is_full c.index_mut.result.now refl refl refl refl c.requires.there c.index_mut.ensures.value c.in_default.is
 
 pub returns-clause-goes : goal.returns-clause-goes
 returns-clause-goes g c =
     let begins = c.begin_turn.ensures in
-    served g.A.Archive.condition g.R.Source.unread g.K.Sink.taken g.S.Spool.held _ _ c.args.at c.args.turn.now.time c.args.turn.now.is_full c.args.turn.now.is_shut c.in-Some.seat c.begin_turn.new.self c.take_turn.new.self
-    c.requires.there (slot_read _ _ _ c.requires.there c.index_mut.ensures.value ∙ c.in-Some.is) refl refl refl begins.same begins.opens begins.ended begins.unfinished c.requires.shut c.take_turn.ensures.turn
+    served g.A.Archive.condition g.R.Source.unread g.K.Sink.taken g.S.Spool.held g.S.Spool.size _ _ c.args.at c.args.turn.now.time c.args.turn.now.is_full c.args.turn.now.is_shut c.in-Some.seat c.begin_turn.new.self c.take_turn.new.self
+    c.requires.there (slot_read _ _ _ c.requires.there c.index_mut.ensures.value ∙ c.in-Some.is) refl refl refl begins.same begins.opens begins.ended begins.unfinished begins.phase begins.readable begins.writable c.requires.shut c.take_turn.ensures.turn
 
 pub returns-clause-here : goal.returns-clause-here
 returns-clause-here g c =
@@ -33,10 +34,10 @@ close-requires-clause-done g c =
 pub returns-in-Some-closing-clause-goes : goal.returns-in-Some-closing-clause-goes
 returns-in-Some-closing-clause-goes g c =
     let begins = c.begin_turn.ensures in
-    closes_served g.A.Archive.condition g.R.Source.unread g.K.Sink.taken g.S.Spool.held _ _ _ c.args.at c.args.turn.now.time c.args.turn.now.is_full c.in-Some-closing.closing _ c.close.ensures.goes
+    closes_served g.A.Archive.condition g.R.Source.unread g.K.Sink.taken g.S.Spool.held g.S.Spool.size _ _ _ c.args.at c.args.turn.now.time c.args.turn.now.is_full c.in-Some-closing.closing _ c.close.ensures.goes
     (closes_there _ c.args.at c.args.turn.now.time.second c.take_turn.new.self c.in-Some-closing.closing (get_or-set_same _ c.args.at _ None c.requires.there) (sym c.in-Some-closing.is ∙ c.closing-closing.ensures))
-    (served g.A.Archive.condition g.R.Source.unread g.K.Sink.taken g.S.Spool.held _ _ c.args.at c.args.turn.now.time c.args.turn.now.is_full c.args.turn.now.is_shut c.in-Some.seat c.begin_turn.new.self c.take_turn.new.self
-    c.requires.there (slot_read _ _ _ c.requires.there c.index_mut.ensures.value ∙ c.in-Some.is) refl refl refl begins.same begins.opens begins.ended begins.unfinished c.requires.shut c.take_turn.ensures.turn)
+    (served g.A.Archive.condition g.R.Source.unread g.K.Sink.taken g.S.Spool.held g.S.Spool.size _ _ c.args.at c.args.turn.now.time c.args.turn.now.is_full c.args.turn.now.is_shut c.in-Some.seat c.begin_turn.new.self c.take_turn.new.self
+    c.requires.there (slot_read _ _ _ c.requires.there c.index_mut.ensures.value ∙ c.in-Some.is) refl refl refl begins.same begins.opens begins.ended begins.unfinished begins.phase begins.readable begins.writable c.requires.shut c.take_turn.ensures.turn)
 
 pub returns-in-Some-closing-clause-others : goal.returns-in-Some-closing-clause-others
 returns-in-Some-closing-clause-others g c = λ place ne. c.close.ensures.others place ne ∙ get_or-set_other _ c.args.at place _ None ne

@@ -11,8 +11,8 @@ returns-in-Bytes-clause-turn g c = λ moment is_full is_shut allowed unshut.
     let kept = offered_to c.args.self.now c.offer.new.self c.receive.new.source _ _ _ c.offer.ensures.same in
     let within : c.in-Bytes.n ≤ length c.deref.result.now = omega (arith, bytes.1, c.deref.ensures.len) in
     let small : length c.deref.result.now ≤ most_read = omega (arith, c.receive.new.self.small, c.deref.ensures.len) in
-    received g.A.Archive.condition g.R.Source.unread g.K.Sink.taken g.S.Spool.held c.args.hub.now c.offer.new.hub c.args.self.now c.offer.new.self c.receive.new.source c.deref.result.now c.in-Bytes.n
-    offers.0 is_full is_shut kept.0 c.offer.ensures.hub
+    received g.A.Archive.condition g.R.Source.unread g.K.Sink.taken g.S.Spool.held g.S.Spool.size c.args.hub.now c.offer.new.hub c.args.self.now c.offer.new.self c.receive.new.source c.deref.result.now c.in-Bytes.n
+    offers.0 is_full is_shut c.requires.due kept.0 c.offer.ensures.hub
     c.requires.unowed c.requires.phase bytes.0 within small
     (subst (λ (l : List ℕ). Consumes (g.R.Source.unread c.args.self.now.source) (g.R.Source.unread c.receive.new.source) (take c.in-Bytes.n l)) (sym c.deref.ensures.value) bytes.2)
     kept.1 c.offer.ensures.store offers.1 offers.2

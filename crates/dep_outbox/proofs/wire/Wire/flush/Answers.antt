@@ -1,6 +1,6 @@
-use Rattle.std.proofs.Common.{refl}
+use Rattle.std.proofs.Common.{refl, arith}
 use Rattle.std.proofs.KnownBytes.{Keeps-refl}
 use Rattle.dep_outbox.proofs.wire.Wire.flush.Goals as goal
 
-pub loop-init : goal.loop-init
-loop-init g c = record { keeps = Keeps-refl _; failures = refl }
+pub loop-sends-init : goal.loop-sends-init
+loop-sends-init g c = record { keeps = Keeps-refl _; failures = refl; delivers = omega arith; no_less = omega arith; no_more = omega arith }

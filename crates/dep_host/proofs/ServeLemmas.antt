@@ -1,0 +1,392 @@
+-- What a turn and a round of a host serve.
+use Rattle.std.proofs.Common.{◌≡◌, ◌⊎◌, ◌<◌, ◌≤◌, ◌+◌, ◌==◌, ℕ, zero, suc, Bool, true, false, if◌then◌else◌, List, [], ◌∷◌, ◌++◌, Option, None, Some, refl, sym, ap, subst, ◌∙◌, length, get_or, set, nat_lt, is_some, ◌&&◌, ◌||◌, inl, inr, arith}
+use Rattle.std.proofs.lemmas.List.{get_or-set_same, get_or-set_other, get_or_past}
+use Rattle.std.proofs.Math.ListN.{length-set}
+use Rattle.std.proofs.lemmas.Bool.{ne_eqb, eq-eqb, cases_eq, cases_lt, lt-ltb}
+use Rattle.std.specs.Prelude.{IfSome}
+use Rattle.dep_types.specs.Conditions.{Condition}
+use Rattle.dep_outbox.specs.declared.wire.Wire.{Wire}
+use Rattle.dep_outbox.specs.Wires.{told, owed_count}
+use Rattle.dep_host.specs.declared.course.Phase.{Phase}
+use Rattle.dep_host.specs.Courses.{duty, is_ended, is_held_back, phase_begun}
+use Rattle.dep_host.specs.declared.seat.Seat.{Seat}
+use Rattle.dep_host.specs.declared.seat.Time.{Time}
+use Rattle.dep_host.specs.declared.log.Closing.{Closing}
+use Rattle.dep_host.specs.declared.course.Phase.TheVariants.{Open}
+use Rattle.dep_host.specs.declared.course.Duty.{Duty}
+use Rattle.dep_host.specs.declared.course.Duty.TheVariants as to
+use Rattle.dep_host.specs.Seats.{MayRest, ActsOnce, TakesTurn, next_duty}
+use Rattle.dep_host.specs.Hosting.{Position, slot, MayGo, Deed, Takes, Replies, Declines, Closes, answers_at, pieces_at, unfinished_of, unfinished_in, AreDoneAt, HasTurn, Goes, rests, offers, refuses, answers, leaves, Steps, begins, goes_on, IsLost, IsServed, IsServedAt, turn_duty, Serves, GoesRound, Sheds}
+use Rattle.dep_host.proofs.HostLemmas.{slot_read, steps_join, unchanged, woken}
+
+-- what was set twice is as it was set last
+set_again : {X : Type 0} (l : List X) (at : ℕ) (x y : X) → set (set l at x) at y ≡ set l at y
+set_again [] at x y = refl
+set_again (z ∷ l) zero x y = refl
+set_again {X = X} (z ∷ l) (suc at) x y = ap (λ (k : List X). z ∷ k) (set_again l at x y)
+
+answers_append : (place : ℕ) (xs ys : List Deed) → answers_at place (xs ++ ys) ≡ answers_at place xs + answers_at place ys
+answers_append place [] ys = let none : answers_at place [] ≡ 0 = refl in omega (arith, none)
+answers_append place (d ∷ xs) ys = let e = answers_append place xs ys in omega (arith, e)
+
+pieces_append : (place : ℕ) (xs ys : List Deed) → pieces_at place (xs ++ ys) ≡ pieces_at place xs + pieces_at place ys
+pieces_append place [] ys = let none : pieces_at place [] ≡ 0 = refl in omega (arith, none)
+pieces_append place (d ∷ xs) ys = let e = pieces_append place xs ys in omega (arith, e)
+
+in_time_append : (time : Time) (xs ys : List Deed) → AreDoneAt time xs → AreDoneAt time ys → AreDoneAt time (xs ++ ys)
+in_time_append time [] ys h k = k
+in_time_append time (d ∷ xs) ys h k = (h.0, in_time_append time xs ys h.1 k)
+
+one_at_most : (b : Bool) → (if b then 1 else 0) + 0 ≤ 1
+one_at_most true = omega arith
+one_at_most false = omega arith
+
+one_here : (at : ℕ) → (if at == at then 1 else 0) + 0 ≡ 1
+one_here at = ap (λ (b : Bool). (if b then 1 else 0) + 0) (eq-eqb at at refl)
+
+none_elsewhere : (at place : ℕ) → (place ≡ at → ⊥) → (if at == place then 1 else 0) + 0 ≡ 0
+none_elsewhere at place ne = ap (λ (b : Bool). (if b then 1 else 0) + 0) (ne_eqb at place (λ e. ne (sym e)))
+
+module _ {A R K S : Type 0} (condition : A → Condition) (unread : R → Option (List ℕ)) (taken : K → Option (List ℕ)) (held : S → Option (List ℕ)) (size : S → ℕ) where
+  -- of a request of which something is kept no more was read
+  none_read : (p : Position A R K S) (at n : ℕ) (before : Seat R K S) → slot at p.seats ≡ Some before → before.course.unfinished ≡ 0 → 0 < unfinished_of (slot at p.seats) → n ≡ 0
+  none_read p at n before sat none some = absurd (
+      let kept : unfinished_of (slot at p.seats) ≡ before.course.unfinished = ap (λ (x : Option (Seat R K S)). unfinished_of x) sat in
+      let no : ⊥ = omega (arith, kept, none, some) in no)
+
+  -- who was served is served still where the round began earlier
+  lost_before : (p q : Position A R K S) (number : ℕ) (deeds : List Deed) → Steps condition unread taken held p deeds q → IsLost condition unread taken held size q number → IsLost condition unread taken held size p number
+  lost_before p q number deeds s lost = record {
+    deeds = deeds ++ lost.deeds;
+    mid = lost.mid;
+    steps = steps_join condition unread taken held s lost.steps;
+    absent = lost.absent;
+  }
+
+  served_before : (p q : Position A R K S) (is_full : Bool) (before : Seat R K S) (after : Option (Seat R K S)) (answered read : ℕ) (d : Duty) (deeds : List Deed) → Steps condition unread taken held p deeds q → q.shut ≡ p.shut
+      → IsServed condition unread taken held size q is_full before after answered read d → IsServed condition unread taken held size p is_full before after answered read d
+  served_before p q is_full before after answered read to.Flush deeds s shut h = h
+  served_before p q is_full before after answered read to.Answer deeds s shut (inl one) = inl one
+  served_before p q is_full before after answered read to.Answer deeds s shut (inr lost) = inr (lost_before p q before.connection deeds s lost)
+  served_before p q is_full before after answered read to.Read deeds s shut (inl one) = inl one
+  served_before p q is_full before after answered read to.Read deeds s shut (inr (inl back)) = inr (inl (subst (λ (o : Option ℕ). is_held_back before.course is_full (is_some o) ≡ true) shut back))
+  served_before p q is_full before after answered read to.Read deeds s shut (inr (inr none)) = inr (inr none)
+  served_before p q is_full before after answered read to.Finish deeds s shut h = h
+  served_before p q is_full before after answered read to.Drain deeds s shut h = tt
+  served_before p q is_full before after answered read to.Wait deeds s shut h = tt
+
+  -- and where it was closed since
+  served_gone : (p : Position A R K S) (is_full : Bool) (before : Seat R K S) (after : Option (Seat R K S)) (answered read : ℕ) (d : Duty)
+      → IsServed condition unread taken held size p is_full before after answered read d → IsServed condition unread taken held size p is_full before None answered read d
+  served_gone p is_full before after answered read to.Flush h = tt
+  served_gone p is_full before after answered read to.Answer h = h
+  served_gone p is_full before after answered read to.Read (inl one) = inl one
+  served_gone p is_full before after answered read to.Read (inr (inl back)) = inr (inl back)
+  served_gone p is_full before after answered read to.Read (inr (inr none)) = inr (inr tt)
+  served_gone p is_full before after answered read to.Finish h = tt
+  served_gone p is_full before after answered read to.Drain h = tt
+  served_gone p is_full before after answered read to.Wait h = tt
+
+  -- the same of who sits at a place, or nobody does
+  at_before : (p q r : Position A R K S) (is_full : Bool) (xs ys : List Deed) (place : ℕ) (x : Option (Seat R K S)) → Steps condition unread taken held p xs q → q.shut ≡ p.shut → answers_at place xs ≡ 0 → pieces_at place xs ≡ 0
+      → IsServedAt condition unread taken held size q r is_full ys place x → IsServedAt condition unread taken held size p r is_full (xs ++ ys) place x
+  at_before p q r is_full xs ys place None s shut none unread_yet h = tt
+  at_before p q r is_full xs ys place (Some seat) s shut none unread_yet h =
+      let answered : answers_at place ys ≡ answers_at place (xs ++ ys) = let e = answers_append place xs ys in omega (arith, e, none) in
+      let pieces : pieces_at place ys ≡ pieces_at place (xs ++ ys) = let e = pieces_append place xs ys in omega (arith, e, unread_yet) in
+      served_before p q is_full seat (slot place r.seats) (answers_at place (xs ++ ys)) (pieces_at place (xs ++ ys)) (turn_duty size p.shut seat) xs s shut
+      (subst (λ (o : Option ℕ). IsServed condition unread taken held size q is_full seat (slot place r.seats) (answers_at place (xs ++ ys)) (pieces_at place (xs ++ ys)) (turn_duty size o seat)) shut
+      (subst (λ (n : ℕ). IsServed condition unread taken held size q is_full seat (slot place r.seats) (answers_at place (xs ++ ys)) n (turn_duty size q.shut seat)) pieces
+      (subst (λ (n : ℕ). IsServed condition unread taken held size q is_full seat (slot place r.seats) n (pieces_at place ys) (turn_duty size q.shut seat)) answered h)))
+
+  still : (p q r : Position A R K S) (is_full : Bool) (seat : Seat R K S) (answered read : ℕ) (d : Duty) (place : ℕ) → (slot place r.seats ≡ slot place q.seats) ⊎ (slot place r.seats ≡ None)
+      → IsServed condition unread taken held size p is_full seat (slot place q.seats) answered read d → IsServed condition unread taken held size p is_full seat (slot place r.seats) answered read d
+  still p q r is_full seat answered read d place (inl same) h = subst (λ (o : Option (Seat R K S)). IsServed condition unread taken held size p is_full seat o answered read d) (sym same) h
+  still p q r is_full seat answered read d place (inr gone) h = subst (λ (o : Option (Seat R K S)). IsServed condition unread taken held size p is_full seat o answered read d) (sym gone) (served_gone p is_full seat (slot place q.seats) answered read d h)
+
+  -- later deeds did not concern it, but that it may have been closed
+  at_after : (p q r : Position A R K S) (is_full : Bool) (xs ys : List Deed) (place : ℕ) (x : Option (Seat R K S)) → (slot place r.seats ≡ slot place q.seats) ⊎ (slot place r.seats ≡ None) → answers_at place ys ≡ 0 → pieces_at place ys ≡ 0
+      → IsServedAt condition unread taken held size p q is_full xs place x → IsServedAt condition unread taken held size p r is_full (xs ++ ys) place x
+  at_after p q r is_full xs ys place None how none unread_later h = tt
+  at_after p q r is_full xs ys place (Some seat) how none unread_later h =
+      let answered : answers_at place xs ≡ answers_at place (xs ++ ys) = let e = answers_append place xs ys in omega (arith, e, none) in
+      let pieces : pieces_at place xs ≡ pieces_at place (xs ++ ys) = let e = pieces_append place xs ys in omega (arith, e, unread_later) in
+      let d = turn_duty size p.shut seat in
+      let k : IsServed condition unread taken held size p is_full seat (slot place q.seats) (answers_at place (xs ++ ys)) (pieces_at place (xs ++ ys)) d =
+      subst (λ (n : ℕ). IsServed condition unread taken held size p is_full seat (slot place q.seats) (answers_at place (xs ++ ys)) n d) pieces
+      (subst (λ (n : ℕ). IsServed condition unread taken held size p is_full seat (slot place q.seats) n (pieces_at place xs) d) answered h) in
+      still p q r is_full seat (answers_at place (xs ++ ys)) (pieces_at place (xs ++ ys)) d place how k
+
+  -- nothing was done at a place
+  pub served_none : (p q : Position A R K S) (at : ℕ) (time : Time) (is_full : Bool) (x : Option (Seat R K S)) → q.hub ≡ p.hub → q.limits ≡ p.limits → q.shut ≡ p.shut → q.seats ≡ set p.seats at x → at < length p.seats → x ≡ get_or p.seats at x → x ≡ None
+      → Serves condition unread taken held size p q at time is_full
+  served_none p q at time is_full x hub limits shut seats there read none = record {
+    deeds = [];
+    steps = goes_on begins (unchanged condition unread taken held p q at x hub limits shut seats there read);
+    once = omega arith;
+    others = λ place ne. refl;
+    waits = λ full some. refl;
+    unread_others = λ place ne. refl;
+    served = subst (λ (o : Option (Seat R K S)). IsServedAt condition unread taken held size p q is_full [] at o) (sym (slot_read at p.seats x there read ∙ none)) tt;
+    in_time = tt;
+  }
+
+  -- what a turn did, and that it was what came next
+  record Turned (p q : Position A R K S) (at : ℕ) (time : Time) (is_full : Bool) (before after : Seat R K S) : Type 0 where
+    deeds : List Deed
+    steps : Steps condition unread taken held p deeds q
+    once : answers_at at deeds ≤ 1
+    others : (place : ℕ) → (place ≡ at → ⊥) → answers_at place deeds ≡ 0
+    waits : is_full ≡ true → 0 < unfinished_of (slot at p.seats) → pieces_at at deeds ≡ 0
+    unread_others : (place : ℕ) → (place ≡ at → ⊥) → pieces_at place deeds ≡ 0
+    does : IsServed condition unread taken held size p is_full before (Some after) (answers_at at deeds) (pieces_at at deeds) (next_duty size before)
+    in_time : AreDoneAt time deeds
+
+  rest_served : (p : Position A R K S) (is_full : Bool) (before after : Seat R K S) (d : Duty) → MayRest condition unread taken held size p.hub before after is_full (is_some p.shut) d
+      → IsServed condition unread taken held size p is_full before (Some after) 0 0 d
+  rest_served p is_full before after to.Flush may = may
+  rest_served p is_full before after to.Answer may = inr (record { deeds = []; mid = p; steps = begins; absent = may })
+  rest_served p is_full before after to.Read (inl back) = inr (inl back)
+  rest_served p is_full before after to.Read (inr (inl later)) = inr (inr (inl later))
+  rest_served p is_full before after to.Read (inr (inr (over, kept))) = inr (inr (inr over))
+  rest_served p is_full before after to.Finish may = may
+  rest_served p is_full before after to.Drain may = tt
+  rest_served p is_full before after to.Wait may = tt
+
+  read_served : (p : Position A R K S) (is_full : Bool) (before : Seat R K S) (after : Option (Seat R K S)) (answered read : ℕ) → next_duty size before ≡ to.Read → read ≡ 1
+      → IsServed condition unread taken held size p is_full before after answered read (next_duty size before)
+  read_served p is_full before after answered read due one = subst (λ (d : Duty). IsServed condition unread taken held size p is_full before after answered read d) (sym due) (inl one)
+
+  answer_served : (p : Position A R K S) (is_full : Bool) (before : Seat R K S) (after : Option (Seat R K S)) (answered read : ℕ) → next_duty size before ≡ to.Answer → answered ≡ 1
+      → IsServed condition unread taken held size p is_full before after answered read (next_duty size before)
+  answer_served p is_full before after answered read due one = subst (λ (d : Duty). IsServed condition unread taken held size p is_full before after answered read d) (sym due) (inl one)
+
+  -- a connection had its turn
+  took_turn : (p q : Position A R K S) (at : ℕ) (time : Time) (is_full : Bool) (before after : Seat R K S) → HasTurn condition unread taken held p q at before after
+      → ActsOnce condition unread taken held size p.hub q.hub before after time.moment is_full (is_some p.shut) → Turned p q at time is_full before after
+  took_turn p q at time is_full before after t (inl (r, may)) = record {
+    deeds = [];
+    steps = goes_on begins (rests t r);
+    once = omega arith;
+    others = λ place ne. refl;
+    waits = λ full some. refl;
+    unread_others = λ place ne. refl;
+    does = rest_served p is_full before after (next_duty size before) may;
+    in_time = tt;
+  }
+  took_turn p q at time is_full before after t (inr (inl (o, due))) = record {
+    deeds = Takes at before.connection o.piece ∷ [];
+    steps = goes_on begins (offers t o);
+    once = omega arith;
+    others = λ place ne. refl;
+    waits = λ full some. none_read p at _ before t.sat (o.read.allowed full) some;
+    unread_others = λ place ne. none_elsewhere at place ne;
+    does = read_served p is_full before (Some after) _ _ due (one_here at);
+    in_time = (tt, tt);
+  }
+  took_turn p q at time is_full before after t (inr (inr (inl (r, due)))) = record {
+    deeds = Declines at before.connection r.piece time.moment r.answers.sent ∷ [];
+    steps = goes_on begins (refuses t r);
+    once = one_at_most (at == at);
+    others = λ place ne. none_elsewhere at place ne;
+    waits = λ full some. none_read p at _ before t.sat (r.read.allowed full) some;
+    unread_others = λ place ne. none_elsewhere at place ne;
+    does = read_served p is_full before (Some after) _ _ due (one_here at);
+    in_time = (refl, tt);
+  }
+  took_turn p q at time is_full before after t (inr (inr (inr (a, due)))) = record {
+    deeds = Replies at before.connection time.moment a.answers.sent ∷ [];
+    steps = goes_on begins (answers t a);
+    once = one_at_most (at == at);
+    others = λ place ne. none_elsewhere at place ne;
+    waits = λ full some. refl;
+    unread_others = λ place ne. refl;
+    does = answer_served p is_full before (Some after) _ _ due (one_here at);
+    in_time = (refl, tt);
+  }
+
+  -- what comes next is what came next as the turn began
+  duty_begun : (shut : Option ℕ) (is_shut : Bool) (before mid : Seat R K S) → is_shut ≡ is_some shut → mid.course.phase ≡ phase_begun before.course.phase is_shut → mid.wire ≡ before.wire
+      → mid.course.is_readable ≡ before.course.is_readable → mid.course.is_writable ≡ before.course.is_writable → next_duty size mid ≡ turn_duty size shut before
+  duty_begun shut is_shut before mid told phase wire readable writable =
+      ap (λ (h : Phase). duty h (nat_lt 0 (owed_count size mid.wire)) mid.course.is_readable mid.course.is_writable) (phase ∙ ap (λ (b : Bool). phase_begun before.course.phase b) told)
+      ∙ (ap (λ (w : Wire K S). duty (phase_begun before.course.phase (is_some shut)) (nat_lt 0 (owed_count size w)) mid.course.is_readable mid.course.is_writable) wire
+      ∙ (ap (λ (b : Bool). duty (phase_begun before.course.phase (is_some shut)) (nat_lt 0 (owed_count size before.wire)) b mid.course.is_writable) readable
+      ∙ ap (λ (b : Bool). duty (phase_begun before.course.phase (is_some shut)) (nat_lt 0 (owed_count size before.wire)) before.course.is_readable b) writable))
+
+  held_back : (p m : Position A R K S) (is_full : Bool) (before mid : Seat R K S) → m.shut ≡ p.shut → mid.course.unfinished ≡ before.course.unfinished
+      → is_held_back mid.course is_full (is_some m.shut) ≡ true → is_held_back before.course is_full (is_some p.shut) ≡ true
+  held_back p m is_full before mid shut count back =
+      subst (λ (n : ℕ). (is_some p.shut || (is_full && nat_lt 0 n)) ≡ true) count
+      (subst (λ (o : Option ℕ). (is_some o || (is_full && nat_lt 0 mid.course.unfinished)) ≡ true) shut back)
+
+  -- who was served once its turn had begun was served
+  served_begun : (p m : Position A R K S) (is_full : Bool) (before mid after : Seat R K S) (answered read : ℕ) (d : Duty) → Steps condition unread taken held p [] m → m.shut ≡ p.shut
+      → mid.connection ≡ before.connection → mid.wire ≡ before.wire → mid.course.unfinished ≡ before.course.unfinished
+      → IsServed condition unread taken held size m is_full mid (Some after) answered read d → IsServed condition unread taken held size p is_full before (Some after) answered read d
+  served_begun p m is_full before mid after answered read to.Flush s shut number wire count (inl fewer) = inl (subst (λ (w : Wire K S). owed_count size after.wire < owed_count size w) wire fewer)
+  served_begun p m is_full before mid after answered read to.Flush s shut number wire count (inr none) = inr none
+  served_begun p m is_full before mid after answered read to.Answer s shut number wire count (inl one) = inl one
+  served_begun p m is_full before mid after answered read to.Answer s shut number wire count (inr lost) =
+      inr (subst (λ (n : ℕ). IsLost condition unread taken held size p n) number (lost_before p m mid.connection [] s lost))
+  served_begun p m is_full before mid after answered read to.Read s shut number wire count (inl one) = inl one
+  served_begun p m is_full before mid after answered read to.Read s shut number wire count (inr (inl back)) =
+      inr (inl (held_back p m is_full before mid shut count back))
+  served_begun p m is_full before mid after answered read to.Read s shut number wire count (inr (inr none)) = inr (inr none)
+  served_begun p m is_full before mid after answered read to.Finish s shut number wire count h = h
+  served_begun p m is_full before mid after answered read to.Drain s shut number wire count h = tt
+  served_begun p m is_full before mid after answered read to.Wait s shut number wire count h = tt
+
+  -- a connection had its turn, once that had begun
+  pub served : (p q : Position A R K S) (at : ℕ) (time : Time) (is_full is_shut : Bool) (before mid after : Seat R K S) → at < length p.seats → slot at p.seats ≡ Some before
+      → q.seats ≡ set p.seats at (Some after) → q.limits ≡ p.limits → q.shut ≡ p.shut → mid ≡ record before { course = mid.course }
+      → (mid.course.phase ≡ Open → before.course.phase ≡ Open) → (is_ended before.course.phase ≡ true → is_ended mid.course.phase ≡ true)
+      → mid.course.unfinished ≡ before.course.unfinished → mid.course.phase ≡ phase_begun before.course.phase is_shut → mid.course.is_readable ≡ before.course.is_readable
+      → mid.course.is_writable ≡ before.course.is_writable → is_shut ≡ is_some p.shut
+      → TakesTurn condition unread taken held size p.hub q.hub mid after time.moment is_full is_shut → Serves condition unread taken held size p q at time is_full
+  served p q at time is_full is_shut before mid after there sat sits limits shut same opens ended count phase readable writable told t =
+      let m : Position A R K S = record p { seats = set p.seats at (Some mid) } in
+      let begun : slot at m.seats ≡ Some mid = get_or-set_same p.seats at (Some mid) None there in
+      let unfinished : unfinished_of (slot at m.seats) ≡ unfinished_of (slot at p.seats) =
+      ap (λ (o : Option (Seat R K S)). unfinished_of o) begun ∙ (count ∙ sym (ap (λ (o : Option (Seat R K S)). unfinished_of o) sat)) in
+      let wire = ap (λ (x : Seat R K S). x.wire) same in
+      let began = woken condition unread taken held p m at before mid there sat refl refl refl refl
+      (record { connection = ap (λ (x : Seat R K S). x.connection) same; address = ap (λ (x : Seat R K S). x.address) same })
+      (ap (λ (x : Seat R K S). x.source) same) wire opens ended count in
+      let stands : Some after ≡ slot at q.seats = sym (ap (λ (l : List (Option (Seat R K S))). slot at l) sits ∙ get_or-set_same p.seats at (Some after) None there) in
+      let s = took_turn m q at time is_full mid after (record {
+        there = omega (arith, there, length-set p.seats at (Some mid));
+        sat = begun;
+        sits = sits ∙ sym (set_again p.seats at (Some mid) (Some after));
+        client = t.client;
+        hub = t.hub;
+        ended = t.ended;
+        same_limits = limits;
+        same_shut = shut;
+      }) (subst (λ (b : Bool). ActsOnce condition unread taken held size p.hub q.hub mid after time.moment is_full b) told t.acts) in
+      record {
+        deeds = s.deeds;
+        steps = steps_join condition unread taken held began s.steps;
+        once = s.once;
+        others = s.others;
+        waits = λ full some. s.waits full (omega (arith, unfinished, some));
+        unread_others = s.unread_others;
+        served = subst (λ (x : Option (Seat R K S)). IsServedAt condition unread taken held size p q is_full s.deeds at x) (sym sat)
+            (subst (λ (d : Duty). IsServed condition unread taken held size p is_full before (slot at q.seats) (answers_at at s.deeds) (pieces_at at s.deeds) d)
+            (duty_begun p.shut is_shut before mid told phase wire readable writable)
+            (subst (λ (x : Option (Seat R K S)). IsServed condition unread taken held size p is_full before x (answers_at at s.deeds) (pieces_at at s.deeds) (next_duty size mid)) stands
+            (served_begun p m is_full before mid after (answers_at at s.deeds) (pieces_at at s.deeds) (next_duty size mid) began refl (ap (λ (x : Seat R K S). x.connection) same) wire count s.does)));
+        in_time = s.in_time;
+      }
+
+  -- and was closed after it
+  pub then_closed : (p q r : Position A R K S) (at : ℕ) (time : Time) (is_full : Bool) (seat : Seat R K S) → Serves condition unread taken held size p q at time is_full → Goes condition unread taken held q r at time.second seat
+      → Serves condition unread taken held size p r at time is_full
+  then_closed p q r at time is_full seat s g =
+      let more : List Deed = Closes at seat.connection time.second ∷ [] in
+      record {
+        deeds = s.deeds ++ more;
+        steps = goes_on s.steps (leaves g);
+        once = let e = answers_append at s.deeds more in let f : answers_at at more ≡ 0 = refl in let o = s.once in omega (arith, e, f, o);
+        others = λ place ne. let e = answers_append place s.deeds more in let f : answers_at place more ≡ 0 = refl in let o = s.others place ne in omega (arith, e, f, o);
+        waits = λ full some. let e = pieces_append at s.deeds more in let f : pieces_at at more ≡ 0 = refl in let o = s.waits full some in omega (arith, e, f, o);
+        unread_others = λ place ne. let e = pieces_append place s.deeds more in let f : pieces_at place more ≡ 0 = refl in let o = s.unread_others place ne in omega (arith, e, f, o);
+        served = at_after p q r is_full s.deeds more at (slot at p.seats)
+            (inr (ap (λ (l : List (Option (Seat R K S))). slot at l) g.gone ∙ get_or-set_same q.seats at None None g.there)) refl refl s.served;
+        in_time = in_time_append time s.deeds more s.in_time (refl, tt);
+      }
+
+  pub closes_served : (p q r : Position A R K S) (at : ℕ) (time : Time) (is_full : Bool) (reason : Closing) (x : Option (Seat R K S)) → IfSome x (Goes condition unread taken held q r at time.second) → MayGo q time.second reason x
+      → Serves condition unread taken held size p q at time is_full → Serves condition unread taken held size p r at time is_full
+  closes_served p q r at time is_full reason None g d s = absurd d
+  closes_served p q r at time is_full reason (Some seat) g d s = then_closed p q r at time is_full seat s g
+
+  -- the places so far had their turns
+  pub record RoundSoFar (p q : Position A R K S) (at : ℕ) (time : Time) (is_full : Bool) : Type 0 where
+    deeds : List Deed
+    steps : Steps condition unread taken held p deeds q
+    once : (place : ℕ) → answers_at place deeds ≤ 1
+    later : (place : ℕ) → at ≤ place → answers_at place deeds ≡ 0
+    waits : is_full ≡ true → (place : ℕ) → 0 < unfinished_of (slot place p.seats) → pieces_at place deeds ≡ 0
+    unread_later : (place : ℕ) → at ≤ place → pieces_at place deeds ≡ 0
+    stays : (place : ℕ) → at ≤ place → slot place q.seats ≡ slot place p.seats
+    served : (place : ℕ) → place < at → IsServedAt condition unread taken held size p q is_full deeds place (slot place p.seats)
+    in_time : AreDoneAt time deeds
+
+  pub round_begins : (p : Position A R K S) (time : Time) (is_full : Bool) → RoundSoFar p p 0 time is_full
+  round_begins p time is_full = record {
+    deeds = [];
+    steps = begins;
+    once = λ place. omega arith;
+    later = λ place h. refl;
+    waits = λ full place some. refl;
+    unread_later = λ place h. refl;
+    stays = λ place h. refl;
+    served = λ place h. absurd (let none : ⊥ = omega (arith, h) in none);
+    in_time = tt;
+  }
+
+  pub round_goes_on : (p q r : Position A R K S) (at next : ℕ) (time : Time) (is_full : Bool) → RoundSoFar p q at time is_full → Serves condition unread taken held size q r at time is_full
+      → ((place : ℕ) → (place ≡ at → ⊥) → slot place r.seats ≡ slot place q.seats) → next ≡ at + 1 → q.shut ≡ p.shut → RoundSoFar p r next time is_full
+  round_goes_on p q r at next time is_full s t same e shut = record {
+    deeds = s.deeds ++ t.deeds;
+    steps = steps_join condition unread taken held s.steps t.steps;
+    once = λ place. elim (cases_eq place at) [
+      | inl h ↦ let a = answers_append place s.deeds t.deeds in let b = s.later place (omega (arith, h)) in
+          let c : answers_at place t.deeds ≤ 1 = subst (λ (n : ℕ). answers_at n t.deeds ≤ 1) (sym h) t.once in omega (arith, a, b, c)
+      | inr ne ↦ let a = answers_append place s.deeds t.deeds in let b = t.others place ne in let c = s.once place in omega (arith, a, b, c)
+    ];
+    later = λ place h.
+        let a = answers_append place s.deeds t.deeds in let b = s.later place (omega (arith, h, e)) in
+        let c = t.others place (λ is. omega (arith, is, h, e)) in omega (arith, a, b, c);
+    waits = λ full place some. elim (cases_eq place at) [
+      | inl h ↦ let a = pieces_append place s.deeds t.deeds in let b = s.unread_later place (omega (arith, h)) in
+          let stands = ap (λ (x : Option (Seat R K S)). unfinished_of x) (s.stays place (omega (arith, h))) in
+          let kept : 0 < unfinished_of (slot place q.seats) = omega (arith, stands, some) in
+          let c : pieces_at place t.deeds ≡ 0 = subst (λ (n : ℕ). pieces_at n t.deeds ≡ 0) (sym h) (t.waits full (subst (λ (n : ℕ). 0 < unfinished_of (slot n q.seats)) h kept)) in omega (arith, a, b, c)
+      | inr ne ↦ let a = pieces_append place s.deeds t.deeds in let b = t.unread_others place ne in let c = s.waits full place some in omega (arith, a, b, c)
+    ];
+    unread_later = λ place h.
+        let a = pieces_append place s.deeds t.deeds in let b = s.unread_later place (omega (arith, h, e)) in
+        let c = t.unread_others place (λ is. omega (arith, is, h, e)) in omega (arith, a, b, c);
+    stays = λ place h. same place (λ is. omega (arith, is, h, e)) ∙ s.stays place (omega (arith, h, e));
+    served = λ place h. elim (cases_eq place at) [
+      | inl is ↦ subst (λ (n : ℕ). IsServedAt condition unread taken held size p r is_full (s.deeds ++ t.deeds) n (slot n p.seats)) (sym is)
+          (subst (λ (x : Option (Seat R K S)). IsServedAt condition unread taken held size p r is_full (s.deeds ++ t.deeds) at x) (s.stays at (omega arith))
+          (at_before p q r is_full s.deeds t.deeds at (slot at q.seats) s.steps shut (s.later at (omega arith)) (s.unread_later at (omega arith)) t.served))
+      | inr ne ↦ at_after p q r is_full s.deeds t.deeds place (slot place p.seats) (inl (same place ne)) (t.others place ne) (t.unread_others place ne) (s.served place (omega (arith, h, e, ne)))
+    ];
+    in_time = in_time_append time s.deeds t.deeds s.in_time t.in_time;
+  }
+
+  pub round_ends : (p q : Position A R K S) (at : ℕ) (time : Time) (is_full : Bool) → RoundSoFar p q at time is_full → is_full ≡ nat_lt p.limits.unfinished_bytes (unfinished_in p.seats) → length p.seats ≤ at
+      → GoesRound condition unread taken held size p q time
+  round_ends p q at time is_full s e all = record {
+    deeds = s.deeds;
+    steps = s.steps;
+    once = s.once;
+    waits = λ more place some. s.waits (e ∙ lt-ltb p.limits.unfinished_bytes (unfinished_in p.seats) more) place some;
+    served = λ place. subst (λ (b : Bool). IsServedAt condition unread taken held size p q b s.deeds place (slot place p.seats)) e (elim (cases_lt place at) [
+      | inl lt ↦ s.served place lt
+      | inr ge ↦ subst (λ (x : Option (Seat R K S)). IsServedAt condition unread taken held size p q is_full s.deeds place x) (sym (get_or_past p.seats place None (omega (arith, ge, all)))) tt
+    ]);
+    in_time = s.in_time;
+  }
+
+  -- the largest was closed after it
+  pub round_sheds : (p q r : Position A R K S) (time : Time) → GoesRound condition unread taken held size p q time → Sheds condition unread taken held q r time.second
+      → GoesRound condition unread taken held size p r time
+  round_sheds p q r time s (inl e) = subst (λ (x : Position A R K S). GoesRound condition unread taken held size p x time) (sym e) s
+  round_sheds p q r time s (inr (at, seat, g)) =
+      let more : List Deed = Closes at seat.connection time.second ∷ [] in
+      record {
+        deeds = s.deeds ++ more;
+        steps = goes_on s.steps (leaves g);
+        once = λ place. let e = answers_append place s.deeds more in let f : answers_at place more ≡ 0 = refl in let o = s.once place in omega (arith, e, f, o);
+        waits = λ full place some. let e = pieces_append place s.deeds more in let f : pieces_at place more ≡ 0 = refl in let o = s.waits full place some in omega (arith, e, f, o);
+        served = λ place. at_after p q r (nat_lt p.limits.unfinished_bytes (unfinished_in p.seats)) s.deeds more place (slot place p.seats) (elim (cases_eq place at) [
+          | inl is ↦ inr (ap (λ (l : List (Option (Seat R K S))). slot place l) g.gone ∙ (ap (λ (n : ℕ). slot n (set q.seats at None)) is ∙ get_or-set_same q.seats at None None g.there))
+          | inr ne ↦ inl (ap (λ (l : List (Option (Seat R K S))). slot place l) g.gone ∙ get_or-set_other q.seats at place None None ne)
+        ]) refl refl (s.served place);
+        in_time = in_time_append time s.deeds more s.in_time (refl, tt);
+      }
