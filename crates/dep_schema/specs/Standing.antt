@@ -1,5 +1,5 @@
 -- What an open, a transaction and a crash leave of the tables.
-use Rattle.std.specs.Prelude.{◌≡◌, ◌⊎◌, ℕ, true, false, IsTrue, Result, OnOk, [], ◌∷◌}
+use Rattle.std.specs.Prelude.{◌≡◌, ◌⊎◌, ℕ, true, false, IsTrue, Result, OnOk, IfErr, [], ◌∷◌}
 use Rattle.std.specs.Borrow.{MutBor}
 use Rattle.sqlite.specs.Schema.{Schema}
 use Rattle.sqlite.specs.Tree.{Trees}
@@ -12,6 +12,7 @@ use Rattle.sqlite_trees.specs.declared.store.Store.{Ghosts}
 use Rattle.sqlite_catalog.specs.Listing.{IsSound}
 use Rattle.sqlite_catalog.specs.Change.{next_tree, KeepsRows}
 use Rattle.dep_statements.specs.Adding.{HasCounters}
+use Rattle.dep_types.specs.declared.store_fault.StoreFault.{StoreFault}
 use Rattle.dep_tables.specs.declared.state.StateRow.{StateRow}
 use Rattle.dep_tables.specs.Rows.{stored_format, stored_state}
 use Rattle.dep_tables.specs.Tables.{Tables, tables_from, tables_in, tables_of, AreOf, IsOf, IsKnownSchema, IsKnown}
@@ -149,6 +150,12 @@ HasOtherVersion s = (s.now.schema ≡ no_schema → ⊥)
 abbrev pub Turns : {A E : Type 0} → State → State → Result A E → (Database → Database → Type 0) → Type 0
 Turns old new result does = HasCleanDisk new → IsTrue old.in_transaction
     → OnOk result (does old.now new.now)
+
+-- there an Err has a cause of these, and whatever is answered, what every call on a transaction keeps
+pub record WorksWithin {T L A : Type 0} (lenders : T → L) (state : T → State) (old new : T)
+    (result : Result A StoreFault) (Fails : StoreFault → Type 0) : Type 0 where
+  pub cause : HasCleanDisk (state new) → IsTrue (state old).in_transaction → IfErr result Fails
+  pub stays : StaysWithin lenders state old new result
 
 -- what every call on a transaction of this connection keeps
 abbrev pub StaysOn : {S A E : Type 0} (g : Ghosts S) (old new : MutBor (Held S))

@@ -1,12 +1,12 @@
 //! The indexes of the tables, which statements of their own make.
 
-ghost use Rattle.std.specs.Prelude.{ℕ, [], IsTrue, OnOk, IfErr};
+ghost use Rattle.std.specs.Prelude.{ℕ, [], IsTrue, OnOk};
 ghost use Rattle.sqlite.specs.State.{HasCleanDisk, ExecutesInside};
 ghost use Rattle.dep_tables.specs.Schema.{files_table, files_index, uploads_table, uploads_index};
-ghost use Rattle.dep_tables.specs.Clauses.{StaysWithin, FailsToRun};
+ghost use Rattle.dep_tables.specs.Clauses.{FailsToRun};
 ghost use Rattle.dep_schema.specs.Beside.{AddsIndex, AddsIndexes};
 ghost use Rattle.dep_schema.specs.OpenFaults.{FailsToIndex};
-ghost use Rattle.dep_schema.specs.Standing.{Turns};
+ghost use Rattle.dep_schema.specs.Standing.{Turns, WorksWithin};
 ghost use Rattle.dep_schema.specs.Texts.{index_files_text, index_uploads_text};
 
 use dep_tables::Statements;
@@ -18,9 +18,8 @@ fn index_files<T: Statements>(tx: &mut T) -> Result<(), StoreFault>
     ensures ran { HasCleanDisk (T.state tx.new) → IsTrue (T.state tx.old).in_transaction
         → OnOk result ((count : ℕ) × ExecutesInside 0 index_files_text [] (T.state tx.old) (T.state tx.new)
         (Ok count)) }
-    ensures cause { HasCleanDisk (T.state tx.new) → IsTrue (T.state tx.old).in_transaction
-        → IfErr result (FailsToRun index_files_text [] (T.state tx.old) (T.state tx.new)) }
-    ensures stays { StaysWithin T.lenders T.state tx.old tx.new result }
+    ensures works { WorksWithin T.lenders T.state tx.old tx.new result
+        (FailsToRun index_files_text [] (T.state tx.old) (T.state tx.new)) }
 {
     tx.run("CREATE INDEX files_of_object ON files (object, file)", &[])
 }
@@ -29,9 +28,8 @@ fn index_files<T: Statements>(tx: &mut T) -> Result<(), StoreFault>
 fn index_uploads<T: Statements>(tx: &mut T) -> Result<(), StoreFault>
     ensures adds { Turns (T.state tx.old) (T.state tx.new) result
         (AddsIndex uploads_table uploads_index) }
-    ensures cause { HasCleanDisk (T.state tx.new) → IsTrue (T.state tx.old).in_transaction
-        → IfErr result (FailsToRun index_uploads_text [] (T.state tx.old) (T.state tx.new)) }
-    ensures stays { StaysWithin T.lenders T.state tx.old tx.new result }
+    ensures works { WorksWithin T.lenders T.state tx.old tx.new result
+        (FailsToRun index_uploads_text [] (T.state tx.old) (T.state tx.new)) }
 {
     tx.run(
         "CREATE INDEX uploads_by_last ON uploads (last, upload)",
@@ -42,9 +40,8 @@ fn index_uploads<T: Statements>(tx: &mut T) -> Result<(), StoreFault>
 /// Both indexes, one after the other.
 pub(crate) fn create_indexes<T: Statements>(tx: &mut T) -> Result<(), StoreFault>
     ensures adds { Turns (T.state tx.old) (T.state tx.new) result AddsIndexes }
-    ensures cause { HasCleanDisk (T.state tx.new) → IsTrue (T.state tx.old).in_transaction
-        → IfErr result (FailsToIndex T.state tx.old tx.new) }
-    ensures stays { StaysWithin T.lenders T.state tx.old tx.new result }
+    ensures works { WorksWithin T.lenders T.state tx.old tx.new result
+        (FailsToIndex T.state tx.old tx.new) }
 {
     index_files(tx)?;
     index_uploads(tx)

@@ -1,13 +1,13 @@
 //! The tables of a new store, and their first rows, beside what is there.
 
-ghost use Rattle.std.specs.Prelude.{ℕ, [], IsTrue, OnOk, IfErr};
+ghost use Rattle.std.specs.Prelude.{ℕ, [], IsTrue, OnOk};
 ghost use Rattle.sqlite.specs.State.{HasCleanDisk, ExecutesInside};
 ghost use Rattle.dep_statements.specs.Adding.{AddsAll};
 ghost use Rattle.dep_tables.specs.Schema.{our_tables};
-ghost use Rattle.dep_tables.specs.Clauses.{StaysWithin, FailsToRun};
+ghost use Rattle.dep_tables.specs.Clauses.{FailsToRun};
 ghost use Rattle.dep_schema.specs.OpenFaults.{FailsToCreate, FailsToAddRows, FailsToMake};
 ghost use Rattle.dep_schema.specs.Texts.{add_format_text, add_state_text};
-ghost use Rattle.dep_schema.specs.Standing.{Turns, GainsOurs};
+ghost use Rattle.dep_schema.specs.Standing.{Turns, WorksWithin, GainsOurs};
 ghost use Rattle.dep_schema.specs.Making.{FillsOurs, MakesFirst, PutsFormat, PutsState, PutsFirstRows};
 
 use crate::indexing::create_indexes;
@@ -48,9 +48,8 @@ fn add_format<T: Statements>(tx: &mut T) -> Result<(), StoreFault>
     ensures ran { HasCleanDisk (T.state tx.new) → IsTrue (T.state tx.old).in_transaction
         → OnOk result ((count : ℕ) × ExecutesInside 0 add_format_text [] (T.state tx.old) (T.state tx.new)
         (Ok count)) }
-    ensures cause { HasCleanDisk (T.state tx.new) → IsTrue (T.state tx.old).in_transaction
-        → IfErr result (FailsToRun add_format_text [] (T.state tx.old) (T.state tx.new)) }
-    ensures stays { StaysWithin T.lenders T.state tx.old tx.new result }
+    ensures works { WorksWithin T.lenders T.state tx.old tx.new result
+        (FailsToRun add_format_text [] (T.state tx.old) (T.state tx.new)) }
 {
     tx.run("INSERT INTO format (id, version) VALUES (1, 2)", &[])
 }
@@ -58,9 +57,8 @@ fn add_format<T: Statements>(tx: &mut T) -> Result<(), StoreFault>
 /// The clock at 0, and each counter at 1.
 fn add_state<T: Statements>(tx: &mut T) -> Result<(), StoreFault>
     ensures beside { FillsOurs (T.state tx.old) (T.state tx.new) result PutsState }
-    ensures cause { HasCleanDisk (T.state tx.new) → IsTrue (T.state tx.old).in_transaction
-        → IfErr result (FailsToRun add_state_text [] (T.state tx.old) (T.state tx.new)) }
-    ensures stays { StaysWithin T.lenders T.state tx.old tx.new result }
+    ensures works { WorksWithin T.lenders T.state tx.old tx.new result
+        (FailsToRun add_state_text [] (T.state tx.old) (T.state tx.new)) }
 {
     tx.run(
         "INSERT INTO state (id, clock, next_object, next_file, next_upload, next_change) VALUES (1, 0, 1, 1, 1, 1)",
@@ -71,9 +69,8 @@ fn add_state<T: Statements>(tx: &mut T) -> Result<(), StoreFault>
 /// All tables, one after another.
 fn create_tables<T: Statements>(tx: &mut T) -> Result<(), StoreFault>
     ensures adds { Turns (T.state tx.old) (T.state tx.new) result (AddsAll our_tables) }
-    ensures cause { HasCleanDisk (T.state tx.new) → IsTrue (T.state tx.old).in_transaction
-        → IfErr result (FailsToCreate T.state tx.old tx.new) }
-    ensures stays { StaysWithin T.lenders T.state tx.old tx.new result }
+    ensures works { WorksWithin T.lenders T.state tx.old tx.new result
+        (FailsToCreate T.state tx.old tx.new) }
 {
     for text in &TABLES {
         tx.run(text, &[])?;
@@ -84,9 +81,8 @@ fn create_tables<T: Statements>(tx: &mut T) -> Result<(), StoreFault>
 /// The rows of a new store.
 fn add_rows<T: Statements>(tx: &mut T) -> Result<(), StoreFault>
     ensures beside { FillsOurs (T.state tx.old) (T.state tx.new) result PutsFirstRows }
-    ensures cause { HasCleanDisk (T.state tx.new) → IsTrue (T.state tx.old).in_transaction
-        → IfErr result (FailsToAddRows T.state tx.old tx.new) }
-    ensures stays { StaysWithin T.lenders T.state tx.old tx.new result }
+    ensures works { WorksWithin T.lenders T.state tx.old tx.new result
+        (FailsToAddRows T.state tx.old tx.new) }
 {
     add_format(tx)?;
     add_state(tx)
@@ -96,9 +92,8 @@ fn add_rows<T: Statements>(tx: &mut T) -> Result<(), StoreFault>
 pub(crate) fn make_tables<T: Statements>(tx: &mut T) -> Result<(), StoreFault>
     ensures ok { MakesFirst (T.state tx.old) (T.state tx.new) result }
     ensures gains { Turns (T.state tx.old) (T.state tx.new) result GainsOurs }
-    ensures cause { HasCleanDisk (T.state tx.new) → IsTrue (T.state tx.old).in_transaction
-        → IfErr result (FailsToMake T.state tx.old tx.new) }
-    ensures stays { StaysWithin T.lenders T.state tx.old tx.new result }
+    ensures works { WorksWithin T.lenders T.state tx.old tx.new result
+        (FailsToMake T.state tx.old tx.new) }
 {
     create_tables(tx)?;
     create_indexes(tx)?;

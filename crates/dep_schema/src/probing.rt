@@ -1,9 +1,9 @@
 //! Whether a store is open.
 
 ghost use Rattle.std.specs.Prelude.{◌≡◌, [], false, IsTrue, IfErr, OnOk, codes};
-ghost use Rattle.sqlite.specs.State.{HasCleanDisk, IsNotRun, Survives};
+ghost use Rattle.sqlite.specs.State.{HasCleanDisk, IsNotRun};
 ghost use Rattle.sqlite.specs.Held.{state};
-ghost use Rattle.dep_schema.specs.Transactions.{IsBackAt};
+ghost use Rattle.dep_schema.specs.Transactions.{FindsOpen, IsRestored};
 
 use dep_tables::fault_of;
 use dep_types::StoreFault;
@@ -17,9 +17,7 @@ pub fn probe<S: Alter>(connection: &mut Connection<S>) -> Result<(), Error>
     ensures cause { HasCleanDisk (state S.Store connection.new)
         → IfErr result
         (IsNotRun (state S.Store connection.old) (state S.Store connection.new) (codes "SELECT 1") []) }
-    ensures back { IsBackAt (state S.Store connection.old) (state S.Store connection.new) }
-    ensures mode { (state S.Store connection.new).in_transaction ≡ false }
-    ensures survives { Survives (state S.Store connection.old) (state S.Store connection.new) (λ _. ⊥) }
+    ensures restored { IsRestored (state S.Store connection.old) (state S.Store connection.new) }
 {
     let _between = connection.is_autocommit();
     connection.prepare("SELECT 1")?;
@@ -29,11 +27,7 @@ pub fn probe<S: Alter>(connection: &mut Connection<S>) -> Result<(), Error>
 /// Fails where the store was shut, or fails itself for it.
 pub fn check_open<S: Alter>(connection: &mut Connection<S>) -> Result<(), StoreFault>
     requires settled { (state S.Store connection.old).in_transaction ≡ false }
-    ensures opened { HasCleanDisk (state S.Store connection.new)
-        → OnOk result (IsTrue (state S.Store connection.new).is_open) }
-    ensures back { IsBackAt (state S.Store connection.old) (state S.Store connection.new) }
-    ensures mode { (state S.Store connection.new).in_transaction ≡ false }
-    ensures survives { Survives (state S.Store connection.old) (state S.Store connection.new) (λ _. ⊥) }
+    ensures { FindsOpen (state S.Store connection.old) (state S.Store connection.new) result }
 {
     probe(connection).map_err(|error| fault_of(error))
 }

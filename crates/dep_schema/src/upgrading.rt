@@ -1,17 +1,17 @@
 //! The tables of version 1 become those of version 2, in one transaction.
 
-ghost use Rattle.std.specs.Prelude.{◌≡◌, ⊤, false, [], IsTrue, OnOk, OnErr, IfErr};
+ghost use Rattle.std.specs.Prelude.{◌≡◌, false, [], IsTrue, OnOk, OnErr, IfErr};
 ghost use Rattle.sqlite.specs.State.{HasCleanDisk, Survives};
 ghost use Rattle.sqlite.specs.Held.{state};
 ghost use Rattle.dep_statements.specs.Adding.{Adds};
 ghost use Rattle.dep_tables.specs.Schema.{our_schema, older_schema, sha512s_table};
 ghost use Rattle.dep_tables.specs.Tables.{tables_of, IsOlder};
-ghost use Rattle.dep_tables.specs.Clauses.{StaysWithin, FailsToRun};
-ghost use Rattle.dep_row_maps.specs.Causes.{FailsByOne};
+ghost use Rattle.dep_tables.specs.Clauses.{FailsToRun};
+ghost use Rattle.dep_row_maps.specs.Causes.{FailsSince};
 ghost use Rattle.dep_row_maps.specs.Clauses.{Becomes};
 ghost use Rattle.dep_row_maps.specs.Sha512s.{upgraded};
 ghost use Rattle.dep_schema.specs.Beside.{AreNewNamesFree};
-ghost use Rattle.dep_schema.specs.Standing.{Sees, Turns, IsBack};
+ghost use Rattle.dep_schema.specs.Standing.{Sees, Turns, WorksWithin, IsBack};
 ghost use Rattle.dep_schema.specs.Texts.{create_sha512s_text};
 ghost use Rattle.dep_schema.specs.Transactions.{TransactsTo};
 ghost use Rattle.dep_schema.specs.Upgrading.{with_no_sha512s, with_sha512s, FailsToExtend, FailsToPut, FailsToRewrite, FailsToUpgrade};
@@ -27,9 +27,8 @@ use sqlite::{Alter, Connection};
 /// The table `sha512s`, beside what is there.
 fn create_sha512s<T: Statements>(tx: &mut T) -> Result<(), StoreFault>
     ensures adds { Turns (T.state tx.old) (T.state tx.new) result (Adds sha512s_table) }
-    ensures cause { HasCleanDisk (T.state tx.new) → IsTrue (T.state tx.old).in_transaction
-        → IfErr result (FailsToRun create_sha512s_text [] (T.state tx.old) (T.state tx.new)) }
-    ensures stays { StaysWithin T.lenders T.state tx.old tx.new result }
+    ensures works { WorksWithin T.lenders T.state tx.old tx.new result
+        (FailsToRun create_sha512s_text [] (T.state tx.old) (T.state tx.new)) }
 {
     tx.run(SHA512S, &[])
 }
@@ -41,9 +40,8 @@ fn extend_schema<T: Statements>(tx: &mut T) -> Result<(), StoreFault>
         → OnOk result (Sees (T.state tx.new) (with_no_sha512s (tables_of (T.state tx.old)))) }
     ensures free { Turns (T.state tx.old) (T.state tx.new) result
         (λ old _. AreNewNamesFree old.schema) }
-    ensures cause { HasCleanDisk (T.state tx.new) → IsTrue (T.state tx.old).in_transaction
-        → IfErr result (FailsToExtend T.state tx.old tx.new) }
-    ensures stays { StaysWithin T.lenders T.state tx.old tx.new result }
+    ensures works { WorksWithin T.lenders T.state tx.old tx.new result
+        (FailsToExtend T.state tx.old tx.new) }
 {
     create_sha512s(tx)?;
     create_indexes(tx)
@@ -52,8 +50,8 @@ fn extend_schema<T: Statements>(tx: &mut T) -> Result<(), StoreFault>
 /// The values of files, one after another.
 fn insert_values<T: Statements>(tx: &mut T, values: &[FileSha512]) -> Result<(), StoreFault>
     ensures ok { Becomes (T.state tx.old) (T.state tx.new) result (with_sha512s values.now) }
-    ensures cause { FailsByOne T.state tx.old tx.new result ⊤ (FailsToPut values.now) }
-    ensures stays { StaysWithin T.lenders T.state tx.old tx.new result }
+    ensures works { WorksWithin T.lenders T.state tx.old tx.new result
+        (FailsSince T.state (FailsToPut values.now) tx.old tx.new) }
 {
     'values: for value in values {
         insert_sha512(tx, BlockOwner::File(value.file), &value.value)?;
@@ -68,9 +66,8 @@ fn upgrade_tables<T: Statements>(tx: &mut T, values: &[FileSha512]) -> Result<()
         → OnOk result (Sees (T.state tx.new) (upgraded values.now (tables_of (T.state tx.old)))) }
     ensures free { Turns (T.state tx.old) (T.state tx.new) result
         (λ old _. AreNewNamesFree old.schema) }
-    ensures cause { HasCleanDisk (T.state tx.new) → IsTrue (T.state tx.old).in_transaction
-        → IfErr result (FailsToRewrite T.state tx.old tx.new values.now) }
-    ensures stays { StaysWithin T.lenders T.state tx.old tx.new result }
+    ensures works { WorksWithin T.lenders T.state tx.old tx.new result
+        (FailsToRewrite T.state tx.old tx.new values.now) }
 {
     extend_schema(tx)?;
     insert_values(tx, values)?;

@@ -1,10 +1,13 @@
 -- What is written of lines, one after another.
-use Rattle.std.proofs.Common.{◌≡◌, ℕ, ◌<◌, List, ◌∷◌, ◌++◌, length, get_or, take, drop, flat_map, ◌+◌, Result, Ok, Err, sym, ap, ◌∙◌, append_assoc, add-one, take-append-drop, drop-cons}
-use Rattle.std.specs.Prelude.{IsErrAnd}
+use Rattle.std.proofs.Common.{◌≡◌, ℕ, ◌<◌, List, ◌∷◌, ◌++◌, length, get_or, take, drop, flat_map, ◌+◌, Result, Ok, Err, sym, ap, subst, ◌∙◌, append_assoc, add-one, take-append-drop, drop-cons}
+use Rattle.std.specs.Prelude.{IsErrAnd, ◌≢◌}
 use Rattle.std.proofs.lemmas.Grind.{flat_map-append}
+use Rattle.dep_tables.proofs.Results.{if_ok}
 use Rattle.dep_types.specs.Sinks.{IsFront}
-use Rattle.dep_store.specs.Reporting.{IsWritten}
+use Rattle.dep_types.specs.Writing.{HasRisen}
+use Rattle.dep_store.specs.Reporting.{IsWritten, BlamesWriter}
 use Rattle.dep_store.specs.declared.audit_fault.AuditFault.{AuditFault}
+use Rattle.dep_store.specs.declared.audit_fault.AuditFault.TheVariants.{Store, Writer}
 
 regrouped : (a part rest more : List ℕ) → a ++ ((part ++ rest) ++ more) ≡ (a ++ part) ++ (rest ++ more)
 regrouped a part rest more = ap (λ l. a ++ l) (append_assoc part rest more) ∙ sym (append_assoc a part (rest ++ more))
@@ -28,3 +31,19 @@ pub line_fails : {X : Type 0} (line : ℕ → List ℕ) (files : List ℕ) (i d 
     → IsErrAnd result (λ x. x ≡ fault) → IsWritten (flat_map line files) (written ++ part) result
 line_fails line files i d less written part so_far front fault (Ok x) err = absurd err
 line_fails line files i d less written part so_far front fault (Err e) err = line_part line files i d less written part so_far front
+
+-- ---- the failures of the writer
+
+-- it didn't fail, and that is not told
+pub blame_none : {X : Type 0} (before after : ℕ) (r : Result X AuditFault) → after ≡ before → r ≢ Err Writer → BlamesWriter before after r
+blame_none before after r same other = record { count = if_ok r same; quiet = λ is. same; cause = λ is. absurd (other is) }
+
+-- a fault is passed on, before which it didn't fail
+pub blame_passed : {X Y : Type 0} (before mid after : ℕ) → mid ≡ before → (fault : AuditFault) → BlamesWriter {X = X} mid after (Err fault)
+    → (r : Result Y AuditFault) → IsErrAnd r (λ x. x ≡ fault) → BlamesWriter before after r
+blame_passed before mid after same fault it (Ok y) err = absurd err
+blame_passed before mid after same fault it (Err e) err = record {
+  count = tt;
+  quiet = λ is. let told : e ≡ Store = cc is in it.quiet (ap Err (sym err ∙ told)) ∙ same;
+  cause = λ is. let told : e ≡ Writer = cc is in subst (λ n. HasRisen n after) same (it.cause (ap Err (sym err ∙ told)));
+}

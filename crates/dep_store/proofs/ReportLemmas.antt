@@ -1,6 +1,6 @@
 -- What was told of objects, one after another.
 use Rattle.std.proofs.Common.{◌≡◌, ◌⊎◌, inl, inr, ℕ, zero, suc, ◌<◌, ◌+◌, pos, List, [], ◌∷◌, ◌++◌, length, flat_map, Option, Some, None, option_map, refl, sym, ap, ap₂, subst, ◌∙◌, append_assoc, append-nil, arith}
-use Rattle.std.specs.Prelude.{find, filter, Result, Ok, Err, IsErrAnd}
+use Rattle.std.specs.Prelude.{find, filter, Result, Ok, Err, IsErr, IsErrAnd}
 use Rattle.std.proofs.lemmas.List.Elements.{All-nil, All-cons, All-append}
 use Rattle.std.proofs.lemmas.List.{map-append}
 use Rattle.std.proofs.lemmas.List.Sums.{sum_by_push}
@@ -166,6 +166,11 @@ told_object t object a files written tally audited same is checked damaged = rec
   lines = is ∙ ap (flat_map (damaged_line object)) same;
   counts = record { checked = checked; damaged = damaged };
 }
+
+-- it could not be read
+pub none_reported : (t : Tables) (object : ℕ) (result : Result Tally AuditFault) → IsErr result → ReportsObject t object [] result
+none_reported t object (Ok tally) err = absurd (cc err)
+none_reported t object (Err fault) err = inl refl
 
 pub object_fails : (t : Tables) (object : ℕ) (a : Audit) (files written : List ℕ) → IsObjectAudited t object a → files ≡ a.damaged.items
     → IsFront written (flat_map (damaged_line object) files) → (fault : AuditFault) (result : Result Tally AuditFault) → IsErrAnd result (λ x. x ≡ fault)

@@ -49,6 +49,11 @@ back_on_ok old mid new (Ok answer) clean back same = λ is_open.
     (was.0, it.0.now_is ∙ was.1, it.0.committed_is ∙ was.2, it.0.mode ∙ was.3)
 back_on_ok old mid new (Err e) clean back same = tt
 
+-- and leaves the store open
+pub open_still : {A E : Type 0} (mid new : db.State) (r : Result A E) → OnOk r (db.IsUnchanged mid new) → OnOk r (IsTrue new.is_open)
+open_still mid new (Ok answer) same = same.0.is_open
+open_still mid new (Err e) same = tt
+
 by_cause : (old new : db.State) (cause : StoreError) → SqliteFailure code.Closed ≡ store_error cause → db.HasCause old new ⊥ cause → IsTrue old.is_open → ⊥
 by_cause old new OutOfMemory e has is_open = cc e
 by_cause old new Io e has is_open = cc e

@@ -2,18 +2,20 @@
 use Rattle.std.proofs.Common.{◌≡◌, ℕ, inl, inr, Result, Ok, Err, IsErr, OnOk, OnErr, IfOk, IsTrue, sym, subst, arith}
 use Rattle.sqlite.specs.State as db
 use Rattle.sqlite.specs.State.{HasCleanDisk, Survives}
-use Rattle.dep_types.specs.State.{State}
+use Rattle.dep_types.specs.State.{State, tick}
+use Rattle.dep_types.specs.declared.config.Config.{Config}
 use Rattle.dep_types.specs.declared.stream_fault.StreamFault.{StreamFault}
 use Rattle.dep_types.specs.declared.stream_fault.StreamFault.TheVariants.{Writer}
 use Rattle.dep_tables.specs.Tables.{Tables}
+use Rattle.dep_staging.specs.declared.running.RunningHashes.{RunningHashes}
 use Rattle.dep_streams.specs.Faults.{BlamesOutlet}
 use Rattle.dep_schema.specs.Standing.{Stands}
 use Rattle.dep_schema.specs.States.{TablesStandFor, StandsFor, Leaves}
-use Rattle.dep_schema.specs.Transactions.{Transacts, OnlyTells, IsBackAt}
+use Rattle.dep_schema.specs.Transactions.{Transacts, OnlyTells, OverStates, IsBackAt, IsRestored}
 use Rattle.dep_schema.proofs.Transacting.{IsSettled, IsOver, ok_over_states, err_state, stop_over_states, ok_tells, still_tells, left_tells, leaves_still, leaves_as_was}
-use Rattle.dep_hub.specs.Archives.{TriesTo, Tells, KeepsState, KeepsAll, Always, CountsFailures}
+use Rattle.dep_hub.specs.Archives.{TriesTo, Ticks, Tells, KeepsState, KeepsAll, Always, CountsFailures}
 use Rattle.dep_store.specs.Archive.{shown_by}
-use Rattle.dep_store.specs.Staying.{TellsTables, KeepsTables, LeavesOnly}
+use Rattle.dep_store.specs.Staying.{TellsTables, KeepsTables, KeepsRunning, LeavesOnly, HashesOn}
 use Rattle.dep_store.proofs.ShutLemmas.{state_back}
 use Rattle.dep_store.proofs.ReportLemmas.{leaves_held, stands_still}
 
@@ -28,6 +30,16 @@ tries_over old new r Makes holds told next over it = record {
   was_open = it.was_open;
   stop = λ clean s at its. stop_over_states old new r Makes told next it clean s (over s its) at;
 }
+
+-- the clock goes on, to this moment
+abbrev pub Clocked : Config → (moment : ℕ) → Tables → ℕ → Tables → Type 0
+Clocked config moment = OverStates (λ s clock. clock ≡ (tick config s moment).clock) (λ s. tick config s moment)
+
+pub ticks_over : {E : Type 0} (old new : db.State) (r : Result ℕ E) (config : Config) (secs moment : ℕ) → secs ≡ moment → Transacts old new r (Clocked config secs)
+    → Ticks (shown_by old) (shown_by new) config moment r
+ticks_over old new r config secs moment same it =
+    tries_over old new r (Clocked config moment) Always (λ s n. n ≡ (tick config s moment).clock) (λ s. tick config s moment)
+    (λ s always t clock after made. made s) (subst (λ n. Transacts old new r (Clocked config n)) same it)
 
 -- a transaction that only tells
 module _ {A E : Type 0} (old new : db.State) (r : Result A E) (told : Tables → A → Type 0) (it : Transacts old new r (OnlyTells told)) where
@@ -67,6 +79,15 @@ failed_keeping old new (Err fault) failed settled back survives = fails_keeping 
 -- all was given back
 pub leaves_only : (old new : db.State) → Survives old new (λ _. ⊥) → LeavesOnly old new
 leaves_only old new survives clean trees h = elim (survives.crash clean trees h) [ inl earlier ↦ earlier | inr none ↦ absurd none ]
+
+-- nothing was committed, and all is as it was
+pub keeps_back : (old new : db.State) → IsRestored old new → KeepsAll (shown_by old) (shown_by new)
+keeps_back old new it = record {
+  kept = λ is_open s at. state_back old new s it.back is_open at;
+  honest = honest_back old new it.survives;
+  was_open = λ is_open. (it.back is_open).0;
+  left = λ clean image h. (image, leaves_only old new it.survives clean image h, λ s. (λ x. x, λ x. x));
+}
 
 -- nothing was asked
 pub keeps_same : (d : db.State) → KeepsAll (shown_by d) (shown_by d)
@@ -121,3 +142,8 @@ keeps_then old mid new kept one two = record {
   was_open = λ is_open. one.was_open (two.was_open is_open);
   stop = λ clean s h. two.stop clean s (stands_still s h (kept (two.honest clean) h.tables h.stands));
 }
+
+-- what was hashed ahead is so, and all was given back
+pub hashes_on : (old new : db.State) (running_before running : RunningHashes) → KeepsRunning old new running_before running → IsRestored old new
+    → HashesOn old new running_before running
+hashes_on old new running_before running keeps it = record { running = keeps; rests = keeps_back old new it; left = leaves_only old new it.survives }

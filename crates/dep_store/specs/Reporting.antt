@@ -9,6 +9,7 @@ use Rattle.dep_types.specs.Sinks.{IsFront}
 use Rattle.dep_schema.specs.Standing.{Stands}
 use Rattle.dep_types.specs.Writing.{HasRisen}
 use Rattle.dep_store.specs.Auditing.{IsObjectAudited}
+use Rattle.dep_store.specs.Staying.{KeepsTables}
 use Rattle.dep_store.specs.Audits.{Audited, AreAudits, object_rows, damaged_lines, lines_of, checked_in, damaged_in, IsBegun}
 use Rattle.dep_store.specs.declared.audit_fault.AuditFault.{AuditFault}
 use Rattle.dep_store.specs.declared.audit_fault.AuditFault.TheVariants.{Store, Writer}
@@ -52,6 +53,20 @@ pub record BlamesWriter {X : Type 0} (failures failures_after : ℕ) (result : R
   pub count : OnOk result (failures_after ≡ failures)
   pub quiet : IsQuiet result failures failures_after
   pub cause : HasCause result failures failures_after
+
+-- a text was written so far as the answer tells, and the writer failed where that is told, and nowhere else
+pub record WritesTo {W X : Type 0} (taken : W → Option (List ℕ)) (failures : W → ℕ) (before after : W)
+    (whole : List ℕ) (result : Result X AuditFault) : Type 0 where
+  pub writes : Writes (taken before) (taken after) whole result
+  pub blames : BlamesWriter (failures before) (failures after) result
+
+-- so is what was written of the tables that the store has, which stay
+pub record Reports {W X : Type 0} (old new : db.State) (taken : W → Option (List ℕ))
+    (failures : W → ℕ) (before after : W) (result : Result X AuditFault)
+    (told : Tables → (written : List ℕ) → Result X AuditFault → Type 0) : Type 0 where
+  pub writes : WritesOf old new (taken before) (taken after) (λ t written. told t written result)
+  pub stays : KeepsTables old new
+  pub blames : BlamesWriter (failures before) (failures after) result
 
 -- the same by what the program says: the transfer failed
 pub record BlamesTransfer (failures failures_after : ℕ) (outcome : Outcome) : Type 0 where

@@ -1,5 +1,5 @@
 -- What a call on a store that a fault shut leaves, and why it isn't told whether one was.
-use Rattle.std.specs.Prelude.{◌≡◌, ◌≢◌, ◌⊎◌, IsTrue, Result, OnOk}
+use Rattle.std.specs.Prelude.{◌≡◌, ◌≢◌, ◌⊎◌, Bool, IsTrue, Result, IfOk, IfErr, OnOk}
 use Rattle.sqlite.specs.State as db
 use Rattle.sqlite.specs.Tree.{Trees}
 use Rattle.sqlite.specs.declared.error.Error.{Error}
@@ -7,7 +7,15 @@ use Rattle.sqlite.specs.declared.error.Error.TheVariants.{SqliteFailure}
 use Rattle.sqlite.specs.declared.error.ErrorCode.TheVariants.{Closed}
 use Rattle.dep_types.specs.declared.store_fault.StoreFault.{StoreFault}
 use Rattle.dep_types.specs.declared.store_fault.StoreFault.TheVariants.{Store}
+use Rattle.dep_types.specs.declared.config.Config.{Config}
 use Rattle.dep_tables.specs.Faults.{fault_for}
+use Rattle.dep_decisions.specs.declared.operation.Operation.{Operation}
+use Rattle.dep_staging.specs.declared.running.RunningHashes.{RunningHashes}
+use Rattle.dep_requests.specs.declared.performing.Done.{Done}
+use Rattle.dep_schema.specs.Performing.{StepsOver, TellsChanges, IsBackUnchanged}
+use Rattle.dep_schema.specs.Transactions.{IsBackAt, IsRestored, Transacts}
+use Rattle.dep_hub.specs.Shut.{TellsOpen}
+use Rattle.dep_store.specs.Archive.{shown_by}
 
 -- where the store was shut, and the disk has told no lie that was taken as true, a crash leaves
 -- nothing that it might not have left before
@@ -20,9 +28,29 @@ pub record FailsIfShut {A E : Type 0} (old new : db.State) (result : Result A E)
   pub opened : db.HasCleanDisk new → OnOk result (IsTrue old.is_open)
   pub left : LeavesNoMore old new
 
+-- so it fails; an Ok has found the store open, and leaves it so, with all as it was
+pub record StaysOpen {A E : Type 0} (old new : db.State) (result : Result A E) : Type 0 where
+  pub shut : FailsIfShut old new result
+  pub back : OnOk result (IsBackAt old new)
+  pub opened : db.HasCleanDisk new → OnOk result (IsTrue new.is_open)
+
+-- so a request fails, which is else one transaction, given back where nothing was changed
+pub record PerformsIfOpen (old new : db.State) (result : Result Done StoreFault) (config : Config)
+    (op : Operation) (running : RunningHashes) : Type 0 where
+  pub shut : FailsIfShut old new result
+  pub transacts : Transacts old new result (StepsOver config op running)
+  pub changes : TellsChanges old new result config op running
+  pub back : IsBackUnchanged old new result
+
 -- Why it isn't told whether a store is open: a transaction is under way; or the store failed, as the fault tells, and not
 -- because it was shut before: memory was refused, or the disk failed once more.
 abbrev pub FailsToTell : (old new : db.State) → StoreFault → Type 0
 FailsToTell old new fault =
     (IsTrue old.in_transaction × (fault ≡ Store))
     ⊎ ((e : Error) × db.Fails old new ⊥ e × (e ≢ SqliteFailure Closed) × (fault ≡ fault_for e))
+
+-- nothing changes, and it is told, or there is a cause why it isn't
+pub record AsksIfOpen (old new : db.State) (result : Result Bool StoreFault) : Type 0 where
+  pub told : IfOk result (TellsOpen (shown_by new))
+  pub cause : db.HasCleanDisk new → IfErr result (FailsToTell old new)
+  pub restored : IsRestored old new

@@ -1,13 +1,16 @@
 -- What stays of a store over a call that reads.
-use Rattle.std.specs.Prelude.{◌≡◌, IsTrue, Result, IfOk}
+use Rattle.std.specs.Prelude.{◌≡◌, IsTrue, Result, IfOk, OnOk}
 use Rattle.sqlite.specs.State as db
 use Rattle.sqlite.specs.Tree.{Trees}
 use Rattle.dep_types.specs.State.{State}
 use Rattle.dep_tables.specs.Tables.{Tables}
+use Rattle.dep_hub.specs.Archives.{KeepsAll}
 use Rattle.dep_staging.specs.HashedAhead.{AreRunning}
 use Rattle.dep_staging.specs.declared.running.RunningHashes.{RunningHashes}
 use Rattle.dep_schema.specs.Standing.{Holds, Stands}
 use Rattle.dep_schema.specs.States.{StandsFor, Leaves}
+use Rattle.dep_schema.specs.Transactions.{Transacts, OnlyTells, IsRestored}
+use Rattle.dep_store.specs.Archive.{shown_by}
 
 -- whatever its tables are, they stay, while it is open
 abbrev pub TablesStay : (old new : db.State) → Type 0
@@ -24,6 +27,17 @@ abbrev pub KeepsRunning : (old new : db.State) → (running_before running : Run
 KeepsRunning old new running_before running = IsTrue new.is_open
     → (s : State) → StandsFor old s → AreRunning s running_before → AreRunning s running
 
+-- so it is, in a transaction that is given back
+pub record RestoresRunning (old new : db.State) (before after : RunningHashes) : Type 0 where
+  pub running : KeepsRunning old new before after
+  pub restored : IsRestored old new
+
+-- so it is, and nothing that is kept changes
+pub record HashesOn (old new : db.State) (before after : RunningHashes) : Type 0 where
+  pub running : KeepsRunning old new before after
+  pub rests : KeepsAll (shown_by old) (shown_by new)
+  pub left : LeavesOnly old new
+
 -- an Ok tells this of its tables, which stay, whether they stand for a state or not
 pub record TellsTables {A E : Type 0} (old new : db.State) (told : Tables → A → Type 0)
     (result : Result A E) : Type 0 where
@@ -34,6 +48,12 @@ pub record TellsTables {A E : Type 0} (old new : db.State) (told : Tables → A 
   pub was_open : IsTrue new.is_open → IsTrue old.is_open
   pub stop : db.HasCleanDisk new → (t : Tables) → Stands old t → (trees : Trees)
       → new.may_leave trees → Holds trees t
+
+-- A transaction that only tells this of the tables. On a store that was shut it fails.
+pub record TellsIfOpen {A E : Type 0} (old new : db.State) (told : Tables → A → Type 0)
+    (result : Result A E) : Type 0 where
+  pub transacts : Transacts old new result (OnlyTells told)
+  pub opened : db.HasCleanDisk new → OnOk result (IsTrue old.is_open)
 
 -- the tables stay, and a crash leaves the state for which they stood, if they stood for one
 pub record KeepsTables (old new : db.State) : Type 0 where

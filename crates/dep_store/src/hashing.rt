@@ -1,10 +1,8 @@
 //! Segments, hashed before an object is made of them.
 
 ghost use Rattle.std.specs.Prelude.{◌≡◌, false};
-ghost use Rattle.sqlite.specs.State.{Survives};
 ghost use Rattle.sqlite.specs.Held.{state};
-ghost use Rattle.dep_schema.specs.Transactions.{IsBackAt};
-ghost use Rattle.dep_store.specs.Staying.{KeepsRunning};
+ghost use Rattle.dep_store.specs.Staying.{RestoresRunning};
 
 use dep_schema::Lent;
 use dep_staging::{RunningHashes, hash_ahead};
@@ -17,11 +15,8 @@ pub(crate) fn hash_running<S: Alter>(
     running: &mut RunningHashes,
 ) -> Result<bool, StoreFault>
     requires settled { (state S.Store connection.old).in_transaction ≡ false }
-    ensures running { KeepsRunning (state S.Store connection.old) (state S.Store connection.new)
+    ensures { RestoresRunning (state S.Store connection.old) (state S.Store connection.new)
         running.old running.new }
-    ensures back { IsBackAt (state S.Store connection.old) (state S.Store connection.new) }
-    ensures mode { (state S.Store connection.new).in_transaction ≡ false }
-    ensures survives { Survives (state S.Store connection.old) (state S.Store connection.new) (λ _. ⊥) }
 {
     let _between = connection.is_autocommit();
     let mut tx = connection.transaction();

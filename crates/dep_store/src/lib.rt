@@ -4,7 +4,6 @@
 #![tactic(auto)]
 
 mod audit_fault;
-mod auditing;
 mod exporting;
 mod hashing;
 mod lines;

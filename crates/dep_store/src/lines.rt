@@ -1,7 +1,7 @@
 //! The lines of an audit.
 ghost use Rattle.std.specs.Prelude.{◌≡◌, IfOk, flat_map, string_bytes};
 ghost use Rattle.dep_store.specs.Audits.{damaged_line, count_line};
-ghost use Rattle.dep_store.specs.Reporting.{Writes, BlamesWriter};
+ghost use Rattle.dep_store.specs.Reporting.{WritesTo};
 
 use crate::audit_fault::AuditFault;
 use crate::tally::Tally;
@@ -16,9 +16,8 @@ pub(crate) fn write_damaged<W: Outlet>(
     files: &[u64],
     out: &mut W,
 ) -> Result<(), AuditFault>
-    ensures writes { Writes (W.taken out.old) (W.taken out.new)
+    ensures { WritesTo W.taken W.failures out.old out.new
         (flat_map (damaged_line object) files.now) result }
-    ensures blames { BlamesWriter (W.failures out.old) (W.failures out.new) result }
 {
     'files: for file in files {
         write_file(alloc, object, *file, out)?;
@@ -32,9 +31,7 @@ fn write_file<W: Outlet>(
     file: u64,
     out: &mut W,
 ) -> Result<(), AuditFault>
-    ensures writes { Writes (W.taken out.old) (W.taken out.new)
-        (damaged_line object file) result }
-    ensures blames { BlamesWriter (W.failures out.old) (W.failures out.new) result }
+    ensures { WritesTo W.taken W.failures out.old out.new (damaged_line object file) result }
 {
     let line = file_line(alloc, object, file)?;
     write_line(line.as_str(), out)
@@ -58,9 +55,8 @@ pub(crate) fn write_count<W: Outlet>(
     tally: Tally,
     out: &mut W,
 ) -> Result<(), AuditFault>
-    ensures writes { Writes (W.taken out.old) (W.taken out.new)
+    ensures { WritesTo W.taken W.failures out.old out.new
         (count_line tally.checked tally.damaged) result }
-    ensures blames { BlamesWriter (W.failures out.old) (W.failures out.new) result }
 {
     let line = last_line(alloc, tally)?;
     write_line(line.as_str(), out)
@@ -79,9 +75,7 @@ fn last_line(alloc: Global, tally: Tally) -> Result<String, AllocError>
 }
 
 fn write_line<W: Outlet>(line: &str, out: &mut W) -> Result<(), AuditFault>
-    ensures writes { Writes (W.taken out.old) (W.taken out.new)
-        line.now result }
-    ensures blames { BlamesWriter (W.failures out.old) (W.failures out.new) result }
+    ensures { WritesTo W.taken W.failures out.old out.new line.now result }
 {
     out.write(line.as_bytes())?;
     Ok(())

@@ -1,13 +1,13 @@
 //! What is read of the archive, in a transaction of its own.
 
-ghost use Rattle.std.specs.Prelude.{◌≡◌, false, IsTrue, OnOk};
-ghost use Rattle.sqlite.specs.State.{HasCleanDisk};
+ghost use Rattle.std.specs.Prelude.{◌≡◌, false};
 ghost use Rattle.sqlite.specs.Held.{state};
 ghost use Rattle.dep_types.specs.State.{State};
 ghost use Rattle.dep_bag.specs.Source.{view_at};
 ghost use Rattle.dep_tables.specs.Edits.{AreSha256sOf, IsObjectAfter};
 ghost use Rattle.dep_schema.specs.States.{TablesStandFor};
 ghost use Rattle.dep_schema.specs.Transactions.{Transacts, OnlyTells};
+ghost use Rattle.dep_store.specs.Staying.{TellsIfOpen};
 
 use dep_schema::{Lent, commit};
 use dep_tables::{FileSha256, next_object, sha256s_of};
@@ -38,10 +38,8 @@ pub(crate) fn find_next<S: Alter>(
     after: u64,
 ) -> Result<Option<u64>, StoreFault>
     requires settled { (state S.Store connection.old).in_transaction ≡ false }
-    ensures transacts { Transacts (state S.Store connection.old) (state S.Store connection.new) result
-        (OnlyTells (IsObjectAfter after)) }
-    ensures opened { HasCleanDisk (state S.Store connection.new)
-        → OnOk result (IsTrue (state S.Store connection.old).is_open) }
+    ensures { TellsIfOpen (state S.Store connection.old) (state S.Store connection.new)
+        (IsObjectAfter after) result }
 {
     let mut tx = connection.transaction();
     let found = next_object(&mut Lent { tx: &mut tx }, after)?;
@@ -56,10 +54,8 @@ pub(crate) fn list_files<S: Alter>(
     object: u64,
 ) -> Result<Vec<FileSha256>, StoreFault>
     requires settled { (state S.Store connection.old).in_transaction ≡ false }
-    ensures transacts { Transacts (state S.Store connection.old) (state S.Store connection.new) result
-        (OnlyTells (λ t found. AreSha256sOf object t found.items)) }
-    ensures opened { HasCleanDisk (state S.Store connection.new)
-        → OnOk result (IsTrue (state S.Store connection.old).is_open) }
+    ensures { TellsIfOpen (state S.Store connection.old) (state S.Store connection.new)
+        (λ t found. AreSha256sOf object t found.items) result }
 {
     let mut tx = connection.transaction();
     let found = sha256s_of(&mut Lent { tx: &mut tx }, alloc, object)?;

@@ -6,7 +6,7 @@ ghost use Rattle.dep_tables.specs.Tables.{Tables};
 ghost use Rattle.dep_schema.specs.Standing.{Stands};
 ghost use Rattle.dep_store.specs.Audits.{Audits};
 ghost use Rattle.dep_store.specs.Staying.{KeepsTables};
-ghost use Rattle.dep_store.specs.Reporting.{ReportsObject, ReportsObjects, WritesOf, BlamesWriter, BlamesTransfer, outcome_of_fault};
+ghost use Rattle.dep_store.specs.Reporting.{ReportsObject, ReportsObjects, Reports, WritesOf, BlamesTransfer, outcome_of_fault};
 
 use crate::audit_fault::AuditFault;
 use crate::lines::{write_count, write_damaged};
@@ -59,10 +59,8 @@ fn report_objects<S: Alter, W: Outlet, P: Watch>(
     out: &mut W,
     watch: &mut P,
 ) -> Result<Tally, AuditFault>
-    ensures writes { WritesOf (state S.Store store.old) (state S.Store store.new)
-        (W.taken out.old) (W.taken out.new) (λ t written. ReportsObjects t written result) }
-    ensures stays { KeepsTables (state S.Store store.old) (state S.Store store.new) }
-    ensures blames { BlamesWriter (W.failures out.old) (W.failures out.new) result }
+    ensures { Reports (state S.Store store.old) (state S.Store store.new)
+        W.taken W.failures out.old out.new result ReportsObjects }
 {
     let mut tally = Tally {
         checked: 0,
@@ -88,12 +86,10 @@ fn report_object<S: Alter, W: Outlet, P: Watch>(
     out: &mut W,
     watch: &mut P,
 ) -> Result<Tally, AuditFault>
-    ensures writes { WritesOf (state S.Store store.old) (state S.Store store.new)
-        (W.taken out.old) (W.taken out.new) (λ t written. ReportsObject t object written result) }
+    ensures reports { Reports (state S.Store store.old) (state S.Store store.new)
+        W.taken W.failures out.old out.new result (λ t. ReportsObject t object) }
     ensures kept { HasCleanDisk (state S.Store store.new) → (t : Tables)
         → Stands (state S.Store store.old) t → OnOk result (Stands (state S.Store store.new) t) }
-    ensures stays { KeepsTables (state S.Store store.old) (state S.Store store.new) }
-    ensures blames { BlamesWriter (W.failures out.old) (W.failures out.new) result }
 {
     let audit = store.audit(object, watch)?;
     write_damaged(alloc, object, audit.damaged.as_slice(), out)?;

@@ -1,12 +1,10 @@
 //! The content of a file, sent over a store that is open.
 
-ghost use Rattle.std.specs.Prelude.{◌≡◌, false, IsTrue, OnOk};
-ghost use Rattle.sqlite.specs.State.{HasCleanDisk};
+ghost use Rattle.std.specs.Prelude.{◌≡◌, false};
 ghost use Rattle.sqlite.specs.Held.{state};
-ghost use Rattle.dep_schema.specs.Transactions.{IsBackAt};
 ghost use Rattle.dep_hub.specs.Archives.{Streams, KeepsState, CountsFailures};
 ghost use Rattle.dep_store.specs.Archive.{condition_of};
-ghost use Rattle.dep_store.specs.Shut.{FailsIfShut};
+ghost use Rattle.dep_store.specs.Shut.{StaysOpen};
 
 use dep_schema::check_open;
 use dep_streams::stream_content;
@@ -24,12 +22,9 @@ pub(crate) fn stream_if_open<S: Alter, O: Outlet>(
         (condition_of S.Store connection.new) (O.taken out.old) (O.taken out.new) file result }
     ensures does { KeepsState (condition_of S.Store connection.old)
         (condition_of S.Store connection.new) result }
-    ensures shut { FailsIfShut (state S.Store connection.old) (state S.Store connection.new) result }
     ensures count { CountsFailures (O.failures out.old) (O.failures out.new) result }
     // All is as it was, whatever the tables are.
-    ensures back { OnOk result (IsBackAt (state S.Store connection.old) (state S.Store connection.new)) }
-    ensures opened { HasCleanDisk (state S.Store connection.new)
-        → OnOk result (IsTrue (state S.Store connection.new).is_open) }
+    ensures stays { StaysOpen (state S.Store connection.old) (state S.Store connection.new) result }
 {
     check_open(connection)?;
     stream_content(connection, file, out)

@@ -22,22 +22,21 @@ ghost use Rattle.dep_hub.specs.Archives.{Ticks, MakesStep, Streams, Tells, Keeps
 ghost use Rattle.dep_store.specs.Archive.{condition_of};
 ghost use Rattle.dep_store.specs.Auditing.{IsObjectAudited};
 ghost use Rattle.dep_store.specs.Shut.{FailsIfShut, FailsToTell};
-ghost use Rattle.dep_store.specs.Staying.{TablesStay, TellsTables, LeavesOnly, KeepsRunning};
+ghost use Rattle.dep_store.specs.Staying.{TablesStay, TellsTables, LeavesOnly, HashesOn};
 
-use crate::auditing::audit_object;
 use crate::hashing::hash_running;
 use crate::opening::open_tables;
-use crate::reading::{find_next, view_object};
-use crate::remembering::{Remembered, still_known, tell_open};
+use crate::reading::{find_next, list_files, view_object};
+use crate::remembering::{Remembered, look, still_known, tell_open};
 use crate::sending::stream_if_open;
 use crate::showing::{perform_if_open, recalled, show_service};
-use crate::ticking::advance;
+use crate::ticking::{clock_still, move_clock};
 use dep_answers::{Performed, Service};
 use dep_decisions::Operation;
 use dep_moment::Moment;
 use dep_schema::OpenFault;
 use dep_staging::RunningHashes;
-use dep_streams::{Audit, Watch};
+use dep_streams::{Audit, Watch, audit_files};
 use dep_types::{Config, ObjectView, Outlet, StoreFault, StreamFault};
 use sqlite::{Alter, Connection};
 use std::alloc::Global;
@@ -143,12 +142,21 @@ impl<S: Alter> Store<S> {
         if !self.connection.is_autocommit() {
             return Err(StoreFault::Store);
         }
-        advance(
-            &mut self.connection,
-            &mut self.remembered,
-            config,
-            moment.secs(),
-        )
+        let secs = moment.secs();
+        if let Some(clock) = clock_still(&self.remembered, config, secs) {
+            let shown = Moment::new(clock);
+            return Ok(shown);
+        }
+        self.remembered = None;
+        let found = look(&mut self.connection, config, secs)?;
+        match found {
+            Some(it) => {
+                self.remembered = Some(it);
+                let told = Moment::new(it.clock);
+                Ok(told)
+            }
+            None => move_clock(&mut self.connection, config, secs),
+        }
     }
 
     /// Does what a request asks for, once the clock has gone on, in one transaction: what reads the
@@ -190,10 +198,7 @@ impl<S: Alter> Store<S> {
     /// Hashes a few blocks of an upload to which a segment came, and tells whether more may be left. It
     /// changes nothing that is kept.
     pub fn hash_ahead(&mut self, running: &mut RunningHashes) -> Result<bool, StoreFault>
-        ensures running { KeepsRunning (state S.Store self.old) (state S.Store self.new)
-            running.old running.new }
-        ensures rests { KeepsAll (condition_of S.Store self.old) (condition_of S.Store self.new) }
-        ensures left { LeavesOnly (state S.Store self.old) (state S.Store self.new) }
+        ensures { HashesOn (state S.Store self.old) (state S.Store self.new) running.old running.new }
     {
         if !self.connection.is_autocommit() {
             return Err(StoreFault::Store);
@@ -262,7 +267,8 @@ impl<S: Alter> Store<S> {
             return Err(StoreFault::Store);
         }
         self.remembered = None;
-        audit_object(&mut self.connection, self.alloc, object, watch)
+        let files = list_files(&mut self.connection, self.alloc, object)?;
+        audit_files(&mut self.connection, self.alloc, files.as_slice(), watch)
     }
 
     /// Whether the store is open, as far as it can be told: `false` where a fault has shut it, for

@@ -4,10 +4,8 @@ ghost use Rattle.std.specs.Prelude.{◌≡◌, ◌≤◌, ℕ, false, Some};
 ghost use Rattle.sqlite.specs.Held.{state};
 ghost use Rattle.dep_types.specs.State.{tick};
 ghost use Rattle.dep_schema.specs.Transactions.{Transacts, OverStates};
-ghost use Rattle.dep_store.specs.Remembering.{IsRecalled, IsOfOpen};
-ghost use Rattle.dep_store.specs.Shut.{FailsIfShut};
 
-use crate::remembering::{Remembered, look};
+use crate::remembering::Remembered;
 use dep_moment::Moment;
 use dep_schema::{Lent, commit};
 use dep_types::{Config, StoreFault};
@@ -15,13 +13,13 @@ use sqlite::{Alter, Connection};
 
 /// Moves the clock to the moment, and never back, and ends the uploads that were left idle, in a
 /// transaction of its own.
-fn move_clock<S: Alter>(
+pub(crate) fn move_clock<S: Alter>(
     connection: &mut Connection<S>,
     config: &Config,
     moment: u64,
 ) -> Result<Moment, StoreFault>
     requires settled { (state S.Store connection.old).in_transaction ≡ false }
-    ensures transacts { Transacts (state S.Store connection.old) (state S.Store connection.new) result
+    ensures { Transacts (state S.Store connection.old) (state S.Store connection.new) result
         (OverStates (λ s clock. clock ≡ (tick config.now s moment).clock)
         (λ s. tick config.now s moment)) }
 {
@@ -33,7 +31,11 @@ fn move_clock<S: Alter>(
 }
 
 /// The clock that is remembered, where a tick at this moment changes nothing.
-fn clock_still(remembered: &Option<Remembered>, config: &Config, moment: u64) -> Option<u64>
+pub(crate) fn clock_still(
+    remembered: &Option<Remembered>,
+    config: &Config,
+    moment: u64,
+) -> Option<u64>
     ensures { (clock : ℕ) → result ≡ Some clock → (m : Remembered) × (remembered.now ≡ Some m)
         × (clock ≡ m.clock) × (moment ≤ m.clock) × (config.now.staging_max_idle ≡ m.max_idle) }
 {
@@ -46,39 +48,5 @@ fn clock_still(remembered: &Option<Remembered>, config: &Config, moment: u64) ->
             }
         }
         None => None,
-    }
-}
-
-/// Moves the clock, where what is remembered doesn't tell that nothing changes, and remembers what it
-/// has read.
-pub(crate) fn advance<S: Alter>(
-    connection: &mut Connection<S>,
-    remembered: &mut Option<Remembered>,
-    config: &Config,
-    moment: u64,
-) -> Result<Moment, StoreFault>
-    requires settled { (state S.Store connection.old).in_transaction ≡ false }
-    requires recalls { IsRecalled (state S.Store connection.old) remembered.old }
-    requires of_open { IsOfOpen (state S.Store connection.old) remembered.old }
-    ensures recalls { IsRecalled (state S.Store connection.new) remembered.new }
-    ensures of_open { IsOfOpen (state S.Store connection.new) remembered.new }
-    ensures shut { FailsIfShut (state S.Store connection.old) (state S.Store connection.new) result }
-    ensures transacts { Transacts (state S.Store connection.old) (state S.Store connection.new) result
-        (OverStates (λ s clock. clock ≡ (tick config.now s moment).clock)
-        (λ s. tick config.now s moment)) }
-{
-    if let Some(clock) = clock_still(remembered, config, moment) {
-        let shown = Moment::new(clock);
-        return Ok(shown);
-    }
-    *remembered = None;
-    let found = look(connection, config, moment)?;
-    match found {
-        Some(it) => {
-            *remembered = Some(it);
-            let told = Moment::new(it.clock);
-            Ok(told)
-        }
-        None => move_clock(connection, config, moment),
     }
 }

@@ -8,19 +8,19 @@ use Rattle.dep_schema.proofs.indexing.create_indexes.Goals as goal
 pub returns-clause-adds : goal.returns-clause-adds
 returns-clause-adds g c clean inside =
     let files = c.in_ok-index_files.ensures in
-    let before = clean_before c.index_uploads.ensures.stays clean in
-    ok_then c.index_uploads.result (c.index_uploads.ensures.adds clean (files.stays.inside before inside))
+    let before = clean_before c.index_uploads.ensures.works.stays clean in
+    ok_then c.index_uploads.result (c.index_uploads.ensures.adds clean (files.works.stays.inside before inside))
     (λ uploads. ((g.T.Statements.state c.index_files.new.tx).now, files.adds before inside, uploads))
 
-pub returns-clause-cause : goal.returns-clause-cause
-returns-clause-cause g c clean inside =
-    let files = c.in_ok-index_files.ensures in
-    let before = clean_before c.index_uploads.ensures.stays clean in
-    if_err_then c.index_uploads.result (c.index_uploads.ensures.cause clean (files.stays.inside before inside))
-    (λ fault failed. inr (record { at = c.index_files.new.tx; since = files.stays.survives; by = (files.ran before inside, failed) }))
-
-pub returns-clause-stays : goal.returns-clause-stays
-returns-clause-stays g c = stays_then c.in_ok-index_files.ensures.stays c.index_uploads.ensures.stays
+pub returns-clause-works : goal.returns-clause-works
+returns-clause-works g c = record {
+  cause = λ clean inside.
+      let files = c.in_ok-index_files.ensures in
+      let before = clean_before c.index_uploads.ensures.works.stays clean in
+      if_err_then c.index_uploads.result (c.index_uploads.ensures.works.cause clean (files.works.stays.inside before inside))
+      (λ fault failed. inr (record { at = c.index_files.new.tx; since = files.works.stays.survives; by = (files.ran before inside, failed) }));
+  stays = stays_then c.in_ok-index_files.ensures.works.stays c.index_uploads.ensures.works.stays;
+}
 
 -- where the first was not made, nothing is said of an Ok
 pub returns-in_err-index_files : goal.returns-in_err-index_files
@@ -28,6 +28,8 @@ returns-in_err-index_files g c =
     let is_err = c.from_residual.ensures.0 in
     record {
       adds = λ clean inside. IfOk-from_err c.from_residual.result _ is_err;
-      cause = λ clean inside. if_err_told _ c.from_residual.result _ c.from_residual.ensures.1 (inl (c.in_err-index_files.ensures.cause clean inside));
-      stays = stays_err {r = Err c.in_err-index_files.field-0.0} is_err c.in_err-index_files.ensures.stays;
+      works = record {
+        cause = λ clean inside. if_err_told _ c.from_residual.result _ c.from_residual.ensures.1 (inl (c.in_err-index_files.ensures.works.cause clean inside));
+        stays = stays_err {r = Err c.in_err-index_files.field-0.0} is_err c.in_err-index_files.ensures.works.stays;
+      };
     }

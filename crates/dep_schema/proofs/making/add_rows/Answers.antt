@@ -1,17 +1,25 @@
-use Rattle.std.proofs.Common.{rules, inl, inr}
-use Rattle.dep_tables.proofs.Chains.{clean_before}
+use Rattle.std.proofs.Common.{Err, rules, inl, inr}
+use Rattle.dep_tables.proofs.Chains.{clean_before, stays_then, stays_err}
 use Rattle.dep_schema.proofs.Refusing.{if_err_told, if_err_then}
 use Rattle.dep_schema.proofs.making.add_rows.Goals as goal
 
 pub returns-clause-beside : goal.returns-clause-beside
 returns-clause-beside g c clean inside others free here = search rules
 
-pub returns-in_err-add_format-clause-cause : goal.returns-in_err-add_format-clause-cause
-returns-in_err-add_format-clause-cause g c clean inside = if_err_told _ c.from_residual.result _ c.from_residual.ensures.1 (inl (c.in_err-add_format.ensures.cause clean inside))
+pub returns-in_err-add_format-clause-works : goal.returns-in_err-add_format-clause-works
+returns-in_err-add_format-clause-works g c = record {
+  cause = λ clean inside. if_err_told _ c.from_residual.result _ c.from_residual.ensures.1 (inl (c.in_err-add_format.ensures.works.cause clean inside));
+  stays = stays_err {r = Err c.in_err-add_format.field-0.0} c.from_residual.ensures.0 c.in_err-add_format.ensures.works.stays;
+}
 
-pub returns-clause-cause : goal.returns-clause-cause
-returns-clause-cause g c clean inside =
+pub returns-clause-works : goal.returns-clause-works
+returns-clause-works g c =
     let first = c.in_ok-add_format.ensures in
-    let before = clean_before c.add_state.ensures.stays clean in
-    if_err_then c.add_state.result (c.add_state.ensures.cause clean (first.stays.inside before inside))
-    (λ fault failed. inr (record { at = c.add_format.new.tx; since = first.stays.survives; by = (first.ran before inside, failed) }))
+    let last = c.add_state.ensures in
+    record {
+      cause = λ clean inside.
+          let before = clean_before last.works.stays clean in
+          if_err_then c.add_state.result (last.works.cause clean (first.works.stays.inside before inside))
+          (λ fault failed. inr (record { at = c.add_format.new.tx; since = first.works.stays.survives; by = (first.ran before inside, failed) }));
+      stays = stays_then first.works.stays last.works.stays;
+    }

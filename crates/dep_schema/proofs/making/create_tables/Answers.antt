@@ -19,16 +19,18 @@ returns-in_err-run g c =
     let is_err = c.from_residual.ensures.0 in
     record {
       adds = λ clean inside. IfOk-from_err c.from_residual.result _ is_err;
-      cause = λ clean inside.
-          let before = clean_before c.in_err-run.ensures.keeps.stays clean in
-          let stays = c.loop-text.invariant.stays in
-          if_err_told _ c.from_residual.result _ c.from_residual.ensures.1
-          (one_failed g.T.Statements.lenders g.T.Statements.state _ c.loop-text.text-index c.args.tx.now c.run.new.self c.loop-text.tx _ _ c.loop-text-test.true c.loop-text.invariant
-          before inside (c.in_err-run.ensures.cause clean (stays.inside before inside)));
-      stays = stays_err is_err (stays_then {r = Err c.in_err-run.field-0.0} c.loop-text.invariant.stays c.in_err-run.ensures.keeps.stays);
+      works = record {
+        cause = λ clean inside.
+            let before = clean_before c.in_err-run.ensures.keeps.stays clean in
+            let stays = c.loop-text.invariant.stays in
+            if_err_told _ c.from_residual.result _ c.from_residual.ensures.1
+            (one_failed g.T.Statements.lenders g.T.Statements.state _ c.loop-text.text-index c.args.tx.now c.run.new.self c.loop-text.tx _ _ c.loop-text-test.true c.loop-text.invariant
+            before inside (c.in_err-run.ensures.cause clean (stays.inside before inside)));
+        stays = stays_err is_err (stays_then {r = Err c.in_err-run.field-0.0} c.loop-text.invariant.stays c.in_err-run.ensures.keeps.stays);
+      };
     }
 
 pub returns : goal.returns
 returns g c =
     let made = all_made g.T.Statements.lenders g.T.Statements.state _ c.loop-text.text-index c.args.tx.now c.loop-text.tx c.loop-text.auto.text-index-end c.loop-text-test.false c.loop-text.invariant in
-    record { adds = made.adds; cause = λ clean inside. tt; stays = stays_ok made.stays }
+    record { adds = made.adds; works = record { cause = λ clean inside. tt; stays = stays_ok made.stays } }

@@ -13,38 +13,38 @@ returns-clause-gains g c clean inside =
     let new = g.T.Statements.state c.add_rows.new.tx in
     let made = c.in_ok-create_tables.ensures in
     let both = c.in_ok-create_indexes.ensures in
-    let clean_named = clean_before c.add_rows.ensures.stays clean in
-    let clean_mid = clean_before both.stays clean_named in
-    let inside_mid = made.stays.inside clean_mid inside in
-    gains c.add_rows.result old.now mid.now named.now new.now (made.adds clean_mid inside) (both.adds clean_named inside_mid) (c.add_rows.ensures.beside clean (both.stays.inside clean_named inside_mid))
+    let clean_named = clean_before c.add_rows.ensures.works.stays clean in
+    let clean_mid = clean_before both.works.stays clean_named in
+    let inside_mid = made.works.stays.inside clean_mid inside in
+    gains c.add_rows.result old.now mid.now named.now new.now (made.adds clean_mid inside) (both.adds clean_named inside_mid) (c.add_rows.ensures.beside clean (both.works.stays.inside clean_named inside_mid))
 
 pub returns-clause-ok : goal.returns-clause-ok
 returns-clause-ok g c clean inside empty =
     first_seen c.add_rows.result (g.T.Statements.state c.args.tx.now) (g.T.Statements.state c.add_rows.new.tx) empty (returns-clause-gains g c clean inside)
 
-pub returns-clause-stays : goal.returns-clause-stays
-returns-clause-stays g c = stays_then (stays_then c.in_ok-create_tables.ensures.stays c.in_ok-create_indexes.ensures.stays) c.add_rows.ensures.stays
-
-pub returns-clause-cause : goal.returns-clause-cause
-returns-clause-cause g c clean inside =
-    let made = c.in_ok-create_tables.ensures in
-    let both = c.in_ok-create_indexes.ensures in
-    let clean_named = clean_before c.add_rows.ensures.stays clean in
-    let clean_mid = clean_before both.stays clean_named in
-    let inside_mid = made.stays.inside clean_mid inside in
-    if_err_then c.add_rows.result (c.add_rows.ensures.cause clean (both.stays.inside clean_named inside_mid))
-    (λ fault failed. inr (
-      c.create_tables.new.tx,
-      made.adds clean_mid inside,
-      made.stays.survives,
-      inr (
-        free_before (g.T.Statements.state c.args.tx.now).now (g.T.Statements.state c.create_tables.new.tx).now (g.T.Statements.state c.create_indexes.new.tx).now (made.adds clean_mid inside) (both.adds clean_named inside_mid),
-        c.create_indexes.new.tx,
-        both.adds clean_named inside_mid,
-        both.stays.survives,
-        failed,
-      ),
-    ))
+pub returns-clause-works : goal.returns-clause-works
+returns-clause-works g c = record {
+  cause = λ clean inside.
+      let made = c.in_ok-create_tables.ensures in
+      let both = c.in_ok-create_indexes.ensures in
+      let clean_named = clean_before c.add_rows.ensures.works.stays clean in
+      let clean_mid = clean_before both.works.stays clean_named in
+      let inside_mid = made.works.stays.inside clean_mid inside in
+      if_err_then c.add_rows.result (c.add_rows.ensures.works.cause clean (both.works.stays.inside clean_named inside_mid))
+      (λ fault failed. inr (
+        c.create_tables.new.tx,
+        made.adds clean_mid inside,
+        made.works.stays.survives,
+        inr (
+          free_before (g.T.Statements.state c.args.tx.now).now (g.T.Statements.state c.create_tables.new.tx).now (g.T.Statements.state c.create_indexes.new.tx).now (made.adds clean_mid inside) (both.adds clean_named inside_mid),
+          c.create_indexes.new.tx,
+          both.adds clean_named inside_mid,
+          both.works.stays.survives,
+          failed,
+        ),
+      ));
+  stays = stays_then (stays_then c.in_ok-create_tables.ensures.works.stays c.in_ok-create_indexes.ensures.works.stays) c.add_rows.ensures.works.stays;
+}
 
 -- where one was not made, nothing is said of an Ok
 pub returns-in_err-create_tables : goal.returns-in_err-create_tables
@@ -53,8 +53,10 @@ returns-in_err-create_tables g c =
     record {
       ok = λ clean inside empty. IfOk-from_err c.from_residual.result _ is_err;
       gains = λ clean inside. IfOk-from_err c.from_residual.result _ is_err;
-      cause = λ clean inside. if_err_told _ c.from_residual.result _ c.from_residual.ensures.1 (inl (c.in_err-create_tables.ensures.cause clean inside));
-      stays = stays_err {r = Err c.in_err-create_tables.field-0.0} is_err c.in_err-create_tables.ensures.stays;
+      works = record {
+        cause = λ clean inside. if_err_told _ c.from_residual.result _ c.from_residual.ensures.1 (inl (c.in_err-create_tables.ensures.works.cause clean inside));
+        stays = stays_err {r = Err c.in_err-create_tables.field-0.0} is_err c.in_err-create_tables.ensures.works.stays;
+      };
     }
 
 pub returns-in_err-create_indexes : goal.returns-in_err-create_indexes
@@ -65,9 +67,11 @@ returns-in_err-create_indexes g c =
     record {
       ok = λ clean inside empty. IfOk-from_err c.from_residual-in_err-create_indexes.result _ is_err;
       gains = λ clean inside. IfOk-from_err c.from_residual-in_err-create_indexes.result _ is_err;
-      cause = λ clean inside.
-          let before = clean_before failed.stays clean in
-          if_err_told _ c.from_residual-in_err-create_indexes.result _ c.from_residual-in_err-create_indexes.ensures.1
-          (inr (c.create_tables.new.tx, made.adds before inside, made.stays.survives, inl (failed.cause clean (made.stays.inside before inside))));
-      stays = stays_err is_err (stays_then {r = Err c.in_err-create_indexes.field-0.0} made.stays failed.stays);
+      works = record {
+        cause = λ clean inside.
+            let before = clean_before failed.works.stays clean in
+            if_err_told _ c.from_residual-in_err-create_indexes.result _ c.from_residual-in_err-create_indexes.ensures.1
+            (inr (c.create_tables.new.tx, made.adds before inside, made.works.stays.survives, inl (failed.works.cause clean (made.works.stays.inside before inside))));
+        stays = stays_err is_err (stays_then {r = Err c.in_err-create_indexes.field-0.0} made.works.stays failed.works.stays);
+      };
     }

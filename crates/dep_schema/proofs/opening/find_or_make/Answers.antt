@@ -61,9 +61,9 @@ returns g c =
     let told = c.in_ok-version.ensures in
     let found = c.in_ok-version.field-0 in
     let last = c.tx-1.given.0 in
-    let same : c.make_tables.new.tx.tx.now ≡ last = sym (c.tx-1.given.1 (lent_name g.S.Store c.in_ok-make_tables.ensures.stays)) in
+    let same : c.make_tables.new.tx.tx.now ≡ last = sym (c.tx-1.given.1 (lent_name g.S.Store c.in_ok-make_tables.ensures.works.stays)) in
     let made = rw same at c.in_ok-make_tables.ensures in
-    let stays = rw same at (stays_on g.S.Store c.in_ok-make_tables.ensures.stays) in
+    let stays = rw same at (stays_on g.S.Store c.in_ok-make_tables.ensures.works.stays) in
     let new = state g.S.Store last.conn.now in
     record {
       empty = λ clean inside empty.
@@ -86,8 +86,8 @@ returns g c =
 pub returns-in_err-make_tables : goal.returns-in_err-make_tables
 returns-in_err-make_tables g c =
     let told = c.in_ok-version.ensures in
-    let same : c.make_tables.new.tx.tx.now ≡ c.tx-1.given.0 = sym (c.tx-1.given.1 (lent_name g.S.Store c.in_err-make_tables.ensures.stays)) in
-    let stays = rw same at (stays_on g.S.Store c.in_err-make_tables.ensures.stays) in
+    let same : c.make_tables.new.tx.tx.now ≡ c.tx-1.given.0 = sym (c.tx-1.given.1 (lent_name g.S.Store c.in_err-make_tables.ensures.works.stays)) in
+    let stays = rw same at (stays_on g.S.Store c.in_err-make_tables.ensures.works.stays) in
     let fault = c.in_err-make_tables.field-0.0 in
     let is = err_from_is_err_and c.from_residual-in_err-make_tables.result c.from_residual-in_err-make_tables.ensures.1 in
     rw is.1 (record {
@@ -100,7 +100,7 @@ returns-in_err-make_tables g c =
           let before = clean_before stays clean in
           let last = subst (λ t. HasCleanDisk (state g.S.Store t.conn.now)) (sym same) clean in
           let failed = subst (λ t. FailsToMake (state g.S.Store) c.find_format.new.tx.conn.now t.conn.now fault) same
-          (lent_fails g.S.Store _ c.make_tables.new.tx fault (c.in_err-make_tables.ensures.cause last (told.stays.inside before inside))) in
+          (lent_fails g.S.Store _ c.make_tables.new.tx fault (c.in_err-make_tables.ensures.works.cause last (told.stays.inside before inside))) in
           inr (c.find_format.new.tx.conn.now, fault, matched_none _ _ c.in_ok-version.field-0 c.in_default.is (told.told before), told.stays.survives, failed, is.2);
       made = λ clean lacks. tt;
       still = λ clean. tt;

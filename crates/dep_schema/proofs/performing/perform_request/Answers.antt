@@ -92,8 +92,8 @@ returns-in_err-check_open g c =
     let after = state g.S.Store c.connection-2-1.given.0 in
     let first = back_by_rollback g.S.Store old inside mid work
     c.rollback.ensures.undone c.rollback.ensures.survives (c.is_autocommit-between.ensures.settled (c.is_autocommit-between.ensures.value ∙ ap not c.requires.settled)) _ same in
-    let back = back_then (state g.S.Store old) after (state g.S.Store new) first c.check_open.ensures.back in
-    let survives = none_then (state g.S.Store old) after (state g.S.Store new) (none_by_rollback g.S.Store old inside mid work c.rollback.ensures.survives _ same) c.check_open.ensures.survives in
+    let back = back_then (state g.S.Store old) after (state g.S.Store new) first c.check_open.ensures.restored.back in
+    let survives = none_then (state g.S.Store old) after (state g.S.Store new) (none_by_rollback g.S.Store old inside mid work c.rollback.ensures.survives _ same) c.check_open.ensures.restored.survives in
     let result = c.from_residual-in_err-check_open.result in
     let is_err = c.from_residual-in_err-check_open.ensures.0 in
     record {
@@ -119,9 +119,9 @@ returns g c =
     let after = state g.S.Store c.connection-2-1.given.0 in
     let first = back_by_rollback g.S.Store old inside mid work
     c.rollback.ensures.undone c.rollback.ensures.survives (c.is_autocommit-between.ensures.settled (c.is_autocommit-between.ensures.value ∙ ap not c.requires.settled)) _ same in
-    let back = back_then (state g.S.Store old) after (state g.S.Store new) first c.check_open.ensures.back in
-    let survives = none_then (state g.S.Store old) after (state g.S.Store new) (none_by_rollback g.S.Store old inside mid work c.rollback.ensures.survives _ same) c.check_open.ensures.survives in
-    let later = subst (λ h. Survives (state g.S.Store h) (state g.S.Store new) (λ _. ⊥)) (sym same) c.check_open.ensures.survives in
+    let back = back_then (state g.S.Store old) after (state g.S.Store new) first c.check_open.ensures.restored.back in
+    let survives = none_then (state g.S.Store old) after (state g.S.Store new) (none_by_rollback g.S.Store old inside mid work c.rollback.ensures.survives _ same) c.check_open.ensures.restored.survives in
+    let later = subst (λ h. Survives (state g.S.Store h) (state g.S.Store new) (λ _. ⊥)) (sym same) c.check_open.ensures.restored.survives in
     let given : IsGivenBack (state g.S.Store old) (state g.S.Store new) = record { opened = c.in_ok-check_open.ensures.opened; back = back; survives = survives } in
     let made = works g.S.Store old inside c.args.service.now c.args.operation.now c.args.running.now c.in_ok-performed.performed worked.map worked.ours in
     let none : c.in_ok-performed.performed.has_changes ≡ false = c.if-performed.false in

@@ -9,26 +9,26 @@ use Rattle.dep_schema.proofs.upgrading.extend_schema.Goals as goal
 pub returns-clause-ok : goal.returns-clause-ok
 returns-clause-ok g c clean inside older =
     let created = c.in_ok-create_sha512s.ensures in
-    let before = clean_before c.create_indexes.ensures.stays clean in
-    ok_then c.create_indexes.result (c.create_indexes.ensures.adds clean (created.stays.inside before inside))
+    let before = clean_before c.create_indexes.ensures.works.stays clean in
+    ok_then c.create_indexes.result (c.create_indexes.ensures.adds clean (created.works.stays.inside before inside))
     (λ both. extends (g.T.Statements.state c.args.tx.now) (g.T.Statements.state c.create_sha512s.new.tx) (g.T.Statements.state c.create_indexes.new.tx) older (created.adds before inside) both)
 
 pub returns-clause-free : goal.returns-clause-free
 returns-clause-free g c clean inside =
     let created = c.in_ok-create_sha512s.ensures in
-    let before = clean_before c.create_indexes.ensures.stays clean in
-    ok_then c.create_indexes.result (c.create_indexes.ensures.adds clean (created.stays.inside before inside))
+    let before = clean_before c.create_indexes.ensures.works.stays clean in
+    ok_then c.create_indexes.result (c.create_indexes.ensures.adds clean (created.works.stays.inside before inside))
     (free_new (g.T.Statements.state c.args.tx.now).now (g.T.Statements.state c.create_sha512s.new.tx).now (g.T.Statements.state c.create_indexes.new.tx).now (created.adds before inside))
 
-pub returns-clause-cause : goal.returns-clause-cause
-returns-clause-cause g c clean inside =
-    let created = c.in_ok-create_sha512s.ensures in
-    let before = clean_before c.create_indexes.ensures.stays clean in
-    if_err_then c.create_indexes.result (c.create_indexes.ensures.cause clean (created.stays.inside before inside))
-    (λ fault failed. inr (c.create_sha512s.new.tx, created.adds before inside, created.stays.survives, failed))
-
-pub returns-clause-stays : goal.returns-clause-stays
-returns-clause-stays g c = stays_then c.in_ok-create_sha512s.ensures.stays c.create_indexes.ensures.stays
+pub returns-clause-works : goal.returns-clause-works
+returns-clause-works g c = record {
+  cause = λ clean inside.
+      let created = c.in_ok-create_sha512s.ensures in
+      let before = clean_before c.create_indexes.ensures.works.stays clean in
+      if_err_then c.create_indexes.result (c.create_indexes.ensures.works.cause clean (created.works.stays.inside before inside))
+      (λ fault failed. inr (c.create_sha512s.new.tx, created.adds before inside, created.works.stays.survives, failed));
+  stays = stays_then c.in_ok-create_sha512s.ensures.works.stays c.create_indexes.ensures.works.stays;
+}
 
 -- where the table was not made, nothing is said of an Ok
 pub returns-in_err-create_sha512s : goal.returns-in_err-create_sha512s
@@ -37,6 +37,8 @@ returns-in_err-create_sha512s g c =
     record {
       ok = λ clean inside older. IfOk-from_err c.from_residual.result _ is_err;
       free = λ clean inside. IfOk-from_err c.from_residual.result _ is_err;
-      cause = λ clean inside. if_err_is _ c.from_residual.result _ c.from_residual.ensures.1 (inl (c.in_err-create_sha512s.ensures.cause clean inside));
-      stays = stays_err {r = Err c.in_err-create_sha512s.field-0.0} is_err c.in_err-create_sha512s.ensures.stays;
+      works = record {
+        cause = λ clean inside. if_err_is _ c.from_residual.result _ c.from_residual.ensures.1 (inl (c.in_err-create_sha512s.ensures.works.cause clean inside));
+        stays = stays_err {r = Err c.in_err-create_sha512s.field-0.0} is_err c.in_err-create_sha512s.ensures.works.stays;
+      };
     }

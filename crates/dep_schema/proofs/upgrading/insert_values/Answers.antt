@@ -21,19 +21,22 @@ values-preserved g c =
           record { ours = leads.ours; rows = one_more_value (tables_of old) (tables_of mid) (tables_of new) c.args.values.now c.values.value-index _ within was.rows leads.rows },
     )
 
-pub returns-in_err-insert_sha512-clause-stays : goal.returns-in_err-insert_sha512-clause-stays
-returns-in_err-insert_sha512-clause-stays g c = stays_err c.from_residual.ensures.0 (stays_then c.values.invariant.0 c.insert_sha512.ensures.keeps.stays)
-
 pub returns-clause-ok : goal.returns-clause-ok
 returns-clause-ok g c = rw (take_all c.values.value-index c.args.values.now c.values-test.false) at c.values.invariant.1
 
-pub returns-in_err-insert_sha512-clause-cause : goal.returns-in_err-insert_sha512-clause-cause
-returns-in_err-insert_sha512-clause-cause g c any clean inside =
-    let stays = c.values.invariant.0 in
-    let before = clean_before c.insert_sha512.ensures.keeps.stays clean in
-    let within : c.values.value-index < length c.args.values.now = omega arith in
-    let goes_on = stays.inside before inside in
-    let failed = c.in_err-insert_sha512.ensures in
-    if_err_is _ c.from_residual.result _ c.from_residual.ensures.1
-    (put_fails g.T.Statements.state c.args.values.now c.args.tx.now c.values.tx c.insert_sha512.new.tx stays.survives c.values.value-index _ within _
-    (λ below. failed.cause below clean goes_on) (λ above. told_fault (failed.numbers above).0))
+pub returns-in_err-insert_sha512-clause-works : goal.returns-in_err-insert_sha512-clause-works
+returns-in_err-insert_sha512-clause-works g c = record {
+  cause = λ clean inside.
+      let stays = c.values.invariant.0 in
+      let before = clean_before c.insert_sha512.ensures.keeps.stays clean in
+      let within : c.values.value-index < length c.args.values.now = omega arith in
+      let goes_on = stays.inside before inside in
+      let failed = c.in_err-insert_sha512.ensures in
+      if_err_is _ c.from_residual.result _ c.from_residual.ensures.1
+      (put_fails g.T.Statements.state c.args.values.now c.args.tx.now c.values.tx c.insert_sha512.new.tx stays.survives c.values.value-index _ within _
+      (λ below. failed.cause below clean goes_on) (λ above. told_fault (failed.numbers above).0));
+  stays = stays_err c.from_residual.ensures.0 (stays_then c.values.invariant.0 c.insert_sha512.ensures.keeps.stays);
+}
+
+pub returns-clause-works : goal.returns-clause-works
+returns-clause-works g c = record { cause = λ clean inside. tt; stays = stays_ok c.values.invariant.0 }

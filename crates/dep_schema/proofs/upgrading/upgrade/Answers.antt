@@ -23,12 +23,12 @@ use Rattle.dep_schema.proofs.upgrading.upgrade.Goals as goal
 pub returns-in_err-upgrade_tables : goal.returns-in_err-upgrade_tables
 returns-in_err-upgrade_tables g c =
     let old = c.args.connection.now in
-    let left : c.upgrade_tables.new.tx.tx.now ≡ c.tx-2-1.given.0 = sym (c.tx-2-1.given.1 (lent_name g.S.Store c.in_err-upgrade_tables.ensures.stays)) in
+    let left : c.upgrade_tables.new.tx.tx.now ≡ c.tx-2-1.given.0 = sym (c.tx-2-1.given.1 (lent_name g.S.Store c.in_err-upgrade_tables.ensures.works.stays)) in
     let inside = c.tx-2-1.given.0.conn.now in
     let new = c.drop-tx.new.self.0 in
-    let work = works_within g.S.Store old new c.in_err-upgrade_tables.ensures.stays c.transaction-tx.ensures.begun left (λ is_open trees h. g.met.S.Store.settled old.store trees is_open h)
+    let work = works_within g.S.Store old new c.in_err-upgrade_tables.ensures.works.stays c.transaction-tx.ensures.begun left (λ is_open trees h. g.met.S.Store.settled old.store trees is_open h)
     (clean_if_open (g.S.Store.view new.store) (g.met.S.Store.shut_if_dirty new.store)) in
-    let same : new ≡ c.connection-1.given.0 = sym (c.connection-1.given.1 (lent_connection g.S.Store c.in_err-upgrade_tables.ensures.stays left c.transaction-tx.ensures.same_reference)) in
+    let same : new ≡ c.connection-1.given.0 = sym (c.connection-1.given.1 (lent_connection g.S.Store c.in_err-upgrade_tables.ensures.works.stays left c.transaction-tx.ensures.same_reference)) in
     record {
       mode = subst (λ (h : Held g.row.S.Denot). (state g.S.Store h).in_transaction ≡ false) same c.drop-tx.ensures.ended;
       upgrades = gave_up g.S.Store old inside new _ c.from_residual.result c.from_residual.ensures.0 work
@@ -37,7 +37,7 @@ returns-in_err-upgrade_tables g c =
       cause = subst (λ (h : Held g.row.S.Denot). HasCleanDisk (state g.S.Store h) → IfErr c.from_residual.result (FailsToUpgrade g.S.Store old h c.args.values.now)) same
           (λ clean. if_err_is _ c.from_residual.result _ c.from_residual.ensures.1
           (statement_failed g.S.Store c.args.values.now old _ c.upgrade_tables.new.tx c.tx-2-1.given.0 c.transaction-tx.ensures.begun left new _
-          (c.in_err-upgrade_tables.ensures.cause (subst (λ (tx : Transaction g.row.S.Denot). HasCleanDisk (state g.S.Store tx.conn.now)) (sym left) (was_clean (state g.S.Store inside) (state g.S.Store new) c.drop-tx.ensures.survives clean))
+          (c.in_err-upgrade_tables.ensures.works.cause (subst (λ (tx : Transaction g.row.S.Denot). HasCleanDisk (state g.S.Store tx.conn.now)) (sym left) (was_clean (state g.S.Store inside) (state g.S.Store new) c.drop-tx.ensures.survives clean))
           (subst (λ (h : Held g.row.S.Denot). IsTrue h.in_transaction) (sym c.transaction-tx.ensures.begun) refl)) c.drop-tx.ensures.survives));
       left = λ is_open. if_failed c.from_residual.result (upgrade_back g.S.Store old inside new work _ same c.drop-tx.ensures.survives c.drop-tx.ensures.undone is_open);
       crash = crash_given_up g.S.Store old inside new work _ same _ c.drop-tx.ensures.survives;
@@ -46,14 +46,14 @@ returns-in_err-upgrade_tables g c =
 pub returns : goal.returns
 returns g c =
     let old = c.args.connection.now in
-    let left : c.upgrade_tables.new.tx.tx.now ≡ c.tx-2-1.given.0 = sym (c.tx-2-1.given.1 (lent_name g.S.Store c.in_ok-upgrade_tables.ensures.stays)) in
+    let left : c.upgrade_tables.new.tx.tx.now ≡ c.tx-2-1.given.0 = sym (c.tx-2-1.given.1 (lent_name g.S.Store c.in_ok-upgrade_tables.ensures.works.stays)) in
     let inside = c.tx-2-1.given.0.conn.now in
     let new = c.commit.new.tx.0 in
     let told = c.in_ok-upgrade_tables.ensures in
-    let worked = rewritten_within g.S.Store old c.args.values.now told.stays c.transaction-tx.ensures.begun left (record { ok = told.ok; free = told.free }) in
-    let work = works_within g.S.Store old new told.stays c.transaction-tx.ensures.begun left (λ is_open trees h. g.met.S.Store.settled old.store trees is_open h)
+    let worked = rewritten_within g.S.Store old c.args.values.now told.works.stays c.transaction-tx.ensures.begun left (record { ok = told.ok; free = told.free }) in
+    let work = works_within g.S.Store old new told.works.stays c.transaction-tx.ensures.begun left (λ is_open trees h. g.met.S.Store.settled old.store trees is_open h)
     (clean_if_open (g.S.Store.view new.store) (g.met.S.Store.shut_if_dirty new.store)) in
-    let same : new ≡ c.connection-2-1.given.0 = sym (c.connection-2-1.given.1 (lent_connection g.S.Store c.in_ok-upgrade_tables.ensures.stays left c.transaction-tx.ensures.same_reference)) in
+    let same : new ≡ c.connection-2-1.given.0 = sym (c.connection-2-1.given.1 (lent_connection g.S.Store c.in_ok-upgrade_tables.ensures.works.stays left c.transaction-tx.ensures.same_reference)) in
     record {
       mode = subst (λ (h : Held g.row.S.Denot). (state g.S.Store h).in_transaction ≡ false) same c.commit.ensures.ended;
       upgrades = committed g.S.Store old inside new _ _ work
@@ -69,21 +69,21 @@ returns g c =
 pub returns-in_err-commit : goal.returns-in_err-commit
 returns-in_err-commit g c =
     let old = c.args.connection.now in
-    let left : c.upgrade_tables.new.tx.tx.now ≡ c.tx-2-1.given.0 = sym (c.tx-2-1.given.1 (lent_name g.S.Store c.in_ok-upgrade_tables.ensures.stays)) in
+    let left : c.upgrade_tables.new.tx.tx.now ≡ c.tx-2-1.given.0 = sym (c.tx-2-1.given.1 (lent_name g.S.Store c.in_ok-upgrade_tables.ensures.works.stays)) in
     let inside = c.tx-2-1.given.0.conn.now in
     let new = c.commit.new.tx.0 in
     let told = c.in_ok-upgrade_tables.ensures in
-    let worked = rewritten_within g.S.Store old c.args.values.now told.stays c.transaction-tx.ensures.begun left (record { ok = told.ok; free = told.free }) in
-    let work = works_within g.S.Store old new told.stays c.transaction-tx.ensures.begun left (λ is_open trees h. g.met.S.Store.settled old.store trees is_open h)
+    let worked = rewritten_within g.S.Store old c.args.values.now told.works.stays c.transaction-tx.ensures.begun left (record { ok = told.ok; free = told.free }) in
+    let work = works_within g.S.Store old new told.works.stays c.transaction-tx.ensures.begun left (λ is_open trees h. g.met.S.Store.settled old.store trees is_open h)
     (clean_if_open (g.S.Store.view new.store) (g.met.S.Store.shut_if_dirty new.store)) in
     let last = c.connection-2-1.given.0 in
-    let same : new ≡ last = sym (c.connection-2-1.given.1 (lent_connection g.S.Store c.in_ok-upgrade_tables.ensures.stays left c.transaction-tx.ensures.same_reference)) in
+    let same : new ≡ last = sym (c.connection-2-1.given.1 (lent_connection g.S.Store c.in_ok-upgrade_tables.ensures.works.stays left c.transaction-tx.ensures.same_reference)) in
     let fault = c.in_err-commit.field-0.0 in
     let result = c.from_residual-in_err-commit.result in
     let is_err = c.from_residual-in_err-commit.ensures.0 in
     let passed = err_from_is_err_and result c.from_residual-in_err-commit.ensures.1 in
     let is : result ≡ Err fault = passed.1 ∙ ap Err passed.2 in
-    let within = still_inside g.S.Store old told.stays c.transaction-tx.ensures.begun left in
+    let within = still_inside g.S.Store old told.works.stays c.transaction-tx.ensures.begun left in
     record {
       mode = subst (λ (h : Held g.row.S.Denot). (state g.S.Store h).in_transaction ≡ false) same c.commit.ensures.ended;
       upgrades = subst (λ (r : Result ⊤ StoreFault). TransactsTo older_schema our_schema (state g.S.Store old) (state g.S.Store last) r (λ t _ after. after ≡ upgraded c.args.values.now t)) (sym is)
@@ -95,7 +95,7 @@ returns-in_err-commit g c =
           (λ clean.
           let before = clean_last (state g.S.Store inside) (state g.S.Store new) _ c.commit.ensures.survives clean in
           if_err_is _ result fault c.from_residual-in_err-commit.ensures.1
-          (commit_failed g.S.Store c.args.values.now old _ c.upgrade_tables.new.tx c.tx-2-1.given.0 c.transaction-tx.ensures.begun left new fault told.stays
+          (commit_failed g.S.Store c.args.values.now old _ c.upgrade_tables.new.tx c.tx-2-1.given.0 c.transaction-tx.ensures.begun left new fault told.works.stays
           before (worked.free before refl) (c.in_err-commit.ensures.err clean)));
       left = λ is_open. if_failed result (commit_back g.S.Store old inside new work _ same fault c.commit.ensures.survives within c.in_err-commit.ensures.err is_open);
       crash = crash_committing g.S.Store old inside new work _ same _ c.commit.ensures.survives (λ clean. worked.free clean refl);

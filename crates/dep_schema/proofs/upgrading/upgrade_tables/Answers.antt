@@ -12,32 +12,32 @@ returns-clause-ok g c clean inside older =
     let extended = c.in_ok-extend_schema.ensures in
     let inserted = c.in_ok-insert_values.ensures in
     let filled = clean_before c.write_version.ensures.keeps.stays clean in
-    let there = clean_before inserted.stays filled in
+    let there = clean_before inserted.works.stays filled in
     let made = extended.ok there inside older in
-    let goes_on = extended.stays.inside there inside in
+    let goes_on = extended.works.stays.inside there inside in
     let put = inserted.ok filled goes_on made.ours in
-    ok_then c.write_version.result (c.write_version.ensures.ok clean (inserted.stays.inside filled goes_on) put.ours)
+    ok_then c.write_version.result (c.write_version.ensures.ok clean (inserted.works.stays.inside filled goes_on) put.ours)
     (λ led. record { ours = led.ours; rows = led.rows ∙ ap with_our_version (put.rows ∙ ap (with_sha512s c.args.values.now) made.rows) })
 
 pub returns-clause-free : goal.returns-clause-free
 returns-clause-free g c clean inside =
     let extended = c.in_ok-extend_schema.ensures in
-    let there = clean_before c.in_ok-insert_values.ensures.stays (clean_before c.write_version.ensures.keeps.stays clean) in
+    let there = clean_before c.in_ok-insert_values.ensures.works.stays (clean_before c.write_version.ensures.keeps.stays clean) in
     if_ok c.write_version.result (extended.free there inside)
 
-pub returns-clause-cause : goal.returns-clause-cause
-returns-clause-cause g c clean inside =
-    let extended = c.in_ok-extend_schema.ensures in
-    let inserted = c.in_ok-insert_values.ensures in
-    let filled = clean_before c.write_version.ensures.keeps.stays clean in
-    let there = clean_before inserted.stays filled in
-    let goes_on = inserted.stays.inside filled (extended.stays.inside there inside) in
-    let since = survived (g.T.Statements.state c.args.tx.now) (g.T.Statements.state c.extend_schema.new.tx) (g.T.Statements.state c.insert_values.new.tx) extended.stays.survives inserted.stays.survives in
-    if_err_then c.write_version.result (c.write_version.ensures.cause clean goes_on)
-    (λ fault failed. inr (extended.free there inside, fails_then g.T.Statements.state c.args.tx.now c.insert_values.new.tx c.write_version.new.tx since (FailsToFill c.args.values.now) fault (inr failed)))
-
-pub returns-clause-stays : goal.returns-clause-stays
-returns-clause-stays g c = stays_then c.in_ok-extend_schema.ensures.stays (stays_then c.in_ok-insert_values.ensures.stays c.write_version.ensures.keeps.stays)
+pub returns-clause-works : goal.returns-clause-works
+returns-clause-works g c = record {
+  cause = λ clean inside.
+      let extended = c.in_ok-extend_schema.ensures in
+      let inserted = c.in_ok-insert_values.ensures in
+      let filled = clean_before c.write_version.ensures.keeps.stays clean in
+      let there = clean_before inserted.works.stays filled in
+      let goes_on = inserted.works.stays.inside filled (extended.works.stays.inside there inside) in
+      let since = survived (g.T.Statements.state c.args.tx.now) (g.T.Statements.state c.extend_schema.new.tx) (g.T.Statements.state c.insert_values.new.tx) extended.works.stays.survives inserted.works.stays.survives in
+      if_err_then c.write_version.result (c.write_version.ensures.cause clean goes_on)
+      (λ fault failed. inr (extended.free there inside, fails_then g.T.Statements.state c.args.tx.now c.insert_values.new.tx c.write_version.new.tx since (FailsToFill c.args.values.now) fault (inr failed)));
+  stays = stays_then c.in_ok-extend_schema.ensures.works.stays (stays_then c.in_ok-insert_values.ensures.works.stays c.write_version.ensures.keeps.stays);
+}
 
 -- where the schema was not extended, or a value not put in, nothing is said of an Ok
 pub returns-in_err-extend_schema : goal.returns-in_err-extend_schema
@@ -46,8 +46,10 @@ returns-in_err-extend_schema g c =
     record {
       ok = λ clean inside older. IfOk-from_err c.from_residual.result _ is_err;
       free = λ clean inside. IfOk-from_err c.from_residual.result _ is_err;
-      cause = λ clean inside. if_err_is _ c.from_residual.result _ c.from_residual.ensures.1 (inl (c.in_err-extend_schema.ensures.cause clean inside));
-      stays = stays_err {r = Err c.in_err-extend_schema.field-0.0} is_err c.in_err-extend_schema.ensures.stays;
+      works = record {
+        cause = λ clean inside. if_err_is _ c.from_residual.result _ c.from_residual.ensures.1 (inl (c.in_err-extend_schema.ensures.works.cause clean inside));
+        stays = stays_err {r = Err c.in_err-extend_schema.field-0.0} is_err c.in_err-extend_schema.ensures.works.stays;
+      };
     }
 
 pub returns-in_err-insert_values : goal.returns-in_err-insert_values
@@ -58,13 +60,15 @@ returns-in_err-insert_values g c =
     record {
       ok = λ clean inside older. IfOk-from_err c.from_residual-in_err-insert_values.result _ is_err;
       free = λ clean inside. IfOk-from_err c.from_residual-in_err-insert_values.result _ is_err;
-      cause = λ clean inside.
-          let there = clean_before failed.stays clean in
-          if_err_is _ c.from_residual-in_err-insert_values.result _ c.from_residual-in_err-insert_values.ensures.1
-          (inr (
-            extended.free there inside,
-            fails_later g.T.Statements.state c.args.tx.now c.extend_schema.new.tx c.insert_values.new.tx extended.stays.survives (FailsToPut c.args.values.now) (FailsToFill c.args.values.now)
-                (λ at now fault by. inl by) _ (failed.cause tt clean (extended.stays.inside there inside)),
-          ));
-      stays = stays_err is_err (stays_then {r = Err c.in_err-insert_values.field-0.0} extended.stays failed.stays);
+      works = record {
+        cause = λ clean inside.
+            let there = clean_before failed.works.stays clean in
+            if_err_is _ c.from_residual-in_err-insert_values.result _ c.from_residual-in_err-insert_values.ensures.1
+            (inr (
+              extended.free there inside,
+              fails_later g.T.Statements.state c.args.tx.now c.extend_schema.new.tx c.insert_values.new.tx extended.works.stays.survives (FailsToPut c.args.values.now) (FailsToFill c.args.values.now)
+                  (λ at now fault by. inl by) _ (failed.works.cause clean (extended.works.stays.inside there inside)),
+            ));
+        stays = stays_err is_err (stays_then {r = Err c.in_err-insert_values.field-0.0} extended.works.stays failed.works.stays);
+      };
     }

@@ -2,7 +2,10 @@ use Rattle.std.proofs.Common.{ℕ, List, subst, ◌∙◌}
 use Rattle.dep_store.specs.Reporting.{IsWritten}
 use Rattle.dep_store.proofs.lines.write_count.Goals as goal
 
-pub returns-clause-writes : goal.returns-clause-writes
-returns-clause-writes g c =
+pub returns : goal.returns
+returns g c =
     let wrote = c.write_line.ensures.writes in
-    (wrote.0, wrote.1, subst (λ (l : List ℕ). IsWritten l wrote.0 c.write_line.result) (c.as_str.ensures.value ∙ c.in_ok-line.ensures) wrote.2)
+    record {
+      writes = (wrote.0, wrote.1, subst (λ (l : List ℕ). IsWritten l wrote.0 c.write_line.result) (c.as_str.ensures.value ∙ c.in_ok-line.ensures) wrote.2);
+      blames = c.write_line.ensures.blames;
+    }

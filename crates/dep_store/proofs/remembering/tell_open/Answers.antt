@@ -8,23 +8,21 @@ use Rattle.dep_store.specs.Archive.{shown_by}
 use Rattle.dep_store.proofs.ShutLemmas.{closed_if_shut, fails_alone}
 use Rattle.dep_store.proofs.remembering.tell_open.Goals as goal
 
-pub returns-in-Err-clause-told : goal.returns-in-Err-clause-told
-returns-in-Err-clause-told g c =
+pub returns-in-Ok : goal.returns-in-Ok
+returns-in-Ok g c = record { told = λ clean. c.in-Ok.ensures.opened clean; cause = λ clean. tt; restored = c.in-Ok.ensures.restored }
+
+pub returns-in-Err : goal.returns-in-Err
+returns-in-Err g c =
     let old = state g.S.Store c.args.connection.now in
     let new = state g.S.Store c.probe.new.connection in
-    IfOk-weaker c.told_by.result _ _
-    (λ (b : Bool) (shut, closed). subst (λ (b : Bool). TellsOpen (shown_by new) b) (sym shut) (λ is_open.
-    let clean = clean_if_open (g.S.Store.view c.probe.new.connection.store) (g.met.S.Store.shut_if_dirty c.probe.new.connection.store) is_open in
-    closed_if_shut old new _ c.in-Err.error (c.in-Err.ensures.cause clean) closed is_open))
-    c.told_by.ensures.shut
-
-pub returns-in-Err-clause-cause : goal.returns-in-Err-clause-cause
-returns-in-Err-clause-cause g c clean =
-    let old = state g.S.Store c.args.connection.now in
-    let new = state g.S.Store c.probe.new.connection in
-    IfErr-weaker c.told_by.result _ _
-    (λ (fault : StoreFault) (same, other). inr (c.in-Err.error, fails_alone old new c.in-Err.error (c.in-Err.ensures.cause clean), other, same))
-    c.told_by.ensures.fault
-
-pub returns-in-Ok-clause-told : goal.returns-in-Ok-clause-told
-returns-in-Ok-clause-told g c = λ clean. c.in-Ok.ensures.opened clean
+    record {
+      told = IfOk-weaker c.told_by.result _ _
+          (λ (b : Bool) (shut, closed). subst (λ (b : Bool). TellsOpen (shown_by new) b) (sym shut) (λ is_open.
+          let clean = clean_if_open (g.S.Store.view c.probe.new.connection.store) (g.met.S.Store.shut_if_dirty c.probe.new.connection.store) is_open in
+          closed_if_shut old new _ c.in-Err.error (c.in-Err.ensures.cause clean) closed is_open))
+          c.told_by.ensures.shut;
+      cause = λ clean. IfErr-weaker c.told_by.result _ _
+          (λ (fault : StoreFault) (same, other). inr (c.in-Err.error, fails_alone old new c.in-Err.error (c.in-Err.ensures.cause clean), other, same))
+          c.told_by.ensures.fault;
+      restored = c.in-Err.ensures.restored;
+    }

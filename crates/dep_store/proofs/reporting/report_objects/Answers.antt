@@ -1,62 +1,85 @@
-use Rattle.std.proofs.Common.{◌++◌, [], refl, subst, ◌∙◌}
+use Rattle.std.proofs.Common.{◌++◌, [], Err, refl, subst, ◌∙◌}
 use Rattle.std.proofs.KnownBytes.{Appends-nil, Appends-trans}
 use Rattle.dep_tables.specs.Edits.{IsObjectAfter}
+use Rattle.dep_store.specs.declared.tally.Tally.{Tally}
+use Rattle.dep_store.specs.declared.audit_fault.AuditFault.TheVariants.{Store}
+use Rattle.dep_store.proofs.LineLemmas.{blame_none, blame_passed}
 use Rattle.dep_store.proofs.ReportLemmas.{objects_rise, told_none, told_so_far, told_more, told_all, objects_fail, sum_fails, begun_fails}
 use Rattle.dep_store.proofs.Tries.{tells_keeps, keeps_then, keeps_still}
 use Rattle.dep_store.proofs.reporting.report_objects.Goals as goal
 
-pub returns-in_default-clause-writes : goal.returns-in_default-clause-writes
-returns-in_default-clause-writes g c =
-    let before = c.objects.invariant.writes in (
-      before.0,
-      before.1,
-      λ clean t at. let earlier = c.in_ok-object.ensures.rows.honest clean in
-          let after = (c.in_ok-object.ensures.rows.ok clean t (c.objects.invariant.kept earlier t at)).0 in
-          told_all t c.objects.after before.0 c.objects.tally (before.2 earlier t at) (subst (IsObjectAfter c.objects.after t) c.in_default.is after),
-    )
+pub returns-in_default : goal.returns-in_default
+returns-in_default g c =
+    let before = c.objects.invariant.writes in record {
+      writes = (
+        before.0,
+        before.1,
+        λ clean t at. let earlier = c.in_ok-object.ensures.rows.honest clean in
+            let after = (c.in_ok-object.ensures.rows.ok clean t (c.objects.invariant.kept earlier t at)).0 in
+            told_all t c.objects.after before.0 c.objects.tally (before.2 earlier t at) (subst (IsObjectAfter c.objects.after t) c.in_default.is after),
+      );
+      stays =
+          let inv = c.objects.invariant in
+          keeps_then _ _ _ inv.kept inv.stays (tells_keeps _ _ _ _ c.in_ok-object.ensures.rows);
+      blames = blame_none _ _ _ c.objects.invariant.count (λ is. cc is);
+    }
 
-pub returns-in_err-more-clause-writes : goal.returns-in_err-more-clause-writes
-returns-in_err-more-clause-writes g c =
+pub returns-in_err-more : goal.returns-in_err-more
+returns-in_err-more g c =
     let before = c.objects.invariant.writes in
-    let more = c.in_err-more.ensures.writes in (
-      before.0 ++ more.0,
-      Appends-trans (g.W.Outlet.taken c.args.out.now) (g.W.Outlet.taken c.objects.out) (g.W.Outlet.taken c.report_object.new.out) before.0 more.0 before.1 more.1,
-      λ clean t at. let mid = c.in_err-more.ensures.stays.honest clean in
-          let earlier = c.in_ok-object.ensures.rows.honest mid in
-          let stood = c.objects.invariant.kept earlier t at in
-          let after = c.in_ok-object.ensures.rows.ok mid t stood in
-          objects_fail t (objects_rise stood) c.objects.after c.in-Some.object before.0 c.objects.tally (before.2 earlier t at)
-          (subst (IsObjectAfter c.objects.after t) c.in-Some.is after.0) more.0 (c.in_err-more.field-0.0) (more.2 clean t after.1)
-          c.from_residual-in_err-more.result c.from_residual-in_err-more.ensures.1,
-    )
+    let more = c.in_err-more.ensures.reports.writes in record {
+      writes = (
+        before.0 ++ more.0,
+        Appends-trans (g.W.Outlet.taken c.args.out.now) (g.W.Outlet.taken c.objects.out) (g.W.Outlet.taken c.report_object.new.out) before.0 more.0 before.1 more.1,
+        λ clean t at. let mid = c.in_err-more.ensures.reports.stays.honest clean in
+            let earlier = c.in_ok-object.ensures.rows.honest mid in
+            let stood = c.objects.invariant.kept earlier t at in
+            let after = c.in_ok-object.ensures.rows.ok mid t stood in
+            objects_fail t (objects_rise stood) c.objects.after c.in-Some.object before.0 c.objects.tally (before.2 earlier t at)
+            (subst (IsObjectAfter c.objects.after t) c.in-Some.is after.0) more.0 (c.in_err-more.field-0.0) (more.2 clean t after.1)
+            c.from_residual-in_err-more.result c.from_residual-in_err-more.ensures.1,
+      );
+      stays =
+          let inv = c.objects.invariant in
+          let rows = c.in_ok-object.ensures.rows in
+          keeps_then _ _ _ (λ clean t at. (rows.ok clean t (inv.kept (rows.honest clean) t at)).1) (keeps_then _ _ _ inv.kept inv.stays (tells_keeps _ _ _ _ rows)) c.in_err-more.ensures.reports.stays;
+      blames = blame_passed _ _ _ c.objects.invariant.count c.in_err-more.field-0.0 c.in_err-more.ensures.reports.blames c.from_residual-in_err-more.result c.from_residual-in_err-more.ensures.1;
+    }
 
-pub returns-in_err-tally-clause-writes : goal.returns-in_err-tally-clause-writes
-returns-in_err-tally-clause-writes g c =
+pub returns-in_err-tally : goal.returns-in_err-tally
+returns-in_err-tally g c =
     let before = c.objects.invariant.writes in
-    let more = c.in_ok-more.ensures.writes in (
-      before.0 ++ more.0,
-      Appends-trans (g.W.Outlet.taken c.args.out.now) (g.W.Outlet.taken c.objects.out) (g.W.Outlet.taken c.report_object.new.out) before.0 more.0 before.1 more.1,
-      λ clean t at. let mid = c.in_ok-more.ensures.stays.honest clean in
-          let earlier = c.in_ok-object.ensures.rows.honest mid in
-          let stood = c.objects.invariant.kept earlier t at in
-          let after = c.in_ok-object.ensures.rows.ok mid t stood in
-          sum_fails t (objects_rise stood) c.objects.after c.in-Some.object before.0 c.objects.tally (before.2 earlier t at)
-          (subst (IsObjectAfter c.objects.after t) c.in-Some.is after.0) more.0 c.in_ok-more.more (more.2 clean t after.1)
-          _ c.from_residual-in_err-tally.result c.from_residual-in_err-tally.ensures.1,
-    )
+    let more = c.in_ok-more.ensures.reports.writes in record {
+      writes = (
+        before.0 ++ more.0,
+        Appends-trans (g.W.Outlet.taken c.args.out.now) (g.W.Outlet.taken c.objects.out) (g.W.Outlet.taken c.report_object.new.out) before.0 more.0 before.1 more.1,
+        λ clean t at. let mid = c.in_ok-more.ensures.reports.stays.honest clean in
+            let earlier = c.in_ok-object.ensures.rows.honest mid in
+            let stood = c.objects.invariant.kept earlier t at in
+            let after = c.in_ok-object.ensures.rows.ok mid t stood in
+            sum_fails t (objects_rise stood) c.objects.after c.in-Some.object before.0 c.objects.tally (before.2 earlier t at)
+            (subst (IsObjectAfter c.objects.after t) c.in-Some.is after.0) more.0 c.in_ok-more.more (more.2 clean t after.1)
+            _ c.from_residual-in_err-tally.result c.from_residual-in_err-tally.ensures.1,
+      );
+      stays =
+          let inv = c.objects.invariant in
+          let rows = c.in_ok-object.ensures.rows in
+          keeps_then _ _ _ (λ clean t at. (rows.ok clean t (inv.kept (rows.honest clean) t at)).1) (keeps_then _ _ _ inv.kept inv.stays (tells_keeps _ _ _ _ rows)) c.in_ok-more.ensures.reports.stays;
+      blames = blame_passed {X = Tally} _ _ _ c.objects.invariant.count c.in_err-tally.field-0.0 (blame_none _ _ (Err c.in_err-tally.field-0.0) c.in_ok-more.ensures.reports.blames.count c.in_err-tally.ensures.fault) c.from_residual-in_err-tally.result c.from_residual-in_err-tally.ensures.1;
+    }
 
 pub objects-preserved : goal.objects-preserved
 objects-preserved g c =
     let inv = c.objects.invariant in
     let before = inv.writes in
-    let more = c.in_ok-more.ensures.writes in record {
-      stays = keeps_then _ _ _ (λ clean t at. (c.in_ok-object.ensures.rows.ok clean t (inv.kept (c.in_ok-object.ensures.rows.honest clean) t at)).1) (keeps_then _ _ _ inv.kept inv.stays (tells_keeps _ _ _ _ c.in_ok-object.ensures.rows)) c.in_ok-more.ensures.stays;
-      kept = λ clean t at. let mid = c.in_ok-more.ensures.stays.honest clean in
+    let more = c.in_ok-more.ensures.reports.writes in record {
+      stays = keeps_then _ _ _ (λ clean t at. (c.in_ok-object.ensures.rows.ok clean t (inv.kept (c.in_ok-object.ensures.rows.honest clean) t at)).1) (keeps_then _ _ _ inv.kept inv.stays (tells_keeps _ _ _ _ c.in_ok-object.ensures.rows)) c.in_ok-more.ensures.reports.stays;
+      kept = λ clean t at. let mid = c.in_ok-more.ensures.reports.stays.honest clean in
           c.in_ok-more.ensures.kept clean t (c.in_ok-object.ensures.rows.ok mid t (inv.kept (c.in_ok-object.ensures.rows.honest mid) t at)).1;
       writes = (
         before.0 ++ more.0,
         Appends-trans (g.W.Outlet.taken c.args.out.now) (g.W.Outlet.taken c.objects.out) (g.W.Outlet.taken c.report_object.new.out) before.0 more.0 before.1 more.1,
-        λ clean t at. let mid = c.in_ok-more.ensures.stays.honest clean in
+        λ clean t at. let mid = c.in_ok-more.ensures.reports.stays.honest clean in
             let earlier = c.in_ok-object.ensures.rows.honest mid in
             let stood = inv.kept earlier t at in
             let after = c.in_ok-object.ensures.rows.ok mid t stood in
@@ -64,7 +87,7 @@ objects-preserved g c =
             (subst (IsObjectAfter c.objects.after t) c.in-Some.is after.0) more.0 c.in_ok-more.more c.in_ok-tally.tally (more.2 clean t after.1)
             c.in_ok-tally.ensures.checked c.in_ok-tally.ensures.damaged,
       );
-      count = c.in_ok-more.ensures.blames.count ∙ inv.count;
+      count = c.in_ok-more.ensures.reports.blames.count ∙ inv.count;
     }
 
 pub objects-init : goal.objects-init
@@ -75,41 +98,29 @@ objects-init g c = record {
   count = refl;
 }
 
-pub returns-in_err-object-clause-writes : goal.returns-in_err-object-clause-writes
-returns-in_err-object-clause-writes g c =
-    let before = c.objects.invariant.writes in (
-      before.0,
-      before.1,
-      λ clean t at. begun_fails t before.0 (told_so_far t c.objects.after before.0 c.objects.tally (before.2 (c.in_err-object.ensures.rows.honest clean) t at))
-          _ c.from_residual.result c.from_residual.ensures.1,
-    )
+pub returns-in_err-object : goal.returns-in_err-object
+returns-in_err-object g c =
+    let before = c.objects.invariant.writes in record {
+      writes = (
+        before.0,
+        before.1,
+        λ clean t at. begun_fails t before.0 (told_so_far t c.objects.after before.0 c.objects.tally (before.2 (c.in_err-object.ensures.rows.honest clean) t at))
+            _ c.from_residual.result c.from_residual.ensures.1,
+      );
+      stays =
+          let inv = c.objects.invariant in
+          keeps_then _ _ _ inv.kept inv.stays (tells_keeps _ _ _ _ c.in_err-object.ensures.rows);
+      blames = blame_passed {X = Tally} _ _ _ c.objects.invariant.count Store (blame_none _ _ (Err Store) refl (λ is. cc is)) c.from_residual.result c.from_residual.ensures.1;
+    }
 
-pub returns-in_err-object-clause-stays : goal.returns-in_err-object-clause-stays
-returns-in_err-object-clause-stays g c =
-    let inv = c.objects.invariant in
-    keeps_then _ _ _ inv.kept inv.stays (tells_keeps _ _ _ _ c.in_err-object.ensures.rows)
-
-pub returns-in_default-clause-stays : goal.returns-in_default-clause-stays
-returns-in_default-clause-stays g c =
-    let inv = c.objects.invariant in
-    keeps_then _ _ _ inv.kept inv.stays (tells_keeps _ _ _ _ c.in_ok-object.ensures.rows)
-
-pub returns-in_err-more-clause-stays : goal.returns-in_err-more-clause-stays
-returns-in_err-more-clause-stays g c =
-    let inv = c.objects.invariant in
-    let rows = c.in_ok-object.ensures.rows in
-    keeps_then _ _ _ (λ clean t at. (rows.ok clean t (inv.kept (rows.honest clean) t at)).1) (keeps_then _ _ _ inv.kept inv.stays (tells_keeps _ _ _ _ rows)) c.in_err-more.ensures.stays
-
-pub returns-in_err-tally-clause-stays : goal.returns-in_err-tally-clause-stays
-returns-in_err-tally-clause-stays g c =
-    let inv = c.objects.invariant in
-    let rows = c.in_ok-object.ensures.rows in
-    keeps_then _ _ _ (λ clean t at. (rows.ok clean t (inv.kept (rows.honest clean) t at)).1) (keeps_then _ _ _ inv.kept inv.stays (tells_keeps _ _ _ _ rows)) c.in_ok-more.ensures.stays
-
-pub returns-clause-writes : goal.returns-clause-writes
-returns-clause-writes g c =
-    let before = c.objects.invariant.writes in (
-      before.0,
-      before.1,
-      λ clean t at. told_so_far t c.objects.after before.0 c.objects.tally (before.2 clean t at),
-    )
+pub returns : goal.returns
+returns g c =
+    let before = c.objects.invariant.writes in record {
+      writes = (
+        before.0,
+        before.1,
+        λ clean t at. told_so_far t c.objects.after before.0 c.objects.tally (before.2 clean t at),
+      );
+      stays = c.objects.invariant.stays;
+      blames = blame_none _ _ _ c.objects.invariant.count (λ is. cc is);
+    }

@@ -14,10 +14,8 @@ returns-in_err-moved g c =
     let work = works_within g.S.Store old new c.in_err-moved.ensures.keeps.stays c.transaction-tx.ensures.begun left (λ is_open trees h. g.met.S.Store.settled old.store trees is_open h)
     (clean_if_open (g.S.Store.view new.store) (g.met.S.Store.shut_if_dirty new.store)) in
     let same : new ≡ c.connection-1.given.0 = search rules in
-    record {
-      transacts = gave_up g.S.Store old inside new _ c.from_residual.result c.from_residual.ensures.0 work
-          c.drop-tx.ensures.undone c.drop-tx.ensures.survives _ same;
-    }
+    gave_up g.S.Store old inside new _ c.from_residual.result c.from_residual.ensures.0 work
+    c.drop-tx.ensures.undone c.drop-tx.ensures.survives _ same
 
 pub returns : goal.returns
 returns g c =
@@ -29,11 +27,9 @@ returns g c =
     let work = works_within g.S.Store old new c.in_ok-moved.ensures.keeps.stays c.transaction-tx.ensures.begun left (λ is_open trees h. g.met.S.Store.settled old.store trees is_open h)
     (clean_if_open (g.S.Store.view new.store) (g.met.S.Store.shut_if_dirty new.store)) in
     let same : new ≡ c.connection-2-1.given.0 = search rules in
-    record {
-      transacts = committed g.S.Store old inside new _ _ work
-          (ticks g.S.Store old inside c.args.config.now c.args.moment c.in_ok-moved.moved c.new-clock.result c.new-clock.ensures worked.map worked.keeps.ours)
-          c.in_ok-commit.ensures.ok c.commit.ensures.survives _ same;
-    }
+    committed g.S.Store old inside new _ _ work
+    (ticks g.S.Store old inside c.args.config.now c.args.moment c.in_ok-moved.moved c.new-clock.result c.new-clock.ensures worked.map worked.keeps.ours)
+    c.in_ok-commit.ensures.ok c.commit.ensures.survives _ same
 
 pub returns-in_err-commit : goal.returns-in_err-commit
 returns-in_err-commit g c =
@@ -46,8 +42,6 @@ returns-in_err-commit g c =
     (clean_if_open (g.S.Store.view new.store) (g.met.S.Store.shut_if_dirty new.store)) in
     let same : new ≡ c.connection-2-1.given.0 = search rules in
     let told = err_from_is_err_and c.from_residual-in_err-commit.result c.from_residual-in_err-commit.ensures.1 in
-    rw (told.1, told.2) (record {
-      transacts = uncommitted g.S.Store old inside new _ c.new-clock.result c.in_err-commit.field-0.0 work
-          (ticks g.S.Store old inside c.args.config.now c.args.moment c.in_ok-moved.moved c.new-clock.result c.new-clock.ensures worked.map worked.keeps.ours)
-          (still_inside g.S.Store old c.in_ok-moved.ensures.keeps.stays c.transaction-tx.ensures.begun left) c.in_err-commit.ensures.err c.commit.ensures.survives _ same;
-    })
+    rw (told.1, told.2) (uncommitted g.S.Store old inside new _ c.new-clock.result c.in_err-commit.field-0.0 work
+    (ticks g.S.Store old inside c.args.config.now c.args.moment c.in_ok-moved.moved c.new-clock.result c.new-clock.ensures worked.map worked.keeps.ours)
+    (still_inside g.S.Store old c.in_ok-moved.ensures.keeps.stays c.transaction-tx.ensures.begun left) c.in_err-commit.ensures.err c.commit.ensures.survives _ same)

@@ -9,6 +9,6 @@ invariant_of-self-2 g c = (
   λ m is s stands.
       let was : c.self.inside.remembered ≡ c.replace-remembered.result = search rules in
       c.self.invariant.0 m (was ∙ is) s
-      (stood_before (state g.S.Store c.self.inside.connection) (state g.S.Store c.stream_if_open.new.connection) c.in_ok-stream_if_open.ensures.back (search rules) s stands),
-  λ m is clean. c.in_ok-stream_if_open.ensures.opened clean,
+      (stood_before (state g.S.Store c.self.inside.connection) (state g.S.Store c.stream_if_open.new.connection) c.in_ok-stream_if_open.ensures.stays.back (search rules) s stands),
+  λ m is clean. c.in_ok-stream_if_open.ensures.stays.opened clean,
 )

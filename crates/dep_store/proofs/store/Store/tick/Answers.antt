@@ -1,11 +1,84 @@
-use Rattle.std.proofs.Common.{◌≡◌}
+use Rattle.std.proofs.Common.{◌≡◌, ◌∙◌, ℕ, Result, Ok, min, sym, ap}
 use Rattle.sqlite.specs.Held.{state}
-use Rattle.dep_types.specs.State.{tick}
-use Rattle.dep_hub.specs.Archives.{Always}
-use Rattle.dep_store.proofs.Tries.{tries_over}
+use Rattle.sqlite.proofs.StateLemmas.{clean_if_open}
+use Rattle.dep_types.specs.Limits.{greatest_moment}
+use Rattle.dep_types.specs.declared.store_fault.StoreFault.{StoreFault}
+use Rattle.dep_schema.specs.Transactions.{Transacts}
+use Rattle.dep_schema.proofs.Transacting.{unmoved, after_back, fails_back}
+use Rattle.dep_store.specs.Shut.{FailsIfShut}
+use Rattle.dep_store.proofs.Remembered.{clock_made}
+use Rattle.dep_store.proofs.ShutLemmas.{fails_still, was_open_then}
+use Rattle.dep_store.proofs.Tries.{Clocked, ticks_over}
 use Rattle.dep_store.proofs.store.Store.tick.Goals as goal
 
-pub returns-clause-does : goal.returns-clause-does
-returns-clause-does g c =
-    tries_over (state g.S.Store c.args.self.now) (state g.S.Store c.advance.new.connection) c.advance.result _ Always (λ s n. n ≡ (tick c.args.config.now s c.args.moment).clock) (λ s. tick c.args.config.now s c.args.moment)
-    (λ s always t clock after made. made s) (rw (c.secs.ensures.seconds, c.self.view_is) at c.advance.ensures.transacts)
+abbrev told : ℕ → Result ℕ StoreFault
+told clock = Ok clock
+
+pub returns-in-Some : goal.returns-in-Some
+returns-in-Some g c =
+    let d = state g.S.Store c.self.inside.connection in
+    let config = c.args.config.now in
+    let its = c.clock_still.ensures c.in-Some.clock c.in-Some.is in
+    let shown = told c.new-shown.result in
+    let still : Transacts d d shown (Clocked config c.secs-secs.result) = unmoved d _ _ (λ is_open trees h. g.met.S.Store.settled c.self.inside.connection.store trees is_open h)
+    (λ t stands. clock_made d t config c.secs-secs.result its.0 c.new-shown.result stands (c.self.invariant.0 its.0 its.1) its.3 its.4
+    (c.new-shown.ensures ∙ ap (λ (n : ℕ). min n greatest_moment) its.2)) in
+    let shut : FailsIfShut d d shown = was_open_then d d _ (c.self.invariant.1 its.0 its.1) in
+    record {
+      does = ticks_over _ _ _ config _ _ c.secs-secs.ensures.seconds (rw c.self.view_is at still);
+      shut = rw c.self.view_is at shut;
+    }
+
+pub returns-in_err-found : goal.returns-in_err-found
+returns-in_err-found g c =
+    let old = state g.S.Store c.self.inside.connection in
+    let new = state g.S.Store c.look.new.connection in
+    let restored = c.look.ensures.finds.restored in
+    let result = c.from_residual.result in
+    let is_err = c.from_residual.ensures.0 in
+    let back : Transacts old new result (Clocked c.args.config.now c.secs-secs.result) = fails_back old new result _ is_err (λ is_open trees h. g.met.S.Store.settled c.self.inside.connection.store trees is_open h) restored.back restored.survives in
+    let shut : FailsIfShut old new result = fails_still old new result is_err restored.survives in
+    record {
+      does = ticks_over _ _ _ c.args.config.now _ _ c.secs-secs.ensures.seconds (rw c.self.view_is at back);
+      shut = rw c.self.view_is at shut;
+    }
+
+pub returns-in-Some-found : goal.returns-in-Some-found
+returns-in-Some-found g c =
+    let old = state g.S.Store c.self.inside.connection in
+    let mid = state g.S.Store c.look.new.connection in
+    let store = c.look.new.connection.store in
+    let config = c.args.config.now in
+    let looked = c.in_ok-found.ensures in
+    let restored = looked.finds.restored in
+    let covers = looked.covers c.in-Some-found.it c.in-Some-found.is in
+    let shown = told c.new-told.result in
+    let moved : Transacts old mid shown (Clocked config c.secs-secs.result) = after_back old mid mid _ _ (λ is_open trees h. g.met.S.Store.settled c.self.inside.connection.store trees is_open h)
+    (clean_if_open (g.S.Store.view store) (g.met.S.Store.shut_if_dirty store)) restored.back restored.survives looked.finds.opened
+    (unmoved mid _ _ (λ is_open trees h. g.met.S.Store.settled store trees is_open h)
+    (λ t stands. clock_made mid t config c.secs-secs.result c.in-Some-found.it c.new-told.result stands (looked.recalls c.in-Some-found.it c.in-Some-found.is) covers.0 (sym covers.1) c.new-told.ensures)) in
+    let shut : FailsIfShut old mid shown = was_open_then old mid _ (λ clean. (restored.back (looked.finds.opened clean)).0) in
+    record {
+      does = ticks_over _ _ _ config _ _ c.secs-secs.ensures.seconds (rw c.self.view_is at moved);
+      shut = rw c.self.view_is at shut;
+    }
+
+pub returns-in-None : goal.returns-in-None
+returns-in-None g c =
+    let old = state g.S.Store c.self.inside.connection in
+    let mid = state g.S.Store c.look.new.connection in
+    let new = state g.S.Store c.move_clock.new.connection in
+    let store = c.look.new.connection.store in
+    let finds = c.in_ok-found.ensures.finds in
+    let moved : Transacts old new c.move_clock.result (Clocked c.args.config.now c.secs-secs.result) = after_back old mid new _ _ (λ is_open trees h. g.met.S.Store.settled c.self.inside.connection.store trees is_open h)
+    (clean_if_open (g.S.Store.view store) (g.met.S.Store.shut_if_dirty store)) finds.restored.back finds.restored.survives finds.opened c.move_clock.ensures in
+    let shut : FailsIfShut old new c.move_clock.result = was_open_then old new c.move_clock.result
+    (λ clean. (finds.restored.back (finds.opened (c.move_clock.ensures.honest clean))).0) in
+    record {
+      does = ticks_over _ _ _ c.args.config.now _ _ c.secs-secs.ensures.seconds (rw c.self.view_is at moved);
+      shut = rw c.self.view_is at shut;
+    }
+
+-- what was read is remembered
+pub invariant_of-self-in-Some-found : goal.invariant_of-self-in-Some-found
+invariant_of-self-in-Some-found g c = (λ m is s stands. c.in_ok-found.ensures.recalls m (c.in-Some-found.is ∙ is) s stands, λ m is clean. c.in_ok-found.ensures.finds.opened clean)
