@@ -2,7 +2,6 @@
 
 ghost use Rattle.std.specs.Prelude.{◌≡◌, Ok, IsTrue};
 ghost use Rattle.dep_types.specs.Numbers.{room_for};
-ghost use Rattle.dep_row_maps.specs.Clauses.{ChangesWithin};
 ghost use Rattle.dep_decisions.specs.Decisions.{numbers_for};
 ghost use Rattle.dep_decisions.specs.Effects.{effect_of};
 ghost use Rattle.dep_decisions.specs.declared.decision.Decision.TheVariants.{Show};
@@ -38,14 +37,13 @@ pub fn carry_out<T: Statements>(
     content: &HashedOctets,
 ) -> Result<(), StoreFault>
     requires { IsTrue (room_for view.now.next (numbers_for decision.now)) }
-    ensures map { Makes T.state tx.old tx.new result
+    ensures map { Makes T.lenders T.state tx.old tx.new result
         (λ s. IsAccepted s view.now content.now decision.now)
         (λ s. effect_of s content.now decision.now) }
     ensures untouched { decision.now ≡ Show → (result ≡ Ok tt) × (tx.new ≡ tx.old) }
     ensures cause { FailsFromMaps T.state tx.old tx.new result
         (λ s. IsStorableRequest s view.now content.now decision.now)
         (λ s. TakesMemory s decision.now) }
-    ensures keeps { ChangesWithin T.lenders T.state tx.old tx.new result }
 {
     let change = Change {
         alloc,
@@ -73,10 +71,9 @@ fn change_maps<T: Statements>(
     decision: &Decision,
 ) -> Result<(), StoreFault>
     requires { IsTrue (room_for change.now.view.now.next (numbers_for decision.now)) }
-    ensures map { CarriesOut T.state tx.old tx.new result change.now decision.now }
+    ensures map { CarriesOut T.lenders T.state tx.old tx.new result change.now decision.now }
     ensures untouched { decision.now ≡ Show → (result ≡ Ok tt) × (tx.new ≡ tx.old) }
     ensures cause { FailsCarryingMaps T.state tx.old tx.new result change.now decision.now }
-    ensures keeps { ChangesWithin T.lenders T.state tx.old tx.new result }
 {
     match decision {
         Decision::Show => Ok(()),

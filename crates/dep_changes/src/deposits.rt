@@ -3,16 +3,14 @@
 ghost use Rattle.std.specs.Prelude.{◌≡◌, ◌≢◌, ◌||◌, ℕ, [], Some, IsTrue, length};
 ghost use Rattle.std.specs.FinMap as map;
 ghost use Rattle.dep_types.specs.Limits.{IsStorable};
-ghost use Rattle.dep_types.specs.State.{Object};
 ghost use Rattle.dep_types.specs.Numbers.{has_room};
 ghost use Rattle.dep_row_maps.specs.TablesAre.{with_metadata, with_object};
-ghost use Rattle.dep_row_maps.specs.Clauses.{ChangesWithin};
 ghost use Rattle.dep_row_maps.specs.Causes.{FailsByOne, FailsByStatement, FailsHolding};
 ghost use Rattle.dep_decisions.specs.Decisions.{count_of};
 ghost use Rattle.dep_decisions.specs.declared.decision.Decision.TheVariants.{Append, Create, Replace};
 ghost use Rattle.dep_changes.specs.Causes.{HasCopies, IsStorableAt, IsStorableBeside};
 ghost use Rattle.dep_changes.specs.Changed.{blank_row};
-ghost use Rattle.dep_changes.specs.Clauses.{Appends, CarriesOut, FailsAppending, FailsCarrying, FailsCarryingMaps, Makes, PutsIn};
+ghost use Rattle.dep_changes.specs.Clauses.{Appends, CarriesOut, FailsAppending, FailsCarrying, FailsCarryingMaps, MakesOf, PutsIn};
 
 use crate::change::{Change, touched};
 use crate::new_files::put_new_files;
@@ -57,10 +55,9 @@ fn fill<T: Statements>(
     deposit: &Deposit,
 ) -> Result<(), StoreFault>
     requires { IsTrue (has_room change.now.view.now.next.file (count_of deposit.now)) }
-    ensures map { PutsIn T.state tx.old tx.new result change.now object deposit.now }
+    ensures map { PutsIn T.lenders T.state tx.old tx.new result change.now object deposit.now }
     ensures cause { FailsByOne T.state tx.old tx.new result
         (IsStorableAt change.now object deposit.now) (FailsHolding (HasCopies deposit.now)) }
-    ensures keeps { ChangesWithin T.lenders T.state tx.old tx.new result }
 {
     match deposit {
         Deposit::Files(files) => put_new_files(tx, change, object, files.as_slice()),
@@ -76,11 +73,10 @@ pub(crate) fn create<T: Statements>(
     ingests: bool,
 ) -> Result<(), StoreFault>
     requires { IsTrue (has_room change.now.view.now.next.file (count_of deposit.now)) }
-    ensures map { CarriesOut T.state tx.old tx.new result change.now
+    ensures map { CarriesOut T.lenders T.state tx.old tx.new result change.now
         (Create deposit.now ingests) }
     ensures cause { FailsCarrying T.state tx.old tx.new result change.now
         (Create deposit.now ingests) }
-    ensures keeps { ChangesWithin T.lenders T.state tx.old tx.new result }
 {
     let object = change.view.next.object;
     add_object(tx, &blank_row(change.view, object, ingests))?;
@@ -89,11 +85,10 @@ pub(crate) fn create<T: Statements>(
 
 // The object has no metadata.
 fn clear_metadata<T: Statements>(tx: &mut T, alloc: Global, object: u64) -> Result<(), StoreFault>
-    ensures map { (o : Object) → Makes T.state tx.old tx.new result
-        (λ s. map.get s.objects object ≡ Some o)
-        (λ s. with_object s object (with_metadata o map.empty)) }
+    ensures map { MakesOf T.lenders T.state tx.old tx.new result
+        (λ o s. map.get s.objects object ≡ Some o)
+        (λ o s. with_object s object (with_metadata o map.empty)) }
     ensures cause { FailsByOne T.state tx.old tx.new result (IsStorable object) FailsByStatement }
-    ensures keeps { ChangesWithin T.lenders T.state tx.old tx.new result }
 {
     set_metadata(tx, alloc, object, &Metadata::new(alloc))
 }
@@ -106,11 +101,10 @@ pub(crate) fn replace<T: Statements>(
     ingests: bool,
 ) -> Result<(), StoreFault>
     requires { IsTrue (has_room change.now.view.now.next.file (count_of deposit.now)) }
-    ensures map { (n : ℕ) → CarriesOut T.state tx.old tx.new result change.now
+    ensures map { (n : ℕ) → CarriesOut T.lenders T.state tx.old tx.new result change.now
         (Replace n deposit.now ingests) }
     ensures cause { (n : ℕ) → FailsCarryingMaps T.state tx.old tx.new result change.now
         (Replace n deposit.now ingests) }
-    ensures keeps { ChangesWithin T.lenders T.state tx.old tx.new result }
 {
     let row = ingested_by(touched(change.view)?, ingests);
     delete_files(tx, change.alloc, row.object)?;
@@ -126,11 +120,11 @@ fn append_files<T: Statements>(
     files: &[NewFile],
 ) -> Result<(), StoreFault>
     requires { IsTrue (has_room change.now.view.now.next.file (length files.now)) }
-    ensures map { Appends T.state tx.old tx.new result change.now row (Deposit.Files files.now) }
+    ensures map { Appends T.lenders T.state tx.old tx.new result change.now row
+        (Deposit.Files files.now) }
     ensures cause { FailsByOne T.state tx.old tx.new result
         (IsStorableBeside change.now row map.empty (Deposit.Files files.now))
         (FailsHolding (files.now ≢ [])) }
-    ensures keeps { ChangesWithin T.lenders T.state tx.old tx.new result }
 {
     write_row(tx, &files_changed(change.view, row))?;
     put_new_files(tx, change, row.object, files)
@@ -142,11 +136,10 @@ fn append_texts<T: Statements>(
     row: ObjectRow,
     metadata: &Metadata,
 ) -> Result<(), StoreFault>
-    ensures map { Appends T.state tx.old tx.new result change.now row
+    ensures map { Appends T.lenders T.state tx.old tx.new result change.now row
         (Deposit.Metadata metadata.now) }
     ensures cause { FailsAppending T.state tx.old tx.new result change.now row
         (Deposit.Metadata metadata.now) }
-    ensures keeps { ChangesWithin T.lenders T.state tx.old tx.new result }
 {
     write_row(tx, &texts_changed(change.view, row))?;
     append_metadata(tx, change.alloc, row.object, metadata)
@@ -160,11 +153,10 @@ pub(crate) fn append<T: Statements>(
     ingests: bool,
 ) -> Result<(), StoreFault>
     requires { IsTrue (has_room change.now.view.now.next.file (count_of deposit.now)) }
-    ensures map { (n : ℕ) → CarriesOut T.state tx.old tx.new result change.now
+    ensures map { (n : ℕ) → CarriesOut T.lenders T.state tx.old tx.new result change.now
         (Append n deposit.now ingests) }
     ensures cause { (n : ℕ) → FailsCarryingMaps T.state tx.old tx.new result change.now
         (Append n deposit.now ingests) }
-    ensures keeps { ChangesWithin T.lenders T.state tx.old tx.new result }
 {
     let row = ingested_by(touched(change.view)?, ingests);
     match deposit {

@@ -6,7 +6,6 @@ ghost use Rattle.dep_types.specs.Rows.{upload_row};
 ghost use Rattle.dep_types.specs.Numbers.{has_room};
 ghost use Rattle.dep_types.specs.Uploads.{assembled};
 ghost use Rattle.dep_fixity.specs.Fixity.{digests_of};
-ghost use Rattle.dep_row_maps.specs.Clauses.{ChangesWithin};
 ghost use Rattle.dep_row_maps.specs.Causes.{FailsByOne, FailsHolding};
 ghost use Rattle.dep_decisions.specs.Effects.{is_reference};
 ghost use Rattle.dep_decisions.specs.declared.decision.Decision.TheVariants.{SetFile, SetFiles};
@@ -93,11 +92,10 @@ fn put_posted<T: Statements>(
     new: &NewFile,
     digests: Digests,
 ) -> Result<(), StoreFault>
-    ensures map { (place : ℕ) → PutsFile T.state tx.old tx.new result change.now numbers new.now
-        place (Posted digests) }
+    ensures map { (place : ℕ) → PutsFile T.lenders T.state tx.old tx.new result change.now
+        numbers new.now place (Posted digests) }
     ensures cause { (place : ℕ) → FailsByOne T.state tx.old tx.new result
         (IsStorableNewFile change.now numbers place (Posted digests)) (FailsHolding ⊤) }
-    ensures keeps { ChangesWithin T.lenders T.state tx.old tx.new result }
 {
     let extent = Extent {
         size: change.content.as_slice().len() as u64,
@@ -145,11 +143,10 @@ fn put_assembled<T: Statements>(
     new: &NewFile,
     index: usize,
 ) -> Result<(), StoreFault>
-    ensures map { (u : ℕ) → PutsFile T.state tx.old tx.new result change.now numbers new.now
-        index (Assembled u) }
+    ensures map { (u : ℕ) → PutsFile T.lenders T.state tx.old tx.new result change.now
+        numbers new.now index (Assembled u) }
     ensures cause { (u : ℕ) → FailsByOne T.state tx.old tx.new result
         (IsStorableNewFile change.now numbers index (Assembled u)) (FailsHolding ⊤) }
-    ensures keeps { ChangesWithin T.lenders T.state tx.old tx.new result }
 {
     let upload = whole_upload(change.view, index)?;
     let extent = Extent {
@@ -168,11 +165,10 @@ fn put_new_file<T: Statements>(
     new: &NewFile,
     index: usize,
 ) -> Result<(), StoreFault>
-    ensures map { PutsFile T.state tx.old tx.new result change.now numbers new.now
-        index new.now.source }
+    ensures map { PutsFile T.lenders T.state tx.old tx.new result change.now
+        numbers new.now index new.now.source }
     ensures cause { FailsByOne T.state tx.old tx.new result
         (IsStorableNewFile change.now numbers index new.now.source) (FailsHolding ⊤) }
-    ensures keeps { ChangesWithin T.lenders T.state tx.old tx.new result }
 {
     match new.source {
         Source::Posted(digests) => put_posted(tx, change, numbers, new, digests),
@@ -188,10 +184,9 @@ pub(crate) fn put_new_files<T: Statements>(
     files: &[NewFile],
 ) -> Result<(), StoreFault>
     requires { IsTrue (has_room change.now.view.now.next.file (length files.now)) }
-    ensures map { PutsIn T.state tx.old tx.new result change.now object (Files files.now) }
+    ensures map { PutsIn T.lenders T.state tx.old tx.new result change.now object (Files files.now) }
     ensures cause { FailsByOne T.state tx.old tx.new result
         (IsStorableAt change.now object (Files files.now)) (FailsHolding (files.now ≢ [])) }
-    ensures keeps { ChangesWithin T.lenders T.state tx.old tx.new result }
 {
     'files: for (index, new) in files.iter().enumerate() {
         let numbers = FileNumbers {
@@ -210,11 +205,10 @@ pub(crate) fn set_files<T: Statements>(
     files: &[NewFile],
 ) -> Result<(), StoreFault>
     requires { IsTrue (has_room change.now.view.now.next.file (length files.now)) }
-    ensures map { (n : ℕ) → CarriesOut T.state tx.old tx.new result change.now
+    ensures map { (n : ℕ) → CarriesOut T.lenders T.state tx.old tx.new result change.now
         (SetFiles n files.now) }
     ensures cause { (n : ℕ) → FailsCarryingMaps T.state tx.old tx.new result change.now
         (SetFiles n files.now) }
-    ensures keeps { ChangesWithin T.lenders T.state tx.old tx.new result }
 {
     let row = touched(change.view)?;
     delete_files(tx, change.alloc, row.object)?;
@@ -229,11 +223,10 @@ pub(crate) fn set_file<T: Statements>(
     file: u64,
     new: &NewFile,
 ) -> Result<(), StoreFault>
-    ensures map { (n : ℕ) → CarriesOut T.state tx.old tx.new result change.now
+    ensures map { (n : ℕ) → CarriesOut T.lenders T.state tx.old tx.new result change.now
         (SetFile n file new.now) }
     ensures cause { (n : ℕ) → FailsCarrying T.state tx.old tx.new result change.now
         (SetFile n file new.now) }
-    ensures keeps { ChangesWithin T.lenders T.state tx.old tx.new result }
 {
     let Source::Posted(digests) = new.source else {
         return Err(StoreFault::Store);
