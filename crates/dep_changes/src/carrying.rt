@@ -9,7 +9,7 @@ ghost use Rattle.dep_changes.specs.Causes.{IsStorableRequest, TakesMemory};
 ghost use Rattle.dep_changes.specs.Clauses.{CarriesOut, FailsCarryingMaps, FailsFromMaps, Makes};
 ghost use Rattle.dep_changes.specs.Told.{IsAccepted};
 
-use crate::change::Change;
+use crate::change::{Change, NumberedDeposit, NumberedFiles};
 use crate::deposits::{append, create, replace};
 use crate::new_files::{set_file, set_files};
 use crate::objects::{complete, drop_file, drop_object, set_texts};
@@ -77,20 +77,52 @@ fn change_maps<T: Statements>(
 {
     match decision {
         Decision::Show => Ok(()),
-        Decision::Create { deposit, ingests } => create(tx, change, deposit, *ingests),
+        Decision::Create { deposit, ingests } => {
+            create(
+                tx,
+                &NumberedDeposit {
+                    change: *change,
+                    deposit,
+                },
+                *ingests,
+            )
+        }
         Decision::Append {
             deposit,
             ingests,
             ..
-        } => append(tx, change, deposit, *ingests),
+        } => append(
+            tx,
+            &NumberedDeposit {
+                change: *change,
+                deposit,
+            },
+            *ingests,
+        ),
         Decision::Replace {
             deposit,
             ingests,
             ..
-        } => replace(tx, change, deposit, *ingests),
+        } => replace(
+            tx,
+            &NumberedDeposit {
+                change: *change,
+                deposit,
+            },
+            *ingests,
+        ),
         Decision::Complete { .. } => complete(tx, change),
         Decision::SetMetadata { metadata, .. } => set_texts(tx, change, metadata),
-        Decision::SetFiles { files, .. } => set_files(tx, change, files.as_slice()),
+        Decision::SetFiles { files, .. } => {
+            let files = files.as_slice();
+            set_files(
+                tx,
+                &NumberedFiles {
+                    change: *change,
+                    files,
+                },
+            )
+        }
         Decision::SetFile { file, new, .. } => set_file(tx, change, *file, new),
         Decision::DropFile { file, .. } => drop_file(tx, change, *file),
         Decision::DropObject { object } => drop_object(tx, change.alloc, *object),

@@ -1,9 +1,8 @@
 //! New files, each under the next number, with their contents.
 
-ghost use Rattle.std.specs.Prelude.{◌≡◌, ◌≢◌, ⊤, ℕ, [], length, slice_get, Some, None, IfOk, IfErr, IsTrue};
+ghost use Rattle.std.specs.Prelude.{◌≡◌, ◌≢◌, ⊤, ℕ, [], slice_get, Some, None, IfOk, IfErr};
 ghost use Rattle.dep_types.specs.State.{Upload};
 ghost use Rattle.dep_types.specs.Rows.{upload_row};
-ghost use Rattle.dep_types.specs.Numbers.{has_room};
 ghost use Rattle.dep_types.specs.Uploads.{assembled};
 ghost use Rattle.dep_fixity.specs.Fixity.{digests_of};
 ghost use Rattle.dep_row_maps.specs.Causes.{FailsByOne, FailsHolding};
@@ -16,7 +15,7 @@ ghost use Rattle.dep_changes.specs.Changed.{new_row};
 ghost use Rattle.dep_changes.specs.Clauses.{CarriesOut, FailsCarrying, FailsCarryingMaps, PutsFile, PutsIn};
 ghost use Rattle.dep_changes.specs.Told.{whole_view};
 
-use crate::change::{Change, touched};
+use crate::change::{Change, NumberedFiles, touched};
 use crate::objects::{files_changed, write_row};
 use dep_decisions::{NewFile, Source};
 use dep_files::{delete_file, delete_files, put_file};
@@ -179,15 +178,17 @@ fn put_new_file<T: Statements>(
 /// Adds new files to an object that is there, under the next numbers in their order.
 pub(crate) fn put_new_files<T: Statements>(
     tx: &mut T,
-    change: &Change<'_>,
+    numbered: &NumberedFiles<'_>,
     object: u64,
-    files: &[NewFile],
 ) -> Result<(), StoreFault>
-    requires { IsTrue (has_room change.now.view.now.next.file (length files.now)) }
-    ensures map { PutsIn T.lenders T.state tx.old tx.new result change.now object (Files files.now) }
+    ensures map { PutsIn T.lenders T.state tx.old tx.new result numbered.now.change object
+        (Files numbered.now.files.now) }
     ensures cause { FailsByOne T.state tx.old tx.new result
-        (IsStorableAt change.now object (Files files.now)) (FailsHolding (files.now ≢ [])) }
+        (IsStorableAt numbered.now.change object (Files numbered.now.files.now))
+        (FailsHolding (numbered.now.files.now ≢ [])) }
 {
+    let change = &numbered.change;
+    let files = numbered.files;
     'files: for (index, new) in files.iter().enumerate() {
         let numbers = FileNumbers {
             object,
@@ -201,19 +202,18 @@ pub(crate) fn put_new_files<T: Statements>(
 /// The object has these files alone.
 pub(crate) fn set_files<T: Statements>(
     tx: &mut T,
-    change: &Change<'_>,
-    files: &[NewFile],
+    numbered: &NumberedFiles<'_>,
 ) -> Result<(), StoreFault>
-    requires { IsTrue (has_room change.now.view.now.next.file (length files.now)) }
-    ensures map { (n : ℕ) → CarriesOut T.lenders T.state tx.old tx.new result change.now
-        (SetFiles n files.now) }
-    ensures cause { (n : ℕ) → FailsCarryingMaps T.state tx.old tx.new result change.now
-        (SetFiles n files.now) }
+    ensures map { (n : ℕ) → CarriesOut T.lenders T.state tx.old tx.new result numbered.now.change
+        (SetFiles n numbered.now.files.now) }
+    ensures cause { (n : ℕ) → FailsCarryingMaps T.state tx.old tx.new result numbered.now.change
+        (SetFiles n numbered.now.files.now) }
 {
+    let change = &numbered.change;
     let row = touched(change.view)?;
     delete_files(tx, change.alloc, row.object)?;
     write_row(tx, &files_changed(change.view, row))?;
-    put_new_files(tx, change, row.object, files)
+    put_new_files(tx, numbered, row.object)
 }
 
 /// The file of the object becomes the content of the request, under its number. No other source is asked for.

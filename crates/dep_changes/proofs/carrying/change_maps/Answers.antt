@@ -10,17 +10,17 @@ use Rattle.dep_changes.proofs.Carried.{room_of_files, carried_as, fails_alike, f
 use Rattle.dep_changes.proofs.Causes.{by_statement, caused_among}
 use Rattle.dep_changes.proofs.carrying.change_maps.Goals as goal
 
-pub create-requires : goal.create-requires
-create-requires g c = room_of_files c.args.change.now.view.now.next c.args.decision.now _ (ap (λ (d : Decision). (numbers_for d).file) c.in-Create.is) c.requires
+pub invariant_of-create : goal.invariant_of-create
+invariant_of-create g c = record { room = room_of_files c.args.change.now.view.now.next c.args.decision.now _ (ap (λ (d : Decision). (numbers_for d).file) c.in-Create.is) c.requires }
 
-pub append-requires : goal.append-requires
-append-requires g c = room_of_files c.args.change.now.view.now.next c.args.decision.now _ (ap (λ (d : Decision). (numbers_for d).file) c.in-Append.is) c.requires
+pub invariant_of-append : goal.invariant_of-append
+invariant_of-append g c = record { room = room_of_files c.args.change.now.view.now.next c.args.decision.now _ (ap (λ (d : Decision). (numbers_for d).file) c.in-Append.is) c.requires }
 
-pub replace-requires : goal.replace-requires
-replace-requires g c = room_of_files c.args.change.now.view.now.next c.args.decision.now _ (ap (λ (d : Decision). (numbers_for d).file) c.in-Replace.is) c.requires
+pub invariant_of-replace : goal.invariant_of-replace
+invariant_of-replace g c = record { room = room_of_files c.args.change.now.view.now.next c.args.decision.now _ (ap (λ (d : Decision). (numbers_for d).file) c.in-Replace.is) c.requires }
 
-pub set_files-requires : goal.set_files-requires
-set_files-requires g c = room_of_files c.args.change.now.view.now.next c.args.decision.now _ (ap (λ (d : Decision). (numbers_for d).file) c.in-SetFiles.is ∙ ap length (sym c.as_slice.ensures)) c.requires
+pub invariant_of-set_files : goal.invariant_of-set_files
+invariant_of-set_files g c = record { room = room_of_files c.args.change.now.view.now.next c.args.decision.now _ (ap (λ (d : Decision). (numbers_for d).file) c.in-SetFiles.is ∙ ap length (sym c.as_slice-files.ensures)) c.requires }
 
 pub returns-in-Create-clause-map : goal.returns-in-Create-clause-map
 returns-in-Create-clause-map g c =
@@ -74,12 +74,12 @@ returns-in-SetMetadata-clause-cause g c =
 
 pub returns-in-SetFiles-clause-map : goal.returns-in-SetFiles-clause-map
 returns-in-SetFiles-clause-map g c =
-    carried_as g.T.Statements.state c.args.tx.now c.set_files.new.tx c.set_files.result c.args.change.now c.args.decision.now _ (c.in-SetFiles.is ∙ ap (λ (new : List NewFile). SetFiles c.in-SetFiles.object new) (sym c.as_slice.ensures))
+    carried_as g.T.Statements.state c.args.tx.now c.set_files.new.tx c.set_files.result c.args.change.now c.args.decision.now _ (c.in-SetFiles.is ∙ ap (λ (new : List NewFile). SetFiles c.in-SetFiles.object new) (sym c.as_slice-files.ensures))
     (c.set_files.ensures.map c.in-SetFiles.object)
 
 pub returns-in-SetFiles-clause-cause : goal.returns-in-SetFiles-clause-cause
 returns-in-SetFiles-clause-cause g c =
-    fails_as g.T.Statements.state c.args.tx.now c.set_files.new.tx c.set_files.result c.args.change.now c.args.decision.now _ (c.in-SetFiles.is ∙ ap (λ (new : List NewFile). SetFiles c.in-SetFiles.object new) (sym c.as_slice.ensures))
+    fails_as g.T.Statements.state c.args.tx.now c.set_files.new.tx c.set_files.result c.args.change.now c.args.decision.now _ (c.in-SetFiles.is ∙ ap (λ (new : List NewFile). SetFiles c.in-SetFiles.object new) (sym c.as_slice-files.ensures))
     (c.set_files.ensures.cause c.in-SetFiles.object)
 
 pub returns-in-SetFile-clause-map : goal.returns-in-SetFile-clause-map

@@ -23,11 +23,11 @@ use Rattle.dep_changes.proofs.deposits.replace.Goals as goal
 pub returns-clause-map : goal.returns-clause-map
 returns-clause-map g c n = record {
   done = λ clean inside ours s are told.
-      let view = c.args.change.now.view.now in
+      let view = c.args.numbered.now.change.view.now in
       let numbers = told.0 in
       let o = told.1.0 in
       let object = told.1.1 in
-      let content = c.args.change.now.content.now in
+      let content = c.args.numbered.now.change.content.now in
       let one = g.T.Statements.state c.delete_files.new.tx in
       let two = g.T.Statements.state c.clear_metadata.new.tx in
       let three = g.T.Statements.state c.write_row.new.tx in
@@ -57,11 +57,11 @@ returns-clause-map g c n = record {
       let put = written_again (tables_of three) s n bare clear (at_number (tables_of three) second now.object n clear (its_number n clear now is)
       (c.in_ok-write_row.ensures.map.done clear clean_three inside_two ours_two second cleared (rewritten second n bare clear now is (get_here s.objects n bare) refl refl))) in
       let third : State = with_object s n clear in
-      at_object s (without s.uploads (uploads_in c.args.deposit.now)) new c.fill.result n o (λ (x : Object). filled s content c.args.deposit.now (x.ingested || c.args.ingests)) object.1
+      at_object s (without s.uploads (uploads_in c.args.numbered.now.deposit.now)) new c.fill.result n o (λ (x : Object). filled s content c.args.numbered.now.deposit.now (x.ingested || c.args.ingests)) object.1
       (ok_then c.fill.result
       (c.fill.ensures.map.done clear clean (c.in_ok-write_row.ensures.map.keeps.stays.inside clean_three inside_two) (c.in_ok-write_row.ensures.map.keeps.ours clean_three inside_two ours_two) third put
-      ((numbers, still_have third.objects s content view.uploads c.args.deposit.now told.1.2), there_at third.objects row.object n clear number (get_here s.objects n clear)))
-      (λ done. deposit_again (tables_of new) s content row.object n clear c.args.deposit.now ingested number done));
+      ((numbers, still_have third.objects s content view.uploads c.args.numbered.now.deposit.now told.1.2), there_at third.objects row.object n clear number (get_here s.objects n clear)))
+      (λ done. deposit_again (tables_of new) s content row.object n clear c.args.numbered.now.deposit.now ingested number done));
   keeps = changes_then (changes_then (changes_then c.in_ok-delete_files.ensures.keeps c.in_ok-clear_metadata.ensures.map.keeps) c.in_ok-write_row.ensures.map.keeps) c.fill.ensures.map.keeps;
 }
 
@@ -78,22 +78,22 @@ returns-in_err-write_row-clause-map g c n = record {
 }
 
 pub returns-in_err-touched-clause-cause : goal.returns-in_err-touched-clause-cause
-returns-in_err-touched-clause-cause g c n clean inside ours s are storable = never_absent c.args.change.now.view.now storable.1 c.in_err-touched.ensures.absent
+returns-in_err-touched-clause-cause g c n clean inside ours s are storable = never_absent c.args.numbered.now.change.view.now storable.1 c.in_err-touched.ensures.absent
 
 pub returns-in_err-delete_files-clause-cause : goal.returns-in_err-delete_files-clause-cause
 returns-in_err-delete_files-clause-cause g c n clean inside ours s are storable =
-    let view = c.args.change.now.view.now in
+    let view = c.args.numbered.now.change.view.now in
     let told = storable.1 in
-    let held = HasCopies c.args.deposit.now in
+    let held = HasCopies c.args.numbered.now.deposit.now in
     let row = ingested_fits c.in_ok-touched.field-0 c.ingested_by-row.result c.args.ingests (found_fits view told c.in_ok-touched.field-0 c.in_ok-touched.ensures.told) c.ingested_by-row.ensures in
     if_err_is _ c.from_residual-in_err-delete_files.result c.in_err-delete_files.field-0.0 c.from_residual-in_err-delete_files.ensures.1
     (fails_among g.T.Statements.state c.args.tx.now c.delete_files.new.tx FailsByStatement (FailsHolding held) (by_statement held) _ (c.in_err-delete_files.ensures.cause clean inside ours s are storable.0 row.object))
 
 pub returns-in_err-clear_metadata-clause-cause : goal.returns-in_err-clear_metadata-clause-cause
 returns-in_err-clear_metadata-clause-cause g c n clean inside ours s are storable =
-    let view = c.args.change.now.view.now in
+    let view = c.args.numbered.now.change.view.now in
     let told = storable.1 in
-    let held = HasCopies c.args.deposit.now in
+    let held = HasCopies c.args.numbered.now.deposit.now in
     let before = clean_before c.clear_metadata.ensures.map.keeps.stays clean in
     let row = ingested_fits c.in_ok-touched.field-0 c.ingested_by-row.result c.args.ingests (found_fits view told c.in_ok-touched.field-0 c.in_ok-touched.ensures.told) c.ingested_by-row.ensures in
     if_err_is _ c.from_residual-in_err-clear_metadata.result c.in_err-clear_metadata.field-0.0 c.from_residual-in_err-clear_metadata.ensures.1
@@ -102,9 +102,9 @@ returns-in_err-clear_metadata-clause-cause g c n clean inside ours s are storabl
 
 pub returns-in_err-write_row-clause-cause : goal.returns-in_err-write_row-clause-cause
 returns-in_err-write_row-clause-cause g c n clean inside ours s are storable =
-    let view = c.args.change.now.view.now in
+    let view = c.args.numbered.now.change.view.now in
     let told = storable.1 in
-    let held = HasCopies c.args.deposit.now in
+    let held = HasCopies c.args.numbered.now.deposit.now in
     let two = stays_then c.in_ok-delete_files.ensures.keeps.stays c.in_ok-clear_metadata.ensures.map.keeps.stays in
     let before = clean_before c.write_row.ensures.map.keeps.stays clean in
     let row = ingested_fits c.in_ok-touched.field-0 c.ingested_by-row.result c.args.ingests (found_fits view told c.in_ok-touched.field-0 c.in_ok-touched.ensures.told) c.ingested_by-row.ensures in
@@ -114,9 +114,9 @@ returns-in_err-write_row-clause-cause g c n clean inside ours s are storable =
 
 pub returns-clause-cause : goal.returns-clause-cause
 returns-clause-cause g c n clean inside ours s are storable =
-    let view = c.args.change.now.view.now in
+    let view = c.args.numbered.now.change.view.now in
     let told = storable.1 in
-    let held = HasCopies c.args.deposit.now in
+    let held = HasCopies c.args.numbered.now.deposit.now in
     let three = stays_then (stays_then c.in_ok-delete_files.ensures.keeps.stays c.in_ok-clear_metadata.ensures.map.keeps.stays) c.in_ok-write_row.ensures.map.keeps.stays in
     let before = clean_before c.fill.ensures.map.keeps.stays clean in
     let row = ingested_fits c.in_ok-touched.field-0 c.ingested_by-row.result c.args.ingests (found_fits view told c.in_ok-touched.field-0 c.in_ok-touched.ensures.told) c.ingested_by-row.ensures in
