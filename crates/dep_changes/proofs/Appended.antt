@@ -42,14 +42,17 @@ module _ {T : Type 0} (state : T → db.State) (old new : T) (r : Result (Unit {
   rewrites : (s : State) (o : Object) → TellsObject change.view.now s n o → Rewrites s row (ingested_by ingests o)
   rewrites s o told = rewritten s n o (ingested_by ingests o) row (row_of s o told) told.1 refl refl
 
-  pub append_carried : Appends state old new r change row d → CarriesOut state old new r change (Append n d ingests)
-  append_carried made clean inside ours s are told =
-      let content = change.content.now in
-      let o = told.1.0 in
-      let it : Object = ingested_by ingests o in
-      at_object s (without s.uploads (uploads_in d)) (state new) r n o (λ (x : Object). ingested_by ingests (appended s content d x)) told.1.1.1
-      (ok_then r (made it clean inside ours s are ((told.0, told.1.2), rewrites s o told.1.1))
-      (λ added. appended_at (tables_of (state new)) s content row.object n o d ingests (its_number n it row (row_of s o told.1.1)) added))
+  pub append_carried : {L : Type 0} {lenders : T → L} → Appends lenders state old new r change row d → CarriesOut lenders state old new r change (Append n d ingests)
+  append_carried made = record {
+    done = λ clean inside ours s are told.
+        let content = change.content.now in
+        let o = told.1.0 in
+        let it : Object = ingested_by ingests o in
+        at_object s (without s.uploads (uploads_in d)) (state new) r n o (λ (x : Object). ingested_by ingests (appended s content d x)) told.1.1.1
+        (ok_then r (made.done it clean inside ours s are ((told.0, told.1.2), rewrites s o told.1.1))
+        (λ added. appended_at (tables_of (state new)) s content row.object n o d ingests (its_number n it row (row_of s o told.1.1)) added));
+    keeps = made.keeps;
+  }
 
   pub append_fails : FailsAppending state old new r change row d → FailsCarryingMaps state old new r change (Append n d ingests)
   append_fails why clean inside ours s are storable =

@@ -100,8 +100,8 @@ equal_counters a b same =
 
 -- what a call promises for a decision of this form
 module _ {T : Type 0} (state : T → db.State) (old new : T) (r : Result (Unit {0}) StoreFault) (change : Change) (decision d : Decision) (is : decision ≡ d) where
-  pub carried_as : CarriesOut state old new r change d → CarriesOut state old new r change decision
-  carried_as made = subst (CarriesOut state old new r change) (sym is) made
+  pub carried_as : {L : Type 0} {lenders : T → L} → CarriesOut lenders state old new r change d → CarriesOut lenders state old new r change decision
+  carried_as {lenders = lenders} made = subst (CarriesOut lenders state old new r change) (sym is) made
 
   pub fails_as : FailsCarryingMaps state old new r change d → FailsCarryingMaps state old new r change decision
   fails_as why = subst (FailsCarryingMaps state old new r change) (sym is) why

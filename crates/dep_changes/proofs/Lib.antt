@@ -1,4 +1,3 @@
-pub mod Chains
 pub mod Steps
 pub mod Staged
 pub mod Added

@@ -5,7 +5,7 @@ use Rattle.sqlite.specs.State as db
 use Rattle.dep_types.specs.State.{State, Object}
 use Rattle.dep_types.specs.declared.rows.ObjectRow.{ObjectRow}
 use Rattle.dep_types.specs.declared.store_fault.StoreFault.{StoreFault}
-use Rattle.dep_row_maps.specs.Clauses.{FromMaps, SeesState}
+use Rattle.dep_row_maps.specs.Clauses.{ChangesWithin, FromMaps, SeesState}
 use Rattle.dep_row_maps.specs.Causes.{FailsByOne, FailsHolding, FailsSince}
 use Rattle.dep_decisions.specs.Effects.{appended, bytes_from}
 use Rattle.dep_decisions.specs.declared.decision.Source.{Source}
@@ -19,9 +19,9 @@ use Rattle.dep_changes.specs.Changed.{made_file, put_in, with_deposit, with_maps
 use Rattle.dep_changes.specs.Causes.{CopiesBeside, IsStorableBeside, IsStorableDecision, TakesMemory}
 
 module _ {T A : Type 0} (state : T → db.State) (old new : T) (result : Result A StoreFault) where
-  -- inside a transaction over a state's tables, where this is told of it, an Ok makes this state of it
-  abbrev pub Makes : (told : State → Type 0) → (after : State → State) → Type 0
-  Makes told after = FromMaps (state old) (state new)
+  -- inside a transaction over a state's tables, where this is told of it, an Ok turns it into this one
+  abbrev pub Turns : (told : State → Type 0) → (after : State → State) → Type 0
+  Turns told after = FromMaps (state old) (state new)
       (λ s. told s → OnOk result (SeesState (state new) (after s)))
 
   -- there a failure is that of a statement, or memory is wanting where something is held
@@ -29,14 +29,8 @@ module _ {T A : Type 0} (state : T → db.State) (old new : T) (result : Result 
   FailsFromMaps told held = FromMaps (state old) (state new)
       (λ s. told s → IfErr result (FailsSince state (FailsHolding (held s)) old new))
 
-  -- ---- of a decision
-
-  -- where what the decision relies on is told, an Ok has carried it out on the maps
-  abbrev pub CarriesOut : Change → Decision → Type 0
-  CarriesOut change d =
-      Makes (λ s. TellsDecision change s d) (λ s. with_maps s change.content.now d)
-
-  -- where a table can hold it, a failure is that of a statement, or memory is wanting for a copy
+  -- where a table can hold what the decision writes, a failure is that of a statement, or memory is
+  -- wanting for a copy
   abbrev pub FailsCarrying : Change → Decision → Type 0
   FailsCarrying change d = (s : State) → FailsByOne state old new result
       (IsStorableDecision change s d) (FailsHolding (TakesMemory s d))
@@ -46,30 +40,47 @@ module _ {T A : Type 0} (state : T → db.State) (old new : T) (result : Result 
   FailsCarryingMaps change d =
       FailsFromMaps (λ s. IsStorableDecision change s d) (λ s. TakesMemory s d)
 
-  -- ---- of a part of a decision
-
-  -- an Ok has put the deposit in the object of this number
-  abbrev pub PutsIn : Change → (n : ℕ) → Deposit → Type 0
-  PutsIn change n d = (o : Object)
-      → Makes (λ s. TellsDeposit change s d × (map.get s.objects n ≡ Some o))
-      (λ s. with_deposit s n (put_in s change.content.now d o) d)
-
-  -- an Ok has added the deposit to the object that this row makes of one that is there
-  abbrev pub Appends : Change → ObjectRow → Deposit → Type 0
-  Appends change row d = (o : Object)
-      → Makes (λ s. TellsDeposit change s d × Rewrites s row o)
-      (λ s. with_deposit s row.object (appended s change.content.now d o) d)
-
-  -- where a table can hold both, a failure is that of a statement, or memory is wanting for a copy
+  -- the same of a deposit that is added to the texts of an object
   abbrev pub FailsAppending : Change → ObjectRow → Deposit → Type 0
   FailsAppending change row d = (o : Object)
       → FailsFromMaps (λ s. TellsNumbers change.view.now s × Rewrites s row o
       × IsStorableBeside change row o.metadata d) (λ _. CopiesBeside o.metadata d)
 
+module _ {T L A : Type 0} (lenders : T → L) (state : T → db.State) (old new : T)
+    (result : Result A StoreFault) where
+  -- what a call does, and what each keeps that changes our tables
+  pub record Does (this : Type 0) : Type 0 where
+    pub done : this
+    pub keeps : ChangesWithin lenders state old new result
+
+  -- so it turns a state
+  abbrev pub Makes : (told : State → Type 0) → (after : State → State) → Type 0
+  Makes told after = Does (Turns state old new result told after)
+
+  -- the same where it is told of an object, whichever that is
+  abbrev pub MakesOf : (told : Object → State → Type 0) → (after : Object → State → State) → Type 0
+  MakesOf told after = Does ((o : Object) → Turns state old new result (told o) (after o))
+
+  -- where what the decision relies on is told, an Ok has carried it out on the maps
+  abbrev pub CarriesOut : Change → Decision → Type 0
+  CarriesOut change d =
+      Makes (λ s. TellsDecision change s d) (λ s. with_maps s change.content.now d)
+
+  -- an Ok has put the deposit in the object of this number
+  abbrev pub PutsIn : Change → (n : ℕ) → Deposit → Type 0
+  PutsIn change n d =
+      MakesOf (λ o s. TellsDeposit change s d × (map.get s.objects n ≡ Some o))
+      (λ o s. with_deposit s n (put_in s change.content.now d o) d)
+
+  -- an Ok has added the deposit to the object that this row makes of one that is there
+  abbrev pub Appends : Change → ObjectRow → Deposit → Type 0
+  Appends change row d =
+      MakesOf (λ o s. TellsDeposit change s d × Rewrites s row o)
+      (λ o s. with_deposit s row.object (appended s change.content.now d o) d)
+
   -- an Ok has put a file with the bytes of this source in its object, and an upload is gone with them
   abbrev pub PutsFile : Change → FileNumbers → NewFile → (place : ℕ) → Source → Type 0
-  PutsFile change numbers new_file place source = (o : Object)
-      → Makes
-      (λ s. TellsNewFile change s place source × (map.get s.objects numbers.object ≡ Some o))
-      (λ s. with_new_file s numbers.object o numbers.file
+  PutsFile change numbers new_file place source = MakesOf
+      (λ o s. TellsNewFile change s place source × (map.get s.objects numbers.object ≡ Some o))
+      (λ o s. with_new_file s numbers.object o numbers.file
       (made_file s new_file (bytes_from s change.content.now source)) source)

@@ -2,7 +2,6 @@
 
 ghost use Rattle.std.specs.Prelude.{◌≡◌, Ok, IsTrue};
 ghost use Rattle.dep_types.specs.Numbers.{room_for};
-ghost use Rattle.dep_row_maps.specs.Clauses.{ChangesWithin};
 ghost use Rattle.dep_decisions.specs.Decisions.{numbers_for};
 ghost use Rattle.dep_decisions.specs.Effects.{effect_of};
 ghost use Rattle.dep_decisions.specs.declared.decision.Decision.TheVariants.{Show};
@@ -10,7 +9,7 @@ ghost use Rattle.dep_changes.specs.Causes.{IsStorableRequest, TakesMemory};
 ghost use Rattle.dep_changes.specs.Clauses.{CarriesOut, FailsCarryingMaps, FailsFromMaps, Makes};
 ghost use Rattle.dep_changes.specs.Told.{IsAccepted};
 
-use crate::change::Change;
+use crate::change::{Change, NumberedDeposit, NumberedFiles};
 use crate::deposits::{append, create, replace};
 use crate::new_files::{set_file, set_files};
 use crate::objects::{complete, drop_file, drop_object, set_texts};
@@ -38,14 +37,13 @@ pub fn carry_out<T: Statements>(
     content: &HashedOctets,
 ) -> Result<(), StoreFault>
     requires { IsTrue (room_for view.now.next (numbers_for decision.now)) }
-    ensures map { Makes T.state tx.old tx.new result
+    ensures map { Makes T.lenders T.state tx.old tx.new result
         (λ s. IsAccepted s view.now content.now decision.now)
         (λ s. effect_of s content.now decision.now) }
     ensures untouched { decision.now ≡ Show → (result ≡ Ok tt) × (tx.new ≡ tx.old) }
     ensures cause { FailsFromMaps T.state tx.old tx.new result
         (λ s. IsStorableRequest s view.now content.now decision.now)
         (λ s. TakesMemory s decision.now) }
-    ensures keeps { ChangesWithin T.lenders T.state tx.old tx.new result }
 {
     let change = Change {
         alloc,
@@ -73,27 +71,58 @@ fn change_maps<T: Statements>(
     decision: &Decision,
 ) -> Result<(), StoreFault>
     requires { IsTrue (room_for change.now.view.now.next (numbers_for decision.now)) }
-    ensures map { CarriesOut T.state tx.old tx.new result change.now decision.now }
+    ensures map { CarriesOut T.lenders T.state tx.old tx.new result change.now decision.now }
     ensures untouched { decision.now ≡ Show → (result ≡ Ok tt) × (tx.new ≡ tx.old) }
     ensures cause { FailsCarryingMaps T.state tx.old tx.new result change.now decision.now }
-    ensures keeps { ChangesWithin T.lenders T.state tx.old tx.new result }
 {
     match decision {
         Decision::Show => Ok(()),
-        Decision::Create { deposit, ingests } => create(tx, change, deposit, *ingests),
+        Decision::Create { deposit, ingests } => {
+            create(
+                tx,
+                &NumberedDeposit {
+                    change: *change,
+                    deposit,
+                },
+                *ingests,
+            )
+        }
         Decision::Append {
             deposit,
             ingests,
             ..
-        } => append(tx, change, deposit, *ingests),
+        } => append(
+            tx,
+            &NumberedDeposit {
+                change: *change,
+                deposit,
+            },
+            *ingests,
+        ),
         Decision::Replace {
             deposit,
             ingests,
             ..
-        } => replace(tx, change, deposit, *ingests),
+        } => replace(
+            tx,
+            &NumberedDeposit {
+                change: *change,
+                deposit,
+            },
+            *ingests,
+        ),
         Decision::Complete { .. } => complete(tx, change),
         Decision::SetMetadata { metadata, .. } => set_texts(tx, change, metadata),
-        Decision::SetFiles { files, .. } => set_files(tx, change, files.as_slice()),
+        Decision::SetFiles { files, .. } => {
+            let files = files.as_slice();
+            set_files(
+                tx,
+                &NumberedFiles {
+                    change: *change,
+                    files,
+                },
+            )
+        }
         Decision::SetFile { file, new, .. } => set_file(tx, change, *file, new),
         Decision::DropFile { file, .. } => drop_file(tx, change, *file),
         Decision::DropObject { object } => drop_object(tx, change.alloc, *object),

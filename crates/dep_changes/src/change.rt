@@ -1,7 +1,10 @@
 //! What a change is made with, and the row of the object that it touches.
 
-ghost use Rattle.std.specs.Prelude.{◌≡◌, Some, None, IfOk, IfErr};
+ghost use Rattle.std.specs.Prelude.{◌≡◌, Some, None, IfOk, IfErr, IsTrue, length};
+ghost use Rattle.dep_types.specs.Numbers.{has_room};
+ghost use Rattle.dep_decisions.specs.Decisions.{count_of};
 
+use dep_decisions::{Deposit, NewFile};
 use dep_fixity::HashedOctets;
 use dep_operations::View;
 use dep_types::{ObjectRow, StoreFault};
@@ -13,6 +16,22 @@ pub(crate) struct Change<'a> {
     pub(crate) alloc: Global,
     pub(crate) view: &'a View,
     pub(crate) content: &'a HashedOctets,
+}
+
+/// New files of an object, with a number for each.
+#[derive(Clone, Copy)]
+pub(crate) struct NumberedFiles<'a> {
+    pub(crate) change: Change<'a>,
+    pub(crate) files: &'a [NewFile],
+    ghost room: { IsTrue (has_room change.view.now.next.file (length files.now)) },
+}
+
+/// A deposit, with a number for each of its files.
+#[derive(Clone, Copy)]
+pub(crate) struct NumberedDeposit<'a> {
+    pub(crate) change: Change<'a>,
+    pub(crate) deposit: &'a Deposit,
+    ghost room: { IsTrue (has_room change.view.now.next.file (count_of deposit.now)) },
 }
 
 /// The object that is touched. That none is there is a fault of the store, as the rules let no such request through.

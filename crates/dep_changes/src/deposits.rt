@@ -1,23 +1,19 @@
 //! Deposits.
 
-ghost use Rattle.std.specs.Prelude.{◌≡◌, ◌≢◌, ◌||◌, ℕ, [], Some, IsTrue, length};
+ghost use Rattle.std.specs.Prelude.{◌≡◌, ◌≢◌, ◌||◌, ℕ, [], Some};
 ghost use Rattle.std.specs.FinMap as map;
 ghost use Rattle.dep_types.specs.Limits.{IsStorable};
-ghost use Rattle.dep_types.specs.State.{Object};
-ghost use Rattle.dep_types.specs.Numbers.{has_room};
 ghost use Rattle.dep_row_maps.specs.TablesAre.{with_metadata, with_object};
-ghost use Rattle.dep_row_maps.specs.Clauses.{ChangesWithin};
 ghost use Rattle.dep_row_maps.specs.Causes.{FailsByOne, FailsByStatement, FailsHolding};
-ghost use Rattle.dep_decisions.specs.Decisions.{count_of};
 ghost use Rattle.dep_decisions.specs.declared.decision.Decision.TheVariants.{Append, Create, Replace};
 ghost use Rattle.dep_changes.specs.Causes.{HasCopies, IsStorableAt, IsStorableBeside};
 ghost use Rattle.dep_changes.specs.Changed.{blank_row};
-ghost use Rattle.dep_changes.specs.Clauses.{Appends, CarriesOut, FailsAppending, FailsCarrying, FailsCarryingMaps, Makes, PutsIn};
+ghost use Rattle.dep_changes.specs.Clauses.{Appends, CarriesOut, FailsAppending, FailsCarrying, FailsCarryingMaps, MakesOf, PutsIn};
 
-use crate::change::{Change, touched};
+use crate::change::{Change, NumberedDeposit, NumberedFiles, touched};
 use crate::new_files::put_new_files;
 use crate::objects::{files_changed, texts_changed, write_row};
-use dep_decisions::{Deposit, NewFile};
+use dep_decisions::Deposit;
 use dep_files::delete_files;
 use dep_objects::{add_object, append_metadata, set_metadata};
 use dep_operations::View;
@@ -52,18 +48,21 @@ pub(crate) fn blank_row(view: &View, object: u64, ingested: bool) -> ObjectRow
 // Puts a deposit in an object: files beside those that it has, or texts in the place of those that it has.
 fn fill<T: Statements>(
     tx: &mut T,
-    change: &Change<'_>,
+    numbered: &NumberedDeposit<'_>,
     object: u64,
-    deposit: &Deposit,
 ) -> Result<(), StoreFault>
-    requires { IsTrue (has_room change.now.view.now.next.file (count_of deposit.now)) }
-    ensures map { PutsIn T.state tx.old tx.new result change.now object deposit.now }
+    ensures map { PutsIn T.lenders T.state tx.old tx.new result numbered.now.change object
+        numbered.now.deposit.now }
     ensures cause { FailsByOne T.state tx.old tx.new result
-        (IsStorableAt change.now object deposit.now) (FailsHolding (HasCopies deposit.now)) }
-    ensures keeps { ChangesWithin T.lenders T.state tx.old tx.new result }
+        (IsStorableAt numbered.now.change object numbered.now.deposit.now)
+        (FailsHolding (HasCopies numbered.now.deposit.now)) }
 {
-    match deposit {
-        Deposit::Files(files) => put_new_files(tx, change, object, files.as_slice()),
+    let change = numbered.change;
+    match numbered.deposit {
+        Deposit::Files(files) => {
+            let files = files.as_slice();
+            put_new_files(tx, &NumberedFiles { change, files }, object)
+        }
         Deposit::Metadata(metadata) => set_metadata(tx, change.alloc, object, metadata),
     }
 }
@@ -71,29 +70,26 @@ fn fill<T: Statements>(
 /// A new object with a deposit alone, under the next number.
 pub(crate) fn create<T: Statements>(
     tx: &mut T,
-    change: &Change<'_>,
-    deposit: &Deposit,
+    numbered: &NumberedDeposit<'_>,
     ingests: bool,
 ) -> Result<(), StoreFault>
-    requires { IsTrue (has_room change.now.view.now.next.file (count_of deposit.now)) }
-    ensures map { CarriesOut T.state tx.old tx.new result change.now
-        (Create deposit.now ingests) }
-    ensures cause { FailsCarrying T.state tx.old tx.new result change.now
-        (Create deposit.now ingests) }
-    ensures keeps { ChangesWithin T.lenders T.state tx.old tx.new result }
+    ensures map { CarriesOut T.lenders T.state tx.old tx.new result numbered.now.change
+        (Create numbered.now.deposit.now ingests) }
+    ensures cause { FailsCarrying T.state tx.old tx.new result numbered.now.change
+        (Create numbered.now.deposit.now ingests) }
 {
+    let change = &numbered.change;
     let object = change.view.next.object;
     add_object(tx, &blank_row(change.view, object, ingests))?;
-    fill(tx, change, object, deposit)
+    fill(tx, numbered, object)
 }
 
 // The object has no metadata.
 fn clear_metadata<T: Statements>(tx: &mut T, alloc: Global, object: u64) -> Result<(), StoreFault>
-    ensures map { (o : Object) → Makes T.state tx.old tx.new result
-        (λ s. map.get s.objects object ≡ Some o)
-        (λ s. with_object s object (with_metadata o map.empty)) }
+    ensures map { MakesOf T.lenders T.state tx.old tx.new result
+        (λ o s. map.get s.objects object ≡ Some o)
+        (λ o s. with_object s object (with_metadata o map.empty)) }
     ensures cause { FailsByOne T.state tx.old tx.new result (IsStorable object) FailsByStatement }
-    ensures keeps { ChangesWithin T.lenders T.state tx.old tx.new result }
 {
     set_metadata(tx, alloc, object, &Metadata::new(alloc))
 }
@@ -101,39 +97,35 @@ fn clear_metadata<T: Statements>(tx: &mut T, alloc: Global, object: u64) -> Resu
 /// The deposit takes the place of all that the object has.
 pub(crate) fn replace<T: Statements>(
     tx: &mut T,
-    change: &Change<'_>,
-    deposit: &Deposit,
+    numbered: &NumberedDeposit<'_>,
     ingests: bool,
 ) -> Result<(), StoreFault>
-    requires { IsTrue (has_room change.now.view.now.next.file (count_of deposit.now)) }
-    ensures map { (n : ℕ) → CarriesOut T.state tx.old tx.new result change.now
-        (Replace n deposit.now ingests) }
-    ensures cause { (n : ℕ) → FailsCarryingMaps T.state tx.old tx.new result change.now
-        (Replace n deposit.now ingests) }
-    ensures keeps { ChangesWithin T.lenders T.state tx.old tx.new result }
+    ensures map { (n : ℕ) → CarriesOut T.lenders T.state tx.old tx.new result numbered.now.change
+        (Replace n numbered.now.deposit.now ingests) }
+    ensures cause { (n : ℕ) → FailsCarryingMaps T.state tx.old tx.new result numbered.now.change
+        (Replace n numbered.now.deposit.now ingests) }
 {
+    let change = &numbered.change;
     let row = ingested_by(touched(change.view)?, ingests);
     delete_files(tx, change.alloc, row.object)?;
     clear_metadata(tx, change.alloc, row.object)?;
     write_row(tx, &blank_row(change.view, row.object, row.ingested))?;
-    fill(tx, change, row.object, deposit)
+    fill(tx, numbered, row.object)
 }
 
 fn append_files<T: Statements>(
     tx: &mut T,
-    change: &Change<'_>,
+    numbered: &NumberedFiles<'_>,
     row: ObjectRow,
-    files: &[NewFile],
 ) -> Result<(), StoreFault>
-    requires { IsTrue (has_room change.now.view.now.next.file (length files.now)) }
-    ensures map { Appends T.state tx.old tx.new result change.now row (Deposit.Files files.now) }
+    ensures map { Appends T.lenders T.state tx.old tx.new result numbered.now.change row
+        (Deposit.Files numbered.now.files.now) }
     ensures cause { FailsByOne T.state tx.old tx.new result
-        (IsStorableBeside change.now row map.empty (Deposit.Files files.now))
-        (FailsHolding (files.now ≢ [])) }
-    ensures keeps { ChangesWithin T.lenders T.state tx.old tx.new result }
+        (IsStorableBeside numbered.now.change row map.empty (Deposit.Files numbered.now.files.now))
+        (FailsHolding (numbered.now.files.now ≢ [])) }
 {
-    write_row(tx, &files_changed(change.view, row))?;
-    put_new_files(tx, change, row.object, files)
+    write_row(tx, &files_changed(numbered.change.view, row))?;
+    put_new_files(tx, numbered, row.object)
 }
 
 fn append_texts<T: Statements>(
@@ -142,11 +134,10 @@ fn append_texts<T: Statements>(
     row: ObjectRow,
     metadata: &Metadata,
 ) -> Result<(), StoreFault>
-    ensures map { Appends T.state tx.old tx.new result change.now row
+    ensures map { Appends T.lenders T.state tx.old tx.new result change.now row
         (Deposit.Metadata metadata.now) }
     ensures cause { FailsAppending T.state tx.old tx.new result change.now row
         (Deposit.Metadata metadata.now) }
-    ensures keeps { ChangesWithin T.lenders T.state tx.old tx.new result }
 {
     write_row(tx, &texts_changed(change.view, row))?;
     append_metadata(tx, change.alloc, row.object, metadata)
@@ -155,20 +146,21 @@ fn append_texts<T: Statements>(
 /// The deposit is added to what the object has.
 pub(crate) fn append<T: Statements>(
     tx: &mut T,
-    change: &Change<'_>,
-    deposit: &Deposit,
+    numbered: &NumberedDeposit<'_>,
     ingests: bool,
 ) -> Result<(), StoreFault>
-    requires { IsTrue (has_room change.now.view.now.next.file (count_of deposit.now)) }
-    ensures map { (n : ℕ) → CarriesOut T.state tx.old tx.new result change.now
-        (Append n deposit.now ingests) }
-    ensures cause { (n : ℕ) → FailsCarryingMaps T.state tx.old tx.new result change.now
-        (Append n deposit.now ingests) }
-    ensures keeps { ChangesWithin T.lenders T.state tx.old tx.new result }
+    ensures map { (n : ℕ) → CarriesOut T.lenders T.state tx.old tx.new result numbered.now.change
+        (Append n numbered.now.deposit.now ingests) }
+    ensures cause { (n : ℕ) → FailsCarryingMaps T.state tx.old tx.new result numbered.now.change
+        (Append n numbered.now.deposit.now ingests) }
 {
+    let change = numbered.change;
     let row = ingested_by(touched(change.view)?, ingests);
-    match deposit {
-        Deposit::Files(files) => append_files(tx, change, row, files.as_slice()),
-        Deposit::Metadata(metadata) => append_texts(tx, change, row, metadata),
+    match numbered.deposit {
+        Deposit::Files(files) => {
+            let files = files.as_slice();
+            append_files(tx, &NumberedFiles { change, files }, row)
+        }
+        Deposit::Metadata(metadata) => append_texts(tx, &change, row, metadata),
     }
 }

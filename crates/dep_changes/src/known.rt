@@ -8,8 +8,9 @@ ghost use Rattle.dep_decisions.specs.Decisions.{numbers_for};
 ghost use Rattle.dep_changes.specs.Known.{CopiesKnown, known_shown};
 ghost use Rattle.dep_changes.specs.Told.{IsAccepted};
 
-use crate::change::{Change, touched};
-use crate::created::{created_view, replaced_file, replaced_view};
+use crate::change::{Change, NumberedDeposit, touched};
+use crate::created::{filled_view, replaced_file};
+use crate::deposits::{blank_row, ingested_by};
 use crate::objects::{files_changed, texts_changed};
 use dep_answers::Shown;
 use dep_decisions::Decision;
@@ -40,7 +41,8 @@ pub fn known_after(
     };
     match decision {
         Decision::Create { deposit, ingests } => {
-            let created = created_view(&change, deposit, *ingests)?;
+            let row = blank_row(view, view.next.object, *ingests);
+            let created = filled_view(&NumberedDeposit { change, deposit }, row)?;
             Ok(Some(Shown::Object(created)))
         }
         Decision::Replace {
@@ -48,7 +50,9 @@ pub fn known_after(
             ingests,
             ..
         } => {
-            let replaced = replaced_view(&change, deposit, *ingests)?;
+            let was = ingested_by(touched(view)?, *ingests);
+            let row = blank_row(view, was.object, was.ingested);
+            let replaced = filled_view(&NumberedDeposit { change, deposit }, row)?;
             Ok(Some(Shown::Object(replaced)))
         }
         Decision::SetMetadata { .. } => {

@@ -1,12 +1,10 @@
 //! New files, each under the next number, with their contents.
 
-ghost use Rattle.std.specs.Prelude.{◌≡◌, ◌≢◌, ⊤, ℕ, [], length, slice_get, Some, None, IfOk, IfErr, IsTrue};
+ghost use Rattle.std.specs.Prelude.{◌≡◌, ◌≢◌, ⊤, ℕ, [], slice_get, Some, None, IfOk, IfErr};
 ghost use Rattle.dep_types.specs.State.{Upload};
 ghost use Rattle.dep_types.specs.Rows.{upload_row};
-ghost use Rattle.dep_types.specs.Numbers.{has_room};
 ghost use Rattle.dep_types.specs.Uploads.{assembled};
 ghost use Rattle.dep_fixity.specs.Fixity.{digests_of};
-ghost use Rattle.dep_row_maps.specs.Clauses.{ChangesWithin};
 ghost use Rattle.dep_row_maps.specs.Causes.{FailsByOne, FailsHolding};
 ghost use Rattle.dep_decisions.specs.Effects.{is_reference};
 ghost use Rattle.dep_decisions.specs.declared.decision.Decision.TheVariants.{SetFile, SetFiles};
@@ -17,7 +15,7 @@ ghost use Rattle.dep_changes.specs.Changed.{new_row};
 ghost use Rattle.dep_changes.specs.Clauses.{CarriesOut, FailsCarrying, FailsCarryingMaps, PutsFile, PutsIn};
 ghost use Rattle.dep_changes.specs.Told.{whole_view};
 
-use crate::change::{Change, touched};
+use crate::change::{Change, NumberedFiles, touched};
 use crate::objects::{files_changed, write_row};
 use dep_decisions::{NewFile, Source};
 use dep_files::{delete_file, delete_files, put_file};
@@ -93,11 +91,10 @@ fn put_posted<T: Statements>(
     new: &NewFile,
     digests: Digests,
 ) -> Result<(), StoreFault>
-    ensures map { (place : ℕ) → PutsFile T.state tx.old tx.new result change.now numbers new.now
-        place (Posted digests) }
+    ensures map { (place : ℕ) → PutsFile T.lenders T.state tx.old tx.new result change.now
+        numbers new.now place (Posted digests) }
     ensures cause { (place : ℕ) → FailsByOne T.state tx.old tx.new result
         (IsStorableNewFile change.now numbers place (Posted digests)) (FailsHolding ⊤) }
-    ensures keeps { ChangesWithin T.lenders T.state tx.old tx.new result }
 {
     let extent = Extent {
         size: change.content.as_slice().len() as u64,
@@ -145,11 +142,10 @@ fn put_assembled<T: Statements>(
     new: &NewFile,
     index: usize,
 ) -> Result<(), StoreFault>
-    ensures map { (u : ℕ) → PutsFile T.state tx.old tx.new result change.now numbers new.now
-        index (Assembled u) }
+    ensures map { (u : ℕ) → PutsFile T.lenders T.state tx.old tx.new result change.now
+        numbers new.now index (Assembled u) }
     ensures cause { (u : ℕ) → FailsByOne T.state tx.old tx.new result
         (IsStorableNewFile change.now numbers index (Assembled u)) (FailsHolding ⊤) }
-    ensures keeps { ChangesWithin T.lenders T.state tx.old tx.new result }
 {
     let upload = whole_upload(change.view, index)?;
     let extent = Extent {
@@ -168,11 +164,10 @@ fn put_new_file<T: Statements>(
     new: &NewFile,
     index: usize,
 ) -> Result<(), StoreFault>
-    ensures map { PutsFile T.state tx.old tx.new result change.now numbers new.now
-        index new.now.source }
+    ensures map { PutsFile T.lenders T.state tx.old tx.new result change.now
+        numbers new.now index new.now.source }
     ensures cause { FailsByOne T.state tx.old tx.new result
         (IsStorableNewFile change.now numbers index new.now.source) (FailsHolding ⊤) }
-    ensures keeps { ChangesWithin T.lenders T.state tx.old tx.new result }
 {
     match new.source {
         Source::Posted(digests) => put_posted(tx, change, numbers, new, digests),
@@ -183,16 +178,17 @@ fn put_new_file<T: Statements>(
 /// Adds new files to an object that is there, under the next numbers in their order.
 pub(crate) fn put_new_files<T: Statements>(
     tx: &mut T,
-    change: &Change<'_>,
+    numbered: &NumberedFiles<'_>,
     object: u64,
-    files: &[NewFile],
 ) -> Result<(), StoreFault>
-    requires { IsTrue (has_room change.now.view.now.next.file (length files.now)) }
-    ensures map { PutsIn T.state tx.old tx.new result change.now object (Files files.now) }
+    ensures map { PutsIn T.lenders T.state tx.old tx.new result numbered.now.change object
+        (Files numbered.now.files.now) }
     ensures cause { FailsByOne T.state tx.old tx.new result
-        (IsStorableAt change.now object (Files files.now)) (FailsHolding (files.now ≢ [])) }
-    ensures keeps { ChangesWithin T.lenders T.state tx.old tx.new result }
+        (IsStorableAt numbered.now.change object (Files numbered.now.files.now))
+        (FailsHolding (numbered.now.files.now ≢ [])) }
 {
+    let change = &numbered.change;
+    let files = numbered.files;
     'files: for (index, new) in files.iter().enumerate() {
         let numbers = FileNumbers {
             object,
@@ -206,20 +202,18 @@ pub(crate) fn put_new_files<T: Statements>(
 /// The object has these files alone.
 pub(crate) fn set_files<T: Statements>(
     tx: &mut T,
-    change: &Change<'_>,
-    files: &[NewFile],
+    numbered: &NumberedFiles<'_>,
 ) -> Result<(), StoreFault>
-    requires { IsTrue (has_room change.now.view.now.next.file (length files.now)) }
-    ensures map { (n : ℕ) → CarriesOut T.state tx.old tx.new result change.now
-        (SetFiles n files.now) }
-    ensures cause { (n : ℕ) → FailsCarryingMaps T.state tx.old tx.new result change.now
-        (SetFiles n files.now) }
-    ensures keeps { ChangesWithin T.lenders T.state tx.old tx.new result }
+    ensures map { (n : ℕ) → CarriesOut T.lenders T.state tx.old tx.new result numbered.now.change
+        (SetFiles n numbered.now.files.now) }
+    ensures cause { (n : ℕ) → FailsCarryingMaps T.state tx.old tx.new result numbered.now.change
+        (SetFiles n numbered.now.files.now) }
 {
+    let change = &numbered.change;
     let row = touched(change.view)?;
     delete_files(tx, change.alloc, row.object)?;
     write_row(tx, &files_changed(change.view, row))?;
-    put_new_files(tx, change, row.object, files)
+    put_new_files(tx, numbered, row.object)
 }
 
 /// The file of the object becomes the content of the request, under its number. No other source is asked for.
@@ -229,11 +223,10 @@ pub(crate) fn set_file<T: Statements>(
     file: u64,
     new: &NewFile,
 ) -> Result<(), StoreFault>
-    ensures map { (n : ℕ) → CarriesOut T.state tx.old tx.new result change.now
+    ensures map { (n : ℕ) → CarriesOut T.lenders T.state tx.old tx.new result change.now
         (SetFile n file new.now) }
     ensures cause { (n : ℕ) → FailsCarrying T.state tx.old tx.new result change.now
         (SetFile n file new.now) }
-    ensures keeps { ChangesWithin T.lenders T.state tx.old tx.new result }
 {
     let Source::Posted(digests) = new.source else {
         return Err(StoreFault::Store);

@@ -2,16 +2,14 @@
 
 ghost use Rattle.std.specs.Prelude.{◌≡◌, ℕ, Some};
 ghost use Rattle.std.specs.FinMap as map;
-ghost use Rattle.dep_types.specs.State.{Object};
 ghost use Rattle.dep_types.specs.Limits.{IsStorable};
 ghost use Rattle.dep_types.specs.Sound.{IsSound};
 ghost use Rattle.dep_tables.specs.Clauses.{FailsByRunning};
 ghost use Rattle.dep_tables.specs.Rows.{IsStorableObject, object_values};
 ghost use Rattle.dep_tables.specs.Texts.{write_object_text};
 ghost use Rattle.dep_row_maps.specs.TablesAre.{with_object, without_object};
-ghost use Rattle.dep_row_maps.specs.Clauses.{ChangesWithin};
 ghost use Rattle.dep_decisions.specs.declared.decision.Decision.TheVariants.{Complete, DropFile, SetMetadata};
-ghost use Rattle.dep_changes.specs.Clauses.{CarriesOut, FailsCarrying, FailsFromMaps, Makes};
+ghost use Rattle.dep_changes.specs.Clauses.{CarriesOut, FailsCarrying, FailsFromMaps, MakesOf};
 ghost use Rattle.dep_changes.specs.Told.{Rewrites};
 
 use crate::change::{Change, touched};
@@ -24,20 +22,19 @@ use std::alloc::Global;
 
 /// Writes the row of an object that is there, and keeps its metadata and files.
 pub(crate) fn write_row<T: Statements>(tx: &mut T, row: &ObjectRow) -> Result<(), StoreFault>
-    ensures map { (o : Object) → Makes T.state tx.old tx.new result
-        (λ s. Rewrites s row.now o) (λ s. with_object s row.now.object o) }
+    ensures map { MakesOf T.lenders T.state tx.old tx.new result
+        (λ o s. Rewrites s row.now o) (λ o s. with_object s row.now.object o) }
     ensures cause { FailsByRunning (T.state tx.old) (T.state tx.new) result
         (IsStorableObject row.now) write_object_text (object_values row.now) }
-    ensures keeps { ChangesWithin T.lenders T.state tx.old tx.new result }
 {
     put_object(tx, row)
 }
 
 /// The object becomes ingested.
 pub(crate) fn complete<T: Statements>(tx: &mut T, change: &Change<'_>) -> Result<(), StoreFault>
-    ensures map { (n : ℕ) → CarriesOut T.state tx.old tx.new result change.now (Complete n) }
+    ensures map { (n : ℕ) → CarriesOut T.lenders T.state tx.old tx.new result change.now
+        (Complete n) }
     ensures cause { (n : ℕ) → FailsCarrying T.state tx.old tx.new result change.now (Complete n) }
-    ensures keeps { ChangesWithin T.lenders T.state tx.old tx.new result }
 {
     let view = change.view;
     let row = touched(view)?;
@@ -74,11 +71,10 @@ pub(crate) fn set_texts<T: Statements>(
     change: &Change<'_>,
     metadata: &Metadata,
 ) -> Result<(), StoreFault>
-    ensures map { (n : ℕ) → CarriesOut T.state tx.old tx.new result change.now
+    ensures map { (n : ℕ) → CarriesOut T.lenders T.state tx.old tx.new result change.now
         (SetMetadata n metadata.now) }
     ensures cause { (n : ℕ) → FailsCarrying T.state tx.old tx.new result change.now
         (SetMetadata n metadata.now) }
-    ensures keeps { ChangesWithin T.lenders T.state tx.old tx.new result }
 {
     let row = touched(change.view)?;
     write_row(tx, &texts_changed(change.view, row))?;
@@ -107,11 +103,10 @@ pub(crate) fn drop_file<T: Statements>(
     change: &Change<'_>,
     file: u64,
 ) -> Result<(), StoreFault>
-    ensures map { (n : ℕ) → CarriesOut T.state tx.old tx.new result change.now
+    ensures map { (n : ℕ) → CarriesOut T.lenders T.state tx.old tx.new result change.now
         (DropFile n file) }
     ensures cause { (n : ℕ) → FailsCarrying T.state tx.old tx.new result change.now
         (DropFile n file) }
-    ensures keeps { ChangesWithin T.lenders T.state tx.old tx.new result }
 {
     let row = touched(change.view)?;
     write_row(tx, &files_changed(change.view, row))?;
@@ -124,11 +119,10 @@ pub(crate) fn drop_object<T: Statements>(
     alloc: Global,
     object: u64,
 ) -> Result<(), StoreFault>
-    ensures map { (o : Object) → Makes T.state tx.old tx.new result
-        (λ s. map.get s.objects object ≡ Some o) (λ s. without_object s object) }
+    ensures map { MakesOf T.lenders T.state tx.old tx.new result
+        (λ o s. map.get s.objects object ≡ Some o) (λ _ s. without_object s object) }
     ensures cause { FailsFromMaps T.state tx.old tx.new result
         (λ s. IsSound s × IsStorable object) (λ _. ⊥) }
-    ensures keeps { ChangesWithin T.lenders T.state tx.old tx.new result }
 {
     delete_files(tx, alloc, object)?;
     delete_object(tx, object)

@@ -1,7 +1,7 @@
 -- What a request's step is, by the ruling on it.
-use Rattle.std.proofs.Common.{◌≡◌, ℕ, Option, Some, None, Result, Ok, Err, IfOk, OnOk, IsTrue, min, inl, inr, refl, sym, ap, subst, ◌∙◌, arith}
-use Rattle.std.specs.Prelude.{option_and_then}
-use Rattle.std.specs.Option.{option_map, option_map_or}
+use Rattle.std.proofs.Common.{◌≡◌, ℕ, Bool, true, false, Option, Some, None, Result, Ok, Err, IfOk, OnOk, IsTrue, min, inl, inr, refl, sym, ap, subst, ◌∙◌, arith}
+use Rattle.std.specs.Prelude.{option_and_then, if◌then◌else◌}
+use Rattle.std.specs.Option.{option_map, option_map_or, option_or}
 use Rattle.sqlite.specs.Effect.{Database}
 use Rattle.sqlite.specs.State as db
 use Rattle.sqlite.proofs.StateLemmas.{unchanged}
@@ -44,14 +44,13 @@ use Rattle.dep_answers.specs.declared.subject.Shown.{Shown}
 use Rattle.dep_answers.specs.declared.subject.Shown.TheVariants as shown
 use Rattle.dep_answers.specs.declared.subject.Subject.{Subject}
 use Rattle.dep_tables.specs.Clauses.{ReadsOnly, StaysWithin}
-use Rattle.dep_tables.specs.Tables.{tables_in}
-use Rattle.dep_tables.proofs.Results.{if_ok, if_failed}
+use Rattle.dep_tables.specs.Tables.{HasOurTables, IsOurs, tables_in}
+use Rattle.dep_tables.proofs.Results.{ok_then}
 use Rattle.dep_row_maps.specs.TablesAre.{TablesAre}
-use Rattle.dep_row_maps.specs.Clauses.{SeesState}
-use Rattle.dep_row_maps.proofs.Causes.{survives_itself}
+use Rattle.dep_row_maps.specs.Clauses.{ChangesWithin, SeesState}
 use Rattle.dep_views.specs.Seen.{file_at_path}
 use Rattle.dep_requests.specs.declared.performing.Ruled.{Ruled}
-use Rattle.dep_requests.specs.Performing.{ChangesNothing, OnlyReads, Rules}
+use Rattle.dep_requests.specs.Performing.{ChangesNothing, OnlyReads, Rules, row_for}
 
 -- a step leaves a sound state
 pub step_sound : (config : Config) (s : State) (op : Operation) → AreFit op.fields → IsSound s → IsSound (operation_step config s op).state
@@ -61,16 +60,6 @@ step_sound config s op fit sound = either (refusal config s op) refl
     either : (found : Option Refusal) → refusal config s op ≡ found → IsSound (step_by config s op found).state
     either None e = effect_sound config s op fit e sound
     either (Some r) e = sound
-
--- nothing was done in the transaction
-pub stays_put : {T L A E : Type 0} (lenders : T → L) (state : T → db.State) (tx : T) (r : Result A E) → StaysWithin lenders state tx tx r
-stays_put lenders state tx r = record {
-  same_reference = refl;
-  survives = survives_itself (state tx);
-  inside = λ clean inside. if_ok r inside;
-  kept = λ clean inside. record { was_open = λ is_open. is_open; committed = λ is_open. refl };
-  fails = λ clean inside is_open. if_failed r (refl, inl inside);
-}
 
 -- the same tables are of the same state
 pub sees_still : (old new : db.State) (s : State) → new.now ≡ old.now → SeesState old s → SeesState new s
@@ -91,6 +80,11 @@ reads_alike config s op (Do d) is only = inr (sym is.1 ∙ only)
 pub reads_alone : {T A E : Type 0} (state : T → db.State) (old mid new : T) (r : Result A E) → mid ≡ old → (IsTrue (state mid).is_open → ReadsOnly (state mid) (state new) r)
     → IsTrue (state old).is_open → ReadsOnly (state old) (state new) r
 reads_alone {T} state old mid new r same reads = subst (λ (tx : T). IsTrue (state tx).is_open → ReadsOnly (state tx) (state new) r) same reads
+
+-- what leaves the rows leaves our tables
+pub changes_still : {T L A E : Type 0} {lenders : T → L} {state : T → db.State} {old new : T} {r : Result A E} → StaysWithin lenders state old new r
+    → (db.HasCleanDisk (state new) → IsOurs (state old) → OnOk r ((state new).now ≡ (state old).now)) → ChangesWithin lenders state old new r
+changes_still {r = r} stays still = record { stays = stays; ours = λ clean inside ours. ok_then r (still clean ours) (λ same. subst HasOurTables (sym same) ours) }
 
 -- what was left alone is unchanged
 pub left_alone : {T : Type 0} (state : T → db.State) (old new : T) → new ≡ old → IsTrue (state old).is_open → db.IsUnchanged (state old) (state new)
@@ -207,21 +201,42 @@ payload_seen s next (resource.BagList n) m row h e = absurd (cc)
 
 -- ---- what is read of either is shown at the state that such a request leaves, which is the same
 
-module _ (config : Config) (s : State) (op : Operation) (ruled : Ruled) (row : FileRow) (read : IsTrue (is_read op.target.method)) (rules : Rules config s op ruled) where
-  abbrev ShowsRow : Type 0
-  ShowsRow = (effect config s op ≡ s) × (shown.File row ≡ shown_at (effect config s op) (subject_of (effect config s op).next op.target.resource op.target.method))
+abbrev ShowsRow : Config → State → Operation → FileRow → Type 0
+ShowsRow config s op row = (effect config s op ≡ s) × (shown.File row ≡ shown_at (effect config s op) (subject_of (effect config s op).next op.target.resource op.target.method))
 
-  shown_still : shown.File row ≡ shown_at s (subject_of s.next op.target.resource op.target.method) → ShowsRow
+module _ (config : Config) (s : State) (op : Operation) (ruled : Ruled) (row : FileRow) (read : IsTrue (is_read op.target.method)) (rules : Rules config s op ruled) where
+  shown_still : shown.File row ≡ shown_at s (subject_of s.next op.target.resource op.target.method) → ShowsRow config s op row
   shown_still told =
       let kept : effect config s op ≡ s = reads_keep config s op read in
       (kept, told ∙ sym (ap (λ (after : State). shown_at after (subject_of after.next op.target.resource op.target.method)) kept))
 
-  pub row_shown : ruled.view.file ≡ Some row → ShowsRow
+  row_shown : ruled.view.file ≡ Some row → ShowsRow config s op row
   row_shown has =
       let looked : Some row ≡ file_looked_at s op.target.resource = sym has ∙ ap (λ (v : View). v.file) rules.view in
       shown_still (row_seen s s.next op.target.resource op.target.method row read looked)
 
-  pub payload_shown : ruled.payload ≡ Some row → ShowsRow
+  payload_shown : ruled.payload ≡ Some row → ShowsRow config s op row
   payload_shown has =
       let looked : Some row ≡ payload_looked_at s op.target.resource = sym has ∙ rules.payload in
       shown_still (payload_seen s s.next op.target.resource op.target.method row read looked)
+
+-- ---- so it is of the row that is known of the one or the other
+
+module _ (config : Config) (s : State) (op : Operation) (ruled : Ruled) (rules : Rules config s op ruled) (told : Shown) where
+  abbrev ShowsTold : Type 0
+  ShowsTold = (effect config s op ≡ s) × (told ≡ shown_at (effect config s op) (subject_of (effect config s op).next op.target.resource op.target.method))
+
+  of_row : (row : FileRow) → told ≡ shown.File row → ShowsRow config s op row → ShowsTold
+  of_row row is shows = (shows.0, is ∙ shows.1)
+
+  pub row_known_shown : Some told ≡ option_map shown.File (row_for op ruled) → ShowsTold
+  row_known_shown known = go (is_read op.target.method) refl known
+    where
+      from : (a b : Option FileRow) → ruled.view.file ≡ a → ruled.payload ≡ b → IsTrue (is_read op.target.method) → Some told ≡ option_map shown.File (option_or a b) → ShowsTold
+      from (Some row) b of_view of_bag read e = let same : told ≡ shown.File row = cc in of_row row same (row_shown config s op ruled row read rules of_view)
+      from None (Some row) of_view of_bag read e = let same : told ≡ shown.File row = cc in of_row row same (payload_shown config s op ruled row read rules of_bag)
+      from None None of_view of_bag read e = absurd (cc)
+
+      go : (read : Bool) → is_read op.target.method ≡ read → Some told ≡ option_map shown.File (if read then option_or ruled.view.file ruled.payload else None) → ShowsTold
+      go true is e = from ruled.view.file ruled.payload refl refl is e
+      go false is e = absurd (cc)

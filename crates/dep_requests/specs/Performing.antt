@@ -1,9 +1,11 @@
 -- What is ruled of a request, and what comes of it.
 use Rattle.sqlite.specs.State as db
-use Rattle.std.specs.Prelude.{◌≡◌, ◌≢◌, ◌⊎◌, ℕ, List, Option, Some, None, Result, IfOk}
+use Rattle.std.specs.Prelude.{◌≡◌, ◌≢◌, ◌⊎◌, ℕ, List, Option, Some, None, Result, IfOk, if◌then◌else◌}
+use Rattle.std.specs.Option.{option_or}
 use Rattle.dep_types.specs.State.{State}
 use Rattle.dep_types.specs.Sound.{IsSound}
 use Rattle.dep_types.specs.declared.config.Config.{Config}
+use Rattle.dep_types.specs.declared.rows.FileRow.{FileRow}
 use Rattle.dep_types.specs.declared.store_fault.StoreFault.{StoreFault}
 use Rattle.dep_types.specs.declared.target.Method.{Method}
 use Rattle.dep_types.specs.declared.target.Method.TheVariants.{Delete}
@@ -20,6 +22,7 @@ use Rattle.dep_row_maps.specs.Clauses.{FromMaps, SeesState}
 use Rattle.dep_decisions.specs.Effects.{effect}
 use Rattle.dep_decisions.specs.declared.decision.Decision.{Decision}
 use Rattle.dep_decisions.specs.Decisions.{decision}
+use Rattle.dep_decisions.specs.Laws.{is_read}
 use Rattle.dep_decisions.specs.Rules.{refusal}
 use Rattle.dep_decisions.specs.declared.decision.Decision.TheVariants.{Show}
 use Rattle.dep_decisions.specs.declared.operation.Operation.{Operation}
@@ -62,6 +65,11 @@ known_at s content d m = known_shown s content d
 
 abbrev pub known_by : State → Operation → Decision → Option Shown
 known_by s op d = known_at s op.content d op.target.method
+
+-- the row of a file that is only read, where it was looked at for the ruling
+abbrev pub row_for : Operation → Ruled → Option FileRow
+row_for op ruled =
+    if is_read op.target.method then option_or ruled.view.file ruled.payload else None
 
 -- the tables are those of what it makes of the state, of which this is shown
 abbrev pub ShowsEffect : Config → State → Operation → db.State → Shown → Type 0

@@ -1,5 +1,5 @@
 -- What a reply shows, from what was found.
-use Rattle.std.proofs.Common.{◌≡◌, ℕ, List, map, Option, Some, None, refl, sym, ap, ◌∙◌}
+use Rattle.std.proofs.Common.{◌≡◌, ℕ, List, map, Option, Some, None, Result, IfOk, refl, sym, ap, subst, ◌∙◌}
 use Rattle.std.specs.Prelude.{option_map}
 use Rattle.std.specs.Option.{option_map_or}
 use Rattle.std.specs.FinMap as finmap
@@ -7,6 +7,8 @@ use Rattle.dep_types.specs.State.{State, Upload as Staged}
 use Rattle.dep_types.specs.Rows.{upload_row}
 use Rattle.dep_types.specs.declared.rows.UploadRow.{UploadRow}
 use Rattle.dep_answers.specs.Subjects.{shown_at}
+use Rattle.dep_answers.specs.declared.subject.Shown.{Shown}
+use Rattle.dep_answers.specs.declared.subject.Subject.{Subject}
 use Rattle.dep_answers.specs.declared.subject.Subject.TheVariants as subject
 use Rattle.dep_answers.specs.declared.subject.Shown.TheVariants as shown
 use Rattle.dep_staging.specs.Found.{IsFound, found_row, gone_row}
@@ -43,3 +45,7 @@ module _ (s : State) (u : ℕ) where
       let row = h.1.row in
       let keys = are ∙ ap (map (λ segment. segment.number)) h.1.received ∙ numbers_are u (finmap.entries (h.0).segments) in
       (λ i. shown.Upload (row i) (keys i)) ∙ sym (at (Some h.0) h.1.there)
+
+-- what is shown of one subject is shown of the same under another name
+pub shown_as : {E : Type 0} (s : State) (r : Result Shown E) (a b : Subject) → a ≡ b → IfOk r (λ told. told ≡ shown_at s b) → IfOk r (λ told. told ≡ shown_at s a)
+shown_as s r a b is told = subst (λ (x : Subject). IfOk r (λ told. told ≡ shown_at s x)) (sym is) told

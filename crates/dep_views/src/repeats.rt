@@ -5,10 +5,10 @@ ghost use Rattle.std.specs.FinMap as finmap;
 ghost use Rattle.dep_types.specs.State.{State, Upload};
 ghost use Rattle.dep_types.specs.Sound.{IsSound};
 ghost use Rattle.dep_operations.specs.Views.{touched_repeat, upload_state, upload_view};
-ghost use Rattle.dep_tables.specs.Clauses.{MayReadWithin};
 ghost use Rattle.dep_row_maps.specs.TablesAre.{segments_at};
 ghost use Rattle.dep_row_maps.specs.Clauses.{FromMaps};
 ghost use Rattle.dep_row_maps.specs.Causes.{FailsByStatement, FailsSince};
+ghost use Rattle.dep_views.specs.Clauses.{MayFind};
 ghost use Rattle.dep_views.specs.Causes.{IsStorableSegment};
 ghost use Rattle.dep_views.specs.Seen.{AreViewsOf};
 
@@ -58,13 +58,12 @@ pub(crate) fn load_repeat<T: Statements>(
     touched: &Touched,
     views: &[UploadView],
 ) -> Result<Option<bool>, StoreFault>
-    ensures map { FromMaps (T.state tx.old) (T.state tx.new)
+    ensures map { MayFind T.lenders T.state tx.old tx.new result
         (λ s. IsSound s → AreViewsOf s touched.now views.now
         → IfOk result (λ repeats. repeats ≡ touched_repeat s content.now touched.now)) }
     ensures cause { FromMaps (T.state tx.old) (T.state tx.new)
         (λ s. AreViewsOf s touched.now views.now → IsStorableSegment s touched.now
         → IfErr result (FailsSince T.state FailsByStatement tx.old tx.new)) }
-    ensures keeps { MayReadWithin T.lenders T.state tx.old tx.new result }
 {
     let Some(id) = touched.segment else {
         return Ok(None);

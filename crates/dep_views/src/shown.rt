@@ -8,10 +8,11 @@ ghost use Rattle.dep_types.specs.Sound.{IsSound};
 ghost use Rattle.dep_answers.specs.Subjects.{shown_at};
 ghost use Rattle.dep_answers.specs.declared.subject.Subject.TheVariants as subject;
 ghost use Rattle.dep_tables.specs.Tables.{IsOurs};
-ghost use Rattle.dep_tables.specs.Clauses.{RefusesNumbers, ReadsWithin, MayReadWithin};
-ghost use Rattle.dep_row_maps.specs.Clauses.{FromMaps, KeepsOurs};
+ghost use Rattle.dep_tables.specs.Clauses.{RefusesNumbers};
+ghost use Rattle.dep_row_maps.specs.Clauses.{FromMaps};
 ghost use Rattle.dep_row_maps.specs.TablesAre.{metadata_at};
 ghost use Rattle.dep_row_maps.specs.Causes.{FailsByOne, FailsByStatement, FailsHolding, FailsSince};
+ghost use Rattle.dep_views.specs.Clauses.{Finds, MayFind};
 ghost use Rattle.dep_views.specs.Causes.{HasSegments, IsStorableSubject, ShowsList};
 
 use crate::objects::load_object_view;
@@ -25,13 +26,12 @@ use dep_types::StoreFault;
 use std::alloc::Global;
 
 fn show_object<T: Statements>(tx: &mut T, alloc: Global, object: u64) -> Result<Shown, StoreFault>
-    ensures map { FromMaps (T.state tx.old) (T.state tx.new)
+    ensures map { Finds T.lenders T.state tx.old tx.new result
         (λ s. IsSound s → IfOk result (λ shown. shown ≡ shown_at s (subject.Object object))) }
     ensures cause { FromMaps (T.state tx.old) (T.state tx.new)
         (λ s. IsStorable object
         → IfErr result (FailsSince T.state
         (FailsHolding (metadata_at s.objects object ≢ finmap.empty)) tx.old tx.new)) }
-    ensures keeps { ReadsWithin T.lenders T.state tx.old tx.new result }
 {
     match load_object_view(tx, alloc, object)? {
         Some(view) => Ok(Shown::Object(view)),
@@ -40,11 +40,10 @@ fn show_object<T: Statements>(tx: &mut T, alloc: Global, object: u64) -> Result<
 }
 
 fn show_row<T: Statements>(tx: &mut T, object: u64) -> Result<Shown, StoreFault>
-    ensures map { FromMaps (T.state tx.old) (T.state tx.new)
+    ensures map { Finds T.lenders T.state tx.old tx.new result
         (λ s. IfOk result (λ shown. shown ≡ shown_at s (subject.ObjectRow object))) }
     ensures numbers { RefusesNumbers (T.state tx.old) (T.state tx.new) result (IsStorable object) }
     ensures cause { FailsByOne T.state tx.old tx.new result (IsStorable object) FailsByStatement }
-    ensures keeps { ReadsWithin T.lenders T.state tx.old tx.new result }
 {
     match find_object(tx, object)? {
         Some(row) => Ok(Shown::ObjectRow(row)),
@@ -53,13 +52,12 @@ fn show_row<T: Statements>(tx: &mut T, object: u64) -> Result<Shown, StoreFault>
 }
 
 fn show_metadata<T: Statements>(tx: &mut T, alloc: Global, object: u64) -> Result<Shown, StoreFault>
-    ensures map { FromMaps (T.state tx.old) (T.state tx.new)
+    ensures map { Finds T.lenders T.state tx.old tx.new result
         (λ s. IsSound s → IfOk result (λ shown. shown ≡ shown_at s (subject.Metadata object))) }
     ensures cause { FromMaps (T.state tx.old) (T.state tx.new)
         (λ s. IsStorable object
         → IfErr result (FailsSince T.state
         (FailsHolding (metadata_at s.objects object ≢ finmap.empty)) tx.old tx.new)) }
-    ensures keeps { ReadsWithin T.lenders T.state tx.old tx.new result }
 {
     match load_object(tx, alloc, object)? {
         Some(described) => Ok(Shown::Metadata {
@@ -71,11 +69,10 @@ fn show_metadata<T: Statements>(tx: &mut T, alloc: Global, object: u64) -> Resul
 }
 
 fn show_file<T: Statements>(tx: &mut T, id: FileId) -> Result<Shown, StoreFault>
-    ensures map { FromMaps (T.state tx.old) (T.state tx.new)
+    ensures map { Finds T.lenders T.state tx.old tx.new result
         (λ s. IfOk result (λ shown. shown ≡ shown_at s (subject.File id))) }
     ensures numbers { RefusesNumbers (T.state tx.old) (T.state tx.new) result (IsStorable id.file) }
     ensures cause { FailsByOne T.state tx.old tx.new result (IsStorable id.file) FailsByStatement }
-    ensures keeps { ReadsWithin T.lenders T.state tx.old tx.new result }
 {
     match find_file(tx, id.object, id.file)? {
         Some(row) => Ok(Shown::File(row)),
@@ -84,13 +81,12 @@ fn show_file<T: Statements>(tx: &mut T, id: FileId) -> Result<Shown, StoreFault>
 }
 
 fn show_upload<T: Statements>(tx: &mut T, alloc: Global, upload: u64) -> Result<Shown, StoreFault>
-    ensures map { FromMaps (T.state tx.old) (T.state tx.new)
+    ensures map { Finds T.lenders T.state tx.old tx.new result
         (λ s. IfOk result (λ shown. shown ≡ shown_at s (subject.Upload upload))) }
     ensures numbers { RefusesNumbers (T.state tx.old) (T.state tx.new) result (IsStorable upload) }
     ensures cause { FromMaps (T.state tx.old) (T.state tx.new)
         (λ s. IsStorable upload
         → IfErr result (FailsSince T.state (FailsHolding (HasSegments s upload)) tx.old tx.new)) }
-    ensures keeps { ReadsWithin T.lenders T.state tx.old tx.new result }
 {
     match load_upload(tx, alloc, upload)? {
         FoundUpload::Live(staged) => Ok(Shown::Upload {
@@ -109,17 +105,15 @@ pub fn load_shown<T: Statements>(
     alloc: Global,
     subject: &Subject,
 ) -> Result<Shown, StoreFault>
-    ensures map { FromMaps (T.state tx.old) (T.state tx.new)
+    ensures map { MayFind T.lenders T.state tx.old tx.new result
         (λ s. IsSound s → IfOk result (λ shown. shown ≡ shown_at s subject.now)) }
     ensures still { HasCleanDisk (T.state tx.new)
         → IsOurs (T.state tx.old)
         → OnOk result ((T.state tx.new).now ≡ (T.state tx.old).now) }
-    ensures ours { KeepsOurs (T.state tx.old) (T.state tx.new) result }
     ensures cause { FromMaps (T.state tx.old) (T.state tx.new)
         (λ s. IsStorableSubject subject.now
         → IfErr result (FailsSince T.state (FailsHolding (ShowsList s subject.now))
         tx.old tx.new)) }
-    ensures keeps { MayReadWithin T.lenders T.state tx.old tx.new result }
 {
     match *subject {
         Subject::Nothing => Ok(Shown::Nothing),

@@ -7,9 +7,8 @@ ghost use Rattle.dep_types.specs.BagPaths.{tag_paths};
 ghost use Rattle.dep_bag.specs.Parts.{row_path};
 ghost use Rattle.dep_types.specs.Sound.{IsSound};
 ghost use Rattle.dep_operations.specs.Views.{touched_file, touched_object};
-ghost use Rattle.dep_tables.specs.Clauses.{MayReadWithin};
-ghost use Rattle.dep_row_maps.specs.Clauses.{FromMaps};
-ghost use Rattle.dep_row_maps.specs.Causes.{FailsByOne, FailsByStatement, FailsSince};
+ghost use Rattle.dep_row_maps.specs.Causes.{FailsByOne, FailsByStatement};
+ghost use Rattle.dep_views.specs.Clauses.{MayFind};
 ghost use Rattle.dep_views.specs.Causes.{AreStorable};
 ghost use Rattle.dep_views.specs.Seen.{file_at_path, path_seen};
 
@@ -26,11 +25,10 @@ pub(crate) fn find_touched_object<T: Statements>(
     tx: &mut T,
     touched: &Touched,
 ) -> Result<Option<ObjectRow>, StoreFault>
-    ensures map { FromMaps (T.state tx.old) (T.state tx.new)
+    ensures map { MayFind T.lenders T.state tx.old tx.new result
         (λ s. IfOk result (λ found. found ≡ touched_object s touched.now)) }
     ensures cause { FailsByOne T.state tx.old tx.new result
         (AreStorable touched.now) FailsByStatement }
-    ensures keeps { MayReadWithin T.lenders T.state tx.old tx.new result }
 {
     match touched.object {
         Some(object) => find_object(tx, object),
@@ -43,11 +41,10 @@ pub(crate) fn find_touched_file<T: Statements>(
     tx: &mut T,
     touched: &Touched,
 ) -> Result<Option<FileRow>, StoreFault>
-    ensures map { FromMaps (T.state tx.old) (T.state tx.new)
+    ensures map { MayFind T.lenders T.state tx.old tx.new result
         (λ s. IfOk result (λ found. found ≡ touched_file s touched.now)) }
     ensures cause { FailsByOne T.state tx.old tx.new result
         (AreStorable touched.now) FailsByStatement }
-    ensures keeps { MayReadWithin T.lenders T.state tx.old tx.new result }
 {
     match (touched.object, touched.file) {
         (Some(object), Some(file)) => find_file(tx, object, file),
@@ -61,10 +58,9 @@ fn find_file_at_path<T: Statements>(
     object: u64,
     path: &[u8],
 ) -> Result<Option<FileRow>, StoreFault>
-    ensures map { FromMaps (T.state tx.old) (T.state tx.new)
+    ensures map { MayFind T.lenders T.state tx.old tx.new result
         (λ s. IfOk result (λ found. found ≡ file_at_path s object path.now)) }
     ensures cause { FailsByOne T.state tx.old tx.new result ⊤ FailsByStatement }
-    ensures keeps { MayReadWithin T.lenders T.state tx.old tx.new result }
 {
     match file_number(path) {
         Some(file) => find_file(tx, object, file),
@@ -99,11 +95,10 @@ pub(crate) fn find_touched_path<T: Statements>(
     touched: &Touched,
     object: Option<&ObjectRow>,
 ) -> Result<PathSeen, StoreFault>
-    ensures map { FromMaps (T.state tx.old) (T.state tx.new)
+    ensures map { MayFind T.lenders T.state tx.old tx.new result
         (λ s. IsSound s → option_copied object.entry ≡ touched_object s touched.now
         → IfOk result (λ seen. seen ≡ path_seen s touched.now)) }
     ensures cause { FailsByOne T.state tx.old tx.new result ⊤ FailsByStatement }
-    ensures keeps { MayReadWithin T.lenders T.state tx.old tx.new result }
 {
     match (object, &touched.path) {
         (Some(object), Some(path)) => {

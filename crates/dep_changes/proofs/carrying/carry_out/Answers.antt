@@ -1,3 +1,4 @@
+use Rattle.std.proofs.lemmas.Result.{IfOk-from_err}
 use Rattle.std.proofs.Common.{◌≡◌, ◌∙◌, true, false, refl, sym, ap}
 use Rattle.dep_types.specs.Numbers.{counters_after}
 use Rattle.dep_types.specs.declared.counters.Counters.{Counters}
@@ -19,33 +20,36 @@ use Rattle.dep_row_maps.proofs.Changing.{changes_then, changes_ok, changes_err}
 use Rattle.dep_changes.proofs.carrying.carry_out.Goals as goal
 
 pub returns-then-eq-clause-map : goal.returns-then-eq-clause-map
-returns-then-eq-clause-map g c clean inside ours s are it =
-    let view = c.args.view.now in
-    let d = c.args.decision.now in
-    let content = c.args.content.now in
-    let numbers = numbers_told s view content d it in
-    let made = c.in_ok-change_maps.ensures.map clean inside ours s are (numbers, told s view content d it) in
-    let after : c.after_taking-next.result ≡ counters_after s.next (numbers_for d) = c.after_taking-next.ensures ∙ ap (λ (next : Counters). counters_after next c.numbers_for.result) numbers.1 ∙ ap (counters_after s.next) c.numbers_for.ensures in
-    let stays : c.after_taking-next.result ≡ view.next = same_counters c.after_taking-next.result view.next (sym c.eq.ensures ∙ c.if-eq.true) in
-    carried s content d (tables_of (g.T.Statements.state c.change_maps.new.tx)) s.clock s.next refl (sym numbers.1 ∙ sym stays ∙ after) made
+returns-then-eq-clause-map g c = record {
+  done = λ clean inside ours s are it.
+      let view = c.args.view.now in
+      let d = c.args.decision.now in
+      let content = c.args.content.now in
+      let numbers = numbers_told s view content d it in
+      let made = c.in_ok-change_maps.ensures.map.done clean inside ours s are (numbers, told s view content d it) in
+      let after : c.after_taking-next.result ≡ counters_after s.next (numbers_for d) = c.after_taking-next.ensures ∙ ap (λ (next : Counters). counters_after next c.numbers_for.result) numbers.1 ∙ ap (counters_after s.next) c.numbers_for.ensures in
+      let stays : c.after_taking-next.result ≡ view.next = same_counters c.after_taking-next.result view.next (sym c.eq.ensures ∙ c.if-eq.true) in
+      carried s content d (tables_of (g.T.Statements.state c.change_maps.new.tx)) s.clock s.next refl (sym numbers.1 ∙ sym stays ∙ after) made;
+  keeps = changes_ok c.in_ok-change_maps.ensures.map.keeps;
+}
 
 pub returns-clause-map : goal.returns-clause-map
-returns-clause-map g c clean inside ours s are it =
-    let new = g.T.Statements.state c.set_counters.new.tx in
-    let before = clean_before c.set_counters.ensures.keeps.stays clean in
-    let view = c.args.view.now in
-    let d = c.args.decision.now in
-    let content = c.args.content.now in
-    let next = c.after_taking-next.result in
-    let numbers = numbers_told s view content d it in
-    let made = c.in_ok-change_maps.ensures.map before inside ours s are (numbers, told s view content d it) in
-    let after : next ≡ counters_after s.next (numbers_for d) = c.after_taking-next.ensures ∙ ap (λ (was : Counters). counters_after was c.numbers_for.result) numbers.1 ∙ ap (counters_after s.next) c.numbers_for.ensures in
-    ok_then c.set_counters.result
-    (c.set_counters.ensures.map clean (c.in_ok-change_maps.ensures.keeps.stays.inside before inside) (c.in_ok-change_maps.ensures.keeps.ours before inside ours) (with_maps s content d) made)
-    (λ wrote. carried s content d (tables_of new) view.clock next numbers.0 after wrote)
-
-pub returns-clause-keeps : goal.returns-clause-keeps
-returns-clause-keeps g c = changes_then c.in_ok-change_maps.ensures.keeps c.set_counters.ensures.keeps
+returns-clause-map g c = record {
+  done = λ clean inside ours s are it.
+      let new = g.T.Statements.state c.set_counters.new.tx in
+      let before = clean_before c.set_counters.ensures.keeps.stays clean in
+      let view = c.args.view.now in
+      let d = c.args.decision.now in
+      let content = c.args.content.now in
+      let next = c.after_taking-next.result in
+      let numbers = numbers_told s view content d it in
+      let made = c.in_ok-change_maps.ensures.map.done before inside ours s are (numbers, told s view content d it) in
+      let after : next ≡ counters_after s.next (numbers_for d) = c.after_taking-next.ensures ∙ ap (λ (was : Counters). counters_after was c.numbers_for.result) numbers.1 ∙ ap (counters_after s.next) c.numbers_for.ensures in
+      ok_then c.set_counters.result
+      (c.set_counters.ensures.map clean (c.in_ok-change_maps.ensures.map.keeps.stays.inside before inside) (c.in_ok-change_maps.ensures.map.keeps.ours before inside ours) (with_maps s content d) made)
+      (λ wrote. carried s content d (tables_of new) view.clock next numbers.0 after wrote);
+  keeps = changes_then c.in_ok-change_maps.ensures.map.keeps c.set_counters.ensures.keeps;
+}
 
 pub returns-in_err-change_maps-clause-untouched : goal.returns-in_err-change_maps-clause-untouched
 returns-in_err-change_maps-clause-untouched g c show = absurd (let never = (c.in_err-change_maps.ensures.untouched show).0 in cc)
@@ -83,11 +87,11 @@ returns-clause-cause g c clean inside ours s are it =
     let numbers = numbers_told s view content d by in
     let after : c.after_taking-next.result ≡ counters_after view.next (numbers_for d) = c.after_taking-next.ensures ∙ ap (counters_after view.next) c.numbers_for.ensures in
     let storable = counters_fit s by.sound view (numbers_for d) c.after_taking-next.result numbers c.requires after _ refl in
-    if_err_then c.set_counters.result (c.set_counters.ensures.cause storable clean (c.in_ok-change_maps.ensures.keeps.stays.inside before inside))
-    (λ fault failed. fails_then g.T.Statements.state c.args.tx.now c.change_maps.new.tx c.set_counters.new.tx c.in_ok-change_maps.ensures.keeps.stays.survives (FailsHolding (TakesMemory s d)) fault (statement (state_written _ failed)))
+    if_err_then c.set_counters.result (c.set_counters.ensures.cause storable clean (c.in_ok-change_maps.ensures.map.keeps.stays.inside before inside))
+    (λ fault failed. fails_then g.T.Statements.state c.args.tx.now c.change_maps.new.tx c.set_counters.new.tx c.in_ok-change_maps.ensures.map.keeps.stays.survives (FailsHolding (TakesMemory s d)) fault (statement (state_written _ failed)))
 
-pub returns-in_err-change_maps-clause-keeps : goal.returns-in_err-change_maps-clause-keeps
-returns-in_err-change_maps-clause-keeps g c = changes_err c.from_residual.ensures.0 c.in_err-change_maps.ensures.keeps.stays
-
-pub returns-then-eq-clause-keeps : goal.returns-then-eq-clause-keeps
-returns-then-eq-clause-keeps g c = changes_ok c.in_ok-change_maps.ensures.keeps
+pub returns-in_err-change_maps-clause-map : goal.returns-in_err-change_maps-clause-map
+returns-in_err-change_maps-clause-map g c = record {
+  done = λ clean inside ours s are told. IfOk-from_err c.from_residual.result _ c.from_residual.ensures.0;
+  keeps = changes_err c.from_residual.ensures.0 c.in_err-change_maps.ensures.map.keeps.stays;
+}

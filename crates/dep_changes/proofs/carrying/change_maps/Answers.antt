@@ -10,25 +10,22 @@ use Rattle.dep_changes.proofs.Carried.{room_of_files, carried_as, fails_alike, f
 use Rattle.dep_changes.proofs.Causes.{by_statement, caused_among}
 use Rattle.dep_changes.proofs.carrying.change_maps.Goals as goal
 
-pub create-requires : goal.create-requires
-create-requires g c = room_of_files c.args.change.now.view.now.next c.args.decision.now _ (ap (λ (d : Decision). (numbers_for d).file) c.in-Create.is) c.requires
+pub invariant_of-create : goal.invariant_of-create
+invariant_of-create g c = record { room = room_of_files c.args.change.now.view.now.next c.args.decision.now _ (ap (λ (d : Decision). (numbers_for d).file) c.in-Create.is) c.requires }
 
-pub append-requires : goal.append-requires
-append-requires g c = room_of_files c.args.change.now.view.now.next c.args.decision.now _ (ap (λ (d : Decision). (numbers_for d).file) c.in-Append.is) c.requires
+pub invariant_of-append : goal.invariant_of-append
+invariant_of-append g c = record { room = room_of_files c.args.change.now.view.now.next c.args.decision.now _ (ap (λ (d : Decision). (numbers_for d).file) c.in-Append.is) c.requires }
 
-pub replace-requires : goal.replace-requires
-replace-requires g c = room_of_files c.args.change.now.view.now.next c.args.decision.now _ (ap (λ (d : Decision). (numbers_for d).file) c.in-Replace.is) c.requires
+pub invariant_of-replace : goal.invariant_of-replace
+invariant_of-replace g c = record { room = room_of_files c.args.change.now.view.now.next c.args.decision.now _ (ap (λ (d : Decision). (numbers_for d).file) c.in-Replace.is) c.requires }
 
-pub set_files-requires : goal.set_files-requires
-set_files-requires g c = room_of_files c.args.change.now.view.now.next c.args.decision.now _ (ap (λ (d : Decision). (numbers_for d).file) c.in-SetFiles.is ∙ ap length (sym c.as_slice.ensures)) c.requires
+pub invariant_of-set_files : goal.invariant_of-set_files
+invariant_of-set_files g c = record { room = room_of_files c.args.change.now.view.now.next c.args.decision.now _ (ap (λ (d : Decision). (numbers_for d).file) c.in-SetFiles.is ∙ ap length (sym c.as_slice-files.ensures)) c.requires }
 
 pub returns-in-Create-clause-map : goal.returns-in-Create-clause-map
 returns-in-Create-clause-map g c =
     carried_as g.T.Statements.state c.args.tx.now c.create.new.tx c.create.result c.args.change.now c.args.decision.now _ c.in-Create.is
     c.create.ensures.map
-
-pub returns-in-Create-clause-keeps : goal.returns-in-Create-clause-keeps
-returns-in-Create-clause-keeps g c = c.create.ensures.keeps
 
 pub returns-in-Create-clause-cause : goal.returns-in-Create-clause-cause
 returns-in-Create-clause-cause g c =
@@ -40,9 +37,6 @@ returns-in-Append-clause-map g c =
     carried_as g.T.Statements.state c.args.tx.now c.append.new.tx c.append.result c.args.change.now c.args.decision.now _ c.in-Append.is
     (c.append.ensures.map c.in-Append.object)
 
-pub returns-in-Append-clause-keeps : goal.returns-in-Append-clause-keeps
-returns-in-Append-clause-keeps g c = c.append.ensures.keeps
-
 pub returns-in-Append-clause-cause : goal.returns-in-Append-clause-cause
 returns-in-Append-clause-cause g c =
     fails_as g.T.Statements.state c.args.tx.now c.append.new.tx c.append.result c.args.change.now c.args.decision.now _ c.in-Append.is
@@ -52,9 +46,6 @@ pub returns-in-Replace-clause-map : goal.returns-in-Replace-clause-map
 returns-in-Replace-clause-map g c =
     carried_as g.T.Statements.state c.args.tx.now c.replace.new.tx c.replace.result c.args.change.now c.args.decision.now _ c.in-Replace.is
     (c.replace.ensures.map c.in-Replace.object)
-
-pub returns-in-Replace-clause-keeps : goal.returns-in-Replace-clause-keeps
-returns-in-Replace-clause-keeps g c = c.replace.ensures.keeps
 
 pub returns-in-Replace-clause-cause : goal.returns-in-Replace-clause-cause
 returns-in-Replace-clause-cause g c =
@@ -66,9 +57,6 @@ returns-in-Complete-clause-map g c =
     carried_as g.T.Statements.state c.args.tx.now c.complete.new.tx c.complete.result c.args.change.now c.args.decision.now _ c.in-Complete.is
     (c.complete.ensures.map c.in-Complete.object)
 
-pub returns-in-Complete-clause-keeps : goal.returns-in-Complete-clause-keeps
-returns-in-Complete-clause-keeps g c = c.complete.ensures.keeps
-
 pub returns-in-Complete-clause-cause : goal.returns-in-Complete-clause-cause
 returns-in-Complete-clause-cause g c =
     fails_alike g.T.Statements.state c.args.tx.now c.complete.new.tx c.complete.result c.args.change.now c.args.decision.now _ c.in-Complete.is
@@ -79,9 +67,6 @@ returns-in-SetMetadata-clause-map g c =
     carried_as g.T.Statements.state c.args.tx.now c.set_texts.new.tx c.set_texts.result c.args.change.now c.args.decision.now _ c.in-SetMetadata.is
     (c.set_texts.ensures.map c.in-SetMetadata.object)
 
-pub returns-in-SetMetadata-clause-keeps : goal.returns-in-SetMetadata-clause-keeps
-returns-in-SetMetadata-clause-keeps g c = c.set_texts.ensures.keeps
-
 pub returns-in-SetMetadata-clause-cause : goal.returns-in-SetMetadata-clause-cause
 returns-in-SetMetadata-clause-cause g c =
     fails_alike g.T.Statements.state c.args.tx.now c.set_texts.new.tx c.set_texts.result c.args.change.now c.args.decision.now _ c.in-SetMetadata.is
@@ -89,24 +74,18 @@ returns-in-SetMetadata-clause-cause g c =
 
 pub returns-in-SetFiles-clause-map : goal.returns-in-SetFiles-clause-map
 returns-in-SetFiles-clause-map g c =
-    carried_as g.T.Statements.state c.args.tx.now c.set_files.new.tx c.set_files.result c.args.change.now c.args.decision.now _ (c.in-SetFiles.is ∙ ap (λ (new : List NewFile). SetFiles c.in-SetFiles.object new) (sym c.as_slice.ensures))
+    carried_as g.T.Statements.state c.args.tx.now c.set_files.new.tx c.set_files.result c.args.change.now c.args.decision.now _ (c.in-SetFiles.is ∙ ap (λ (new : List NewFile). SetFiles c.in-SetFiles.object new) (sym c.as_slice-files.ensures))
     (c.set_files.ensures.map c.in-SetFiles.object)
-
-pub returns-in-SetFiles-clause-keeps : goal.returns-in-SetFiles-clause-keeps
-returns-in-SetFiles-clause-keeps g c = c.set_files.ensures.keeps
 
 pub returns-in-SetFiles-clause-cause : goal.returns-in-SetFiles-clause-cause
 returns-in-SetFiles-clause-cause g c =
-    fails_as g.T.Statements.state c.args.tx.now c.set_files.new.tx c.set_files.result c.args.change.now c.args.decision.now _ (c.in-SetFiles.is ∙ ap (λ (new : List NewFile). SetFiles c.in-SetFiles.object new) (sym c.as_slice.ensures))
+    fails_as g.T.Statements.state c.args.tx.now c.set_files.new.tx c.set_files.result c.args.change.now c.args.decision.now _ (c.in-SetFiles.is ∙ ap (λ (new : List NewFile). SetFiles c.in-SetFiles.object new) (sym c.as_slice-files.ensures))
     (c.set_files.ensures.cause c.in-SetFiles.object)
 
 pub returns-in-SetFile-clause-map : goal.returns-in-SetFile-clause-map
 returns-in-SetFile-clause-map g c =
     carried_as g.T.Statements.state c.args.tx.now c.set_file.new.tx c.set_file.result c.args.change.now c.args.decision.now _ c.in-SetFile.is
     (c.set_file.ensures.map c.in-SetFile.object)
-
-pub returns-in-SetFile-clause-keeps : goal.returns-in-SetFile-clause-keeps
-returns-in-SetFile-clause-keeps g c = c.set_file.ensures.keeps
 
 pub returns-in-SetFile-clause-cause : goal.returns-in-SetFile-clause-cause
 returns-in-SetFile-clause-cause g c =
@@ -118,9 +97,6 @@ returns-in-DropFile-clause-map g c =
     carried_as g.T.Statements.state c.args.tx.now c.drop_file.new.tx c.drop_file.result c.args.change.now c.args.decision.now _ c.in-DropFile.is
     (c.drop_file.ensures.map c.in-DropFile.object)
 
-pub returns-in-DropFile-clause-keeps : goal.returns-in-DropFile-clause-keeps
-returns-in-DropFile-clause-keeps g c = c.drop_file.ensures.keeps
-
 pub returns-in-DropFile-clause-cause : goal.returns-in-DropFile-clause-cause
 returns-in-DropFile-clause-cause g c =
     fails_alike g.T.Statements.state c.args.tx.now c.drop_file.new.tx c.drop_file.result c.args.change.now c.args.decision.now _ c.in-DropFile.is
@@ -129,10 +105,7 @@ returns-in-DropFile-clause-cause g c =
 pub returns-in-DropObject-clause-map : goal.returns-in-DropObject-clause-map
 returns-in-DropObject-clause-map g c =
     carried_as g.T.Statements.state c.args.tx.now c.drop_object.new.tx c.drop_object.result c.args.change.now c.args.decision.now _ c.in-DropObject.is
-    (λ clean inside ours s are told. c.drop_object.ensures.map told.1.0 clean inside ours s are told.1.1.1)
-
-pub returns-in-DropObject-clause-keeps : goal.returns-in-DropObject-clause-keeps
-returns-in-DropObject-clause-keeps g c = c.drop_object.ensures.keeps
+    (record { done = λ clean inside ours s are told. c.drop_object.ensures.map.done told.1.0 clean inside ours s are told.1.1.1; keeps = c.drop_object.ensures.map.keeps })
 
 pub returns-in-DropObject-clause-cause : goal.returns-in-DropObject-clause-cause
 returns-in-DropObject-clause-cause g c =
@@ -144,9 +117,6 @@ returns-in-Open-clause-map g c =
     carried_as g.T.Statements.state c.args.tx.now c.open.new.tx c.open.result c.args.change.now c.args.decision.now _ c.in-Open.is
     c.open.ensures.map
 
-pub returns-in-Open-clause-keeps : goal.returns-in-Open-clause-keeps
-returns-in-Open-clause-keeps g c = c.open.ensures.keeps
-
 pub returns-in-Open-clause-cause : goal.returns-in-Open-clause-cause
 returns-in-Open-clause-cause g c =
     fails_alike g.T.Statements.state c.args.tx.now c.open.new.tx c.open.result c.args.change.now c.args.decision.now _ c.in-Open.is
@@ -157,9 +127,6 @@ returns-in-Receive-clause-map g c =
     carried_as g.T.Statements.state c.args.tx.now c.receive.new.tx c.receive.result c.args.change.now c.args.decision.now _ c.in-Receive.is
     (c.receive.ensures.map c.in-Receive.upload)
 
-pub returns-in-Receive-clause-keeps : goal.returns-in-Receive-clause-keeps
-returns-in-Receive-clause-keeps g c = c.receive.ensures.keeps
-
 pub returns-in-Receive-clause-cause : goal.returns-in-Receive-clause-cause
 returns-in-Receive-clause-cause g c =
     fails_alike g.T.Statements.state c.args.tx.now c.receive.new.tx c.receive.result c.args.change.now c.args.decision.now _ c.in-Receive.is
@@ -168,10 +135,7 @@ returns-in-Receive-clause-cause g c =
 pub returns-in-DropUpload-clause-map : goal.returns-in-DropUpload-clause-map
 returns-in-DropUpload-clause-map g c =
     carried_as g.T.Statements.state c.args.tx.now c.drop_upload.new.tx c.drop_upload.result c.args.change.now c.args.decision.now _ c.in-DropUpload.is
-    (λ clean inside ours s are told. c.drop_upload.ensures.map clean inside ours s are)
-
-pub returns-in-DropUpload-clause-keeps : goal.returns-in-DropUpload-clause-keeps
-returns-in-DropUpload-clause-keeps g c = c.drop_upload.ensures.keeps
+    (record { done = λ clean inside ours s are told. c.drop_upload.ensures.map clean inside ours s are; keeps = c.drop_upload.ensures.keeps })
 
 pub returns-in-DropUpload-clause-cause : goal.returns-in-DropUpload-clause-cause
 returns-in-DropUpload-clause-cause g c =

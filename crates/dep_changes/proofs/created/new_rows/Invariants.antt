@@ -7,5 +7,5 @@ use Rattle.dep_changes.proofs.created.new_rows.Given as goal
 -- the rows are those of the files so far
 abbrev pub invariant-files : goal.invariant-files
 invariant-files l =
-    (s : State) → TellsNumbers l.change.view.now s → AreSources s l.change.content.now l.change.view.now.uploads l.files
-    → l.rows.items ≡ rows_added s l.change.content.now l.object s.next.file (take l.index l.files)
+    (s : State) → TellsNumbers l.numbered.change.view.now s → AreSources s l.numbered.change.content.now l.numbered.change.view.now.uploads l.numbered.files.now
+    → l.rows.items ≡ rows_added s l.numbered.change.content.now l.object s.next.file (take l.index l.numbered.files.now)

@@ -1,3 +1,4 @@
+use Rattle.std.proofs.lemmas.Result.{IfOk-from_err}
 use Rattle.std.specs.FinMap as finmap
 use Rattle.dep_types.specs.State.{State, Object}
 use Rattle.dep_tables.proofs.Chains.{clean_before}
@@ -22,27 +23,27 @@ use Rattle.dep_row_maps.proofs.Changing.{changes_then, changes_err}
 use Rattle.dep_changes.proofs.deposits.append_texts.Goals as goal
 
 pub returns-clause-map : goal.returns-clause-map
-returns-clause-map g c it clean inside ours s are told =
-    let view = c.args.change.now.view.now in
-    let mid = g.T.Statements.state c.write_row.new.tx in
-    let new = g.T.Statements.state c.append_metadata.new.tx in
-    let before = clean_before c.append_metadata.ensures.keeps.stays clean in
-    let numbers = told.0.0 in
-    let row = told.1 in
-    let n = c.args.row.object in
-    let now = c.texts_changed.result in
-    let mark : Object = with_texts s it.metadata it in
-    let is = texts_of_row s n it c.args.row row.is_row view.clock view.next numbers.0 numbers.1 now it.metadata c.texts_changed.ensures in
-    let put = at_number (tables_of mid) s now.object n mark (its_number n mark now is)
-    (c.in_ok-write_row.ensures.map mark before inside ours s are (rewritten s n row.was mark now is row.there row.metadata row.files)) in
-    let one : State = with_object s n mark in
-    let after : Object = with_texts s (joined (finmap.entries c.args.metadata.now) it.metadata) it in
-    ok_then c.append_metadata.result
-    (c.append_metadata.ensures.map clean (c.in_ok-write_row.ensures.keeps.stays.inside before inside) (c.in_ok-write_row.ensures.keeps.ours before inside ours) one put mark (get_here s.objects n mark))
-    (λ added. written_again (tables_of new) s n mark after added)
-
-pub returns-clause-keeps : goal.returns-clause-keeps
-returns-clause-keeps g c = changes_then c.in_ok-write_row.ensures.keeps c.append_metadata.ensures.keeps
+returns-clause-map g c = record {
+  done = λ it clean inside ours s are told.
+      let view = c.args.change.now.view.now in
+      let mid = g.T.Statements.state c.write_row.new.tx in
+      let new = g.T.Statements.state c.append_metadata.new.tx in
+      let before = clean_before c.append_metadata.ensures.keeps.stays clean in
+      let numbers = told.0.0 in
+      let row = told.1 in
+      let n = c.args.row.object in
+      let now = c.texts_changed.result in
+      let mark : Object = with_texts s it.metadata it in
+      let is = texts_of_row s n it c.args.row row.is_row view.clock view.next numbers.0 numbers.1 now it.metadata c.texts_changed.ensures in
+      let put = at_number (tables_of mid) s now.object n mark (its_number n mark now is)
+      (c.in_ok-write_row.ensures.map.done mark before inside ours s are (rewritten s n row.was mark now is row.there row.metadata row.files)) in
+      let one : State = with_object s n mark in
+      let after : Object = with_texts s (joined (finmap.entries c.args.metadata.now) it.metadata) it in
+      ok_then c.append_metadata.result
+      (c.append_metadata.ensures.map clean (c.in_ok-write_row.ensures.map.keeps.stays.inside before inside) (c.in_ok-write_row.ensures.map.keeps.ours before inside ours) one put mark (get_here s.objects n mark))
+      (λ added. written_again (tables_of new) s n mark after added);
+  keeps = changes_then c.in_ok-write_row.ensures.map.keeps c.append_metadata.ensures.keeps;
+}
 
 pub returns-in_err-write_row-clause-cause : goal.returns-in_err-write_row-clause-cause
 returns-in_err-write_row-clause-cause g c it clean inside ours s are storable =
@@ -65,15 +66,18 @@ returns-clause-cause g c it clean inside ours s are storable =
     let mark : Object = with_texts s it.metadata it in
     let is = texts_of_row s n it c.args.row row.is_row view.clock view.next numbers.0 numbers.1 now it.metadata c.texts_changed.ensures in
     let put = at_number (tables_of mid) s now.object n mark (its_number n mark now is)
-    (c.in_ok-write_row.ensures.map mark before inside ours s are (rewritten s n row.was mark now is row.there row.metadata row.files)) in
+    (c.in_ok-write_row.ensures.map.done mark before inside ours s are (rewritten s n row.was mark now is row.there row.metadata row.files)) in
     let one : State = with_object s n mark in
     let have : it.metadata ≡ metadata_at one.objects n = texts_of one n mark (get_here s.objects n mark) in
     let few = (metadata_at one.objects n ≢ finmap.empty) ⊎ (more ≢ finmap.empty) in
     let held = (it.metadata ≢ finmap.empty) ⊎ (more ≢ finmap.empty) in
     let among : few → held = λ some. subst (λ (m : Texts). (m ≢ finmap.empty) ⊎ (more ≢ finmap.empty)) (sym have) some in
-    caused_later g.T.Statements.state (FailsHolding few) (FailsHolding held) (holding_more among) c.append_metadata.result c.args.tx.now c.write_row.new.tx c.append_metadata.new.tx c.in_ok-write_row.ensures.keeps.stays.survives
-    (c.append_metadata.ensures.cause clean (c.in_ok-write_row.ensures.keeps.stays.inside before inside) (c.in_ok-write_row.ensures.keeps.ours before inside ours) one put storable.2.1.object
+    caused_later g.T.Statements.state (FailsHolding few) (FailsHolding held) (holding_more among) c.append_metadata.result c.args.tx.now c.write_row.new.tx c.append_metadata.new.tx c.in_ok-write_row.ensures.map.keeps.stays.survives
+    (c.append_metadata.ensures.cause clean (c.in_ok-write_row.ensures.map.keeps.stays.inside before inside) (c.in_ok-write_row.ensures.map.keeps.ours before inside ours) one put storable.2.1.object
     (subst (λ (m : Texts). HavePlaces m (finmap.entries more)) have storable.2.2))
 
-pub returns-in_err-write_row-clause-keeps : goal.returns-in_err-write_row-clause-keeps
-returns-in_err-write_row-clause-keeps g c = changes_err c.from_residual.ensures.0 c.in_err-write_row.ensures.keeps.stays
+pub returns-in_err-write_row-clause-map : goal.returns-in_err-write_row-clause-map
+returns-in_err-write_row-clause-map g c = record {
+  done = λ o clean inside ours s are told. IfOk-from_err c.from_residual.result _ c.from_residual.ensures.0;
+  keeps = changes_err c.from_residual.ensures.0 c.in_err-write_row.ensures.map.keeps.stays;
+}

@@ -1,3 +1,4 @@
+use Rattle.std.proofs.lemmas.Result.{IfOk-from_err}
 use Rattle.std.proofs.Common.{refl, ap, ◌∙◌}
 use Rattle.dep_types.specs.State.{State, Object}
 use Rattle.dep_types.specs.declared.counters.Counters.{Counters}
@@ -19,44 +20,47 @@ use Rattle.dep_row_maps.proofs.Changing.{changes_then, changes_err}
 use Rattle.dep_changes.proofs.deposits.create.Goals as goal
 
 pub returns-clause-map : goal.returns-clause-map
-returns-clause-map g c clean inside ours s are told =
-    let view = c.args.change.now.view.now in
-    let numbers = told.0 in
-    let content = c.args.change.now.content.now in
-    let mid = g.T.Statements.state c.add_object.new.tx in
-    let new = g.T.Statements.state c.fill.new.tx in
-    let before = clean_before c.fill.ensures.keeps.stays clean in
-    let k = view.next.object in
-    let n = s.next.object in
-    let number = ap (λ (next : Counters). next.object) numbers.1 in
-    let now = c.blank_row.result in
-    let it : Object = blank s c.args.ingests in
-    let is = blank_row_is s view.clock view.next numbers.0 numbers.1 now k c.args.ingests c.blank_row.ensures in
-    let to = its_number k it now is ∙ number in
-    let put = at_number (tables_of mid) s now.object n it to (blank_added (tables_of mid) s now it (its_own k it now is) refl refl (c.in_ok-add_object.ensures.map before inside ours s are)) in
-    let one : State = with_object s n it in
-    ok_then c.fill.result
-    (c.fill.ensures.map it clean (c.in_ok-add_object.ensures.keeps.stays.inside before inside) (c.in_ok-add_object.ensures.keeps.ours before inside ours) one put
-    ((numbers, still_have one.objects s content view.uploads c.args.deposit.now told.1.1), there_at one.objects k n it number (get_here s.objects n it)))
-    (λ done. deposit_again (tables_of new) s content k n it c.args.deposit.now c.args.ingests number done)
-
-pub returns-clause-keeps : goal.returns-clause-keeps
-returns-clause-keeps g c = changes_then c.in_ok-add_object.ensures.keeps c.fill.ensures.keeps
+returns-clause-map g c = record {
+  done = λ clean inside ours s are told.
+      let view = c.args.numbered.now.change.view.now in
+      let numbers = told.0 in
+      let content = c.args.numbered.now.change.content.now in
+      let mid = g.T.Statements.state c.add_object.new.tx in
+      let new = g.T.Statements.state c.fill.new.tx in
+      let before = clean_before c.fill.ensures.map.keeps.stays clean in
+      let k = view.next.object in
+      let n = s.next.object in
+      let number = ap (λ (next : Counters). next.object) numbers.1 in
+      let now = c.blank_row.result in
+      let it : Object = blank s c.args.ingests in
+      let is = blank_row_is s view.clock view.next numbers.0 numbers.1 now k c.args.ingests c.blank_row.ensures in
+      let to = its_number k it now is ∙ number in
+      let put = at_number (tables_of mid) s now.object n it to (blank_added (tables_of mid) s now it (its_own k it now is) refl refl (c.in_ok-add_object.ensures.map before inside ours s are)) in
+      let one : State = with_object s n it in
+      ok_then c.fill.result
+      (c.fill.ensures.map.done it clean (c.in_ok-add_object.ensures.keeps.stays.inside before inside) (c.in_ok-add_object.ensures.keeps.ours before inside ours) one put
+      ((numbers, still_have one.objects s content view.uploads c.args.numbered.now.deposit.now told.1.1), there_at one.objects k n it number (get_here s.objects n it)))
+      (λ done. deposit_again (tables_of new) s content k n it c.args.numbered.now.deposit.now c.args.ingests number done);
+  keeps = changes_then c.in_ok-add_object.ensures.keeps c.fill.ensures.map.keeps;
+}
 
 pub returns-in_err-add_object-clause-cause : goal.returns-in_err-add_object-clause-cause
 returns-in_err-add_object-clause-cause g c s storable clean inside =
-    let view = c.args.change.now.view.now in
-    let held = HasCopies c.args.deposit.now in
+    let view = c.args.numbered.now.change.view.now in
+    let held = HasCopies c.args.numbered.now.deposit.now in
     let fits = blank_fits view storable.0 c.blank_row.result _ _ storable.0.object c.blank_row.ensures in
     if_err_is _ c.from_residual.result c.in_err-add_object.field-0.0 c.from_residual.ensures.1
     (fails_first g.T.Statements.state c.args.tx.now c.add_object.new.tx (FailsHolding held) _ (statement (object_added _ (c.in_err-add_object.ensures.cause fits clean inside))))
 
 pub returns-clause-cause : goal.returns-clause-cause
 returns-clause-cause g c s storable clean inside =
-    let held = HasCopies c.args.deposit.now in
-    let before = clean_before c.fill.ensures.keeps.stays clean in
+    let held = HasCopies c.args.numbered.now.deposit.now in
+    let before = clean_before c.fill.ensures.map.keeps.stays clean in
     caused_later g.T.Statements.state (FailsHolding held) (FailsHolding held) (λ at now fault it. it) c.fill.result c.args.tx.now c.add_object.new.tx c.fill.new.tx c.in_ok-add_object.ensures.keeps.stays.survives
     (c.fill.ensures.cause (storable.0, storable.0.object, storable.1) clean (c.in_ok-add_object.ensures.keeps.stays.inside before inside))
 
-pub returns-in_err-add_object-clause-keeps : goal.returns-in_err-add_object-clause-keeps
-returns-in_err-add_object-clause-keeps g c = changes_err c.from_residual.ensures.0 c.in_err-add_object.ensures.keeps.stays
+pub returns-in_err-add_object-clause-map : goal.returns-in_err-add_object-clause-map
+returns-in_err-add_object-clause-map g c = record {
+  done = λ clean inside ours s are told. IfOk-from_err c.from_residual.result _ c.from_residual.ensures.0;
+  keeps = changes_err c.from_residual.ensures.0 c.in_err-add_object.ensures.keeps.stays;
+}

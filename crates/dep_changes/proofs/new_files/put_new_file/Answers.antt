@@ -8,12 +8,12 @@ use Rattle.dep_changes.proofs.new_files.put_new_file.Goals as goal
 
 pub returns-in-Posted-clause-map : goal.returns-in-Posted-clause-map
 returns-in-Posted-clause-map g c =
-    subst (PutsFile g.T.Statements.state c.args.tx.now c.put_posted.new.tx c.put_posted.result c.args.change.now c.args.numbers c.args.new.now c.args.index) (sym c.in-Posted.is)
+    subst (PutsFile g.T.Statements.lenders g.T.Statements.state c.args.tx.now c.put_posted.new.tx c.put_posted.result c.args.change.now c.args.numbers c.args.new.now c.args.index) (sym c.in-Posted.is)
     (c.put_posted.ensures.map c.args.index)
 
 pub returns-in-Assembled-clause-map : goal.returns-in-Assembled-clause-map
 returns-in-Assembled-clause-map g c =
-    subst (PutsFile g.T.Statements.state c.args.tx.now c.put_assembled.new.tx c.put_assembled.result c.args.change.now c.args.numbers c.args.new.now c.args.index) (sym c.in-Assembled.is)
+    subst (PutsFile g.T.Statements.lenders g.T.Statements.state c.args.tx.now c.put_assembled.new.tx c.put_assembled.result c.args.change.now c.args.numbers c.args.new.now c.args.index) (sym c.in-Assembled.is)
     (c.put_assembled.ensures.map _)
 
 pub returns-in-Posted-clause-cause : goal.returns-in-Posted-clause-cause

@@ -1,3 +1,4 @@
+use Rattle.std.proofs.lemmas.Result.{IfOk-from_err}
 use Rattle.std.proofs.Common.{◌≡◌, ◌+◌, ◌<◌, List, length, slice_get, Some, Ok, refl, ap, subst, arith}
 use Rattle.dep_types.specs.declared.counters.Counters.{Counters}
 use Rattle.dep_row_maps.proofs.Lens.{get_here}
@@ -21,52 +22,55 @@ pub files-preserved : goal.files-preserved
 files-preserved g c =
     let new = g.T.Statements.state c.put_new_file.new.tx in
     let inv = c.files.invariant in
-    let clean_mid = clean_before c.put_new_file.ensures.keeps.stays in (
-      stays_ok (stays_then {r = Ok tt} inv.0 c.in_ok-put_new_file.ensures.keeps.stays),
-      λ clean inside ours. c.in_ok-put_new_file.ensures.keeps.ours clean (inv.0.inside (clean_mid clean) inside) (inv.1 (clean_mid clean) inside ours),
+    let clean_mid = clean_before c.put_new_file.ensures.map.keeps.stays in (
+      stays_ok (stays_then {r = Ok tt} inv.0 c.in_ok-put_new_file.ensures.map.keeps.stays),
+      λ clean inside ours. c.in_ok-put_new_file.ensures.map.keeps.ours clean (inv.0.inside (clean_mid clean) inside) (inv.1 (clean_mid clean) inside ours),
       λ clean inside ours s are o numbers there sources.
-          let content = c.args.change.now.content.now in
-          let seen = c.args.change.now.view.now.uploads in
-          let files = c.args.files.now in
+          let content = c.args.numbered.now.change.content.now in
+          let seen = c.args.numbered.now.change.view.now.uploads in
+          let files = c.args.numbered.now.files.now in
           let i = c.files.index in
           let x = c.index-files-index.result in
           let n = c.args.object in
           let within : i < length files = omega arith in
           let at : slice_get files i ≡ Some x = slice_get_read files (length files) i x refl within c.index-files-index.is in
           let so_far = inv.2 (clean_mid clean) inside ours s are o numbers there sources in
-          one_more s content seen n o files i x at sources (tables_of new) (c.args.change.now.view.now.next.file + i) (ap (λ (k : Counters). k.file + i) numbers.1)
-          (c.in_ok-put_new_file.ensures.map (object_before s content seen n o files i x at sources) clean (inv.0.inside (clean_mid clean) inside) (inv.1 (clean_mid clean) inside ours)
+          one_more s content seen n o files i x at sources (tables_of new) (c.args.numbered.now.change.view.now.next.file + i) (ap (λ (k : Counters). k.file + i) numbers.1)
+          (c.in_ok-put_new_file.ensures.map.done (object_before s content seen n o files i x at sources) clean (inv.0.inside (clean_mid clean) inside) (inv.1 (clean_mid clean) inside ours)
           (state_before s content seen n o files i x at sources) so_far ((numbers, its_source s content seen n o files i x at sources), get_here s.objects n _)),
     )
 
-pub returns-in_err-put_new_file-clause-keeps : goal.returns-in_err-put_new_file-clause-keeps
-returns-in_err-put_new_file-clause-keeps g c = changes_err c.from_residual.ensures.0 (stays_then c.files.invariant.0 c.put_new_file.ensures.keeps.stays)
+pub returns-in_err-put_new_file-clause-map : goal.returns-in_err-put_new_file-clause-map
+returns-in_err-put_new_file-clause-map g c = record {
+  done = λ o clean inside ours s are told. IfOk-from_err c.from_residual.result _ c.from_residual.ensures.0;
+  keeps = changes_err c.from_residual.ensures.0 (stays_then c.files.invariant.0 c.put_new_file.ensures.map.keeps.stays);
+}
 
 pub files-init : goal.files-init
 files-init g c = (
   stays_put g.T.Statements.lenders g.T.Statements.state c.args.tx.now _,
   λ clean inside ours. ours,
-  λ clean inside ours s are o numbers there sources. none_yet (tables_of (g.T.Statements.state c.args.tx.now)) s c.args.change.now.content.now c.args.object o there are,
+  λ clean inside ours s are o numbers there sources. none_yet (tables_of (g.T.Statements.state c.args.tx.now)) s c.args.numbered.now.change.content.now c.args.object o there are,
 )
 
 pub returns-clause-map : goal.returns-clause-map
-returns-clause-map g c o clean inside ours s are told =
-    let now = g.T.Statements.state c.files.tx in
-    subst (λ (new : List NewFile). TablesAre (tables_of now) (with_new_files s c.args.change.now.content.now c.args.object o new)) (take_all c.files.index c.args.files.now c.files-test.false)
-    (c.files.invariant.2 clean inside ours s are o told.0.0 told.1 told.0.1)
+returns-clause-map g c = record {
+  done = λ o clean inside ours s are told.
+      let now = g.T.Statements.state c.files.tx in
+      subst (λ (new : List NewFile). TablesAre (tables_of now) (with_new_files s c.args.numbered.now.change.content.now c.args.object o new)) (take_all c.files.index c.args.numbered.now.files.now c.files-test.false)
+      (c.files.invariant.2 clean inside ours s are o told.0.0 told.1 told.0.1);
+  keeps = record { stays = stays_ok c.files.invariant.0; ours = c.files.invariant.1 };
+}
 
 pub returns-in_err-put_new_file-clause-cause : goal.returns-in_err-put_new_file-clause-cause
 returns-in_err-put_new_file-clause-cause g c storable clean inside =
     let inv = c.files.invariant in
-    let files = c.args.files.now in
+    let files = c.args.numbered.now.files.now in
     let i = c.files.index in
     let x = c.index-files-index.result in
     let within : i < length files = omega arith in
     let at : slice_get files i ≡ Some x = slice_get_read files (length files) i x refl within c.index-files-index.is in
-    let before = clean_before c.put_new_file.ensures.keeps.stays clean in
+    let before = clean_before c.put_new_file.ensures.map.keeps.stays clean in
     if_err_is _ c.from_residual.result c.in_err-put_new_file.field-0.0 c.from_residual.ensures.1
     (fails_later g.T.Statements.state c.args.tx.now c.files.tx c.put_new_file.new.tx inv.0.survives (FailsHolding ⊤) (FailsHolding (files ≢ [])) (holding_more (λ _. has_some files i within)) _
-    (c.in_err-put_new_file.ensures.cause (storable.0, storable.1, room_below c.args.change.now.view.now.next.file (length files) i c.requires within, storable.2 i x at) clean (inv.0.inside before inside)))
-
-pub returns-clause-keeps : goal.returns-clause-keeps
-returns-clause-keeps g c = record { stays = stays_ok c.files.invariant.0; ours = c.files.invariant.1 }
+    (c.in_err-put_new_file.ensures.cause (storable.0, storable.1, room_below c.args.numbered.now.change.view.now.next.file (length files) i c.args.numbered.now.room within, storable.2 i x at) clean (inv.0.inside before inside)))

@@ -1,3 +1,4 @@
+use Rattle.std.proofs.lemmas.Result.{IfOk-from_err}
 use Rattle.std.proofs.Common.{ℕ, List, length, refl, subst, sym}
 use Rattle.std.specs.Prelude.{⊤}
 use Rattle.dep_types.specs.Limits.{IsStorable}
@@ -20,5 +21,8 @@ returns-clause-cause g c place storable clean inside =
     let fits = new_row_fits c.args.change.now storable.0 c.args.numbers c.args.new.now _ c.in_ok-row.row storable.1 storable.2 size c.in_ok-row.ensures in
     caused_among g.T.Statements.state FailsByStatement (FailsHolding ⊤) (by_statement ⊤) c.put_file.result c.args.tx.now c.put_file.new.tx (c.put_file.ensures.cause fits clean inside)
 
-pub returns-in_err-row-clause-keeps : goal.returns-in_err-row-clause-keeps
-returns-in_err-row-clause-keeps g c = changes_put g.T.Statements.lenders g.T.Statements.state c.args.tx.now _
+pub returns-in_err-row-clause-map : goal.returns-in_err-row-clause-map
+returns-in_err-row-clause-map g c place = record {
+  done = λ o clean inside ours s are told. IfOk-from_err c.from_residual.result _ c.from_residual.ensures.0;
+  keeps = changes_put g.T.Statements.lenders g.T.Statements.state c.args.tx.now _;
+}

@@ -1,3 +1,4 @@
+use Rattle.std.proofs.lemmas.Result.{IfOk-from_err}
 use Rattle.std.proofs.Common.{◌≡◌, refl, sym, subst}
 use Rattle.std.specs.FinMap as finmap
 use Rattle.dep_types.specs.State.{State, Object, File}
@@ -22,49 +23,52 @@ use Rattle.dep_row_maps.proofs.Changing.{changes_err, changes_then, changes_put}
 use Rattle.dep_changes.proofs.new_files.set_file.Goals as goal
 
 pub returns-clause-map : goal.returns-clause-map
-returns-clause-map g c n clean inside ours s are told =
-    let view = c.args.change.now.view.now in
-    let content = c.args.change.now.content.now in
-    let f = c.args.file in
-    let as_new = c.args.new.now in
-    let one = g.T.Statements.state c.write_row.new.tx in
-    let two = g.T.Statements.state c.delete_file.new.tx in
-    let new = g.T.Statements.state c.put_posted.new.tx in
-    let clean_two = clean_before c.put_posted.ensures.keeps.stays clean in
-    let clean_one = clean_before c.delete_file.ensures.keeps.stays clean_two in
-    let inside_one = c.in_ok-write_row.ensures.keeps.stays.inside clean_one inside in
-    let ours_one = c.in_ok-write_row.ensures.keeps.ours clean_one inside ours in
-    let numbers = told.0 in
-    let o = told.1.0 in
-    let file = told.1.1 in
-    let object = told.1.2.0 in
-    let source = told.1.3 in
-    let row = c.in_ok-row.row in
-    let number = number_is s n o view.object object.0 row c.in_ok-row.ensures.told in
-    let now = c.files_changed.result in
-    let mark : Object = with_files s o.files o in
-    let is = files_row s n o view.object object.0 row c.in_ok-row.ensures.told view.clock view.next numbers.0 numbers.1 now o.files c.files_changed.ensures in
-    let put = at_number (tables_of one) s now.object n mark (its_number n mark now is) (c.in_ok-write_row.ensures.map mark clean_one inside ours s are (rewritten s n o mark now is object.1 refl refl)) in
-    let first : State = with_object s n mark in
-    let left : Object = with_files s (finmap.remove o.files f) o in
-    let gone = written_again (tables_of two) s n mark left
-    (c.in_ok-delete_file.ensures.map clean_two inside_one ours_one first put n mark file (get_here s.objects n mark) told.1.2.1) in
-    let second : State = with_object s n left in
-    let made : File = made_file s as_new content in
-    let it : Object = with_files s (finmap.insert (finmap.remove o.files f) f made) o in
-    let digests : c.in-Posted.digests ≡ digests_of content = let posted = c.in-Posted.is in cc in
-    at_object s s.uploads new c.put_posted.result n o (λ (x : Object). with_files s (finmap.insert x.files f (file_from s content as_new)) x) object.1
-    (ok_then c.put_posted.result
-    (c.put_posted.ensures.map 0 left clean (c.in_ok-delete_file.ensures.keeps.stays.inside clean_two inside_one) (c.in_ok-delete_file.ensures.keeps.ours clean_two inside_one ours_one) second gone
-    ((numbers, digests), there_at second.objects row.object n left number (get_here s.objects n left)))
-    (λ there. subst (λ (from : Source). TablesAre (tables_of new) (with_object s n (with_files s (finmap.insert o.files f (made_file s as_new (bytes_from s content from))) o))) (sym source)
-    (file_replaced (tables_of new) s n o f made (written_again (tables_of new) s n left it (at_number (tables_of new) second row.object n it number there)))))
+returns-clause-map g c n = record {
+  done = λ clean inside ours s are told.
+      let view = c.args.change.now.view.now in
+      let content = c.args.change.now.content.now in
+      let f = c.args.file in
+      let as_new = c.args.new.now in
+      let one = g.T.Statements.state c.write_row.new.tx in
+      let two = g.T.Statements.state c.delete_file.new.tx in
+      let new = g.T.Statements.state c.put_posted.new.tx in
+      let clean_two = clean_before (c.put_posted.ensures.map 0).keeps.stays clean in
+      let clean_one = clean_before c.delete_file.ensures.keeps.stays clean_two in
+      let inside_one = c.in_ok-write_row.ensures.map.keeps.stays.inside clean_one inside in
+      let ours_one = c.in_ok-write_row.ensures.map.keeps.ours clean_one inside ours in
+      let numbers = told.0 in
+      let o = told.1.0 in
+      let file = told.1.1 in
+      let object = told.1.2.0 in
+      let source = told.1.3 in
+      let row = c.in_ok-row.row in
+      let number = number_is s n o view.object object.0 row c.in_ok-row.ensures.told in
+      let now = c.files_changed.result in
+      let mark : Object = with_files s o.files o in
+      let is = files_row s n o view.object object.0 row c.in_ok-row.ensures.told view.clock view.next numbers.0 numbers.1 now o.files c.files_changed.ensures in
+      let put = at_number (tables_of one) s now.object n mark (its_number n mark now is) (c.in_ok-write_row.ensures.map.done mark clean_one inside ours s are (rewritten s n o mark now is object.1 refl refl)) in
+      let first : State = with_object s n mark in
+      let left : Object = with_files s (finmap.remove o.files f) o in
+      let gone = written_again (tables_of two) s n mark left
+      (c.in_ok-delete_file.ensures.map clean_two inside_one ours_one first put n mark file (get_here s.objects n mark) told.1.2.1) in
+      let second : State = with_object s n left in
+      let made : File = made_file s as_new content in
+      let it : Object = with_files s (finmap.insert (finmap.remove o.files f) f made) o in
+      let digests : c.in-Posted.digests ≡ digests_of content = let posted = c.in-Posted.is in cc in
+      at_object s s.uploads new c.put_posted.result n o (λ (x : Object). with_files s (finmap.insert x.files f (file_from s content as_new)) x) object.1
+      (ok_then c.put_posted.result
+      ((c.put_posted.ensures.map 0).done left clean (c.in_ok-delete_file.ensures.keeps.stays.inside clean_two inside_one) (c.in_ok-delete_file.ensures.keeps.ours clean_two inside_one ours_one) second gone
+      ((numbers, digests), there_at second.objects row.object n left number (get_here s.objects n left)))
+      (λ there. subst (λ (from : Source). TablesAre (tables_of new) (with_object s n (with_files s (finmap.insert o.files f (made_file s as_new (bytes_from s content from))) o))) (sym source)
+      (file_replaced (tables_of new) s n o f made (written_again (tables_of new) s n left it (at_number (tables_of new) second row.object n it number there)))));
+  keeps = changes_then (changes_then c.in_ok-write_row.ensures.map.keeps c.in_ok-delete_file.ensures.keeps) (c.put_posted.ensures.map 0).keeps;
+}
 
-pub returns-in_err-delete_file-clause-keeps : goal.returns-in_err-delete_file-clause-keeps
-returns-in_err-delete_file-clause-keeps g c = changes_err c.from_residual-in_err-delete_file.ensures.0 (stays_then c.in_ok-write_row.ensures.keeps.stays c.delete_file.ensures.keeps.stays)
-
-pub returns-clause-keeps : goal.returns-clause-keeps
-returns-clause-keeps g c = changes_then (changes_then c.in_ok-write_row.ensures.keeps c.in_ok-delete_file.ensures.keeps) c.put_posted.ensures.keeps
+pub returns-in_err-delete_file-clause-map : goal.returns-in_err-delete_file-clause-map
+returns-in_err-delete_file-clause-map g c n = record {
+  done = λ clean inside ours s are told. IfOk-from_err c.from_residual-in_err-delete_file.result _ c.from_residual-in_err-delete_file.ensures.0;
+  keeps = changes_err c.from_residual-in_err-delete_file.ensures.0 (stays_then c.in_ok-write_row.ensures.map.keeps.stays c.delete_file.ensures.keeps.stays);
+}
 
 pub returns-in_err-row-clause-cause : goal.returns-in_err-row-clause-cause
 returns-in_err-row-clause-cause g c n s storable clean inside = never_absent c.args.change.now.view.now storable.0 c.in_err-row.ensures.absent
@@ -81,20 +85,26 @@ pub returns-in_err-delete_file-clause-cause : goal.returns-in_err-delete_file-cl
 returns-in_err-delete_file-clause-cause g c n s storable clean inside =
     let before = clean_before c.delete_file.ensures.keeps.stays clean in
     if_err_is _ c.from_residual-in_err-delete_file.result c.in_err-delete_file.field-0.0 c.from_residual-in_err-delete_file.ensures.1
-    (fails_later g.T.Statements.state c.args.tx.now c.write_row.new.tx c.delete_file.new.tx c.in_ok-write_row.ensures.keeps.stays.survives FailsByStatement (FailsHolding ⊤) (by_statement ⊤) _
-    (c.in_err-delete_file.ensures.cause storable.1 clean (c.in_ok-write_row.ensures.keeps.stays.inside before inside)))
+    (fails_later g.T.Statements.state c.args.tx.now c.write_row.new.tx c.delete_file.new.tx c.in_ok-write_row.ensures.map.keeps.stays.survives FailsByStatement (FailsHolding ⊤) (by_statement ⊤) _
+    (c.in_err-delete_file.ensures.cause storable.1 clean (c.in_ok-write_row.ensures.map.keeps.stays.inside before inside)))
 
 pub returns-clause-cause : goal.returns-clause-cause
 returns-clause-cause g c n s storable clean inside =
     let view = c.args.change.now.view.now in
-    let two = stays_then c.in_ok-write_row.ensures.keeps.stays c.in_ok-delete_file.ensures.keeps.stays in
-    let before = clean_before c.put_posted.ensures.keeps.stays clean in
+    let two = stays_then c.in_ok-write_row.ensures.map.keeps.stays c.in_ok-delete_file.ensures.keeps.stays in
+    let before = clean_before (c.put_posted.ensures.map 0).keeps.stays clean in
     let fits = found_fits view storable.0 c.in_ok-row.row c.in_ok-row.ensures.told in
     caused_later g.T.Statements.state (FailsHolding ⊤) (FailsHolding ⊤) (λ at now fault it. it) c.put_posted.result c.args.tx.now c.delete_file.new.tx c.put_posted.new.tx two.survives
     (c.put_posted.ensures.cause 0 (storable.0.numbers, fits.object, storable.1, storable.2) clean (two.inside before inside))
 
-pub returns-in_err-row-clause-keeps : goal.returns-in_err-row-clause-keeps
-returns-in_err-row-clause-keeps g c = changes_put g.T.Statements.lenders g.T.Statements.state c.args.tx.now _
+pub returns-in_err-row-clause-map : goal.returns-in_err-row-clause-map
+returns-in_err-row-clause-map g c n = record {
+  done = λ clean inside ours s are told. IfOk-from_err c.from_residual.result _ c.from_residual.ensures.0;
+  keeps = changes_put g.T.Statements.lenders g.T.Statements.state c.args.tx.now _;
+}
 
-pub returns-in_err-write_row-clause-keeps : goal.returns-in_err-write_row-clause-keeps
-returns-in_err-write_row-clause-keeps g c = changes_err c.from_residual-in_err-write_row.ensures.0 c.in_err-write_row.ensures.keeps.stays
+pub returns-in_err-write_row-clause-map : goal.returns-in_err-write_row-clause-map
+returns-in_err-write_row-clause-map g c n = record {
+  done = λ clean inside ours s are told. IfOk-from_err c.from_residual-in_err-write_row.result _ c.from_residual-in_err-write_row.ensures.0;
+  keeps = changes_err c.from_residual-in_err-write_row.ensures.0 c.in_err-write_row.ensures.map.keeps.stays;
+}

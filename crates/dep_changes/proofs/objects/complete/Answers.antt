@@ -1,3 +1,4 @@
+use Rattle.std.proofs.lemmas.Result.{IfOk-from_err}
 use Rattle.std.proofs.Common.{true, refl}
 use Rattle.dep_types.specs.State.{Object}
 use Rattle.dep_tables.specs.Tables.{tables_of}
@@ -14,20 +15,23 @@ use Rattle.dep_row_maps.proofs.Changing.{changes_put}
 use Rattle.dep_changes.proofs.objects.complete.Goals as goal
 
 pub returns-clause-map : goal.returns-clause-map
-returns-clause-map g c n clean inside ours s are told =
-    let view = c.args.change.now.view.now in
-    let new = g.T.Statements.state c.write_row.new.tx in
-    let numbers = told.0 in
-    let o = told.1.0 in
-    let object = told.1.1 in
-    let row = c.in_ok-row.row in
-    let found = c.in_ok-row.ensures.told in
-    let it : Object = ingested_by true (changed s o) in
-    let is = completed_row s n o view.object object.0 row found view.clock view.next numbers.0 numbers.1 _ refl in
-    let number = number_is s n o view.object object.0 row found in
-    at_object s s.uploads new c.write_row.result n o (λ (x : Object). ingested_by true (changed s x)) object.1
-    (ok_then c.write_row.result (c.write_row.ensures.map it clean inside ours s are (rewritten s n o it _ is object.1 refl refl))
-    (λ put. at_number (tables_of new) s row.object n it number put))
+returns-clause-map g c n = record {
+  done = λ clean inside ours s are told.
+      let view = c.args.change.now.view.now in
+      let new = g.T.Statements.state c.write_row.new.tx in
+      let numbers = told.0 in
+      let o = told.1.0 in
+      let object = told.1.1 in
+      let row = c.in_ok-row.row in
+      let found = c.in_ok-row.ensures.told in
+      let it : Object = ingested_by true (changed s o) in
+      let is = completed_row s n o view.object object.0 row found view.clock view.next numbers.0 numbers.1 _ refl in
+      let number = number_is s n o view.object object.0 row found in
+      at_object s s.uploads new c.write_row.result n o (λ (x : Object). ingested_by true (changed s x)) object.1
+      (ok_then c.write_row.result (c.write_row.ensures.map.done it clean inside ours s are (rewritten s n o it _ is object.1 refl refl))
+      (λ put. at_number (tables_of new) s row.object n it number put));
+  keeps = c.write_row.ensures.map.keeps;
+}
 
 pub returns-in_err-row-clause-cause : goal.returns-in_err-row-clause-cause
 returns-in_err-row-clause-cause g c n s told clean inside = never_absent c.args.change.now.view.now told c.in_err-row.ensures.absent
@@ -39,5 +43,8 @@ returns-clause-cause g c n s told clean inside =
     if_err_then c.write_row.result (c.write_row.ensures.cause (completed_fits view told.numbers row row (found_fits view told row c.in_ok-row.ensures.told)) clean inside)
     (λ fault failed. fails_first g.T.Statements.state c.args.tx.now c.write_row.new.tx (FailsHolding ⊥) fault (statement (object_written _ failed)))
 
-pub returns-in_err-row-clause-keeps : goal.returns-in_err-row-clause-keeps
-returns-in_err-row-clause-keeps g c = changes_put g.T.Statements.lenders g.T.Statements.state c.args.tx.now _
+pub returns-in_err-row-clause-map : goal.returns-in_err-row-clause-map
+returns-in_err-row-clause-map g c n = record {
+  done = λ clean inside ours s are told. IfOk-from_err c.from_residual.result _ c.from_residual.ensures.0;
+  keeps = changes_put g.T.Statements.lenders g.T.Statements.state c.args.tx.now _;
+}

@@ -1,3 +1,4 @@
+use Rattle.std.proofs.lemmas.Result.{IfOk-from_err}
 use Rattle.dep_tables.proofs.Chains.{clean_before}
 use Rattle.dep_tables.specs.Tables.{tables_of}
 use Rattle.dep_tables.proofs.Results.{ok_then}
@@ -10,16 +11,16 @@ use Rattle.dep_row_maps.proofs.Changing.{changes_then, changes_err}
 use Rattle.dep_changes.proofs.objects.drop_object.Goals as goal
 
 pub returns-clause-map : goal.returns-clause-map
-returns-clause-map g c o clean inside ours s are there =
-    let new = g.T.Statements.state c.delete_object.new.tx in
-    let before = clean_before c.delete_object.ensures.keeps.stays clean in
-    let none = c.in_ok-delete_files.ensures.map before inside ours s are o there in
-    ok_then c.delete_object.result
-    (c.delete_object.ensures.map clean (c.in_ok-delete_files.ensures.keeps.stays.inside before inside) (c.in_ok-delete_files.ensures.keeps.ours before inside ours) (without_files s c.args.object o) none (emptied s c.args.object o))
-    (λ gone. gone_after (tables_of new) s c.args.object _ gone)
-
-pub returns-clause-keeps : goal.returns-clause-keeps
-returns-clause-keeps g c = changes_then c.in_ok-delete_files.ensures.keeps c.delete_object.ensures.keeps
+returns-clause-map g c = record {
+  done = λ o clean inside ours s are there.
+      let new = g.T.Statements.state c.delete_object.new.tx in
+      let before = clean_before c.delete_object.ensures.keeps.stays clean in
+      let none = c.in_ok-delete_files.ensures.map before inside ours s are o there in
+      ok_then c.delete_object.result
+      (c.delete_object.ensures.map clean (c.in_ok-delete_files.ensures.keeps.stays.inside before inside) (c.in_ok-delete_files.ensures.keeps.ours before inside ours) (without_files s c.args.object o) none (emptied s c.args.object o))
+      (λ gone. gone_after (tables_of new) s c.args.object _ gone);
+  keeps = changes_then c.in_ok-delete_files.ensures.keeps c.delete_object.ensures.keeps;
+}
 
 pub returns-in_err-delete_files-clause-cause : goal.returns-in_err-delete_files-clause-cause
 returns-in_err-delete_files-clause-cause g c clean inside ours s are fits =
@@ -32,5 +33,8 @@ returns-clause-cause g c clean inside ours s are fits =
     caused_later g.T.Statements.state FailsByStatement (FailsHolding ⊥) (by_statement ⊥) c.delete_object.result c.args.tx.now c.delete_files.new.tx c.delete_object.new.tx c.in_ok-delete_files.ensures.keeps.stays.survives
     (c.delete_object.ensures.cause fits.1 clean (c.in_ok-delete_files.ensures.keeps.stays.inside before inside))
 
-pub returns-in_err-delete_files-clause-keeps : goal.returns-in_err-delete_files-clause-keeps
-returns-in_err-delete_files-clause-keeps g c = changes_err c.from_residual.ensures.0 c.in_err-delete_files.ensures.keeps.stays
+pub returns-in_err-delete_files-clause-map : goal.returns-in_err-delete_files-clause-map
+returns-in_err-delete_files-clause-map g c = record {
+  done = λ o clean inside ours s are told. IfOk-from_err c.from_residual.result _ c.from_residual.ensures.0;
+  keeps = changes_err c.from_residual.ensures.0 c.in_err-delete_files.ensures.keeps.stays;
+}

@@ -12,13 +12,16 @@ use Rattle.dep_changes.proofs.Causes.{by_statement, caused_among}
 use Rattle.dep_changes.proofs.uploads.open.Goals as goal
 
 pub returns-clause-map : goal.returns-clause-map
-returns-clause-map g c clean inside ours s are told =
-    let view = c.args.change.now.view.now in
-    let numbers = told.0 in
-    let it = fresh s c.args.opening.now in
-    ok_then c.open_upload.result
-    (c.open_upload.ensures.map clean inside ours s are it (opened_row s c.args.opening.now view.clock view.next.upload numbers.0) refl)
-    (λ opened. upload_at (tables_of (g.T.Statements.state c.open_upload.new.tx)) s view.next.upload s.next.upload it (ap (λ (next : Counters). next.upload) numbers.1) opened.1)
+returns-clause-map g c = record {
+  done = λ clean inside ours s are told.
+      let view = c.args.change.now.view.now in
+      let numbers = told.0 in
+      let it = fresh s c.args.opening.now in
+      ok_then c.open_upload.result
+      (c.open_upload.ensures.map clean inside ours s are it (opened_row s c.args.opening.now view.clock view.next.upload numbers.0) refl)
+      (λ opened. upload_at (tables_of (g.T.Statements.state c.open_upload.new.tx)) s view.next.upload s.next.upload it (ap (λ (next : Counters). next.upload) numbers.1) opened.1);
+  keeps = c.open_upload.ensures.keeps;
+}
 
 pub returns-clause-cause : goal.returns-clause-cause
 returns-clause-cause g c s storable clean inside =

@@ -1,3 +1,4 @@
+use Rattle.std.proofs.lemmas.Result.{IfOk-from_err}
 use Rattle.std.proofs.Common.{ℕ, List, length, subst, sym}
 use Rattle.dep_types.specs.Limits.{IsStorable}
 use Rattle.dep_tables.specs.Rows.{IsStorableUpload, columns_of_upload}
@@ -36,5 +37,8 @@ returns-clause-cause g c u s storable clean inside =
     caused_among g.T.Statements.state FailsByStatement (FailsHolding ⊥) (by_statement ⊥) c.put_segment.result c.args.tx.now c.put_segment.new.tx
     (c.put_segment.ensures.cause (row, record { upload = row.upload; number = storable.1; size = size }) clean inside)
 
-pub returns-in_err-live-clause-keeps : goal.returns-in_err-live-clause-keeps
-returns-in_err-live-clause-keeps g c = changes_put g.T.Statements.lenders g.T.Statements.state c.args.tx.now _
+pub returns-in_err-live-clause-map : goal.returns-in_err-live-clause-map
+returns-in_err-live-clause-map g c u = record {
+  done = λ clean inside ours s are told. IfOk-from_err c.from_residual.result _ c.from_residual.ensures.0;
+  keeps = changes_put g.T.Statements.lenders g.T.Statements.state c.args.tx.now _;
+}

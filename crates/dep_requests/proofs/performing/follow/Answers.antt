@@ -1,48 +1,46 @@
+use Rattle.std.proofs.lemmas.Result.{IfOk-from_err}
 use Rattle.std.proofs.Common.{ap, subst}
 use Rattle.dep_operations.specs.Rulings.{IsRuling}
 use Rattle.dep_operations.specs.declared.ruling.Ruling.{Ruling}
 use Rattle.dep_operations.specs.declared.view.View.{View}
-use Rattle.dep_tables.proofs.Chains.{stays_err, stays_ok}
 use Rattle.dep_tables.proofs.Results.{if_ok}
 use Rattle.dep_row_maps.specs.Clauses.{SeesState}
-use Rattle.dep_requests.proofs.Stepping.{stays_put, delivered, refused_then, accepted_then}
+use Rattle.dep_row_maps.proofs.Changing.{changes_err, changes_ok, changes_put}
+use Rattle.dep_requests.proofs.Stepping.{delivered, refused_then, accepted_then}
 use Rattle.sqlite.proofs.StateLemmas.{unchanged}
 use Rattle.dep_requests.specs.Performing.{OnlyReads}
 use Rattle.dep_requests.proofs.performing.follow.Goals as goal
 
 pub returns-in-Refuse-clause-map : goal.returns-in-Refuse-clause-map
-returns-in-Refuse-clause-map g c clean within ours s are sound fit rules =
-    let op = c.args.operation.now in
-    let config = c.args.service.now in
-    let way = delivered s op c.args.ruled.now.view.clock c.delivery_at-delivery.result sound (ap (λ (v : View). v.clock) rules.view)
-    c.delivery_at-delivery.ensures.clock c.delivery_at-delivery.ensures.bare c.delivery_at-delivery.ensures.closes in
-    refused_then config s op (SeesState (g.T.Statements.state c.args.tx.now)) _ c.delivery_at-delivery.result c.refuse.result
-    (subst (λ (r : Ruling). IsRuling config s op r) c.in-Refuse.is rules.ruling) way are c.refuse.ensures
+returns-in-Refuse-clause-map g c = record {
+  done = λ clean within ours s are sound fit rules.
+      let op = c.args.operation.now in
+      let config = c.args.service.now in
+      let way = delivered s op c.args.ruled.now.view.clock c.delivery_at-delivery.result sound (ap (λ (v : View). v.clock) rules.view)
+      c.delivery_at-delivery.ensures.clock c.delivery_at-delivery.ensures.bare c.delivery_at-delivery.ensures.closes in
+      refused_then config s op (SeesState (g.T.Statements.state c.args.tx.now)) _ c.delivery_at-delivery.result c.refuse.result
+      (subst (λ (r : Ruling). IsRuling config s op r) c.in-Refuse.is rules.ruling) way are c.refuse.ensures;
+  keeps = changes_put g.T.Statements.lenders g.T.Statements.state c.args.tx.now c.refuse.result;
+}
 
 pub returns-in_ok-shown-in-Do-clause-map : goal.returns-in_ok-shown-in-Do-clause-map
-returns-in_ok-shown-in-Do-clause-map g c clean within ours s are sound fit rules =
-    let op = c.args.operation.now in
-    let config = c.args.service.now in
-    let way = delivered s op c.args.ruled.now.view.clock c.delivery_at-delivery.result sound (ap (λ (v : View). v.clock) rules.view)
-    c.delivery_at-delivery.ensures.clock c.delivery_at-delivery.ensures.bare c.delivery_at-delivery.ensures.closes in
-    let ruling = subst (λ (r : Ruling). IsRuling config s op r) c.in-Do.is rules.ruling in
-    let carried = c.in_ok-shown-in-Do.ensures.map clean within ours s are config sound fit rules ruling in
-    accepted_then config s op (SeesState (g.T.Statements.state c.see.new.tx)) c.delivery_at-delivery.result _ c.accept.result fit sound ruling.0 way carried c.accept.ensures
+returns-in_ok-shown-in-Do-clause-map g c = record {
+  done = λ clean within ours s are sound fit rules.
+      let op = c.args.operation.now in
+      let config = c.args.service.now in
+      let way = delivered s op c.args.ruled.now.view.clock c.delivery_at-delivery.result sound (ap (λ (v : View). v.clock) rules.view)
+      c.delivery_at-delivery.ensures.clock c.delivery_at-delivery.ensures.bare c.delivery_at-delivery.ensures.closes in
+      let ruling = subst (λ (r : Ruling). IsRuling config s op r) c.in-Do.is rules.ruling in
+      let carried = c.in_ok-shown-in-Do.ensures.map.done clean within ours s are config sound fit rules ruling in
+      accepted_then config s op (SeesState (g.T.Statements.state c.carry.new.tx)) c.delivery_at-delivery.result _ c.accept.result fit sound ruling.0 way carried c.accept.ensures;
+  keeps = changes_ok c.in_ok-shown-in-Do.ensures.map.keeps;
+}
 
-pub returns-in-Refuse-clause-ours : goal.returns-in-Refuse-clause-ours
-returns-in-Refuse-clause-ours g c clean within ours = if_ok c.refuse.result ours
-
-pub returns-in-Refuse-clause-stays : goal.returns-in-Refuse-clause-stays
-returns-in-Refuse-clause-stays g c = stays_put g.T.Statements.lenders g.T.Statements.state c.args.tx.now c.refuse.result
-
-pub returns-in_ok-shown-in-Do-clause-ours : goal.returns-in_ok-shown-in-Do-clause-ours
-returns-in_ok-shown-in-Do-clause-ours g c clean within ours = if_ok c.accept.result (c.in_ok-shown-in-Do.ensures.ours clean within ours)
-
-pub returns-in_ok-shown-in-Do-clause-stays : goal.returns-in_ok-shown-in-Do-clause-stays
-returns-in_ok-shown-in-Do-clause-stays g c = stays_ok c.in_ok-shown-in-Do.ensures.stays
-
-pub returns-in_err-shown-in-Do-clause-stays : goal.returns-in_err-shown-in-Do-clause-stays
-returns-in_err-shown-in-Do-clause-stays g c = stays_err c.from_residual.ensures.0 c.in_err-shown-in-Do.ensures.stays
+pub returns-in_err-shown-in-Do-clause-map : goal.returns-in_err-shown-in-Do-clause-map
+returns-in_err-shown-in-Do-clause-map g c = record {
+  done = λ clean within ours s are sound fit rules. IfOk-from_err c.from_residual.result _ c.from_residual.ensures.0;
+  keeps = changes_err c.from_residual.ensures.0 c.in_err-shown-in-Do.ensures.map.keeps.stays;
+}
 
 pub returns-in-Refuse-clause-unchanged : goal.returns-in-Refuse-clause-unchanged
 returns-in-Refuse-clause-unchanged g c only is_open clean ours = if_ok c.refuse.result (unchanged (g.T.Statements.state c.args.tx.now) is_open)

@@ -1,3 +1,4 @@
+use Rattle.std.proofs.lemmas.Result.{IfOk-from_err}
 use Rattle.std.proofs.Common.{◌<◌, ◌^◌, Some, ap, sym, subst, ◌∙◌}
 use Rattle.std.specs.Prelude.{None, if◌then◌else◌}
 use Rattle.dep_types.specs.Uploads.{assembled}
@@ -14,16 +15,22 @@ use Rattle.dep_tables.proofs.Chains.{may_ok, may_err, may_put}
 use Rattle.dep_views.proofs.referred.load_digests.Goals as goal
 
 pub returns-then-not-is_complete-clause-map : goal.returns-then-not-is_complete-clause-map
-returns-then-not-is_complete-clause-map g c is_open clean inside ours s are sound running u it live =
-    let lacks = sym (c.is_complete.ensures.whole s u it live (segments_within s u it sound live.there)) ∙ c.if-not-is_complete.true in
-    sym (ap (λ b. if b then Some (digests_of (assembled it)) else None) lacks)
+returns-then-not-is_complete-clause-map g c = record {
+  found = λ clean inside ours s are is_open sound running u it live.
+      let lacks = sym (c.is_complete.ensures.whole s u it live (segments_within s u it sound live.there)) ∙ c.if-not-is_complete.true in
+      sym (ap (λ b. if b then Some (digests_of (assembled it)) else None) lacks);
+  keeps = may_put g.T.Statements.lenders g.T.Statements.state c.args.tx.now _;
+}
 
 pub returns-clause-map : goal.returns-clause-map
-returns-clause-map g c is_open clean inside ours s are sound running u it live =
-    let within = segments_within s u it sound live.there in
-    let whole = sym (c.is_complete.ensures.whole s u it live within) ∙ c.if-not-is_complete.false in
-    let hashed = c.in_ok-digests.ensures.map is_open clean ours s are u it live within running in
-    ap (λ (l : Digests). Some l) hashed ∙ sym (ap (λ b. if b then Some (digests_of (assembled it)) else None) whole)
+returns-clause-map g c = record {
+  found = λ clean inside ours s are is_open sound running u it live.
+      let within = segments_within s u it sound live.there in
+      let whole = sym (c.is_complete.ensures.whole s u it live within) ∙ c.if-not-is_complete.false in
+      let hashed = c.in_ok-digests.ensures.map is_open clean ours s are u it live within running in
+      ap (λ (l : Digests). Some l) hashed ∙ sym (ap (λ b. if b then Some (digests_of (assembled it)) else None) whole);
+  keeps = may_ok c.in_ok-digests.ensures.keeps;
+}
 
 pub returns-in_err-digests-clause-cause : goal.returns-in_err-digests-clause-cause
 returns-in_err-digests-clause-cause g c is_open clean inside ours s are sound u it live =
@@ -32,11 +39,8 @@ returns-in_err-digests-clause-cause g c is_open clean inside ours s are sound u 
     (fails_among g.T.Statements.state c.args.tx.now c.hash_upload.new.tx (FailsToHash u) FailsByStatement (λ at now fault failed. hash_among at now fault u failed) _
     (c.in_err-digests.ensures.cause clean ours is_open s are u it live (storable_segments s u it sound live.there few)))
 
-pub returns-in_err-digests-clause-keeps : goal.returns-in_err-digests-clause-keeps
-returns-in_err-digests-clause-keeps g c = may_err c.from_residual.ensures.0 c.in_err-digests.ensures.keeps
-
-pub returns-then-not-is_complete-clause-keeps : goal.returns-then-not-is_complete-clause-keeps
-returns-then-not-is_complete-clause-keeps g c = may_put g.T.Statements.lenders g.T.Statements.state c.args.tx.now _
-
-pub returns-clause-keeps : goal.returns-clause-keeps
-returns-clause-keeps g c = may_ok c.in_ok-digests.ensures.keeps
+pub returns-in_err-digests-clause-map : goal.returns-in_err-digests-clause-map
+returns-in_err-digests-clause-map g c = record {
+  found = λ clean inside ours s are is_open sound running u it live. IfOk-from_err c.from_residual.result _ c.from_residual.ensures.0;
+  keeps = may_err c.from_residual.ensures.0 c.in_err-digests.ensures.keeps;
+}

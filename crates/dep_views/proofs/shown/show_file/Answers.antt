@@ -1,3 +1,4 @@
+use Rattle.std.proofs.lemmas.Result.{IfOk-from_err}
 use Rattle.dep_row_maps.specs.Causes.{FailsByStatement}
 use Rattle.dep_row_maps.specs.Causes.FailsByStatement.{file_found}
 use Rattle.dep_row_maps.proofs.Causes.{fails_first, if_err_is}
@@ -9,5 +10,8 @@ returns-in_err-row-clause-cause g c storable clean inside =
     if_err_is _ c.from_residual.result c.in_err-row.field-0.0 c.from_residual.ensures.1
     (fails_first g.T.Statements.state c.args.tx.now c.find_file.new.tx FailsByStatement _ (file_found _ (c.in_err-row.ensures.cause storable clean)))
 
-pub returns-in_err-row-clause-keeps : goal.returns-in_err-row-clause-keeps
-returns-in_err-row-clause-keeps g c = reads_err c.from_residual.ensures.0 c.in_err-row.ensures.keeps
+pub returns-in_err-row-clause-map : goal.returns-in_err-row-clause-map
+returns-in_err-row-clause-map g c = record {
+  found = λ clean inside ours s are. IfOk-from_err c.from_residual.result _ c.from_residual.ensures.0;
+  keeps = reads_err c.from_residual.ensures.0 c.in_err-row.ensures.keeps;
+}

@@ -1,3 +1,4 @@
+use Rattle.std.proofs.lemmas.Result.{IfOk-from_err}
 use Rattle.std.proofs.Common.{IsTrue, Ok, ◌≡◌, ◌≢◌, refl, ◌∙◌, ◌++◌, [], ◌∷◌, map, take, get_or, is_err, sym, ap}
 use Rattle.std.proofs.lemmas.List.{map_more, take_all}
 use Rattle.std.proofs.lemmas.List.Elements.{All-get_or}
@@ -19,12 +20,12 @@ uploads-preserved g c =
     let old = g.T.Statements.state c.args.tx.now in
     let mid = g.T.Statements.state c.uploads.tx in
     let inv = c.uploads.invariant in
-    let earlier = clean_before c.load_state.ensures.keeps.stays in (
-      may_ok (may_then {r = Ok c.in_ok-state.state} inv.0 c.in_ok-state.ensures.keeps),
+    let earlier = clean_before c.load_state.ensures.map.keeps.stays in (
+      may_ok (may_then {r = Ok c.in_ok-state.state} inv.0 c.in_ok-state.ensures.map.keeps),
       λ is_open clean inside ours s are sound running.
           let same = inv.0.same is_open (earlier clean) ours in
           let so_far = inv.1 is_open (earlier clean) inside ours s are sound running in
-          let it = c.in_ok-state.ensures.map clean (inv.0.stays.inside (earlier clean) inside) (still_ours old mid same ours) s (still_seen old mid s same are) sound so_far.0 in
+          let it = c.in_ok-state.ensures.map.found clean (inv.0.stays.inside (earlier clean) inside) (still_ours old mid same ours) s (still_seen old mid s same are) sound so_far.0 in
           let f = upload_view c.args.by_reference s in
           let xs = c.args.uploads.now in
           let n = get_or xs c.uploads.upload-index 0 in
@@ -35,15 +36,24 @@ uploads-preserved g c =
     )
 
 pub returns-clause-map : goal.returns-clause-map
-returns-clause-map g c is_open clean inside ours s are sound running =
-    let f = upload_view c.args.by_reference s in
-    c.from_vec.ensures ∙ (c.uploads.invariant.1 is_open clean inside ours s are sound running).1 ∙ ap (map f) (take_all c.uploads.upload-index c.args.uploads.now c.uploads-test.false)
+returns-clause-map g c = record {
+  found = λ clean inside ours s are is_open sound running.
+      let f = upload_view c.args.by_reference s in
+      c.from_vec.ensures ∙ (c.uploads.invariant.1 is_open clean inside ours s are sound running).1 ∙ ap (map f) (take_all c.uploads.upload-index c.args.uploads.now c.uploads-test.false);
+  keeps = may_ok c.uploads.invariant.0;
+}
 
-pub returns-in_err-state-clause-keeps : goal.returns-in_err-state-clause-keeps
-returns-in_err-state-clause-keeps g c = may_err c.from_residual.ensures.0 (may_then c.uploads.invariant.0 c.load_state.ensures.keeps)
+pub returns-in_err-state-clause-map : goal.returns-in_err-state-clause-map
+returns-in_err-state-clause-map g c = record {
+  found = λ clean inside ours s are is_open sound running. IfOk-from_err c.from_residual.result _ c.from_residual.ensures.0;
+  keeps = may_err c.from_residual.ensures.0 (may_then c.uploads.invariant.0 c.load_state.ensures.map.keeps);
+}
 
-pub returns-in_err-push-clause-keeps : goal.returns-in_err-push-clause-keeps
-returns-in_err-push-clause-keeps g c = may_ok (may_then c.uploads.invariant.0 c.in_ok-state.ensures.keeps)
+pub returns-in_err-push-clause-map : goal.returns-in_err-push-clause-map
+returns-in_err-push-clause-map g c = record {
+  found = λ clean inside ours s are is_open sound running. IfOk-from_err c.from_residual-in_err-push.result _ c.from_residual-in_err-push.ensures.0;
+  keeps = may_ok (may_then c.uploads.invariant.0 c.in_ok-state.ensures.map.keeps);
+}
 
 pub returns-in_err-state-clause-cause : goal.returns-in_err-state-clause-cause
 returns-in_err-state-clause-cause g c is_open clean inside ours s are sound storable =
@@ -51,7 +61,7 @@ returns-in_err-state-clause-cause g c is_open clean inside ours s are sound stor
     let mid = c.uploads.tx in
     let new = c.load_state.new.tx in
     let inv = c.uploads.invariant in
-    let before = clean_before c.load_state.ensures.keeps.stays clean in
+    let before = clean_before c.load_state.ensures.map.keeps.stays clean in
     let same = inv.0.same is_open before ours in
     let xs = c.args.uploads.now in
     let small = All-get_or IsStorable xs c.uploads.upload-index 0 c.uploads-test.true storable in
@@ -64,6 +74,3 @@ pub returns-in_err-push-clause-cause : goal.returns-in_err-push-clause-cause
 returns-in_err-push-clause-cause g c is_open clean inside ours s are sound storable =
     if_err_is _ c.from_residual-in_err-push.result Memory c.from_residual-in_err-push.ensures.1
     (fails_first g.T.Statements.state c.args.tx.now c.load_state.new.tx (FailsHolding (c.args.uploads.now ≢ [])) _ (memory (not_empty c.args.uploads.now c.uploads.upload-index c.uploads-test.true) refl))
-
-pub returns-clause-keeps : goal.returns-clause-keeps
-returns-clause-keeps g c = may_ok c.uploads.invariant.0
