@@ -7,3 +7,4 @@ pub mod Addresses
 pub mod Serves
 pub mod Outcomes
 pub mod Gathering
+pub mod Called
