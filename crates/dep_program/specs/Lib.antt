@@ -7,4 +7,3 @@ pub mod Addresses
 pub mod Serves
 pub mod Outcomes
 pub mod Gathering
-pub mod Called

@@ -1,8 +1,7 @@
-//! What the programs are over any archive: their names and command lines, the configuration of `swordd`, the connections that it
+//! What the programs are over any archive: their command lines, the configuration of `swordd`, the connections that it
 //! accepts at a port of 127.0.0.1, one after another, the folder of an export, the clock, and what a run comes to.
 #![tactic(auto)]
 
-mod called;
 mod clock;
 mod command;
 mod door;
@@ -16,7 +15,6 @@ mod progress;
 mod serve;
 mod setup;
 
-pub use called::{is_called_host, is_host_name};
 pub use clock::{microseconds_since, moment_of};
 pub use command::{Command, Job, unread, words};
 pub use door::{Door, address, serve_at};

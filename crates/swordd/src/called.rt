@@ -1,6 +1,6 @@
 //! The name by which the program was called.
 ghost use Rattle.std.specs.Prelude.{◌↔◌, IsTrue};
-ghost use Rattle.dep_program.specs.Called.{IsHostName};
+ghost use Rattle.swordd.specs.Called.{IsHostName};
 
 use std::rt::Env;
 
@@ -22,7 +22,7 @@ pub fn is_called_host<R: Env>(rt: &R) -> bool {
 }
 
 /// Whether the last part of the path is `swordd_host`.
-pub fn is_host_name(path: &[u8]) -> bool
+fn is_host_name(path: &[u8]) -> bool
     ensures { IsTrue result ↔ IsHostName path.now }
 {
     path == HOST_NAME || path.ends_with(HOST_NAME_BEHIND)
