@@ -16,7 +16,7 @@ Without PART all parts are played, one after another. Each has a line, and what 
     unfinished   more bytes of unfinished requests than there may be
     killed       a host that is killed under the load of 20 clients, and opened again
     examples     the example files over sockets, 50 examples at once over one store
-    statuses     each fault of a configuration by its field, and each exit status
+    statuses     its names, what it prints of a configuration, each fault of one by its field, and each exit status
 
 What has to come is waited for at most a minute, so a slow machine is no fault; the times that are told are for the reader. The
 status is 0 where all came as it should. It needs Linux, and 4,096 files for a process.
@@ -39,6 +39,8 @@ from functools import partial
 import host_clients
 import host_examples
 import loads
+from commands import USAGE
+from crates import ROOT, built_program
 from expectations import expect, status_of, wrong
 from hosted import ADDRESS, MIB, PATIENCE, Host, begin
 
@@ -140,7 +142,32 @@ def example(folder, settings):
     ends(["--check", file], 0, "")
 
 
+HOST_USAGE = "usage: swordd_host CONFIGURATION | --example | --check CONFIGURATION\n"
+# By which of its names the program is called, and whether it is the host's.
+CALLED = {"swordd_host": True, "/a/swordd_host": True, "./swordd_host": True, "swordd": False, "a/xswordd_host": False,
+          "swordd_hosts": False, "swordd_host/swordd": False, "_host": False, "": False}
+
+
+def names():
+    """The name by which it is called decides what its words mean, also where one of them isn't UTF-8."""
+    for name, is_host in CALLED.items():
+        for words in ((), (b"\xff",), ("--check",)):
+            ran = subprocess.run([name, *words], executable=built_program("swordd_host"), capture_output=True, check=False)
+            usage = HOST_USAGE if is_host else USAGE
+            expect(f"the end as {name!r} with {words}", (ran.returncode, ran.stdout, ran.stderr.decode()), (1, b"", usage))
+
+
+def checked():
+    """What `--check` prints of a configuration is checked.txt, byte for byte, and it says nothing else."""
+    place = ROOT / "checks"
+    with begin("--check", "checked.json", cwd=place, stdout=subprocess.PIPE, stderr=subprocess.PIPE) as program:
+        printed = program.communicate(timeout=PATIENCE)
+    expect("what is printed of checked.json", (program.returncode, *printed), (0, (place / "checked.txt").read_bytes(), b""))
+
+
 def statuses():
+    names()
+    checked()
     with Host(connections=3) as host:
         settings, folder = host.settings, host.folder
         for _ in range(3):

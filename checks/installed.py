@@ -4,7 +4,7 @@ loses the store, restores the copy, opens and audits it; and has systemd look at
 
     checks/installed.py
 
-The status is 0 where all came as it should. It needs both programs built, Python's sqlite3, and systemd for the units; where
+The status is 0 where all came as it should. It needs `swordd` built, Python's sqlite3, and systemd for the units; where
 there is no systemd-analyze, or no strace to see what the server asks of the system, it says so. It takes two processor seconds.
 """
 
@@ -45,8 +45,7 @@ def run(status, *words, **how):
 
 
 def install(root):
-    told = {**os.environ, "SWORDD": str(built_program("swordd").resolve()),
-            "SWORDD_HOST": str(built_program("swordd_host").resolve())}
+    told = {**os.environ, "SWORDD": str(built_program("swordd"))}
     for _ in range(2):
         run(0, ROOT / "deploy/install", "--built", "--root", root, env=told)
     for path, mode in FILES.items():

@@ -16,7 +16,7 @@ import tempfile
 import time
 from urllib.parse import urlsplit
 
-from crates import ROOT
+from crates import ROOT, built_program
 from example_play import MOMENT, NAMES, Play, Wrong, cells_of, pieces, play_lines
 
 WRITTEN = b"127.0.0.1:8080"
@@ -220,11 +220,11 @@ def folder_in_memory():
 def conform(url, name, port, words, is_behind_proxy=False):
     """Runs checks/conform with these words against a program at this port, which is started anew over an empty store for each
     example. Returns its status."""
-    fresh = ROOT / "checks/fresh"
+    fresh, named = ROOT / "checks/fresh", {**os.environ, name.upper(): str(built_program(name))}
     with tempfile.TemporaryDirectory(dir=folder_in_memory()) as folder:
         command = f"{fresh} {name} {port} {folder}" + (f" {url}" if is_behind_proxy else "")
         try:
-            return subprocess.run([ROOT / "checks/conform", url, "--fresh", command, *words], check=False).returncode
+            return subprocess.run([ROOT / "checks/conform", url, "--fresh", command, *words], env=named, check=False).returncode
         finally:
             subprocess.run([fresh, "--end", folder], check=False)
 

@@ -1,6 +1,7 @@
 """The crates that crates.txt lists, the programs that were built of them, and copies of them in folders of their own, over
 the work that their checks kept."""
 
+import contextlib
 import os
 import shutil
 import sys
@@ -10,6 +11,8 @@ ROOT = Path(__file__).resolve().parent.parent.parent
 # The files of examples.
 DATA = ROOT / "crates/examples/data"
 PARTS = ("src", "specs", "proofs")
+# Second names of programs, by which they do something else.
+SECOND_NAMES = {"swordd_host": "swordd"}
 
 
 def listed_crates(file=ROOT / "crates.txt"):
@@ -45,11 +48,17 @@ def libraries_below(name, lines):
 
 
 def built_program(name):
-    """Returns the path of a program: the one that the gate or `rt run` built, or the one that the environment names under
-    the name in capitals (SWORDD, EXAMPLES). Where there is none, this program ends."""
-    path = Path(os.environ.get(name.upper()) or ROOT / "crates" / name / "out" / name)
+    """Returns the whole path of a program: the one that the gate or `rt run` built, or the one that the environment names under
+    the name in capitals (SWORDD, SWORDD_HOST, EXAMPLES). Where there is none, this program ends. A second name is a link, which
+    is made where it isn't there, and must not be followed before the program is started."""
+    crate = SECOND_NAMES.get(name, name)
+    built = ROOT / "crates" / crate / "out" / name
+    if name != crate and built.with_name(crate).exists():
+        with contextlib.suppress(FileExistsError):
+            built.symlink_to(crate)
+    path = Path(os.environ.get(name.upper()) or built).absolute()
     if not os.access(path, os.X_OK):
-        print(f"{path} isn't there: build it by rt ci, or in crates/{name} by rt run", file=sys.stderr)
+        print(f"{path} isn't there: build it by rt ci, or in crates/{crate} by rt run", file=sys.stderr)
         sys.exit(2)
     return path
 

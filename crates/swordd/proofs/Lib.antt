@@ -1,3 +1,5 @@
 pub mod ReplayLemmas
 pub mod DatabaseLemmas
 pub mod ExaminationLemmas
+pub mod HostedLemmas
+pub mod CalledLemmas

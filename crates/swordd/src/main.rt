@@ -1,52 +1,33 @@
-//! `swordd`, the deposit server of a repository: SWORD 3.0 over HTTP/1.1.
+//! `swordd`, the deposit server of a repository: SWORD 3.0 over HTTP/1.1. Called as `swordd_host`, it is the server for many
+//! connections at once.
 #![tactic(auto)]
 
+mod called;
+mod commands;
 mod examination;
+mod folders;
+mod host;
+mod host_log;
+mod hosting;
 mod progress;
 mod replay;
 mod service;
+mod start;
 mod store_file;
 
+use crate::called::is_called_host;
+use crate::commands::run_command;
+use crate::host::run_host;
 pub use crate::replay::{replay, replay_gathered};
-use crate::store_file::work_on;
-use dep_moment::Moment;
-use dep_program::{Command, Gathered, unread, words};
 pub use dep_program::{Outcome, serve_on};
 pub use dep_store::{audit_all, export_object};
-use dep_types::ReaderInlet;
 use std::process::ExitCode;
 
 fn main(rt: HostRuntime) -> ExitCode {
-    let outcome = run(&rt);
-    if let Some(line) = outcome.line() {
-        let _ = eprintln!(rt; "{line}");
-    }
+    let outcome = if is_called_host(&rt) {
+        run_host(&rt)
+    } else {
+        run_command(&rt)
+    };
     ExitCode::from(outcome.status())
-}
-
-fn run(rt: &HostRuntime) -> Outcome {
-    let words = match words(rt) {
-        Ok(words) => words,
-        Err(error) => return unread(error.kind()),
-    };
-    match Command::read(&words) {
-        None => Outcome::Usage,
-        Some(Command::Replay { moment, base }) => replay_here(rt, moment, base),
-        Some(Command::WorkOn { file, job }) => work_on(rt, file, job),
-    }
-}
-
-// Over standard input and output.
-fn replay_here(rt: &HostRuntime, moment: u64, base: &str) -> Outcome {
-    let Ok(mut outlet) = Gathered::new(rt.alloc(), rt.stdout()) else {
-        return Outcome::StoreFault;
-    };
-    let mut inlet = ReaderInlet::new(rt.stdin());
-    replay_gathered(
-        rt.alloc(),
-        Moment::new(moment),
-        base,
-        &mut inlet,
-        &mut outlet,
-    )
 }

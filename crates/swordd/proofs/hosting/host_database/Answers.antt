@@ -1,7 +1,7 @@
 use Rattle.std.proofs.Common.{◌∙◌}
 use Rattle.sqlite.proofs.StateLemmas.{clean_if_open}
-use Rattle.swordd_host.proofs.HostedLemmas.{over_hub, without_hub}
-use Rattle.swordd_host.proofs.service.serve_database.Goals as goal
+use Rattle.swordd.proofs.HostedLemmas.{over_hub, without_hub}
+use Rattle.swordd.proofs.hosting.host_database.Goals as goal
 
 pub returns-in-Ok : goal.returns-in-Ok
 returns-in-Ok g c = record {

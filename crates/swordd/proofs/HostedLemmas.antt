@@ -29,7 +29,7 @@ use Rattle.dep_host.specs.Runs.{StandsBehind}
 use Rattle.dep_host.specs.Runs as runs
 use Rattle.dep_program.specs.declared.outcome.Outcome.{Outcome}
 use Rattle.dep_sockets.specs.Doors.{EndsHub, WentOn}
-use Rattle.swordd_host.specs.Hosted.{LedBy, IsHosted, HostsDatabase, hosts, not_checked, not_made, not_opened}
+use Rattle.swordd.specs.Hosted.{LedBy, IsHosted, HostsDatabase, hosts, not_checked, not_made, not_opened}
 
 module _ {S : Type 0} (g : Ghosts S) (clean : (h : Held S) → IsTrue (state g h).is_open → HasCleanDisk (state g h))
     (settled : (h : Held S) → IsTrue (state g h).is_open → IsSettled (state g h)) (given : Held S) (config : Config) (opened : Hub (HashingStore S))

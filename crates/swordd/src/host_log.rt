@@ -1,6 +1,6 @@
 //! What a host tells, in lines of JSON on standard error.
 
-use crate::service::Place;
+use crate::hosting::Place;
 use crate::start::write_start;
 use dep_configuration::{
     Closing as Closed, Exchange, GREATEST_PATH, Reason, closing_line, exchange_line,

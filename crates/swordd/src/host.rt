@@ -1,26 +1,16 @@
-//! `swordd_host`, the deposit server of a repository for many connections at once.
-#![tactic(auto)]
-
-mod folders;
-mod host_log;
-mod service;
-mod start;
+//! What the words of `swordd_host` ask for.
 
 use crate::folders::check_folders;
-use crate::service::serve_store;
+use crate::hosting::serve_store;
 use dep_configuration::{Configuration, ConfigurationFault, EXAMPLE, explain, print_configuration};
 use dep_program::{HostCommand, Outcome, words};
 use std::fmt::Display;
 use std::fs;
-use std::process::ExitCode;
 
 const USAGE: &str = "usage: swordd_host CONFIGURATION | --example | --check CONFIGURATION";
 
-fn main(rt: HostRuntime) -> ExitCode {
-    ExitCode::from(run(&rt).status())
-}
-
-fn run(rt: &HostRuntime) -> Outcome {
+/// Does what the words ask for, and tells on standard error why it wasn't done.
+pub fn run_host(rt: &HostRuntime) -> Outcome {
     let Ok(words) = words(rt) else {
         return usage(rt);
     };

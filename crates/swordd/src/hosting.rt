@@ -1,7 +1,7 @@
 //! A store in a file, served at an address.
 ghost use Rattle.std.specs.Prelude.{◌≡◌, false};
 ghost use Rattle.sqlite.specs.Held.{state};
-ghost use Rattle.swordd_host.specs.Hosted.{HostsDatabase};
+ghost use Rattle.swordd.specs.Hosted.{HostsDatabase};
 
 use crate::host_log::StandardErrorLog;
 use dep_archive::open_hub;
@@ -71,12 +71,12 @@ impl Work for Service<'_> {
         let clients = place.limits.connections.unwrap_or(u64::MAX);
         let spools = Spools::new(alloc, rt, place.spool_folder.as_str(), process, most);
         let mut door = SocketDoor::new(alloc, rt, &spools, place.address, clients);
-        serve_database(rt, &place, config, connection, &mut door)
+        host_database(rt, &place, config, connection, &mut door)
     }
 }
 
 /// Opens the store in the database, serves whoever comes by the door, and hands the database back.
-fn serve_database<
+fn host_database<
     S: Alter,
     R: Source + Drop,
     K: Sink + Drop,
