@@ -15,7 +15,9 @@ use Rattle.dep_answers.specs.declared.subject.Subject.{Subject}
 use Rattle.dep_answers.specs.declared.subject.Subject.TheVariants.{File, Object, ObjectRow}
 use Rattle.dep_answers.specs.declared.subject.Shown.{Shown}
 use Rattle.dep_changes.specs.Causes.{HasCopies}
+use Rattle.dep_changes.specs.Told.{TellsDeposit}
 use Rattle.dep_changes.specs.declared.change.Change.{Change}
+use Rattle.dep_changes.specs.declared.change.NumberedDeposit.{NumberedDeposit}
 
 -- What is known of a decision once it is carried out: an object that it makes, under the next number, or puts in the place
 -- of another, the row of one that gets other metadata or files alone, and a file.
@@ -30,6 +32,10 @@ known_subject next d = None
 -- what the state after shows there
 abbrev pub known_shown : State → (content : List ℕ) → Decision → Option Shown
 known_shown s content d = option_map (shown_at (effect_of s content d)) (known_subject s.next d)
+
+-- a deposit with a number for each of its files is told
+abbrev pub TellsNumbered : NumberedDeposit → State → Type 0
+TellsNumbered d s = TellsDeposit d.change s d.deposit.now
 
 -- what is told of an object that has this deposit alone
 abbrev pub IsFilledView : State → Change → Deposit → (n : ℕ) → (ingested : Bool) → ObjectView → Type 0

@@ -8,7 +8,7 @@ ghost use Rattle.dep_decisions.specs.Effects.{blank, bytes_from, file_from, fill
 ghost use Rattle.dep_decisions.specs.declared.decision.Deposit.TheVariants.{Files};
 ghost use Rattle.dep_changes.specs.Causes.{HasCopies};
 ghost use Rattle.dep_changes.specs.Changed.{IsExtent, new_rows};
-ghost use Rattle.dep_changes.specs.Known.{IsFilledView, IsRowFrom};
+ghost use Rattle.dep_changes.specs.Known.{IsFilledView, IsRowFrom, TellsNumbered};
 ghost use Rattle.dep_changes.specs.Told.{HasItsSources, TellsDeposit, TellsNewFile, TellsObject, TellsSource};
 
 use crate::change::{Change, NumberedDeposit, NumberedFiles, touched};
@@ -82,8 +82,7 @@ pub(crate) fn filled_view(
     row: ObjectRow,
 ) -> Result<ObjectView, StoreFault>
     ensures told { (s : State) (n : ℕ) (ingested : Bool)
-        → TellsDeposit numbered.now.change s numbered.now.deposit.now
-        → row ≡ object_row n (blank s ingested)
+        → TellsNumbered numbered.now s → row ≡ object_row n (blank s ingested)
         → IfOk result (IsFilledView s numbered.now.change numbered.now.deposit.now n ingested) }
     ensures cause { (s : State) → HasItsSources s numbered.now.change numbered.now.deposit.now
         → IfErr result (λ fault. HasCopies numbered.now.deposit.now × (fault ≡ Memory)) }
