@@ -4,7 +4,7 @@ use Rattle.std.specs.Option.{option_map}
 use Rattle.std.specs.FinMap as finmap
 use Rattle.dep_types.specs.Maps.{Numbered}
 use Rattle.dep_types.specs.State as state
-use Rattle.dep_types.specs.State.{State, Texts, file_at}
+use Rattle.dep_types.specs.State.{State}
 use Rattle.dep_types.specs.declared.config.Config.{Config}
 use Rattle.dep_types.specs.declared.refusal.Refusal.TheVariants.{NotFound}
 use Rattle.dep_types.specs.declared.target.Resource.{Resource}

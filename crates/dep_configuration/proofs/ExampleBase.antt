@@ -9,12 +9,10 @@ use Rattle.url.specs.Input.{rsplit_once, split_once, strip_tabs_and_new_lines, t
 use Rattle.url.specs.Ipv4.{ends_in_a_number, parse_number}
 use Rattle.url.specs.Ipv4 as ipv4
 use Rattle.url.specs.Parser.{after_double_slash, host_len, parse_authority, parse_body, parse_parts, parse_port, parse_url, split_scheme}
-use Rattle.url.specs.Parts.{Parts, serialize}
+use Rattle.url.specs.Parts.{Parts}
 use Rattle.url.specs.Path.{dot_count, parse_path_start, parse_segments, push_segment}
 use Rattle.url.specs.Scheme.{default_port, scheme_len, scheme_type}
-use Rattle.dep_types.specs.Base.{IsBase}
-use Rattle.dep_types.specs.Config.{HasLimits, IsChecked}
-use Rattle.dep_types.specs.Limits.{IsLimit}
+use Rattle.dep_types.specs.Config.{IsChecked}
 use Rattle.dep_configuration.specs.Example.{example_config}
 use Rattle.dep_configuration.proofs.ExampleRead.{example_members, example-config}
 use Rattle.dep_configuration.proofs.ValuesGiven.{limits-of}

@@ -1,5 +1,5 @@
 -- The text of the example, read step by step.
-use Rattle.std.proofs.Common.{◌≡◌, ◌≢◌, ◌∙◌, ℕ, Bool, true, false, List, [], ◌∷◌, Option, Some, None, option_and_then, inr, refl, sym, ap, codes, All, AllPairs, bytes_eq, IsTrue, arith}
+use Rattle.std.proofs.Common.{◌≡◌, ◌∙◌, false, List, [], ◌∷◌, Option, Some, option_and_then, inr, refl, ap, codes, bytes_eq, IsTrue, arith}
 use Rattle.std.specs.List.{AllByRecursion, IsDistinct}
 use Rattle.std.specs.Fmt.{digits}
 use Rattle.std.specs.Net.Grammar.{IsDotted}
@@ -15,7 +15,7 @@ use Rattle.json.specs.Strict.{keys}
 use Rattle.dep_configuration.specs.Configured.{HasConfig, HasConfiguration, HasLimits}
 use Rattle.dep_configuration.specs.Example.{example_config, example_configuration, example_limits}
 use Rattle.dep_configuration.specs.Fields.{bounds_of, name_of}
-use Rattle.dep_configuration.specs.Names.{is_field_name, AreFieldNames, GivesFields}
+use Rattle.dep_configuration.specs.Names.{is_field_name, AreFieldNames}
 use Rattle.dep_configuration.specs.Readings.{number_within}
 use Rattle.dep_configuration.specs.declared.example.TheConstants.{EXAMPLE}
 

@@ -1,5 +1,5 @@
 -- Fields that can be read, one more at a time.
-use Rattle.std.proofs.Common.{◌≡◌, ◌∙◌, ℕ, ◌+◌, ◌<◌, ◌≤◌, List, [], ◌∷◌, ◌++◌, length, get_or, take, drop, refl, sym, ap, subst, arith, All}
+use Rattle.std.proofs.Common.{◌∙◌, ℕ, ◌+◌, ◌<◌, ◌≤◌, ◌++◌, length, get_or, take, drop, sym, ap, subst, arith, All}
 use Rattle.std.proofs.lemmas.List.{take-append-drop, drop_more, take_all}
 use Rattle.json.specs.Json.{Json}
 use Rattle.dep_configuration.specs.Faults.{AreReadable, IsFaultOf, IsFirstOfFields, IsReadable}

@@ -1,5 +1,5 @@
 -- Which fault of a value is the first.
-use Rattle.std.proofs.Common.{◌≡◌, ◌⊎◌, inl, inr, sym, subst, Option, MatchOption, IsSomeAnd, List, ℕ}
+use Rattle.std.proofs.Common.{◌≡◌, ◌⊎◌, inl, inr, sym, subst, MatchOption, IsSomeAnd}
 use Rattle.json.specs.Json.{Json}
 use Rattle.json.specs.Find.{as_object}
 use Rattle.json.specs.Strict.{keys}

@@ -6,8 +6,8 @@ use Rattle.std.proofs.lemmas.List.Elements.{All-nil, All-push, Contains-append_r
 use Rattle.std.proofs.lemmas.List.Quantifiers.{all_pairs_push}
 use Rattle.std.proofs.lemmas.Slice.Eq.{bytes_eq-Decides}
 use Rattle.std.specs.List.{list_any}
-use Rattle.json.specs.Strict.{keys, AreDistinct}
-use Rattle.json.specs.Value.{value_view, members_view}
+use Rattle.json.specs.Strict.{keys}
+use Rattle.json.specs.Value.{members_view}
 use Rattle.json.specs.declared.value.Value.{Value}
 use Rattle.dep_configuration.specs.Names.{is_field_name, AreFieldNames, StandsBehind}
 

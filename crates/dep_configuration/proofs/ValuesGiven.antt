@@ -1,5 +1,5 @@
 -- What a field that can be read gives.
-use Rattle.std.proofs.Common.{◌≡◌, ◌≤◌, ◌∙◌, ℕ, Bool, true, false, nat_le, List, [], ◌∷◌, Option, Some, None, IsSome, IsSomeAnd, MatchOption, option_map, refl, sym, ap, subst, cond, true≢false, arith}
+use Rattle.std.proofs.Common.{◌≡◌, ◌≤◌, ℕ, Bool, true, false, nat_le, List, [], ◌∷◌, Option, Some, None, IsSome, MatchOption, option_map, refl, sym, subst, cond, true≢false, arith}
 use Rattle.std.specs.Option.{option_map_or, unwrap_or}
 use Rattle.std.specs.Borrow.{Bor}
 use Rattle.std.proofs.lemmas.Bool.Decides.{nat_tests}

@@ -1,5 +1,5 @@
 -- Why the fields of a configuration are refused, and which fault is told of several.
-use Rattle.std.specs.Prelude.{◌≡◌, ◌⊎◌, ℕ, Bool, true, false, IsTrue, IsSome, IsSomeAnd, MatchOption, List, ◌∷◌, ◌++◌, All, Option, Some, None}
+use Rattle.std.specs.Prelude.{◌≡◌, ◌⊎◌, Bool, true, false, IsTrue, IsSome, IsSomeAnd, MatchOption, List, ◌∷◌, ◌++◌, All, Option, None}
 use Rattle.std.specs.Net.Grammar.{IsIpText}
 use Rattle.std.specs.declared.net.ip_addr.IpAddr.{IpAddr}
 use Rattle.json.specs.Json.{Json}

@@ -1,5 +1,5 @@
 -- The names that a configuration gives (RFC 8259), and which of them are refused.
-use Rattle.std.specs.Prelude.{◌≡◌, ℕ, Bool, false, IsTrue, IsSomeAnd, List, [], ◌∷◌, ◌++◌, All, Contains, None, string_bytes, bytes_eq}
+use Rattle.std.specs.Prelude.{◌≡◌, ℕ, Bool, false, IsTrue, IsSomeAnd, List, ◌∷◌, ◌++◌, All, Contains, string_bytes, bytes_eq}
 use Rattle.std.specs.List.{list_any}
 use Rattle.json.specs.Json.{Json}
 use Rattle.json.specs.Find.{as_object}

@@ -13,7 +13,7 @@ use Rattle.dep_hub.specs.Records.{Line, Absent, Live, ShutLine, ReadsBeyond, Arr
 use Rattle.dep_hub.specs.Causes.{IsCutWhileStreaming}
 use Rattle.dep_hub.specs.Sending.{Outside}
 use Rattle.dep_hub.specs.Serving.{Answers, FailsFrom, IsAnsweredShut, IsDeadIfShut, IsStill, OnlyContinues, answer_after}
-use Rattle.dep_hub.specs.Shut.{LeavesNoMore, IfShut, SendsFixed, waits, has_ended}
+use Rattle.dep_hub.specs.Shut.{waits, has_ended}
 use Rattle.dep_hub.specs.Shut as fixed
 use Rattle.dep_hub.specs.Nexts.{RunsOut, IsLast, IsDead, GoesOn, IsWaiting, AnswersNext}
 use Rattle.dep_hub.specs.Standing.{IsShut}

@@ -1,5 +1,5 @@
 -- One call after another that changes our tables.
-use Rattle.std.proofs.Common.{IsErr, IsTrue, Result, Ok, Err, OnOk}
+use Rattle.std.proofs.Common.{IsErr, IsTrue, Result, Ok, OnOk}
 use Rattle.std.proofs.lemmas.Result.{IfOk-from_err}
 use Rattle.sqlite.specs.State.{State, HasCleanDisk}
 use Rattle.dep_tables.specs.Clauses.{ReadsWithin, StaysWithin}

@@ -1,5 +1,5 @@
 -- What a host makes of the hub that it serves from.
-use Rattle.std.proofs.Common.{◌≡◌, ℕ, Bool, true, false, List, [], ◌++◌, append-nil, IsTrue, refl, sym, ap, subst, ◌∙◌}
+use Rattle.std.proofs.Common.{◌≡◌, ℕ, Bool, true, false, List, [], append-nil, IsTrue, refl, sym, ap, subst, ◌∙◌}
 use Rattle.std.specs.Prelude.{Option}
 use Rattle.dep_types.specs.State.{State}
 use Rattle.dep_types.specs.Conditions.{Condition, HasCleanDisk as HasCleanArchive}

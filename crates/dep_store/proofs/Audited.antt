@@ -1,5 +1,5 @@
 -- What an audit of an object makes of the tables that were read.
-use Rattle.std.proofs.Common.{ℕ, List, inl, Result, Ok, Err, IfOk, OnOk, IsErr, subst}
+use Rattle.std.proofs.Common.{ℕ, List, inl, Result, Ok, Err, IfOk, OnOk, subst}
 use Rattle.sqlite.specs.State as db
 use Rattle.sqlite.specs.State.{IsUnchanged}
 use Rattle.dep_tables.specs.declared.sha256s.FileSha256.{FileSha256}

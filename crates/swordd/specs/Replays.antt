@@ -15,7 +15,7 @@ use Rattle.dep_program.specs.Outcomes.{outcome_of, outcome_sent}
 use Rattle.dep_program.specs.Setup.{program_config}
 use Rattle.dep_program.specs.declared.gathered.Gathered.{Gathered}
 use Rattle.dep_program.specs.declared.outcome.Outcome.{Outcome}
-use Rattle.dep_program.specs.declared.outcome.Outcome.TheVariants.{Done, Usage, StoreFault, TransferFault}
+use Rattle.dep_program.specs.declared.outcome.Outcome.TheVariants.{Usage, StoreFault}
 use Rattle.swordd.specs.declared.replay.Setting.{Setting}
 
 -- the connection of this inlet, to an outlet that took these bytes and failed so often

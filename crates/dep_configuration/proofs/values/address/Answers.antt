@@ -1,4 +1,4 @@
-use Rattle.std.proofs.Common.{◌≡◌, ◌∙◌, None, inl, refl, sym, ap, option_map, rules}
+use Rattle.std.proofs.Common.{◌≡◌, ◌∙◌, None, inl, refl, sym, ap, option_map}
 use Rattle.json.specs.Value.{value_view}
 use Rattle.dep_configuration.specs.Readings.{given_text}
 use Rattle.dep_configuration.specs.declared.field.Field.TheVariants.{Address}

@@ -1,4 +1,4 @@
-use Rattle.std.proofs.Common.{◌∙◌, sym, ap, refl, option_map}
+use Rattle.std.proofs.Common.{◌∙◌, sym, ap, option_map}
 use Rattle.json.specs.Value.{value_view}
 use Rattle.dep_configuration.proofs.ValuesGiven.{filled-text, there-seen}
 use Rattle.dep_configuration.proofs.values.filled_text.Goals as goal

@@ -1,4 +1,3 @@
-use Rattle.std.proofs.Common.{◌∙◌, sym, ap, refl, option_map}
 use Rattle.json.specs.Value.{value_view}
 use Rattle.dep_configuration.proofs.ValuesGiven.{number-optional}
 use Rattle.dep_configuration.proofs.values.optional_number.Goals as goal

@@ -1,4 +1,4 @@
-use Rattle.std.proofs.Common.{◌≡◌, [], Result, Err, length, refl, rules}
+use Rattle.std.proofs.Common.{◌≡◌, [], Err, length, refl, rules}
 use Rattle.std.proofs.KnownBytes.{Appends-nil}
 use Rattle.dep_store.specs.declared.audit_fault.AuditFault.TheVariants.{Store}
 use Rattle.dep_store.proofs.LineLemmas.{blame_none, blame_passed}

@@ -1,4 +1,4 @@
-use Rattle.std.proofs.Common.{◌≡◌, ◌≢◌, ◌∙◌, codes, sym, true≢false}
+use Rattle.std.proofs.Common.{◌≢◌, ◌∙◌, codes, sym, true≢false}
 use Rattle.std.proofs.lemmas.Bool.Decides.{Decides-eqb}
 use Rattle.std.proofs.lemmas.Slice.Eq.{slice_eq-Decides}
 use Rattle.swordd.proofs.CalledLemmas.{is_behind}
