@@ -5,6 +5,7 @@ mod door;
 mod file_spool;
 mod hosting;
 mod readiness;
+mod round_moment;
 mod socket;
 mod sockets;
 mod spools;

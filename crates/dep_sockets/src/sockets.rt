@@ -2,6 +2,7 @@
 
 use crate::file_spool::FileSpool;
 use crate::readiness::{Ready, note_all};
+use crate::round_moment::RoundMoment;
 use crate::socket::{SocketSink, SocketSource, halves};
 use crate::spools::Spools;
 use dep_host::{Client, Event, Events, MOST_SEATS, Time};
@@ -78,7 +79,9 @@ pub struct Sockets<'a, R: Files> {
     /// Each open connection owns it too.
     open: Rc<()>,
     start: Instant,
-    second: u64,
+    /// How long after the start the last round began.
+    begun: Duration,
+    moment: RoundMoment,
     fault: Option<SocketFault>,
     has_ended: bool,
 }
@@ -109,7 +112,8 @@ impl<'a, R: Files + Net + Clock> Sockets<'a, R> {
             remaining: clients,
             open: Rc::new(alloc, ())?,
             start: Instant::now(rt)?,
-            second: 0,
+            begun: Duration::from_secs(0),
+            moment: RoundMoment::new(),
             fault: None,
             has_ended: false,
         })
@@ -139,8 +143,18 @@ impl<'a, R: Files + Net + Clock> Sockets<'a, R> {
         }
     }
 
+    /// How long after the start it is, which never goes back.
+    fn elapsed(&self) -> Duration {
+        match self.start.elapsed(self.rt) {
+            Ok(elapsed) => elapsed.max(self.begun),
+            Err(_) => self.begun,
+        }
+    }
+
     /// Waits until a socket is ready, or only looks where something is to be done.
     fn wait(&mut self, is_busy: bool) -> Result<(), SocketFault> {
+        let took = self.elapsed().saturating_sub(self.begun);
+        self.moment.note(took.as_millis());
         let nap = Duration::from_secs(if is_busy { 0 } else { NAP });
         self.poll
             .poll(&mut self.polled, Some(nap))
@@ -203,12 +217,11 @@ impl<'a, R: Files + Net + Clock> Sockets<'a, R> {
 
     /// The time, of which neither part goes by the other.
     fn time(&mut self) -> Time {
-        if let Ok(elapsed) = self.start.elapsed(self.rt) {
-            self.second = self.second.max(elapsed.as_secs());
-        }
+        self.begun = self.elapsed();
+        let now = moment_of(SystemTime::now(self.rt));
         Time {
-            moment: moment_of(SystemTime::now(self.rt)),
-            second: self.second,
+            moment: self.moment.next(now),
+            second: self.begun.as_secs(),
         }
     }
 }
