@@ -1,5 +1,5 @@
 -- What a turn and a round of a host serve.
-use Rattle.std.proofs.Common.{◌≡◌, ◌⊎◌, ◌<◌, ◌≤◌, ◌+◌, ◌==◌, ℕ, zero, suc, Bool, true, false, if◌then◌else◌, List, [], ◌∷◌, ◌++◌, Option, None, Some, refl, sym, ap, subst, ◌∙◌, length, get_or, set, nat_lt, is_some, ◌&&◌, ◌||◌, inl, inr, arith}
+use Rattle.std.proofs.Common.{◌≡◌, ◌⊎◌, ◌<◌, ◌≤◌, ◌+◌, ◌==◌, ℕ, zero, suc, Bool, true, false, if◌then◌else◌, List, [], ◌∷◌, ◌++◌, Option, None, Some, refl, sym, ap, subst, ◌∙◌, append_assoc, length, get_or, set, nat_lt, is_some, ◌&&◌, ◌||◌, inl, inr, arith}
 use Rattle.std.proofs.lemmas.List.{get_or-set_same, get_or-set_other, get_or_past}
 use Rattle.std.proofs.Math.ListN.{length-set}
 use Rattle.std.proofs.lemmas.Bool.{ne_eqb, eq-eqb, cases_eq, cases_lt, lt-ltb}
@@ -55,37 +55,59 @@ module _ {A R K S : Type 0} (condition : A → Condition) (unread : R → Option
       let no : ⊥ = omega (arith, kept, none, some) in no)
 
   -- who was served is served still where the round began earlier
-  lost_before : (p q : Position A R K S) (number : ℕ) (deeds : List Deed) → Steps condition unread taken held p deeds q → IsLost condition unread taken held size q number → IsLost condition unread taken held size p number
-  lost_before p q number deeds s lost = record {
-    deeds = deeds ++ lost.deeds;
+  lost_before : (p q r : Position A R K S) (number : ℕ) (xs ys : List Deed) → Steps condition unread taken held p xs q → IsLost condition unread taken held size q r ys number → IsLost condition unread taken held size p r (xs ++ ys) number
+  lost_before p q r number xs ys s lost = record {
+    earlier = xs ++ lost.earlier;
+    later = lost.later;
+    all = ap (λ (l : List Deed). xs ++ l) lost.all ∙ sym (append_assoc xs lost.earlier lost.later);
     mid = lost.mid;
-    steps = steps_join condition unread taken held s lost.steps;
+    came = steps_join condition unread taken held s lost.came;
     absent = lost.absent;
+    goes = lost.goes;
   }
 
-  served_before : (p q : Position A R K S) (is_full : Bool) (before : Seat R K S) (after : Option (Seat R K S)) (answered read : ℕ) (d : Duty) (deeds : List Deed) → Steps condition unread taken held p deeds q → q.shut ≡ p.shut
-      → IsServed condition unread taken held size q is_full before after answered read d → IsServed condition unread taken held size p is_full before after answered read d
-  served_before p q is_full before after answered read to.Flush deeds s shut h = h
-  served_before p q is_full before after answered read to.Answer deeds s shut (inl one) = inl one
-  served_before p q is_full before after answered read to.Answer deeds s shut (inr lost) = inr (lost_before p q before.connection deeds s lost)
-  served_before p q is_full before after answered read to.Read deeds s shut (inl one) = inl one
-  served_before p q is_full before after answered read to.Read deeds s shut (inr (inl back)) = inr (inl (subst (λ (o : Option ℕ). is_held_back before.course is_full (is_some o) ≡ true) shut back))
-  served_before p q is_full before after answered read to.Read deeds s shut (inr (inr none)) = inr (inr none)
-  served_before p q is_full before after answered read to.Finish deeds s shut h = h
-  served_before p q is_full before after answered read to.Drain deeds s shut h = tt
-  served_before p q is_full before after answered read to.Wait deeds s shut h = tt
+  served_before : (p q r : Position A R K S) (xs ys : List Deed) (is_full : Bool) (before : Seat R K S) (after : Option (Seat R K S)) (answered read : ℕ) (d : Duty) → Steps condition unread taken held p xs q → q.shut ≡ p.shut
+      → IsServed condition unread taken held size q r ys is_full before after answered read d → IsServed condition unread taken held size p r (xs ++ ys) is_full before after answered read d
+  served_before p q r xs ys is_full before after answered read to.Flush s shut h = h
+  served_before p q r xs ys is_full before after answered read to.Answer s shut (inl one) = inl one
+  served_before p q r xs ys is_full before after answered read to.Answer s shut (inr lost) = inr (lost_before p q r before.connection xs ys s lost)
+  served_before p q r xs ys is_full before after answered read to.Read s shut (inl one) = inl one
+  served_before p q r xs ys is_full before after answered read to.Read s shut (inr (inl back)) = inr (inl (subst (λ (o : Option ℕ). is_held_back before.course is_full (is_some o) ≡ true) shut back))
+  served_before p q r xs ys is_full before after answered read to.Read s shut (inr (inr none)) = inr (inr none)
+  served_before p q r xs ys is_full before after answered read to.Finish s shut h = h
+  served_before p q r xs ys is_full before after answered read to.Drain s shut h = tt
+  served_before p q r xs ys is_full before after answered read to.Wait s shut h = tt
+
+  -- and where it went on later
+  served_later : (p q r : Position A R K S) (xs ys : List Deed) (is_full : Bool) (before : Seat R K S) (after : Option (Seat R K S)) (answered read : ℕ) (d : Duty) → Steps condition unread taken held q ys r
+      → IsServed condition unread taken held size p q xs is_full before after answered read d → IsServed condition unread taken held size p r (xs ++ ys) is_full before after answered read d
+  served_later p q r xs ys is_full before after answered read to.Flush s h = h
+  served_later p q r xs ys is_full before after answered read to.Answer s (inl one) = inl one
+  served_later p q r xs ys is_full before after answered read to.Answer s (inr lost) = inr (record {
+    earlier = lost.earlier;
+    later = lost.later ++ ys;
+    all = ap (λ (l : List Deed). l ++ ys) lost.all ∙ append_assoc lost.earlier lost.later ys;
+    mid = lost.mid;
+    came = lost.came;
+    absent = lost.absent;
+    goes = steps_join condition unread taken held lost.goes s;
+  })
+  served_later p q r xs ys is_full before after answered read to.Read s h = h
+  served_later p q r xs ys is_full before after answered read to.Finish s h = h
+  served_later p q r xs ys is_full before after answered read to.Drain s h = tt
+  served_later p q r xs ys is_full before after answered read to.Wait s h = tt
 
   -- and where it was closed since
-  served_gone : (p : Position A R K S) (is_full : Bool) (before : Seat R K S) (after : Option (Seat R K S)) (answered read : ℕ) (d : Duty)
-      → IsServed condition unread taken held size p is_full before after answered read d → IsServed condition unread taken held size p is_full before None answered read d
-  served_gone p is_full before after answered read to.Flush h = tt
-  served_gone p is_full before after answered read to.Answer h = h
-  served_gone p is_full before after answered read to.Read (inl one) = inl one
-  served_gone p is_full before after answered read to.Read (inr (inl back)) = inr (inl back)
-  served_gone p is_full before after answered read to.Read (inr (inr none)) = inr (inr tt)
-  served_gone p is_full before after answered read to.Finish h = tt
-  served_gone p is_full before after answered read to.Drain h = tt
-  served_gone p is_full before after answered read to.Wait h = tt
+  served_gone : (p q : Position A R K S) (deeds : List Deed) (is_full : Bool) (before : Seat R K S) (after : Option (Seat R K S)) (answered read : ℕ) (d : Duty)
+      → IsServed condition unread taken held size p q deeds is_full before after answered read d → IsServed condition unread taken held size p q deeds is_full before None answered read d
+  served_gone p q deeds is_full before after answered read to.Flush h = tt
+  served_gone p q deeds is_full before after answered read to.Answer h = h
+  served_gone p q deeds is_full before after answered read to.Read (inl one) = inl one
+  served_gone p q deeds is_full before after answered read to.Read (inr (inl back)) = inr (inl back)
+  served_gone p q deeds is_full before after answered read to.Read (inr (inr none)) = inr (inr tt)
+  served_gone p q deeds is_full before after answered read to.Finish h = tt
+  served_gone p q deeds is_full before after answered read to.Drain h = tt
+  served_gone p q deeds is_full before after answered read to.Wait h = tt
 
   -- the same of who sits at a place, or nobody does
   at_before : (p q r : Position A R K S) (is_full : Bool) (xs ys : List Deed) (place : ℕ) (x : Option (Seat R K S)) → Steps condition unread taken held p xs q → q.shut ≡ p.shut → answers_at place xs ≡ 0 → pieces_at place xs ≡ 0
@@ -94,28 +116,29 @@ module _ {A R K S : Type 0} (condition : A → Condition) (unread : R → Option
   at_before p q r is_full xs ys place (Some seat) s shut none unread_yet h =
       let answered : answers_at place ys ≡ answers_at place (xs ++ ys) = let e = answers_append place xs ys in omega (arith, e, none) in
       let pieces : pieces_at place ys ≡ pieces_at place (xs ++ ys) = let e = pieces_append place xs ys in omega (arith, e, unread_yet) in
-      served_before p q is_full seat (slot place r.seats) (answers_at place (xs ++ ys)) (pieces_at place (xs ++ ys)) (turn_duty size p.shut seat) xs s shut
-      (subst (λ (o : Option ℕ). IsServed condition unread taken held size q is_full seat (slot place r.seats) (answers_at place (xs ++ ys)) (pieces_at place (xs ++ ys)) (turn_duty size o seat)) shut
-      (subst (λ (n : ℕ). IsServed condition unread taken held size q is_full seat (slot place r.seats) (answers_at place (xs ++ ys)) n (turn_duty size q.shut seat)) pieces
-      (subst (λ (n : ℕ). IsServed condition unread taken held size q is_full seat (slot place r.seats) n (pieces_at place ys) (turn_duty size q.shut seat)) answered h)))
+      served_before p q r xs ys is_full seat (slot place r.seats) (answers_at place (xs ++ ys)) (pieces_at place (xs ++ ys)) (turn_duty size p.shut seat) s shut
+      (subst (λ (o : Option ℕ). IsServed condition unread taken held size q r ys is_full seat (slot place r.seats) (answers_at place (xs ++ ys)) (pieces_at place (xs ++ ys)) (turn_duty size o seat)) shut
+      (subst (λ (n : ℕ). IsServed condition unread taken held size q r ys is_full seat (slot place r.seats) (answers_at place (xs ++ ys)) n (turn_duty size q.shut seat)) pieces
+      (subst (λ (n : ℕ). IsServed condition unread taken held size q r ys is_full seat (slot place r.seats) n (pieces_at place ys) (turn_duty size q.shut seat)) answered h)))
 
-  still : (p q r : Position A R K S) (is_full : Bool) (seat : Seat R K S) (answered read : ℕ) (d : Duty) (place : ℕ) → (slot place r.seats ≡ slot place q.seats) ⊎ (slot place r.seats ≡ None)
-      → IsServed condition unread taken held size p is_full seat (slot place q.seats) answered read d → IsServed condition unread taken held size p is_full seat (slot place r.seats) answered read d
-  still p q r is_full seat answered read d place (inl same) h = subst (λ (o : Option (Seat R K S)). IsServed condition unread taken held size p is_full seat o answered read d) (sym same) h
-  still p q r is_full seat answered read d place (inr gone) h = subst (λ (o : Option (Seat R K S)). IsServed condition unread taken held size p is_full seat o answered read d) (sym gone) (served_gone p is_full seat (slot place q.seats) answered read d h)
+  still : (p q r : Position A R K S) (deeds : List Deed) (is_full : Bool) (seat : Seat R K S) (answered read : ℕ) (d : Duty) (place : ℕ) → (slot place r.seats ≡ slot place q.seats) ⊎ (slot place r.seats ≡ None)
+      → IsServed condition unread taken held size p r deeds is_full seat (slot place q.seats) answered read d → IsServed condition unread taken held size p r deeds is_full seat (slot place r.seats) answered read d
+  still p q r deeds is_full seat answered read d place (inl same) h = subst (λ (o : Option (Seat R K S)). IsServed condition unread taken held size p r deeds is_full seat o answered read d) (sym same) h
+  still p q r deeds is_full seat answered read d place (inr gone) h = subst (λ (o : Option (Seat R K S)). IsServed condition unread taken held size p r deeds is_full seat o answered read d) (sym gone) (served_gone p r deeds is_full seat (slot place q.seats) answered read d h)
 
   -- later deeds did not concern it, but that it may have been closed
-  at_after : (p q r : Position A R K S) (is_full : Bool) (xs ys : List Deed) (place : ℕ) (x : Option (Seat R K S)) → (slot place r.seats ≡ slot place q.seats) ⊎ (slot place r.seats ≡ None) → answers_at place ys ≡ 0 → pieces_at place ys ≡ 0
-      → IsServedAt condition unread taken held size p q is_full xs place x → IsServedAt condition unread taken held size p r is_full (xs ++ ys) place x
-  at_after p q r is_full xs ys place None how none unread_later h = tt
-  at_after p q r is_full xs ys place (Some seat) how none unread_later h =
+  at_after : (p q r : Position A R K S) (is_full : Bool) (xs ys : List Deed) (place : ℕ) (x : Option (Seat R K S)) → Steps condition unread taken held q ys r → (slot place r.seats ≡ slot place q.seats) ⊎ (slot place r.seats ≡ None) → answers_at place ys ≡ 0
+      → pieces_at place ys ≡ 0 → IsServedAt condition unread taken held size p q is_full xs place x → IsServedAt condition unread taken held size p r is_full (xs ++ ys) place x
+  at_after p q r is_full xs ys place None s how none unread_later h = tt
+  at_after p q r is_full xs ys place (Some seat) s how none unread_later h =
       let answered : answers_at place xs ≡ answers_at place (xs ++ ys) = let e = answers_append place xs ys in omega (arith, e, none) in
       let pieces : pieces_at place xs ≡ pieces_at place (xs ++ ys) = let e = pieces_append place xs ys in omega (arith, e, unread_later) in
       let d = turn_duty size p.shut seat in
-      let k : IsServed condition unread taken held size p is_full seat (slot place q.seats) (answers_at place (xs ++ ys)) (pieces_at place (xs ++ ys)) d =
-      subst (λ (n : ℕ). IsServed condition unread taken held size p is_full seat (slot place q.seats) (answers_at place (xs ++ ys)) n d) pieces
-      (subst (λ (n : ℕ). IsServed condition unread taken held size p is_full seat (slot place q.seats) n (pieces_at place xs) d) answered h) in
-      still p q r is_full seat (answers_at place (xs ++ ys)) (pieces_at place (xs ++ ys)) d place how k
+      let k : IsServed condition unread taken held size p q xs is_full seat (slot place q.seats) (answers_at place (xs ++ ys)) (pieces_at place (xs ++ ys)) d =
+      subst (λ (n : ℕ). IsServed condition unread taken held size p q xs is_full seat (slot place q.seats) (answers_at place (xs ++ ys)) n d) pieces
+      (subst (λ (n : ℕ). IsServed condition unread taken held size p q xs is_full seat (slot place q.seats) n (pieces_at place xs) d) answered h) in
+      still p q r (xs ++ ys) is_full seat (answers_at place (xs ++ ys)) (pieces_at place (xs ++ ys)) d place how
+      (served_later p q r xs ys is_full seat (slot place q.seats) (answers_at place (xs ++ ys)) (pieces_at place (xs ++ ys)) d s k)
 
   -- nothing was done at a place
   pub served_none : (p q : Position A R K S) (at : ℕ) (time : Time) (is_full : Bool) (x : Option (Seat R K S)) → q.hub ≡ p.hub → q.limits ≡ p.limits → q.shut ≡ p.shut → q.seats ≡ set p.seats at x → at < length p.seats → x ≡ get_or p.seats at x → x ≡ None
@@ -139,27 +162,27 @@ module _ {A R K S : Type 0} (condition : A → Condition) (unread : R → Option
     others : (place : ℕ) → (place ≡ at → ⊥) → answers_at place deeds ≡ 0
     waits : is_full ≡ true → 0 < unfinished_of (slot at p.seats) → pieces_at at deeds ≡ 0
     unread_others : (place : ℕ) → (place ≡ at → ⊥) → pieces_at place deeds ≡ 0
-    does : IsServed condition unread taken held size p is_full before (Some after) (answers_at at deeds) (pieces_at at deeds) (next_duty size before)
+    does : IsServed condition unread taken held size p q deeds is_full before (Some after) (answers_at at deeds) (pieces_at at deeds) (next_duty size before)
     in_time : AreDoneAt time deeds
 
-  rest_served : (p : Position A R K S) (is_full : Bool) (before after : Seat R K S) (d : Duty) → MayRest condition unread taken held size p.hub before after is_full (is_some p.shut) d
-      → IsServed condition unread taken held size p is_full before (Some after) 0 0 d
-  rest_served p is_full before after to.Flush may = may
-  rest_served p is_full before after to.Answer may = inr (record { deeds = []; mid = p; steps = begins; absent = may })
-  rest_served p is_full before after to.Read (inl back) = inr (inl back)
-  rest_served p is_full before after to.Read (inr (inl later)) = inr (inr (inl later))
-  rest_served p is_full before after to.Read (inr (inr (over, kept))) = inr (inr (inr over))
-  rest_served p is_full before after to.Finish may = may
-  rest_served p is_full before after to.Drain may = tt
-  rest_served p is_full before after to.Wait may = tt
+  rest_served : (p q : Position A R K S) (is_full : Bool) (before after : Seat R K S) (d : Duty) → Steps condition unread taken held p [] q → MayRest condition unread taken held size p.hub before after is_full (is_some p.shut) d
+      → IsServed condition unread taken held size p q [] is_full before (Some after) 0 0 d
+  rest_served p q is_full before after to.Flush s may = may
+  rest_served p q is_full before after to.Answer s may = inr (record { earlier = []; later = []; all = refl; mid = p; came = begins; absent = may; goes = s })
+  rest_served p q is_full before after to.Read s (inl back) = inr (inl back)
+  rest_served p q is_full before after to.Read s (inr (inl later)) = inr (inr (inl later))
+  rest_served p q is_full before after to.Read s (inr (inr (over, kept))) = inr (inr (inr over))
+  rest_served p q is_full before after to.Finish s may = may
+  rest_served p q is_full before after to.Drain s may = tt
+  rest_served p q is_full before after to.Wait s may = tt
 
-  read_served : (p : Position A R K S) (is_full : Bool) (before : Seat R K S) (after : Option (Seat R K S)) (answered read : ℕ) → next_duty size before ≡ to.Read → read ≡ 1
-      → IsServed condition unread taken held size p is_full before after answered read (next_duty size before)
-  read_served p is_full before after answered read due one = subst (λ (d : Duty). IsServed condition unread taken held size p is_full before after answered read d) (sym due) (inl one)
+  read_served : (p q : Position A R K S) (deeds : List Deed) (is_full : Bool) (before : Seat R K S) (after : Option (Seat R K S)) (answered read : ℕ) → next_duty size before ≡ to.Read → read ≡ 1
+      → IsServed condition unread taken held size p q deeds is_full before after answered read (next_duty size before)
+  read_served p q deeds is_full before after answered read due one = subst (λ (d : Duty). IsServed condition unread taken held size p q deeds is_full before after answered read d) (sym due) (inl one)
 
-  answer_served : (p : Position A R K S) (is_full : Bool) (before : Seat R K S) (after : Option (Seat R K S)) (answered read : ℕ) → next_duty size before ≡ to.Answer → answered ≡ 1
-      → IsServed condition unread taken held size p is_full before after answered read (next_duty size before)
-  answer_served p is_full before after answered read due one = subst (λ (d : Duty). IsServed condition unread taken held size p is_full before after answered read d) (sym due) (inl one)
+  answer_served : (p q : Position A R K S) (deeds : List Deed) (is_full : Bool) (before : Seat R K S) (after : Option (Seat R K S)) (answered read : ℕ) → next_duty size before ≡ to.Answer → answered ≡ 1
+      → IsServed condition unread taken held size p q deeds is_full before after answered read (next_duty size before)
+  answer_served p q deeds is_full before after answered read due one = subst (λ (d : Duty). IsServed condition unread taken held size p q deeds is_full before after answered read d) (sym due) (inl one)
 
   -- a connection had its turn
   took_turn : (p q : Position A R K S) (at : ℕ) (time : Time) (is_full : Bool) (before after : Seat R K S) → HasTurn condition unread taken held p q at before after
@@ -171,7 +194,7 @@ module _ {A R K S : Type 0} (condition : A → Condition) (unread : R → Option
     others = λ place ne. refl;
     waits = λ full some. refl;
     unread_others = λ place ne. refl;
-    does = rest_served p is_full before after (next_duty size before) may;
+    does = rest_served p q is_full before after (next_duty size before) (goes_on begins (rests t r)) may;
     in_time = tt;
   }
   took_turn p q at time is_full before after t (inr (inl (o, due))) = record {
@@ -181,7 +204,7 @@ module _ {A R K S : Type 0} (condition : A → Condition) (unread : R → Option
     others = λ place ne. refl;
     waits = λ full some. none_read p at _ before t.sat (o.read.allowed full) some;
     unread_others = λ place ne. none_elsewhere at place ne;
-    does = read_served p is_full before (Some after) _ _ due (one_here at);
+    does = read_served p q _ is_full before (Some after) _ _ due (one_here at);
     in_time = (tt, tt);
   }
   took_turn p q at time is_full before after t (inr (inr (inl (r, due)))) = record {
@@ -191,7 +214,7 @@ module _ {A R K S : Type 0} (condition : A → Condition) (unread : R → Option
     others = λ place ne. none_elsewhere at place ne;
     waits = λ full some. none_read p at _ before t.sat (r.read.allowed full) some;
     unread_others = λ place ne. none_elsewhere at place ne;
-    does = read_served p is_full before (Some after) _ _ due (one_here at);
+    does = read_served p q _ is_full before (Some after) _ _ due (one_here at);
     in_time = (refl, tt);
   }
   took_turn p q at time is_full before after t (inr (inr (inr (a, due)))) = record {
@@ -201,7 +224,7 @@ module _ {A R K S : Type 0} (condition : A → Condition) (unread : R → Option
     others = λ place ne. none_elsewhere at place ne;
     waits = λ full some. refl;
     unread_others = λ place ne. refl;
-    does = answer_served p is_full before (Some after) _ _ due (one_here at);
+    does = answer_served p q _ is_full before (Some after) _ _ due (one_here at);
     in_time = (refl, tt);
   }
 
@@ -221,21 +244,21 @@ module _ {A R K S : Type 0} (condition : A → Condition) (unread : R → Option
       (subst (λ (o : Option ℕ). (is_some o || (is_full && nat_lt 0 mid.course.unfinished)) ≡ true) shut back)
 
   -- who was served once its turn had begun was served
-  served_begun : (p m : Position A R K S) (is_full : Bool) (before mid after : Seat R K S) (answered read : ℕ) (d : Duty) → Steps condition unread taken held p [] m → m.shut ≡ p.shut
+  served_begun : (p m q : Position A R K S) (deeds : List Deed) (is_full : Bool) (before mid after : Seat R K S) (answered read : ℕ) (d : Duty) → Steps condition unread taken held p [] m → m.shut ≡ p.shut
       → mid.connection ≡ before.connection → mid.wire ≡ before.wire → mid.course.unfinished ≡ before.course.unfinished
-      → IsServed condition unread taken held size m is_full mid (Some after) answered read d → IsServed condition unread taken held size p is_full before (Some after) answered read d
-  served_begun p m is_full before mid after answered read to.Flush s shut number wire count (inl fewer) = inl (subst (λ (w : Wire K S). owed_count size after.wire < owed_count size w) wire fewer)
-  served_begun p m is_full before mid after answered read to.Flush s shut number wire count (inr none) = inr none
-  served_begun p m is_full before mid after answered read to.Answer s shut number wire count (inl one) = inl one
-  served_begun p m is_full before mid after answered read to.Answer s shut number wire count (inr lost) =
-      inr (subst (λ (n : ℕ). IsLost condition unread taken held size p n) number (lost_before p m mid.connection [] s lost))
-  served_begun p m is_full before mid after answered read to.Read s shut number wire count (inl one) = inl one
-  served_begun p m is_full before mid after answered read to.Read s shut number wire count (inr (inl back)) =
+      → IsServed condition unread taken held size m q deeds is_full mid (Some after) answered read d → IsServed condition unread taken held size p q deeds is_full before (Some after) answered read d
+  served_begun p m q deeds is_full before mid after answered read to.Flush s shut number wire count (inl fewer) = inl (subst (λ (w : Wire K S). owed_count size after.wire < owed_count size w) wire fewer)
+  served_begun p m q deeds is_full before mid after answered read to.Flush s shut number wire count (inr none) = inr none
+  served_begun p m q deeds is_full before mid after answered read to.Answer s shut number wire count (inl one) = inl one
+  served_begun p m q deeds is_full before mid after answered read to.Answer s shut number wire count (inr lost) =
+      inr (subst (λ (n : ℕ). IsLost condition unread taken held size p q deeds n) number (lost_before p m q mid.connection [] deeds s lost))
+  served_begun p m q deeds is_full before mid after answered read to.Read s shut number wire count (inl one) = inl one
+  served_begun p m q deeds is_full before mid after answered read to.Read s shut number wire count (inr (inl back)) =
       inr (inl (held_back p m is_full before mid shut count back))
-  served_begun p m is_full before mid after answered read to.Read s shut number wire count (inr (inr none)) = inr (inr none)
-  served_begun p m is_full before mid after answered read to.Finish s shut number wire count h = h
-  served_begun p m is_full before mid after answered read to.Drain s shut number wire count h = tt
-  served_begun p m is_full before mid after answered read to.Wait s shut number wire count h = tt
+  served_begun p m q deeds is_full before mid after answered read to.Read s shut number wire count (inr (inr none)) = inr (inr none)
+  served_begun p m q deeds is_full before mid after answered read to.Finish s shut number wire count h = h
+  served_begun p m q deeds is_full before mid after answered read to.Drain s shut number wire count h = tt
+  served_begun p m q deeds is_full before mid after answered read to.Wait s shut number wire count h = tt
 
   -- a connection had its turn, once that had begun
   pub served : (p q : Position A R K S) (at : ℕ) (time : Time) (is_full is_shut : Bool) (before mid after : Seat R K S) → at < length p.seats → slot at p.seats ≡ Some before
@@ -272,10 +295,10 @@ module _ {A R K S : Type 0} (condition : A → Condition) (unread : R → Option
         waits = λ full some. s.waits full (omega (arith, unfinished, some));
         unread_others = s.unread_others;
         served = subst (λ (x : Option (Seat R K S)). IsServedAt condition unread taken held size p q is_full s.deeds at x) (sym sat)
-            (subst (λ (d : Duty). IsServed condition unread taken held size p is_full before (slot at q.seats) (answers_at at s.deeds) (pieces_at at s.deeds) d)
+            (subst (λ (d : Duty). IsServed condition unread taken held size p q s.deeds is_full before (slot at q.seats) (answers_at at s.deeds) (pieces_at at s.deeds) d)
             (duty_begun p.shut is_shut before mid told phase wire readable writable)
-            (subst (λ (x : Option (Seat R K S)). IsServed condition unread taken held size p is_full before x (answers_at at s.deeds) (pieces_at at s.deeds) (next_duty size mid)) stands
-            (served_begun p m is_full before mid after (answers_at at s.deeds) (pieces_at at s.deeds) (next_duty size mid) began refl (ap (λ (x : Seat R K S). x.connection) same) wire count s.does)));
+            (subst (λ (x : Option (Seat R K S)). IsServed condition unread taken held size p q s.deeds is_full before x (answers_at at s.deeds) (pieces_at at s.deeds) (next_duty size mid)) stands
+            (served_begun p m q s.deeds is_full before mid after (answers_at at s.deeds) (pieces_at at s.deeds) (next_duty size mid) began refl (ap (λ (x : Seat R K S). x.connection) same) wire count s.does)));
         in_time = s.in_time;
       }
 
@@ -291,7 +314,7 @@ module _ {A R K S : Type 0} (condition : A → Condition) (unread : R → Option
         others = λ place ne. let e = answers_append place s.deeds more in let f : answers_at place more ≡ 0 = refl in let o = s.others place ne in omega (arith, e, f, o);
         waits = λ full some. let e = pieces_append at s.deeds more in let f : pieces_at at more ≡ 0 = refl in let o = s.waits full some in omega (arith, e, f, o);
         unread_others = λ place ne. let e = pieces_append place s.deeds more in let f : pieces_at place more ≡ 0 = refl in let o = s.unread_others place ne in omega (arith, e, f, o);
-        served = at_after p q r is_full s.deeds more at (slot at p.seats)
+        served = at_after p q r is_full s.deeds more at (slot at p.seats) (goes_on begins (leaves g))
             (inr (ap (λ (l : List (Option (Seat R K S))). slot at l) g.gone ∙ get_or-set_same q.seats at None None g.there)) refl refl s.served;
         in_time = in_time_append time s.deeds more s.in_time (refl, tt);
       }
@@ -354,7 +377,7 @@ module _ {A R K S : Type 0} (condition : A → Condition) (unread : R → Option
       | inl is ↦ subst (λ (n : ℕ). IsServedAt condition unread taken held size p r is_full (s.deeds ++ t.deeds) n (slot n p.seats)) (sym is)
           (subst (λ (x : Option (Seat R K S)). IsServedAt condition unread taken held size p r is_full (s.deeds ++ t.deeds) at x) (s.stays at (omega arith))
           (at_before p q r is_full s.deeds t.deeds at (slot at q.seats) s.steps shut (s.later at (omega arith)) (s.unread_later at (omega arith)) t.served))
-      | inr ne ↦ at_after p q r is_full s.deeds t.deeds place (slot place p.seats) (inl (same place ne)) (t.others place ne) (t.unread_others place ne) (s.served place (omega (arith, h, e, ne)))
+      | inr ne ↦ at_after p q r is_full s.deeds t.deeds place (slot place p.seats) t.steps (inl (same place ne)) (t.others place ne) (t.unread_others place ne) (s.served place (omega (arith, h, e, ne)))
     ];
     in_time = in_time_append time s.deeds t.deeds s.in_time t.in_time;
   }
@@ -384,7 +407,7 @@ module _ {A R K S : Type 0} (condition : A → Condition) (unread : R → Option
         steps = goes_on s.steps (leaves g);
         once = λ place. let e = answers_append place s.deeds more in let f : answers_at place more ≡ 0 = refl in let o = s.once place in omega (arith, e, f, o);
         waits = λ full place some. let e = pieces_append place s.deeds more in let f : pieces_at place more ≡ 0 = refl in let o = s.waits full place some in omega (arith, e, f, o);
-        served = λ place. at_after p q r (nat_lt p.limits.unfinished_bytes (unfinished_in p.seats)) s.deeds more place (slot place p.seats) (elim (cases_eq place at) [
+        served = λ place. at_after p q r (nat_lt p.limits.unfinished_bytes (unfinished_in p.seats)) s.deeds more place (slot place p.seats) (goes_on begins (leaves g)) (elim (cases_eq place at) [
           | inl is ↦ inr (ap (λ (l : List (Option (Seat R K S))). slot place l) g.gone ∙ (ap (λ (n : ℕ). slot n (set q.seats at None)) is ∙ get_or-set_same q.seats at None None g.there))
           | inr ne ↦ inl (ap (λ (l : List (Option (Seat R K S))). slot place l) g.gone ∙ get_or-set_other q.seats at place None None ne)
         ]) refl refl (s.served place);

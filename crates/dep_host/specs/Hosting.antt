@@ -257,37 +257,41 @@ turn_duty size shut seat = duty (phase_begun seat.course.phase (is_some shut))
 
 module _ {A R K S : Type 0} (condition : A → Condition) (unread : R → Option (List ℕ))
     (taken : K → Option (List ℕ)) (held : S → Option (List ℕ)) (size : S → ℕ) where
-  -- behind some deeds the hub had no connection of that number
-  pub record IsLost (p : Position A R K S) (number : ℕ) : Type 0 where
-    pub deeds : List Deed
+  -- behind the first of these deeds the hub had no connection of that number
+  pub record IsLost (p q : Position A R K S) (deeds : List Deed) (number : ℕ) : Type 0 where
+    pub earlier : List Deed
+    pub later : List Deed
+    pub all : deeds ≡ earlier ++ later
     pub mid : Position A R K S
-    pub steps : Steps condition unread taken held p deeds mid
+    pub came : Steps condition unread taken held p earlier mid
     pub absent : IsUnknown mid.hub number
+    pub goes : Steps condition unread taken held mid later q
 
   -- What was to be done for a connection was done, after which it is this, or was closed: its next
   -- item was answered; what is owed was sent, as far as its socket takes it; a piece was read,
   -- where one may be and the socket had one; or its client was told that nothing more is sent.
-  abbrev pub IsServed : Position A R K S → (is_full : Bool) → (before : Seat R K S)
-      → (after : Option (Seat R K S)) → (answered read : ℕ) → Duty → Type 0
-  IsServed p is_full before after answered read to.Flush =
+  abbrev pub IsServed : (p q : Position A R K S) → (deeds : List Deed) → (is_full : Bool)
+      → (before : Seat R K S) → (after : Option (Seat R K S)) → (answered read : ℕ) → Duty
+      → Type 0
+  IsServed p q deeds is_full before after answered read to.Flush =
       IfSome after (λ seat. SendsOn size before seat)
-  IsServed p is_full before after answered read to.Answer =
-      (answered ≡ 1) ⊎ IsLost p before.connection
-  IsServed p is_full before after answered read to.Read = (read ≡ 1)
+  IsServed p q deeds is_full before after answered read to.Answer =
+      (answered ≡ 1) ⊎ IsLost p q deeds before.connection
+  IsServed p q deeds is_full before after answered read to.Read = (read ≡ 1)
       ⊎ ((is_held_back before.course is_full (is_some p.shut) ≡ true)
       ⊎ IfSome after (λ seat. (seat.course.is_readable ≡ false) ⊎ (seat.course.phase ≡ Over)))
-  IsServed p is_full before after answered read to.Finish =
+  IsServed p q deeds is_full before after answered read to.Finish =
       IfSome after (λ seat. seat.course.phase ≡ Draining)
-  IsServed p is_full before after answered read to.Drain = Unit {0}
-  IsServed p is_full before after answered read to.Wait = Unit {0}
+  IsServed p q deeds is_full before after answered read to.Drain = Unit {0}
+  IsServed p q deeds is_full before after answered read to.Wait = Unit {0}
 
   -- so was who sat at a place, where somebody did
   abbrev pub IsServedAt : (p q : Position A R K S) → (is_full : Bool) → (deeds : List Deed)
       → (place : ℕ) → Option (Seat R K S) → Type 0
   IsServedAt p q is_full deeds place None = Unit {0}
   IsServedAt p q is_full deeds place (Some seat) =
-      IsServed p is_full seat (slot place q.seats) (answers_at place deeds) (pieces_at place deeds)
-      (turn_duty size p.shut seat)
+      IsServed p q deeds is_full seat (slot place q.seats) (answers_at place deeds)
+      (pieces_at place deeds) (turn_duty size p.shut seat)
 
   -- one place has its turn, where too many bytes of unfinished requests are kept or not
   pub record Serves (p q : Position A R K S) (at : ℕ) (time : Time) (is_full : Bool) : Type 0 where
