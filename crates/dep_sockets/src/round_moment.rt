@@ -4,7 +4,7 @@ ghost use Rattle.std.specs.Prelude.{◌≡◌, ◌≢◌, ◌≤◌, ◌<◌, �
 use dep_moment::Moment;
 
 /// A round that takes so many milliseconds holds up who comes meanwhile.
-const LONG: u128 = 100;
+const LONG: u128 = 20;
 
 /// In so many rounds at its moment those are answered: one reads their requests, the next answers them.
 const MOST_ROUNDS: u32 = 3;
@@ -36,7 +36,7 @@ impl RoundMoment {
     /// Notes how many milliseconds the last round took. Of further ones at the same moment it is no matter.
     pub fn note(&mut self, took: u128)
         ensures first { self.old.rounds ≡ 1
-            → self.new ≡ record self.old { is_late = nat_lt 99 took } }
+            → self.new ≡ record self.old { is_late = nat_lt 19 took } }
         ensures further { self.old.rounds ≢ 1 → self.new ≡ self.old }
     {
         if self.rounds == 1 {
