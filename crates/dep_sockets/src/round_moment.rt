@@ -48,9 +48,11 @@ impl RoundMoment {
     pub fn next(&mut self, now: Moment) -> Moment
         ensures told { result ≡ self.new.moment }
         ensures shared { self.old.is_late ≡ true → self.old.rounds < 3
-            → (result ≡ self.old.moment) × (self.new.rounds ≡ self.old.rounds + 1) }
-        ensures read { self.old.is_late ≡ false → result ≡ now }
-        ensures goes_on { 3 ≤ self.old.rounds → (result ≡ now) × (self.new.rounds ≡ 1) }
+            → self.new ≡ record self.old { rounds = self.old.rounds + 1 } }
+        ensures read { self.old.is_late ≡ false
+            → self.new ≡ record { moment = now; rounds = 1; is_late = false } }
+        ensures goes_on { 3 ≤ self.old.rounds
+            → self.new ≡ record { moment = now; rounds = 1; is_late = false } }
     {
         if self.is_late && self.rounds < MOST_ROUNDS {
             self.rounds += 1;
