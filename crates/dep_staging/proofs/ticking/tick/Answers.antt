@@ -42,7 +42,7 @@ pub returns-in_err-row-clause-cause : goal.returns-in_err-row-clause-cause
 returns-in_err-row-clause-cause g c clean inside ours s are sound =
     let old = c.args.tx.now in
     if_err_is _ c.from_residual.result c.in_err-row.field-0.0 c.from_residual.ensures.1 (fails_then g.T.Statements.state old old c.read_state.new.tx (survives_itself (g.T.Statements.state old)) (FailsToTick c.args.config.now s c.args.moment) _
-    (read ((c.in_err-row.ensures.does.cause tt) clean)))
+    (read (c.in_err-row.ensures.does.cause tt clean)))
 
 pub returns-in_err-set_clock-clause-cause : goal.returns-in_err-set_clock-clause-cause
 returns-in_err-set_clock-clause-cause g c clean inside ours s are sound =
