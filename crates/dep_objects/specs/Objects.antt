@@ -1,5 +1,6 @@
 -- An object from its row, its metadata and its files.
-use Rattle.std.specs.Prelude.{ℕ}
+use Rattle.std.specs.Prelude.{◌≡◌, ℕ, Some}
+use Rattle.std.specs.FinMap as map
 use Rattle.dep_types.specs.Maps.{Numbered}
 use Rattle.dep_types.specs.State.{State, Object, File, Texts}
 use Rattle.dep_types.specs.Rows.{object_row}
@@ -26,3 +27,8 @@ described_object n o = record { row = object_row n o; metadata = o.metadata }
 -- the state with what a row tells of its object, which keeps its metadata and its files
 abbrev pub with_row : State → ObjectRow → Object → State
 with_row s row o = with_object s row.object (object_of row o.metadata o.files)
+
+-- where the object of the row is there, the state with the row in its place is so
+abbrev pub PutsRow : ObjectRow → State → (becomes : State → Type 0) → Type 0
+PutsRow row s becomes = (o : Object) → map.get s.objects row.object ≡ Some o
+    → becomes (with_row s row o)

@@ -11,16 +11,21 @@ use Rattle.dep_types.specs.declared.store_fault.StoreFault.TheVariants.{Memory}
 use Rattle.dep_types.specs.MetadataEntries.{joined}
 use Rattle.dep_tables.specs.Clauses.{FailsToRead}
 use Rattle.dep_tables.specs.Rows.{IsMetadataRow}
+use Rattle.dep_tables.specs.Tables.{Tables}
 use Rattle.dep_tables.specs.Texts.{metadata_of_text}
 use Rattle.dep_row_maps.specs.Causes.{FailsHolding}
-use Rattle.dep_row_maps.specs.Owned.{placed}
+use Rattle.dep_row_maps.specs.Owned.{placed, put_each}
 use Rattle.dep_row_maps.specs.Stored.{text_values, texts_in}
-use Rattle.dep_row_maps.specs.TablesAre.{metadata_at, with_metadata}
+use Rattle.dep_row_maps.specs.TablesAre.{metadata_at, with_metadata, with_object}
 use Rattle.dep_objects.specs.declared.gathering.NamedTexts.{NamedTexts}
 
 -- the rows of these texts, where each name's stand behind those that it has
 abbrev pub rows_beside : ℕ → Texts → List (List ℕ × List (List ℕ)) → List Row
 rows_beside n have = flat_map (λ e. placed (text_values n e.0) (length (texts_in have e.0)) e.1)
+
+-- the tables with these rows of texts put in
+abbrev pub with_texts : List Row → Tables → Tables
+with_texts rows t = record t { metadata = put_each rows t.metadata }
 
 -- the place of each of these texts is one that a table can hold
 abbrev pub HavePlaces : Texts → List (List ℕ × List (List ℕ)) → Type 0
@@ -45,6 +50,16 @@ FailsToGather n have old new fault =
 -- the object with more texts behind those that it has
 abbrev pub with_more : Object → Texts → Object
 with_more o more = with_metadata o (joined (map.entries more) o.metadata)
+
+-- where the object is there, the state with these metadata in it is so
+abbrev pub SetsMetadata : (n : ℕ) → Texts → State → (becomes : State → Type 0) → Type 0
+SetsMetadata n texts s becomes = (o : Object) → map.get s.objects n ≡ Some o
+    → becomes (with_object s n (with_metadata o texts))
+
+-- the same of texts that are put in behind those that it has
+abbrev pub AppendsMetadata : (n : ℕ) → (more : Texts) → State → (becomes : State → Type 0) → Type 0
+AppendsMetadata n more s becomes = (o : Object) → map.get s.objects n ≡ Some o
+    → becomes (with_object s n (with_more o more))
 
 -- the places of more texts behind those of the object's are ones that a table can hold
 abbrev pub HavePlacesIn : State → (n : ℕ) → Texts → Type 0

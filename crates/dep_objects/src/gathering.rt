@@ -4,11 +4,10 @@ ghost use Rattle.std.specs.Prelude.{◌≡◌, ◌≢◌, ◌<◌, ◌^◌, [], 
 ghost use Rattle.std.specs.FinMap as map;
 ghost use Rattle.dep_types.specs.State.{Texts};
 ghost use Rattle.dep_types.specs.declared.store_fault.StoreFault.TheVariants.{Memory};
-ghost use Rattle.dep_tables.specs.Clauses.{ReadsWithin};
 ghost use Rattle.dep_row_maps.specs.Stored.{added, listed, grouped};
 ghost use Rattle.dep_row_maps.specs.Laws.{pair_of};
 ghost use Rattle.dep_row_maps.specs.TablesAre.{metadata_at};
-ghost use Rattle.dep_row_maps.specs.Clauses.{FromMaps};
+ghost use Rattle.dep_row_maps.specs.Clauses.{Finds, FromMaps};
 ghost use Rattle.dep_objects.specs.Texts.{closed, FailsToGather, MayFollow};
 
 use dep_tables::{MetadataRow, Statements, metadata_of};
@@ -87,14 +86,13 @@ pub(crate) fn load_metadata<T: Statements>(
     alloc: Global,
     object: u64,
 ) -> Result<Metadata, StoreFault>
-    ensures map { FromMaps (T.state tx.old) (T.state tx.new)
+    ensures does { Finds T.lenders T.state tx.old tx.new result
         (λ s. IfOk result (λ metadata.
         metadata ≡ grouped (listed (metadata_at s.objects object)))) }
     ensures cause { FromMaps (T.state tx.old) (T.state tx.new)
         (λ s. object < 2 ^ 63
         → IfErr result
         (FailsToGather object (metadata_at s.objects object) (T.state tx.old) (T.state tx.new))) }
-    ensures keeps { ReadsWithin T.lenders T.state tx.old tx.new result }
 {
     gathered(alloc, metadata_of(tx, alloc, object)?)
 }

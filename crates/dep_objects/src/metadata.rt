@@ -1,16 +1,13 @@
 //! The metadata of an object.
 
-ghost use Rattle.std.specs.Prelude.{◌≡◌, ◌≢◌, ◌+◌, ◌<◌, ◌≤◌, ◌^◌, [], All, Some, IfOk, IfErr, OnOk, length, map as each};
+ghost use Rattle.std.specs.Prelude.{◌≡◌, ◌≢◌, ◌+◌, ◌<◌, ◌≤◌, ◌^◌, [], All, IfOk, IfErr, length, map as each};
 ghost use Rattle.std.specs.FinMap as map;
-ghost use Rattle.dep_types.specs.State.{Object};
 ghost use Rattle.dep_types.specs.MetadataEntries.{name_and_texts};
-ghost use Rattle.dep_tables.specs.Clauses.{StaysWithin};
-ghost use Rattle.dep_row_maps.specs.Owned.{placed, put_each};
+ghost use Rattle.dep_row_maps.specs.Owned.{placed};
 ghost use Rattle.dep_row_maps.specs.Stored.{is_of, text_row, text_values, texts_in};
-ghost use Rattle.dep_row_maps.specs.TablesAre.{with_object, with_metadata};
-ghost use Rattle.dep_row_maps.specs.Clauses.{FromMaps, Becomes, SeesState, ChangesWithin};
-ghost use Rattle.dep_row_maps.specs.Causes.{FailsByOne, FailsHolding, FailsSince};
-ghost use Rattle.dep_objects.specs.Texts.{rows_beside, with_more, HavePlaces, HavePlacesIn, FailsToAppend};
+ghost use Rattle.dep_row_maps.specs.Clauses.{FromMaps, ChangesMaps, ChangesTables, MakesMaps};
+ghost use Rattle.dep_row_maps.specs.Causes.{FailsHolding, FailsSince};
+ghost use Rattle.dep_objects.specs.Texts.{rows_beside, with_texts, AppendsMetadata, SetsMetadata, HavePlaces, HavePlacesIn, FailsToAppend};
 
 use crate::gathering::load_metadata;
 use dep_tables::{LIMIT, MetadataRow, Statements, delete_metadata, insert_metadata};
@@ -42,15 +39,10 @@ fn put_texts<T: Statements>(
     entry: &MetadataEntry,
     start: u64,
 ) -> Result<(), StoreFault>
-    ensures ok { Becomes (T.state tx.old) (T.state tx.new) result
-        (λ t. record t {
-          metadata = put_each
-              (placed (text_values object entry.now.name) start entry.now.texts) t.metadata;
-        }) }
-    ensures cause { FailsByOne T.state tx.old tx.new result
+    ensures does { ChangesTables T.lenders T.state tx.old tx.new result
         ((object < 2 ^ 63) × (start + length entry.now.texts ≤ 2 ^ 63))
-        (FailsHolding (entry.now.texts ≢ [])) }
-    ensures stays { StaysWithin T.lenders T.state tx.old tx.new result }
+        (FailsHolding (entry.now.texts ≢ []))
+        (with_texts (placed (text_values object entry.now.name) start entry.now.texts)) }
 {
     let mut place = start;
     'texts: for text in entry.texts.as_slice() {
@@ -80,16 +72,11 @@ fn put_entries<T: Statements>(
     have: &Metadata,
     entries: &[MetadataEntry],
 ) -> Result<(), StoreFault>
-    ensures ok { Becomes (T.state tx.old) (T.state tx.new) result
-        (λ t. record t {
-          metadata = put_each
-              (rows_beside object have.now (each name_and_texts entries.now)) t.metadata;
-        }) }
-    ensures cause { FailsByOne T.state tx.old tx.new result
+    ensures does { ChangesTables T.lenders T.state tx.old tx.new result
         ((object < 2 ^ 63)
         × All (λ e. length (texts_in have.now e.name) + length e.texts ≤ 2 ^ 63) entries.now)
-        (FailsHolding (entries.now ≢ [])) }
-    ensures stays { StaysWithin T.lenders T.state tx.old tx.new result }
+        (FailsHolding (entries.now ≢ []))
+        (with_texts (rows_beside object have.now (each name_and_texts entries.now))) }
 {
     'entries: for entry in entries {
         put_texts(tx, alloc, object, entry, count_of(have, &entry.name))?;
@@ -105,14 +92,9 @@ pub fn set_metadata<T: Statements>(
     object: u64,
     metadata: &Metadata,
 ) -> Result<(), StoreFault>
-    ensures map { FromMaps (T.state tx.old) (T.state tx.new)
-        (λ s. (o : Object) → map.get s.objects object ≡ Some o
-        → OnOk result (SeesState (T.state tx.new)
-        (with_object s object (with_metadata o metadata.now)))) }
-    ensures cause { FailsByOne T.state tx.old tx.new result
+    ensures does { ChangesMaps T.lenders T.state tx.old tx.new result
         ((object < 2 ^ 63) × HavePlaces map.empty (map.entries metadata.now))
-        (FailsHolding (metadata.now ≢ map.empty)) }
-    ensures keeps { ChangesWithin T.lenders T.state tx.old tx.new result }
+        (FailsHolding (metadata.now ≢ map.empty)) (SetsMetadata object metadata.now) }
 {
     delete_metadata(tx, object)?;
     put_entries(tx, alloc, object, &Metadata::new(alloc), metadata.entries())
@@ -126,14 +108,12 @@ pub fn append_metadata<T: Statements>(
     object: u64,
     more: &Metadata,
 ) -> Result<(), StoreFault>
-    ensures map { FromMaps (T.state tx.old) (T.state tx.new)
-        (λ s. (o : Object) → map.get s.objects object ≡ Some o
-        → OnOk result (SeesState (T.state tx.new) (with_object s object (with_more o more.now)))) }
+    ensures does { MakesMaps T.lenders T.state tx.old tx.new result
+        (AppendsMetadata object more.now) }
     ensures cause { FromMaps (T.state tx.old) (T.state tx.new)
         (λ s. object < 2 ^ 63
         → HavePlacesIn s object more.now
         → IfErr result (FailsSince T.state (FailsToAppend s object more.now) tx.old tx.new)) }
-    ensures keeps { ChangesWithin T.lenders T.state tx.old tx.new result }
 {
     let have = load_metadata(tx, alloc, object)?;
     put_entries(tx, alloc, object, &have, more.entries())

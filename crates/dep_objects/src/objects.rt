@@ -1,19 +1,15 @@
 //! The objects, by number.
 
-ghost use Rattle.std.specs.Prelude.{◌≡◌, ◌≢◌, ◌<◌, ◌^◌, pos, [], ◌∷◌, Some, None, IfOk, IfErr, OnOk, option_map};
+ghost use Rattle.std.specs.Prelude.{◌≡◌, ◌≢◌, ◌<◌, ◌^◌, None, IfOk, IfErr, OnOk, option_map};
 ghost use Rattle.std.specs.FinMap as map;
-ghost use Rattle.sqlite.specs.declared.types.Value.TheVariants.{Int};
 ghost use Rattle.dep_types.specs.Rows.{object_row};
 ghost use Rattle.dep_types.specs.Sound.{IsSound};
-ghost use Rattle.dep_types.specs.State.{Object};
-ghost use Rattle.dep_tables.specs.Clauses.{AtMostOne, FailsByReadingNumbers, FailsByRunning, FailsWhole, RefusesNumbers, ReadsWithin};
-ghost use Rattle.dep_tables.specs.Rows.{IsNumberRow, IsObjectRow, IsStorableObject, object_values};
-ghost use Rattle.dep_tables.specs.Texts.{find_object_text, insert_object_text, next_object_text, write_object_text};
+ghost use Rattle.dep_tables.specs.Statements.{insertion_of_object, query_of_next_object, query_of_object, update_of_object};
 ghost use Rattle.dep_row_maps.specs.Keyed.{next_entry};
 ghost use Rattle.dep_row_maps.specs.TablesAre.{metadata_at, files_at, with_object, without_object};
-ghost use Rattle.dep_row_maps.specs.Clauses.{FromMaps, SeesState, ChangesWithin};
-ghost use Rattle.dep_row_maps.specs.Causes.{FailsByOne, FailsByStatement, FailsHolding, FailsSince};
-ghost use Rattle.dep_objects.specs.Objects.{object_of, described_object, with_row};
+ghost use Rattle.dep_row_maps.specs.Clauses.{FromMaps, SeesState, ChangesMaps, Finds, QueriesMaps, WritesMaps};
+ghost use Rattle.dep_row_maps.specs.Causes.{FailsByStatement, FailsHolding, FailsSince};
+ghost use Rattle.dep_objects.specs.Objects.{object_of, described_object, PutsRow};
 
 use crate::gathering::load_metadata;
 use dep_tables::{Statements, delete_metadata, insert_object};
@@ -36,14 +32,13 @@ pub fn load_object<T: Statements>(
     alloc: Global,
     object: u64,
 ) -> Result<Option<DescribedObject>, StoreFault>
-    ensures map { FromMaps (T.state tx.old) (T.state tx.new)
+    ensures does { Finds T.lenders T.state tx.old tx.new result
         (λ s. IsSound s → IfOk result (λ found.
         found ≡ option_map (described_object object) (map.get s.objects object))) }
     ensures cause { FromMaps (T.state tx.old) (T.state tx.new)
         (λ s. object < 2 ^ 63
         → IfErr result (FailsSince T.state
         (FailsHolding (metadata_at s.objects object ≢ map.empty)) tx.old tx.new)) }
-    ensures keeps { ReadsWithin T.lenders T.state tx.old tx.new result }
 {
     let Some(row) = dep_tables::find_object(tx, object)? else {
         return Ok(None);
@@ -55,25 +50,16 @@ pub fn load_object<T: Statements>(
 /// The row of an object, without its metadata and files, if there is one. A number of 2^63 or more is a
 /// fault of the store.
 pub fn find_object<T: Statements>(tx: &mut T, object: u64) -> Result<Option<ObjectRow>, StoreFault>
-    ensures map { FromMaps (T.state tx.old) (T.state tx.new)
-        (λ s. IfOk result
-        (λ found. found ≡ option_map (object_row object) (map.get s.objects object))) }
-    ensures numbers { RefusesNumbers (T.state tx.old) (T.state tx.new) result (object < 2 ^ 63) }
-    ensures cause { FailsByReadingNumbers (T.state tx.old) (T.state tx.new) result
-        (object < 2 ^ 63) find_object_text (Int (pos object) ∷ []) (AtMostOne IsObjectRow) }
-    ensures keeps { ReadsWithin T.lenders T.state tx.old tx.new result }
+    ensures does { QueriesMaps T.lenders T.state tx.old tx.new result (query_of_object object)
+        (λ s found. found ≡ option_map (object_row object) (map.get s.objects object)) }
 {
     dep_tables::find_object(tx, object)
 }
 
 /// The least number of an object above this one. A number of 2^63 or more is a fault of the store.
 pub fn next_object<T: Statements>(tx: &mut T, after: u64) -> Result<Option<u64>, StoreFault>
-    ensures map { FromMaps (T.state tx.old) (T.state tx.new)
-        (λ s. IfOk result (λ found. found ≡ option_map (λ e. e.0) (next_entry s.objects after))) }
-    ensures numbers { RefusesNumbers (T.state tx.old) (T.state tx.new) result (after < 2 ^ 63) }
-    ensures cause { FailsByReadingNumbers (T.state tx.old) (T.state tx.new) result
-        (after < 2 ^ 63) next_object_text (Int (pos after) ∷ []) (AtMostOne IsNumberRow) }
-    ensures keeps { ReadsWithin T.lenders T.state tx.old tx.new result }
+    ensures does { QueriesMaps T.lenders T.state tx.old tx.new result (query_of_next_object after)
+        (λ s found. found ≡ option_map (λ e. e.0) (next_entry s.objects after)) }
 {
     dep_tables::next_object(tx, after)
 }
@@ -81,17 +67,11 @@ pub fn next_object<T: Statements>(tx: &mut T, after: u64) -> Result<Option<u64>,
 /// Adds an object that has no metadata and no files. It is a fault of the store where there is one of this
 /// number, and where a number is 2^63 or more.
 pub fn add_object<T: Statements>(tx: &mut T, row: &ObjectRow) -> Result<(), StoreFault>
-    ensures map { FromMaps (T.state tx.old) (T.state tx.new)
-        (λ s. OnOk result (SeesState (T.state tx.new)
-        (with_object s row.now.object (object_of row.now map.empty map.empty)))) }
+    ensures does { WritesMaps T.lenders T.state tx.old tx.new result (insertion_of_object row.now)
+        (λ s becomes. becomes
+        (with_object s row.now.object (object_of row.now map.empty map.empty))) }
     ensures free { FromMaps (T.state tx.old) (T.state tx.new)
         (λ s. OnOk result (map.get s.objects row.now.object ≡ None)) }
-    ensures numbers { RefusesNumbers (T.state tx.old) (T.state tx.new) result
-        (IsStorableObject row.now) }
-    ensures cause { FailsByRunning (T.state tx.old) (T.state tx.new) result
-        (IsStorableObject row.now) insert_object_text (object_values row.now) }
-    ensures err { FailsWhole (T.state tx.old) (T.state tx.new) result }
-    ensures keeps { ChangesWithin T.lenders T.state tx.old tx.new result }
 {
     insert_object(tx, row)
 }
@@ -99,18 +79,11 @@ pub fn add_object<T: Statements>(tx: &mut T, row: &ObjectRow) -> Result<(), Stor
 /// Puts this row in the place of an object's, which keeps its metadata and files, if there is one of this number. A number
 /// of 2^63 or more is a fault of the store.
 pub fn put_object<T: Statements>(tx: &mut T, row: &ObjectRow) -> Result<(), StoreFault>
-    ensures map { FromMaps (T.state tx.old) (T.state tx.new)
-        (λ s. (o : Object) → map.get s.objects row.now.object ≡ Some o
-        → OnOk result (SeesState (T.state tx.new) (with_row s row.now o))) }
+    ensures does { WritesMaps T.lenders T.state tx.old tx.new result (update_of_object row.now)
+        (PutsRow row.now) }
     ensures absent { FromMaps (T.state tx.old) (T.state tx.new)
         (λ s. map.get s.objects row.now.object ≡ None
         → OnOk result (SeesState (T.state tx.new) s)) }
-    ensures numbers { RefusesNumbers (T.state tx.old) (T.state tx.new) result
-        (IsStorableObject row.now) }
-    ensures cause { FailsByRunning (T.state tx.old) (T.state tx.new) result
-        (IsStorableObject row.now) write_object_text (object_values row.now) }
-    ensures err { FailsWhole (T.state tx.old) (T.state tx.new) result }
-    ensures keeps { ChangesWithin T.lenders T.state tx.old tx.new result }
 {
     dep_tables::write_object(tx, row)
 }
@@ -118,11 +91,9 @@ pub fn put_object<T: Statements>(tx: &mut T, row: &ObjectRow) -> Result<(), Stor
 /// Deletes an object that has no files, with its metadata, if there is one. A number of 2^63 or more is
 /// a fault of the store.
 pub fn delete_object<T: Statements>(tx: &mut T, object: u64) -> Result<(), StoreFault>
-    ensures map { FromMaps (T.state tx.old) (T.state tx.new)
-        (λ s. files_at s.objects object ≡ map.empty
-        → OnOk result (SeesState (T.state tx.new) (without_object s object))) }
-    ensures cause { FailsByOne T.state tx.old tx.new result (object < 2 ^ 63) FailsByStatement }
-    ensures keeps { ChangesWithin T.lenders T.state tx.old tx.new result }
+    ensures does { ChangesMaps T.lenders T.state tx.old tx.new result
+        (object < 2 ^ 63) FailsByStatement
+        (λ s becomes. files_at s.objects object ≡ map.empty → becomes (without_object s object)) }
 {
     delete_metadata(tx, object)?;
     dep_tables::delete_object(tx, object)

@@ -1,10 +1,12 @@
--- What the clauses of a call say that changes one map of the state.
-use Rattle.std.specs.Prelude.{◌≡◌, IsTrue, Result, OnOk}
+-- What the clauses of a call say that reads or changes the maps of the state.
+use Rattle.std.specs.Prelude.{◌≡◌, IsTrue, Result, OnOk, IfOk, IfErr}
 use Rattle.sqlite.specs.State as db
 use Rattle.sqlite.specs.State.{HasCleanDisk}
 use Rattle.dep_types.specs.State.{State}
-use Rattle.dep_tables.specs.Clauses.{StaysWithin}
+use Rattle.dep_types.specs.declared.store_fault.StoreFault.{StoreFault}
+use Rattle.dep_tables.specs.Clauses.{FailsByRunning, FailsWhole, FailsWithRows, MayReadWithin, Query, ReadsWithin, RefusesNumbers, Statement, StaysWithin}
 use Rattle.dep_tables.specs.Tables.{Tables, tables_of, IsOurs}
+use Rattle.dep_row_maps.specs.Causes.{FailsByOne}
 use Rattle.dep_row_maps.specs.TablesAre.{TablesAre}
 
 -- they are our tables, and have these rows
@@ -46,3 +48,80 @@ module _ {T L A E : Type 0} (lenders : T → L) (state : T → db.State) (old ne
   pub record ChangesWithin : Type 0 where
     pub stays : StaysWithin lenders state old new result
     pub ours : KeepsOurs (state old) (state new) result
+
+  -- inside a transaction over a state's tables this is told of the state, and nothing is changed
+  pub record Finds (told : State → Type 0) : Type 0 where
+    pub found : FromMaps (state old) (state new) told
+    pub keeps : ReadsWithin lenders state old new result
+
+  -- the same of a call that reads, if anything
+  pub record MayFind (told : State → Type 0) : Type 0 where
+    pub found : FromMaps (state old) (state new) told
+    pub keeps : MayReadWithin lenders state old new result
+
+  -- the same in a transaction or not
+  pub record ReadsOver (told : State → Type 0) : Type 0 where
+    pub map : OverMaps (state old) (state new) told
+    pub keeps : ReadsWithin lenders state old new result
+
+  -- and of an open store
+  pub record MayReadOver (told : State → Type 0) : Type 0 where
+    pub map : IsTrue (state old).is_open → OverMaps (state old) (state new) told
+    pub keeps : MayReadWithin lenders state old new result
+
+module _ {T L A : Type 0} (lenders : T → L) (state : T → db.State) (old new : T)
+    (result : Result A StoreFault) where
+  -- what a call does that asks this query, and tells this of a state
+  pub record QueriesMaps {B : Type 0} (query : Query B) (told : State → A → Type 0) : Type 0 where
+    pub map : OverMaps (state old) (state new) (λ s. IfOk result (told s))
+    pub numbers : RefusesNumbers (state old) (state new) result query.storable
+    pub cause : query.storable → HasCleanDisk (state new)
+        → IfErr result (FailsWithRows query.copies query.are_ours query.text query.values
+        (state old) (state new))
+    pub keeps : ReadsWithin lenders state old new result
+
+  -- what one does that asks several: where these numbers are SQL's, it fails so
+  pub record ReadsMaps (storable : Type 0) (fails : db.State → db.State → StoreFault → Type 0)
+      (told : State → A → Type 0) : Type 0 where
+    pub map : OverMaps (state old) (state new) (λ s. IfOk result (told s))
+    pub numbers : RefusesNumbers (state old) (state new) result storable
+    pub cause : FailsByOne state old new result storable fails
+    pub keeps : ReadsWithin lenders state old new result
+
+  -- inside a transaction over a state's tables, an Ok makes them those of the state that this tells
+  abbrev pub Turns : (State → (State → Type 0) → Type 0) → Type 0
+  Turns told = FromMaps (state old) (state new)
+      (λ s. told s (λ next. OnOk result (SeesState (state new) next)))
+
+  -- what a call does, and what each keeps that changes our tables
+  pub record Does (this : Type 0) : Type 0 where
+    pub done : this
+    pub keeps : ChangesWithin lenders state old new result
+
+  -- so it turns a state
+  abbrev pub MakesMaps : (State → (State → Type 0) → Type 0) → Type 0
+  MakesMaps told = Does (Turns told)
+
+  -- what a call does that runs this statement, and makes this of a state
+  pub record WritesMaps (statement : Statement) (told : State → (State → Type 0) → Type 0)
+      : Type 0 where
+    pub map : Turns told
+    pub numbers : RefusesNumbers (state old) (state new) result statement.storable
+    pub cause : FailsByRunning (state old) (state new) result statement.storable statement.text
+        statement.values
+    pub err : FailsWhole (state old) (state new) result
+    pub keeps : ChangesWithin lenders state old new result
+
+  -- what one does that runs several: where these numbers are SQL's, it fails so
+  pub record ChangesMaps (storable : Type 0) (fails : db.State → db.State → StoreFault → Type 0)
+      (told : State → (State → Type 0) → Type 0) : Type 0 where
+    pub map : Turns told
+    pub cause : FailsByOne state old new result storable fails
+    pub keeps : ChangesWithin lenders state old new result
+
+  -- the same of one that changes tables, were they no state's
+  pub record ChangesTables (storable : Type 0)
+      (fails : db.State → db.State → StoreFault → Type 0) (change : Tables → Tables) : Type 0 where
+    pub ok : Becomes (state old) (state new) result change
+    pub cause : FailsByOne state old new result storable fails
+    pub stays : StaysWithin lenders state old new result

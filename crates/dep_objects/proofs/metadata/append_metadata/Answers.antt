@@ -17,21 +17,21 @@ use Rattle.dep_objects.proofs.Places.{places_in, same_as_read, some_entries}
 use Rattle.dep_row_maps.proofs.Changing.{by_sees, changes_then, reads_change}
 use Rattle.dep_objects.proofs.metadata.append_metadata.Goals as goal
 
-pub returns-clause-map : goal.returns-clause-map
-returns-clause-map g c clean inside ours s are o there =
-    let old = g.T.Statements.state c.args.tx.now in
-    let mid = g.T.Statements.state c.load_metadata.new.tx in
-    let new = g.T.Statements.state c.put_entries.new.tx in
-    let before = clean_before c.put_entries.ensures.stays clean in
-    let same = c.in_ok-have.ensures.keeps.same before ours in
-    let here = subst (λ t. TablesAre t s) (sym (tables_same old mid same)) are in
-    let ours_mid = still_ours old mid same ours in
-    ok_then c.put_entries.result (c.put_entries.ensures.ok clean (c.in_ok-have.ensures.keeps.stays.inside before inside) ours_mid)
-    (λ sees. metadata_appended (tables_of mid) (tables_of new) s c.args.object o c.in_ok-have.have c.args.more.now (map name_and_texts c.entries.result.now) here ours_mid.trees.ordered.1.1.1.0 there c.entries.ensures
-    (c.in_ok-have.ensures.map before inside ours s are) sees.rows)
-
-pub returns-clause-keeps : goal.returns-clause-keeps
-returns-clause-keeps g c = changes_then (reads_change c.in_ok-have.ensures.keeps) (by_sees _ c.put_entries.ensures.stays c.put_entries.ensures.ok)
+pub returns-clause-does : goal.returns-clause-does
+returns-clause-does g c = record {
+  done = λ clean inside ours s are o there.
+      let old = g.T.Statements.state c.args.tx.now in
+      let mid = g.T.Statements.state c.load_metadata.new.tx in
+      let new = g.T.Statements.state c.put_entries.new.tx in
+      let before = clean_before c.put_entries.ensures.does.stays clean in
+      let same = c.in_ok-have.ensures.does.keeps.same before ours in
+      let here = subst (λ t. TablesAre t s) (sym (tables_same old mid same)) are in
+      let ours_mid = still_ours old mid same ours in
+      ok_then c.put_entries.result (c.put_entries.ensures.does.ok clean (c.in_ok-have.ensures.does.keeps.stays.inside before inside) ours_mid)
+      (λ sees. metadata_appended (tables_of mid) (tables_of new) s c.args.object o c.in_ok-have.have c.args.more.now (map name_and_texts c.entries.result.now) here ours_mid.trees.ordered.1.1.1.0 there c.entries.ensures
+      (c.in_ok-have.ensures.does.found before inside ours s are) sees.rows);
+  keeps = changes_then (reads_change c.in_ok-have.ensures.does.keeps) (by_sees _ c.put_entries.ensures.does.stays c.put_entries.ensures.does.ok);
+}
 
 pub returns-in_err-have-clause-cause : goal.returns-in_err-have-clause-cause
 returns-in_err-have-clause-cause g c clean inside ours s are storable places =
@@ -44,8 +44,8 @@ returns-clause-cause g c clean inside ours s are storable places =
     let m = metadata_at s.objects c.args.object in
     let more = c.args.more.now in
     let all = c.entries.result.now in
-    let before = clean_before c.put_entries.ensures.stays clean in
+    let before = clean_before c.put_entries.ensures.does.stays clean in
     let have = c.in_ok-have.have in
-    let here = places_in have m all (finmap.entries more) c.entries.ensures (same_as_read have m (c.in_ok-have.ensures.map before inside ours s are)) places in
-    if_err_then c.put_entries.result (c.put_entries.ensures.cause (storable, here) clean (c.in_ok-have.ensures.keeps.stays.inside before inside))
-    (fails_later g.T.Statements.state c.args.tx.now c.load_metadata.new.tx c.put_entries.new.tx c.in_ok-have.ensures.keeps.stays.survives (FailsHolding (all ≢ [])) (FailsHolding ((m ≢ finmap.empty) ⊎ (more ≢ finmap.empty))) (holding_more (λ some. inr (some_entries more all c.entries.ensures some))))
+    let here = places_in have m all (finmap.entries more) c.entries.ensures (same_as_read have m (c.in_ok-have.ensures.does.found before inside ours s are)) places in
+    if_err_then c.put_entries.result (c.put_entries.ensures.does.cause (storable, here) clean (c.in_ok-have.ensures.does.keeps.stays.inside before inside))
+    (fails_later g.T.Statements.state c.args.tx.now c.load_metadata.new.tx c.put_entries.new.tx c.in_ok-have.ensures.does.keeps.stays.survives (FailsHolding (all ≢ [])) (FailsHolding ((m ≢ finmap.empty) ⊎ (more ≢ finmap.empty))) (holding_more (λ some. inr (some_entries more all c.entries.ensures some))))

@@ -1,6 +1,6 @@
 use Rattle.std.proofs.Common.{◌<◌, length, Ok, arith}
 use Rattle.std.proofs.lemmas.List.{take_all}
-use Rattle.dep_tables.proofs.Chains.{clean_before, stays_err, stays_ok, stays_then}
+use Rattle.dep_tables.proofs.Chains.{clean_before, stays_ok, stays_then}
 use Rattle.dep_tables.specs.Tables.{tables_of}
 use Rattle.dep_objects.proofs.Appending.{one_more_name}
 use Rattle.std.proofs.Common.{◌≢◌, ◌+◌, ◌≤◌, ◌^◌, [], subst, sym}
@@ -8,8 +8,9 @@ use Rattle.std.proofs.lemmas.List.Elements.{All-get_or}
 use Rattle.dep_types.specs.declared.metadata.MetadataEntry.{MetadataEntry}
 use Rattle.dep_row_maps.specs.Causes.{FailsHolding}
 use Rattle.dep_row_maps.specs.Stored.{texts_in}
-use Rattle.dep_row_maps.proofs.Causes.{fails_later, holding_more, if_err_is}
+use Rattle.dep_row_maps.proofs.Causes.{fails_later, holding_more}
 use Rattle.dep_objects.proofs.Places.{has_some}
+use Rattle.dep_row_maps.proofs.Calling.{tables_failed}
 use Rattle.dep_objects.proofs.metadata.put_entries.Goals as goal
 
 pub entries-preserved : goal.entries-preserved
@@ -19,11 +20,11 @@ entries-preserved g c =
     let new = g.T.Statements.state c.put_texts.new.tx in
     let inv = c.entries.invariant in
     let within : c.entries.entry-index < length c.args.entries.now = omega (arith, c.entries-test.true) in (
-      stays_ok (stays_then {r = Ok tt} inv.0 c.in_ok-put_texts.ensures.stays),
+      stays_ok (stays_then {r = Ok tt} inv.0 c.in_ok-put_texts.ensures.does.stays),
       λ clean inside ours.
-          let before = clean_before c.put_texts.ensures.stays clean in
+          let before = clean_before c.put_texts.ensures.does.stays clean in
           let was = inv.1 before inside ours in
-          let sees = c.in_ok-put_texts.ensures.ok clean (inv.0.inside before inside) was.ours in
+          let sees = c.in_ok-put_texts.ensures.does.ok clean (inv.0.inside before inside) was.ours in
           record {
             ours = sees.ours;
             rows = one_more_name (tables_of old) (tables_of mid) (tables_of new) c.args.object c.args.have.now c.args.entries.now c.entries.entry-index c.entry-item.result c.count_of.result within c.entry-item.is c.count_of.ensures
@@ -31,22 +32,29 @@ entries-preserved g c =
           },
     )
 
-pub returns-in_err-put_texts-clause-stays : goal.returns-in_err-put_texts-clause-stays
-returns-in_err-put_texts-clause-stays g c = stays_err c.from_residual.ensures.0 (stays_then c.entries.invariant.0 c.put_texts.ensures.stays)
+pub returns-in_err-put_texts : goal.returns-in_err-put_texts
+returns-in_err-put_texts g c = record {
+  does =
+      let inv = c.entries.invariant in
+      let all = c.args.entries.now in
+      let have = c.args.have.now in
+      let entry = c.entry-item.result in
+      let within : c.entries.entry-index < length all = omega (arith, c.entries-test.true) in
+      tables_failed c.from_residual.ensures.1
+      (λ storable clean inside.
+      let before = clean_before c.put_texts.ensures.does.stays clean in
+      let fits = subst (λ (e : MetadataEntry). length (texts_in have e.name) + length e.texts ≤ 2 ^ 63) (sym c.entry-item.is) (All-get_or (λ (e : MetadataEntry). length (texts_in have e.name) + length e.texts ≤ 2 ^ 63) all c.entries.entry-index _ within storable.1) in
+      let here : c.count_of.result + length entry.texts ≤ 2 ^ 63 = omega (arith, c.count_of.ensures, fits) in
+      fails_later g.T.Statements.state c.args.tx.now c.entries.tx c.put_texts.new.tx inv.0.survives (FailsHolding (entry.texts ≢ [])) (FailsHolding (all ≢ [])) (holding_more (λ _. has_some all c.entries.entry-index within)) _
+      (c.in_err-put_texts.ensures.does.cause (storable.0, here) clean (inv.0.inside before inside)))
+      (stays_then inv.0 c.in_err-put_texts.ensures.does.stays);
+}
 
-pub returns-clause-ok : goal.returns-clause-ok
-returns-clause-ok g c = rw (take_all c.entries.entry-index c.args.entries.now c.entries-test.false) at c.entries.invariant.1
-
-pub returns-in_err-put_texts-clause-cause : goal.returns-in_err-put_texts-clause-cause
-returns-in_err-put_texts-clause-cause g c storable clean inside =
-    let inv = c.entries.invariant in
-    let all = c.args.entries.now in
-    let have = c.args.have.now in
-    let entry = c.entry-item.result in
-    let before = clean_before c.put_texts.ensures.stays clean in
-    let within : c.entries.entry-index < length all = omega (arith, c.entries-test.true) in
-    let fits = subst (λ (e : MetadataEntry). length (texts_in have e.name) + length e.texts ≤ 2 ^ 63) (sym c.entry-item.is) (All-get_or (λ (e : MetadataEntry). length (texts_in have e.name) + length e.texts ≤ 2 ^ 63) all c.entries.entry-index _ within storable.1) in
-    let here : c.count_of.result + length entry.texts ≤ 2 ^ 63 = omega (arith, c.count_of.ensures, fits) in
-    if_err_is _ c.from_residual.result c.in_err-put_texts.field-0.0 c.from_residual.ensures.1
-    (fails_later g.T.Statements.state c.args.tx.now c.entries.tx c.put_texts.new.tx inv.0.survives (FailsHolding (entry.texts ≢ [])) (FailsHolding (all ≢ [])) (holding_more (λ _. has_some all c.entries.entry-index within)) _
-    (c.in_err-put_texts.ensures.cause (storable.0, here) clean (inv.0.inside before inside)))
+pub returns : goal.returns
+returns g c = record {
+  does = record {
+    ok = rw (take_all c.entries.entry-index c.args.entries.now c.entries-test.false) at c.entries.invariant.1;
+    cause = λ storable clean inside. tt;
+    stays = stays_ok c.entries.invariant.0;
+  };
+}
