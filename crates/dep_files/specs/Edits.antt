@@ -1,7 +1,6 @@
 -- What is made of the files of an object.
-use Rattle.std.specs.Prelude.{◌≡◌, ℕ, List, Some, Result, OnOk}
+use Rattle.std.specs.Prelude.{◌≡◌, ℕ, List, Some}
 use Rattle.std.specs.FinMap as map
-use Rattle.sqlite.specs.State as db
 use Rattle.sqlite_trees.specs.Tree.{put_row}
 use Rattle.dep_types.specs.State.{State, Object, File}
 use Rattle.dep_types.specs.Rows.{file_row}
@@ -12,7 +11,6 @@ use Rattle.dep_tables.specs.Tables.{Tables}
 use Rattle.dep_tables.specs.declared.owner.BlockOwner.TheVariants as owner
 use Rattle.dep_row_maps.specs.Stored.{blocks_of, put_blocks}
 use Rattle.dep_row_maps.specs.TablesAre.{with_object}
-use Rattle.dep_row_maps.specs.Clauses.{SeesState}
 
 -- the part that a content has that came whole
 abbrev pub only_part : ℕ
@@ -38,14 +36,13 @@ with_whole_file row content t = record t {
   sha512s = put_next (sha512_values (owner.File row.file) row.sha512) t.sha512s;
 }
 
-module _ {A E : Type 0} (now : db.State) (result : Result A E) (s : State) where
-  -- where the row and the content are those of a file, an Ok puts it in the object of the row
-  abbrev pub PutsFile : FileRow → (content : List ℕ) → Type 0
-  PutsFile row content = (o : Object) (file : File) → map.get s.objects row.object ≡ Some o
-      → row ≡ file_row row.object row.file file → content ≡ file.content
-      → OnOk result (SeesState now (with_file s row.object o row.file file))
+-- where the row and the content are those of a file, the state with it in the object of the row is so
+abbrev pub PutsFile : FileRow → (content : List ℕ) → State → (becomes : State → Type 0) → Type 0
+PutsFile row content s becomes = (o : Object) (file : File) → map.get s.objects row.object ≡ Some o
+    → row ≡ file_row row.object row.file file → content ≡ file.content
+    → becomes (with_file s row.object o row.file file)
 
-  -- an Ok drops the file of this number from the object that it is in
-  abbrev pub DropsFile : (f : ℕ) → Type 0
-  DropsFile f = (n : ℕ) (o : Object) (it : File) → map.get s.objects n ≡ Some o
-      → map.get o.files f ≡ Some it → OnOk result (SeesState now (without_file s n o f))
+-- where an object has a file of this number, the state without it is so
+abbrev pub DropsFile : (f : ℕ) → State → (becomes : State → Type 0) → Type 0
+DropsFile f s becomes = (n : ℕ) (o : Object) (it : File) → map.get s.objects n ≡ Some o
+    → map.get o.files f ≡ Some it → becomes (without_file s n o f)

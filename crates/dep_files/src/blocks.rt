@@ -1,12 +1,12 @@
 //! The blocks of a content, written one at a time and deleted run by run.
 
 ghost use Rattle.std.specs.Prelude.{◌<◌, ◌^◌};
-ghost use Rattle.dep_tables.specs.Clauses.{RefusesNumbers, StaysWithin};
+ghost use Rattle.dep_tables.specs.Clauses.{RefusesNumbers};
 ghost use Rattle.dep_tables.specs.Edits.{without_blocks_of};
 ghost use Rattle.dep_tables.specs.Rows.{IsStorableOwner};
-ghost use Rattle.dep_row_maps.specs.Stored.{blocks_of, put_blocks};
-ghost use Rattle.dep_row_maps.specs.Clauses.{Becomes};
-ghost use Rattle.dep_row_maps.specs.Causes.{FailsByOne, FailsByStatement};
+ghost use Rattle.dep_row_maps.specs.Laws.{with_content};
+ghost use Rattle.dep_row_maps.specs.Clauses.{ChangesTables};
+ghost use Rattle.dep_row_maps.specs.Causes.{FailsByStatement};
 ghost use Rattle.dep_files.specs.Causes.{FailsToDeleteBlocks};
 
 use crate::content::Content;
@@ -24,13 +24,9 @@ pub fn put_blocks<T: Statements, C: Content>(
     part: u64,
     content: &C,
 ) -> Result<(), StoreFault>
-    ensures ok { Becomes (T.state tx.old) (T.state tx.new) result
-        (λ t. record t {
-          blocks = put_blocks owner part 0 (blocks_of (C.bytes content.now)) t.blocks;
-        }) }
-    ensures cause { FailsByOne T.state tx.old tx.new result
-        (IsStorableOwner owner × (part < 2 ^ 63)) FailsByStatement }
-    ensures stays { StaysWithin T.lenders T.state tx.old tx.new result }
+    ensures does { ChangesTables T.lenders T.state tx.old tx.new result
+        (IsStorableOwner owner × (part < 2 ^ 63)) FailsByStatement
+        (with_content owner part (C.bytes content.now)) }
 {
     for place in 0..content.count() {
         let at = BlockPlace {
@@ -45,12 +41,10 @@ pub fn put_blocks<T: Statements, C: Content>(
 /// Deletes the blocks of an owner, run by run, since one statement holds all rows that it deletes. A
 /// number of 2^63 or more is a fault of the store.
 pub fn delete_blocks<T: Statements>(tx: &mut T, owner: BlockOwner) -> Result<(), StoreFault>
-    ensures ok { Becomes (T.state tx.old) (T.state tx.new) result (without_blocks_of owner) }
+    ensures does { ChangesTables T.lenders T.state tx.old tx.new result
+        (IsStorableOwner owner) (FailsToDeleteBlocks owner) (without_blocks_of owner) }
     ensures numbers { RefusesNumbers (T.state tx.old) (T.state tx.new) result
         (IsStorableOwner owner) }
-    ensures cause { FailsByOne T.state tx.old tx.new result
-        (IsStorableOwner owner) (FailsToDeleteBlocks owner) }
-    ensures stays { StaysWithin T.lenders T.state tx.old tx.new result }
 {
     if !is_storable_owner(owner) {
         return Err(StoreFault::Store);

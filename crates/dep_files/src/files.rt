@@ -5,10 +5,10 @@ ghost use Rattle.std.specs.FinMap as finmap;
 ghost use Rattle.dep_types.specs.State.{Object, file_at};
 ghost use Rattle.dep_types.specs.Sound.{IsSound};
 ghost use Rattle.dep_tables.specs.Rows.{IsStorableFile};
-ghost use Rattle.dep_tables.specs.Clauses.{RefusesNumbers, StaysWithin};
-ghost use Rattle.dep_row_maps.specs.Clauses.{Becomes, FromMaps, SeesState, ChangesWithin};
+ghost use Rattle.dep_tables.specs.Clauses.{RefusesNumbers};
+ghost use Rattle.dep_row_maps.specs.Clauses.{Becomes, FromMaps, SeesState, ChangesMaps, ChangesTables, MakesMaps};
 ghost use Rattle.dep_row_maps.specs.Laws.{without_contents};
-ghost use Rattle.dep_row_maps.specs.Causes.{FailsByOne, FailsByStatement, FailsSince};
+ghost use Rattle.dep_row_maps.specs.Causes.{FailsByStatement, FailsSince};
 ghost use Rattle.dep_files.specs.Edits.{without_files, with_whole_file, PutsFile, DropsFile};
 
 use crate::blocks::{delete_blocks, put_blocks};
@@ -28,15 +28,12 @@ pub fn put_file<T: Statements, C: Content>(
     row: &FileRow,
     content: &C,
 ) -> Result<(), StoreFault>
-    ensures map { FromMaps (T.state tx.old) (T.state tx.new)
-        (λ s. PutsFile (T.state tx.new) result s row.now (C.bytes content.now)) }
+    ensures does { ChangesMaps T.lenders T.state tx.old tx.new result
+        (IsStorableFile row.now) FailsByStatement (PutsFile row.now (C.bytes content.now)) }
     ensures rows { Becomes (T.state tx.old) (T.state tx.new) result
         (with_whole_file row.now (C.bytes content.now)) }
     ensures free { FromMaps (T.state tx.old) (T.state tx.new)
         (λ s. OnOk result ((n : ℕ) → file_at s n row.now.file ≡ None)) }
-    ensures cause { FailsByOne T.state tx.old tx.new result
-        (IsStorableFile row.now) FailsByStatement }
-    ensures keeps { ChangesWithin T.lenders T.state tx.old tx.new result }
 {
     put_blocks(tx, BlockOwner::File(row.file), ONLY_PART, content)?;
     insert_sha512(tx, BlockOwner::File(row.file), &row.sha512)?;
@@ -46,14 +43,12 @@ pub fn put_file<T: Statements, C: Content>(
 /// Deletes a file with its content and its SHA-512, if there is one of this number. A number of 2^63
 /// or more is a fault of the store.
 pub fn delete_file<T: Statements>(tx: &mut T, file: u64) -> Result<(), StoreFault>
-    ensures map { FromMaps (T.state tx.old) (T.state tx.new)
-        (λ s. DropsFile (T.state tx.new) result s file) }
+    ensures does { ChangesMaps T.lenders T.state tx.old tx.new result
+        (file < 2 ^ 63) FailsByStatement (DropsFile file) }
     ensures absent { FromMaps (T.state tx.old) (T.state tx.new)
         (λ s. ((n : ℕ) → file_at s n file ≡ None)
         → OnOk result (SeesState (T.state tx.new) s)) }
     ensures numbers { RefusesNumbers (T.state tx.old) (T.state tx.new) result (file < 2 ^ 63) }
-    ensures cause { FailsByOne T.state tx.old tx.new result (file < 2 ^ 63) FailsByStatement }
-    ensures keeps { ChangesWithin T.lenders T.state tx.old tx.new result }
 {
     delete_blocks(tx, BlockOwner::File(file))?;
     delete_sha512(tx, BlockOwner::File(file))?;
@@ -61,11 +56,9 @@ pub fn delete_file<T: Statements>(tx: &mut T, file: u64) -> Result<(), StoreFaul
 }
 
 fn delete_contents<T: Statements>(tx: &mut T, rows: &[FileRow]) -> Result<(), StoreFault>
-    ensures ok { Becomes (T.state tx.old) (T.state tx.new) result
+    ensures does { ChangesTables T.lenders T.state tx.old tx.new result
+        (All (λ row. row.file < 2 ^ 63) rows.now) FailsByStatement
         (without_contents (map (λ row. row.file) rows.now)) }
-    ensures cause { FailsByOne T.state tx.old tx.new result
-        (All (λ row. row.file < 2 ^ 63) rows.now) FailsByStatement }
-    ensures stays { StaysWithin T.lenders T.state tx.old tx.new result }
 {
     'rows: for row in rows {
         delete_blocks(tx, BlockOwner::File(row.file))?;
@@ -77,14 +70,13 @@ fn delete_contents<T: Statements>(tx: &mut T, rows: &[FileRow]) -> Result<(), St
 /// Deletes all files of an object with their contents and their SHA-512s. It holds the rows of the
 /// files. A number of 2^63 or more is a fault of the store.
 pub fn delete_files<T: Statements>(tx: &mut T, alloc: Global, object: u64) -> Result<(), StoreFault>
-    ensures map { FromMaps (T.state tx.old) (T.state tx.new)
-        (λ s. (o : Object) → finmap.get s.objects object ≡ Some o
-        → OnOk result (SeesState (T.state tx.new) (without_files s object o))) }
+    ensures does { MakesMaps T.lenders T.state tx.old tx.new result
+        (λ s becomes. (o : Object) → finmap.get s.objects object ≡ Some o
+        → becomes (without_files s object o)) }
     ensures numbers { RefusesNumbers (T.state tx.old) (T.state tx.new) result (object < 2 ^ 63) }
     ensures cause { FromMaps (T.state tx.old) (T.state tx.new)
         (λ s. IsSound s → object < 2 ^ 63
         → IfErr result (FailsSince T.state FailsByStatement tx.old tx.new)) }
-    ensures keeps { ChangesWithin T.lenders T.state tx.old tx.new result }
 {
     let rows = files_of(tx, alloc, object)?;
     delete_contents(tx, rows.as_slice())?;

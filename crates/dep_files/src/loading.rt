@@ -1,16 +1,13 @@
 //! The files of an object, read without their contents.
 
-ghost use Rattle.std.specs.Prelude.{All, ◌≡◌, ◌<◌, ◌^◌, pos, [], ◌∷◌, nat_eq, map, option_map, option_and_then};
+ghost use Rattle.std.specs.Prelude.{◌≡◌, nat_eq, map, option_map, option_and_then};
 ghost use Rattle.std.specs.FinMap as finmap;
-ghost use Rattle.sqlite.specs.declared.types.Value.TheVariants.{Int};
 ghost use Rattle.dep_types.specs.State.{file_at};
 ghost use Rattle.dep_types.specs.Rows.{file_row};
-ghost use Rattle.dep_tables.specs.Clauses.{AtMostOne, FailsByReading, RefusesNumbers, ReadsWithin};
-ghost use Rattle.dep_tables.specs.Rows.{IsFileRow};
-ghost use Rattle.dep_tables.specs.Texts.{files_of_text, find_file_text};
+ghost use Rattle.dep_tables.specs.Statements.{query_of_file, query_of_files};
+ghost use Rattle.dep_row_maps.specs.Clauses.{QueriesMaps};
 ghost use Rattle.dep_row_maps.specs.TablesAre.{files_at};
 ghost use Rattle.dep_types.specs.Names.{if_passes};
-ghost use Rattle.dep_files.specs.Reading.{Tells};
 
 use dep_tables::{Statements, files_of};
 use dep_types::{FileRow, FileRows, StoreFault};
@@ -23,13 +20,9 @@ pub fn load_files<T: Statements>(
     alloc: Global,
     object: u64,
 ) -> Result<FileRows, StoreFault>
-    ensures map { Tells (T.state tx.old) (T.state tx.new) result
+    ensures does { QueriesMaps T.lenders T.state tx.old tx.new result (query_of_files {Z = Global} object)
         (λ s found. found
         ≡ map (λ e. file_row object e.0 e.1) (finmap.entries (files_at s.objects object))) }
-    ensures numbers { RefusesNumbers (T.state tx.old) (T.state tx.new) result (object < 2 ^ 63) }
-    ensures cause { FailsByReading (T.state tx.old) (T.state tx.new) result
-        (object < 2 ^ 63) files_of_text (Int (pos object) ∷ []) (All IsFileRow) }
-    ensures keeps { ReadsWithin T.lenders T.state tx.old tx.new result }
 {
     Ok(FileRows::new(files_of(tx, alloc, object)?))
 }
@@ -50,12 +43,8 @@ pub fn find_file<T: Statements>(
     object: u64,
     file: u64,
 ) -> Result<Option<FileRow>, StoreFault>
-    ensures map { Tells (T.state tx.old) (T.state tx.new) result
+    ensures does { QueriesMaps T.lenders T.state tx.old tx.new result (query_of_file file)
         (λ s found. found ≡ option_map (file_row object file) (file_at s object file)) }
-    ensures numbers { RefusesNumbers (T.state tx.old) (T.state tx.new) result (file < 2 ^ 63) }
-    ensures cause { FailsByReading (T.state tx.old) (T.state tx.new) result
-        (file < 2 ^ 63) find_file_text (Int (pos file) ∷ []) (AtMostOne IsFileRow) }
-    ensures keeps { ReadsWithin T.lenders T.state tx.old tx.new result }
 {
     Ok(of_object(dep_tables::find_file(tx, file)?, object))
 }
