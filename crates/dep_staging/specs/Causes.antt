@@ -1,5 +1,6 @@
 -- Why a call of several statements fails: one of its statements does.
-use Rattle.std.specs.Prelude.{◌≡◌, ℕ, ◌<◌, ◌^◌, ◌-◌, pos, List, [], ◌∷◌, Some, IsTrue, Result}
+use Rattle.std.specs.Prelude.{◌≡◌, ℕ, ◌<◌, ◌^◌, ◌-◌, pos, List, [], ◌∷◌, Option, Some, IsTrue}
+use Rattle.std.specs.Global.{Vec}
 use Rattle.std.specs.FinMap as map
 use Rattle.sqlite.specs.State as db
 use Rattle.sqlite.specs.declared.types.Value.TheVariants.{Int}
@@ -8,8 +9,9 @@ use Rattle.dep_types.specs.State.{State, Upload, clock_at, expires, tick}
 use Rattle.dep_types.specs.declared.config.Config.{Config}
 use Rattle.dep_types.specs.declared.rows.UploadRow.{UploadRow}
 use Rattle.dep_types.specs.declared.store_fault.StoreFault.{StoreFault}
-use Rattle.dep_tables.specs.Clauses.{AtMostOne, FailsByReading, FailsToRead, FailsToReadNumbers, FailsToRun, JustOne}
+use Rattle.dep_tables.specs.Clauses.{AtMostOne, FailsToRead, FailsToReadNumbers, FailsToRun, JustOne, Query}
 use Rattle.dep_tables.specs.Rows.{IsBytesRow, IsLeftRow, IsStateRow, columns_of_upload, key_values, owner_values, sha512_values, state_values, upload_values}
+use Rattle.dep_tables.specs.Statements.{query_of_block}
 use Rattle.dep_tables.specs.Texts.{delete_segments_text, delete_sha512_text, delete_upload_text, insert_sha512_text, insert_timed_out_text, insert_upload_text, left_before_text, read_block_text, read_state_text, write_state_text}
 use Rattle.dep_tables.specs.declared.owner.BlockOwner.TheVariants as owner
 use Rattle.dep_tables.specs.declared.segments.SegmentRow.{SegmentRow}
@@ -88,9 +90,6 @@ FailsToReadIts segment = FailsToReadBlock segment.upload segment.number
 abbrev pub FailsToHash : ℕ → (at new : db.State) → StoreFault → Type 0
 FailsToHash u at new fault = (k : ℕ) × FailsToReadBlock u k at new fault
 
--- where its numbers are SQL's, only the query of this block fails
-abbrev pub FailsByBlock : {A : Type 0} (old new : db.State) (result : Result A StoreFault)
-    → (u k place : ℕ) → Type 0
-FailsByBlock old new result u k place =
-    FailsByReading old new result ((u < 2 ^ 63) × (k < 2 ^ 63) × (place < 2 ^ 63))
-    read_block_text (key_values (block_key (owner.Upload u) k place)) (AtMostOne IsBytesRow)
+-- the bytes of this block of a segment are read
+abbrev pub query_of_segment_block : (u k place : ℕ) → Query (Option (Vec ℕ))
+query_of_segment_block u k place = query_of_block (block_key (owner.Upload u) k place)

@@ -14,21 +14,21 @@ use Rattle.dep_row_maps.specs.Stored.{segment_row}
 use Rattle.dep_row_maps.specs.TablesAre.{with_upload}
 use Rattle.dep_staging.specs.Assembling.{HasItsSegments, deposited}
 
-module _ (s : State) (row : UploadRow) (becomes : State → Type 0) where
+module _ (row : UploadRow) where
   -- where the row is that of a new upload with no segment, the state with it is so
-  abbrev pub Opens : Type 0
-  Opens = (it : Upload) → row ≡ upload_row row.upload it → it.segments ≡ map.empty
+  abbrev pub Opens : State → (becomes : State → Type 0) → Type 0
+  Opens s becomes = (it : Upload) → row ≡ upload_row row.upload it → it.segments ≡ map.empty
       → becomes (with_upload s row.upload it)
 
   -- where the row is that of an upload, which keeps its segments, the state with it is so
-  abbrev pub Rewrites : Type 0
-  Rewrites = (was it : Upload) → map.get s.uploads row.upload ≡ Some was
+  abbrev pub Rewrites : State → (becomes : State → Type 0) → Type 0
+  Rewrites s becomes = (was it : Upload) → map.get s.uploads row.upload ≡ Some was
       → row ≡ upload_row row.upload it → it.segments ≡ was.segments → it.sha512 ≡ was.sha512
       → becomes (with_upload s row.upload it)
 
   -- the same where the upload gets a segment that it lacked, which is this one
-  abbrev pub Receives : SegmentRow → (bytes : List ℕ) → Type 0
-  Receives segment bytes = (was it : Upload) → map.get s.uploads row.upload ≡ Some was
+  abbrev pub Receives : SegmentRow → (bytes : List ℕ) → State → (becomes : State → Type 0) → Type 0
+  Receives segment bytes s becomes = (was it : Upload) → map.get s.uploads row.upload ≡ Some was
       → map.get was.segments segment.number ≡ None → row ≡ upload_row row.upload it
       → segment ≡ segment_row row.upload segment.number (length bytes)
       → it.segments ≡ map.insert was.segments segment.number bytes → it.sha512 ≡ was.sha512
@@ -36,8 +36,8 @@ module _ (s : State) (row : UploadRow) (becomes : State → Type 0) where
 
   -- where the rows are those of an upload with all its segments and of the file that they make, the state
   -- with the file in its place is so
-  abbrev pub Assembles : FileRow → Type 0
-  Assembles made = (o : Object) (it : Upload) (file : File)
+  abbrev pub Assembles : FileRow → State → (becomes : State → Type 0) → Type 0
+  Assembles made s becomes = (o : Object) (it : Upload) (file : File)
       → map.get s.objects made.object ≡ Some o → map.get s.uploads row.upload ≡ Some it
       → HasItsSegments it → row ≡ upload_row row.upload it
       → made ≡ file_row made.object made.file file → file.content ≡ assembled it

@@ -3,12 +3,11 @@
 ghost use Rattle.std.specs.Prelude.{◌≡◌, ◌<◌, ◌^◌, ℕ, Some, None, OnOk};
 ghost use Rattle.std.specs.FinMap as finmap;
 ghost use Rattle.dep_types.specs.State.{File, Upload, file_at};
-ghost use Rattle.dep_tables.specs.Clauses.{StaysWithin};
 ghost use Rattle.dep_tables.specs.Edits.{with_blocks_moved};
 ghost use Rattle.dep_tables.specs.Rows.{IsStorableFile, IsStorableUpload, columns_of_upload};
 ghost use Rattle.dep_tables.specs.declared.owner.BlockOwner.TheVariants as owner;
-ghost use Rattle.dep_row_maps.specs.Clauses.{Becomes, FromMaps, ChangesWithin, SeesState};
-ghost use Rattle.dep_row_maps.specs.Causes.{FailsByOne, FailsByStatement};
+ghost use Rattle.dep_row_maps.specs.Clauses.{ChangesMaps, ChangesTables, FromMaps};
+ghost use Rattle.dep_row_maps.specs.Causes.{FailsByStatement};
 ghost use Rattle.dep_staging.specs.Changing.{Assembles};
 
 use dep_tables::{
@@ -19,11 +18,9 @@ use dep_types::{FileRow, StoreFault, UploadRow};
 
 /// Gives the blocks of an upload to a file, run by run, since one statement holds all rows that it moves.
 fn move_content<T: Statements>(tx: &mut T, upload: u64, file: u64) -> Result<(), StoreFault>
-    ensures ok { Becomes (T.state tx.old) (T.state tx.new) result
+    ensures does { ChangesTables T.lenders T.state tx.old tx.new result
+        ((upload < 2 ^ 63) × (file < 2 ^ 63)) FailsByStatement
         (with_blocks_moved (owner.Upload upload) (owner.File file)) }
-    ensures cause { FailsByOne T.state tx.old tx.new result
-        ((upload < 2 ^ 63) × (file < 2 ^ 63)) FailsByStatement }
-    ensures stays { StaysWithin T.lenders T.state tx.old tx.new result }
 {
     'runs: for passed in 0..u64::MAX {
         let Some(start) = first_block(tx, BlockOwner::Upload(upload))? else {
@@ -48,15 +45,11 @@ pub fn assemble<T: Statements>(
     upload: &UploadRow,
     row: &FileRow,
 ) -> Result<(), StoreFault>
-    ensures map { FromMaps (T.state tx.old) (T.state tx.new)
-        (λ s. Assembles s upload.now
-        (λ next. OnOk result (SeesState (T.state tx.new) next)) row.now) }
+    ensures does { ChangesMaps T.lenders T.state tx.old tx.new result
+        (IsStorableUpload (columns_of_upload upload.now) × IsStorableFile row.now)
+        FailsByStatement (Assembles upload.now row.now) }
     ensures free { FromMaps (T.state tx.old) (T.state tx.new)
         (λ s. OnOk result ((n : ℕ) → file_at s n row.now.file ≡ None)) }
-    ensures cause { FailsByOne T.state tx.old tx.new result
-        (IsStorableUpload (columns_of_upload upload.now) × IsStorableFile row.now)
-        FailsByStatement }
-    ensures keeps { ChangesWithin T.lenders T.state tx.old tx.new result }
 {
     move_content(tx, upload.upload, row.file)?;
     delete_sha512(tx, BlockOwner::Upload(upload.upload))?;

@@ -1,12 +1,10 @@
 //! One block of a segment.
 
-ghost use Rattle.std.specs.Prelude.{◌≡◌, ◌<◌, ◌^◌, option_map, slice_get};
-ghost use Rattle.dep_tables.specs.Clauses.{RefusesNumbers, ReadsWithin};
-ghost use Rattle.dep_tables.specs.declared.owner.BlockOwner.TheVariants as owner;
+ghost use Rattle.std.specs.Prelude.{◌≡◌, option_map, slice_get};
 ghost use Rattle.dep_row_maps.specs.Stored.{blocks_of};
-ghost use Rattle.dep_files.specs.Reading.{Tells};
+ghost use Rattle.dep_row_maps.specs.Clauses.{QueriesMaps};
 ghost use Rattle.dep_staging.specs.Comparing.{stored_bytes};
-ghost use Rattle.dep_staging.specs.Causes.{FailsByBlock};
+ghost use Rattle.dep_staging.specs.Causes.{query_of_segment_block};
 
 use dep_tables::{BlockKey, BlockOwner, BlockPlace, Statements, read_block};
 use dep_types::StoreFault;
@@ -19,13 +17,10 @@ pub(crate) fn stored_block<T: Statements>(
     segment: u64,
     place: u64,
 ) -> Result<Option<Vec<u8>>, StoreFault>
-    ensures map { Tells (T.state tx.old) (T.state tx.new) result
+    ensures does { QueriesMaps T.lenders T.state tx.old tx.new result
+        (query_of_segment_block upload segment place)
         (λ s found. option_map (λ bytes. bytes.items) found
         ≡ slice_get (blocks_of (stored_bytes s upload segment)) place) }
-    ensures numbers { RefusesNumbers (T.state tx.old) (T.state tx.new) result
-        ((upload < 2 ^ 63) × (segment < 2 ^ 63) × (place < 2 ^ 63)) }
-    ensures cause { FailsByBlock (T.state tx.old) (T.state tx.new) result upload segment place }
-    ensures keeps { ReadsWithin T.lenders T.state tx.old tx.new result }
 {
     let owner = BlockOwner::Upload(upload);
     let at = BlockPlace {

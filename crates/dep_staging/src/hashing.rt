@@ -1,14 +1,12 @@
 //! The digests of what the segments of an upload make, taken one block at a time, and ahead.
 
-ghost use Rattle.std.specs.Prelude.{◌≡◌, ◌<◌, ℕ, List, [], OnOk, IfErr, IsTrue, slice_index_or};
+ghost use Rattle.std.specs.Prelude.{◌≡◌, ◌<◌, ℕ, List, [], IfOk, OnOk, IfErr, slice_index_or};
 ghost use Rattle.dep_types.specs.State.{Upload};
 ghost use Rattle.dep_types.specs.Sound.{IsSound};
 ghost use Rattle.dep_fixity.specs.Fixity.{Holds};
-ghost use Rattle.dep_tables.specs.Clauses.{ReadsWithin, MayReadWithin};
 ghost use Rattle.dep_row_maps.specs.Stored.{blocks_of};
-ghost use Rattle.dep_row_maps.specs.Clauses.{FromMaps, OverMaps, OverOpenMaps};
+ghost use Rattle.dep_row_maps.specs.Clauses.{MayReadOver, OverMaps, OverOpenMaps, ReadsOver};
 ghost use Rattle.dep_row_maps.specs.Causes.{FailsSince};
-ghost use Rattle.dep_files.specs.Reading.{Tells};
 ghost use Rattle.dep_staging.specs.Causes.{FailsToHash, HasStorableSegments, FailsToReadIts};
 ghost use Rattle.dep_staging.specs.Found.{IsLiveAs};
 ghost use Rattle.dep_staging.specs.Hashing.{IsSegmentOf, ForBlockOf, ForSegmentOf, HashesRest, AreDigestsOf};
@@ -31,12 +29,11 @@ fn segment_block<T: Statements>(
     segment: &SegmentRow,
     place: u64,
 ) -> Result<Vec<u8>, StoreFault>
-    ensures map { Tells (T.state tx.old) (T.state tx.new) result
-        (λ s found. (bytes : List ℕ) → IsSegmentOf s segment.now bytes
-        → found.items ≡ slice_index_or (blocks_of bytes) place []) }
+    ensures does { ReadsOver T.lenders T.state tx.old tx.new result
+        (λ s. IfOk result (λ found. (bytes : List ℕ) → IsSegmentOf s segment.now bytes
+        → found.items ≡ slice_index_or (blocks_of bytes) place [])) }
     ensures cause { OverMaps (T.state tx.old) (T.state tx.new) (λ s. ForBlockOf s segment.now place
         (IfErr result (FailsToReadIts segment.now (T.state tx.old) (T.state tx.new)))) }
-    ensures keeps { ReadsWithin T.lenders T.state tx.old tx.new result }
 {
     stored_block(tx, segment.upload, segment.number, place)?.ok_or(StoreFault::Store)
 }
@@ -48,13 +45,12 @@ fn hash_segment<T: Statements>(
     first: u64,
     hasher: &mut Hasher,
 ) -> Result<(), StoreFault>
-    ensures map { OverOpenMaps (T.state tx.old) (T.state tx.new)
+    ensures does { MayReadOver T.lenders T.state tx.old tx.new result
         (λ s. HashesRest s segment.now first (Holds hasher.old)
         (λ message. OnOk result (Holds hasher.new message))) }
     ensures cause { OverOpenMaps (T.state tx.old) (T.state tx.new)
         (λ s. ForSegmentOf s segment.now
         (IfErr result (FailsSince T.state (FailsToReadIts segment.now) tx.old tx.new))) }
-    ensures keeps { MayReadWithin T.lenders T.state tx.old tx.new result }
 {
     for place in first..segment.size.div_ceil(BLOCK_SIZE as u64) {
         let block = segment_block(tx, segment, place)?;
@@ -71,12 +67,11 @@ pub fn hash_upload<T: Statements>(
     staged: &StagedUpload,
     running: &RunningHashes,
 ) -> Result<Digests, StoreFault>
-    ensures map { IsTrue (T.state tx.old).is_open → Tells (T.state tx.old) (T.state tx.new) result
-        (λ s. AreDigestsOf s staged.now running.now) }
+    ensures does { MayReadOver T.lenders T.state tx.old tx.new result
+        (λ s. IfOk result (AreDigestsOf s staged.now running.now)) }
     ensures cause { OverOpenMaps (T.state tx.old) (T.state tx.new)
         (λ s. (u : ℕ) (it : Upload) → IsLiveAs s u staged.now it → HasStorableSegments u it
         → IfErr result (FailsSince T.state (FailsToHash u) tx.old tx.new)) }
-    ensures keeps { MayReadWithin T.lenders T.state tx.old tx.new result }
 {
     let RunningHash {
         upload: _,
@@ -97,9 +92,8 @@ pub fn hash_upload<T: Statements>(
 
 // Hashes one more block of an upload, and tells whether there was one that was not hashed.
 fn hash_block<T: Statements>(tx: &mut T, run: &mut RunningHash) -> Result<bool, StoreFault>
-    ensures map { OverMaps (T.state tx.old) (T.state tx.new)
+    ensures does { ReadsOver T.lenders T.state tx.old tx.new result
         (λ s. IsSound s → IsRunning s run.old → IsRunning s run.new) }
-    ensures keeps { ReadsWithin T.lenders T.state tx.old tx.new result }
 {
     let number = run.segments.saturating_add(1);
     match stored_block(tx, run.upload, number, run.blocks)? {
@@ -116,9 +110,8 @@ fn hash_block<T: Statements>(tx: &mut T, run: &mut RunningHash) -> Result<bool, 
 
 // Hashes a few blocks of an upload.
 fn hash_blocks<T: Statements>(tx: &mut T, run: &mut RunningHash) -> Result<(), StoreFault>
-    ensures map { IsTrue (T.state tx.old).is_open → OverMaps (T.state tx.old) (T.state tx.new)
+    ensures does { MayReadOver T.lenders T.state tx.old tx.new result
         (λ s. IsSound s → IsRunning s run.old → IsRunning s run.new) }
-    ensures keeps { MayReadWithin T.lenders T.state tx.old tx.new result }
 {
     for _ in 0..BLOCKS_AHEAD {
         if !hash_block(tx, run)? {
@@ -135,9 +128,8 @@ pub fn hash_ahead<T: Statements>(
     tx: &mut T,
     running: &mut RunningHashes,
 ) -> Result<bool, StoreFault>
-    ensures map { IsTrue (T.state tx.old).is_open → FromMaps (T.state tx.old) (T.state tx.new)
+    ensures does { MayReadOver T.lenders T.state tx.old tx.new result
         (λ s. IsSound s → AreRunning s running.old → AreRunning s running.new) }
-    ensures keeps { MayReadWithin T.lenders T.state tx.old tx.new result }
 {
     let Some(mut run) = running.take_due() else {
         return Ok(false);

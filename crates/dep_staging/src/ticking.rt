@@ -1,18 +1,17 @@
 //! The clock, and the uploads that it ends.
 
-ghost use Rattle.std.specs.Prelude.{◌≡◌, ◌<◌, ◌^◌, None, OnOk, IfOk, IfErr};
+ghost use Rattle.std.specs.Prelude.{◌≡◌, ◌<◌, ◌^◌, None, IfOk, IfErr};
 ghost use Rattle.std.specs.FinMap as finmap;
 ghost use Rattle.dep_types.specs.Sound.{IsSound};
 ghost use Rattle.dep_types.specs.State as machine;
-ghost use Rattle.dep_tables.specs.Tables.{tables_of};
-ghost use Rattle.dep_tables.specs.Clauses.{FailsByRunning, FailsWhole};
+ghost use Rattle.dep_tables.specs.Clauses.{FailsByRunning};
 ghost use Rattle.dep_tables.specs.Rows.{IsStorableState, state_values};
 ghost use Rattle.dep_tables.specs.Texts.{write_state_text};
 ghost use Rattle.dep_row_maps.specs.Stored.{state_row};
-ghost use Rattle.dep_row_maps.specs.TablesAre.{TablesAre, with_counters};
-ghost use Rattle.dep_row_maps.specs.Clauses.{FromMaps, ChangesWithin};
+ghost use Rattle.dep_row_maps.specs.TablesAre.{with_counters};
+ghost use Rattle.dep_row_maps.specs.Clauses.{ChangesMaps, Does, FromMaps, MakesMaps};
 ghost use Rattle.dep_staging.specs.Expiring.{timed_out, expired_all};
-ghost use Rattle.dep_row_maps.specs.Causes.{FailsByOne, FailsSince};
+ghost use Rattle.dep_row_maps.specs.Causes.{FailsSince};
 ghost use Rattle.dep_staging.specs.Causes.{FailsToExpire, FailsToExpireAll, FailsToTick, HasStorableNumbers};
 ghost use Rattle.dep_staging.specs.Changing.{IsTicked};
 
@@ -21,11 +20,8 @@ use dep_tables::{StateRow, Statements, insert_timed_out, left_before, read_state
 use dep_types::{Config, GREATEST_MOMENT, StoreFault};
 
 fn expire<T: Statements>(tx: &mut T, upload: u64) -> Result<(), StoreFault>
-    ensures map { FromMaps (T.state tx.old) (T.state tx.new)
-        (λ s. OnOk result (TablesAre (tables_of (T.state tx.new)) (timed_out upload s))) }
-    ensures cause { FailsByOne T.state tx.old tx.new result
-        (upload < 2 ^ 63) (FailsToExpire upload) }
-    ensures keeps { ChangesWithin T.lenders T.state tx.old tx.new result }
+    ensures does { ChangesMaps T.lenders T.state tx.old tx.new result
+        (upload < 2 ^ 63) (FailsToExpire upload) (λ s becomes. becomes (timed_out upload s)) }
 {
     drop_upload(tx, upload)?;
     insert_timed_out(tx, upload)
@@ -33,14 +29,12 @@ fn expire<T: Statements>(tx: &mut T, upload: u64) -> Result<(), StoreFault>
 
 /// Ends the upload that was left the longest, as long as one was left for longer than is allowed.
 fn expire_idle<T: Statements>(tx: &mut T, config: &Config, clock: u64) -> Result<(), StoreFault>
-    ensures map { FromMaps (T.state tx.old) (T.state tx.new)
-        (λ s. OnOk result (TablesAre (tables_of (T.state tx.new))
-        (expired_all config.now clock s))) }
+    ensures does { MakesMaps T.lenders T.state tx.old tx.new result
+        (λ s becomes. becomes (expired_all config.now clock s)) }
     ensures cause { FromMaps (T.state tx.old) (T.state tx.new)
         (λ s. clock < 2 ^ 63 → HasStorableNumbers s.uploads
         → IfErr result (FailsSince T.state (FailsToExpireAll config.now clock s.uploads)
         tx.old tx.new)) }
-    ensures keeps { ChangesWithin T.lenders T.state tx.old tx.new result }
 {
     let moment = clock.saturating_sub(config.staging_max_idle);
     'uploads: for passed in 0..u64::MAX {
@@ -54,14 +48,11 @@ fn expire_idle<T: Statements>(tx: &mut T, config: &Config, clock: u64) -> Result
 
 // Writes the clock where it moves: a tick within the same second writes nothing.
 fn set_clock<T: Statements>(tx: &mut T, row: &StateRow, clock: u64) -> Result<(), StoreFault>
-    ensures map { FromMaps (T.state tx.old) (T.state tx.new)
-        (λ s. row.now ≡ state_row s
-        → OnOk result (TablesAre (tables_of (T.state tx.new)) (with_counters s clock s.next))) }
+    ensures does { MakesMaps T.lenders T.state tx.old tx.new result
+        (λ s becomes. row.now ≡ state_row s → becomes (with_counters s clock s.next)) }
     ensures cause { FailsByRunning (T.state tx.old) (T.state tx.new) result
         (IsStorableState (record row.now { clock = clock }))
         write_state_text (state_values (record row.now { clock = clock })) }
-    ensures err { FailsWhole (T.state tx.old) (T.state tx.new) result }
-    ensures keeps { ChangesWithin T.lenders T.state tx.old tx.new result }
 {
     if clock == row.clock {
         return Ok(());
@@ -79,13 +70,12 @@ fn set_clock<T: Statements>(tx: &mut T, row: &StateRow, clock: u64) -> Result<()
 /// was left idle: its row, its segments and their bytes go, and its number is remembered. It answers
 /// the clock. No upload has the number 0. A number of 2^63 or more is a fault of the store.
 pub fn tick<T: Statements>(tx: &mut T, config: &Config, moment: u64) -> Result<u64, StoreFault>
-    ensures map { FromMaps (T.state tx.old) (T.state tx.new)
-        (λ s. finmap.get s.uploads 0 ≡ None
-        → IfOk result (IsTicked config.now s moment (T.state tx.new))) }
+    ensures does { Does T.lenders T.state tx.old tx.new result
+        (FromMaps (T.state tx.old) (T.state tx.new) (λ s. finmap.get s.uploads 0 ≡ None
+        → IfOk result (IsTicked config.now s moment (T.state tx.new)))) }
     ensures cause { FromMaps (T.state tx.old) (T.state tx.new)
         (λ s. IsSound s
         → IfErr result (FailsSince T.state (FailsToTick config.now s moment) tx.old tx.new)) }
-    ensures keeps { ChangesWithin T.lenders T.state tx.old tx.new result }
 {
     let row = read_state(tx)?;
     let clock = row.clock.max(moment.min(GREATEST_MOMENT));

@@ -3,12 +3,9 @@
 ghost use Rattle.std.specs.Prelude.{◌≡◌, ◌<◌, ◌^◌, None, OnOk};
 ghost use Rattle.std.specs.FinMap as finmap;
 ghost use Rattle.dep_types.specs.State.{Upload};
-ghost use Rattle.dep_tables.specs.Tables.{tables_of};
 ghost use Rattle.dep_tables.specs.Clauses.{RefusesNumbers};
 ghost use Rattle.dep_tables.specs.Rows.{IsStorableUpload, columns_of_upload};
-ghost use Rattle.dep_row_maps.specs.TablesAre.{TablesAre};
-ghost use Rattle.dep_row_maps.specs.Clauses.{FromMaps, ChangesWithin, SeesState};
-ghost use Rattle.dep_row_maps.specs.Causes.{FailsByOne};
+ghost use Rattle.dep_row_maps.specs.Clauses.{ChangesMaps, FromMaps};
 ghost use Rattle.dep_staging.specs.Causes.{FailsToDrop, FailsToOpen};
 ghost use Rattle.dep_staging.specs.Changing.{Opens};
 
@@ -22,14 +19,12 @@ use dep_types::{StoreFault, UploadRow};
 /// Opens an upload that has no segment yet, and keeps the SHA-512 that was promised of it. It is a
 /// fault of the store where its number is taken, and where a number is 2^63 or more.
 pub fn open_upload<T: Statements>(tx: &mut T, row: &UploadRow) -> Result<(), StoreFault>
-    ensures map { FromMaps (T.state tx.old) (T.state tx.new)
-        (λ s. Opens s row.now (λ next.
-        OnOk result ((finmap.get s.uploads row.now.upload ≡ None) × SeesState (T.state tx.new) next))) }
+    ensures does { ChangesMaps T.lenders T.state tx.old tx.new result
+        (IsStorableUpload (columns_of_upload row.now)) (FailsToOpen row.now) (Opens row.now) }
+    ensures free { FromMaps (T.state tx.old) (T.state tx.new)
+        (λ s. OnOk result (finmap.get s.uploads row.now.upload ≡ None)) }
     ensures numbers { RefusesNumbers (T.state tx.old) (T.state tx.new) result
         (IsStorableUpload (columns_of_upload row.now)) }
-    ensures cause { FailsByOne T.state tx.old tx.new result
-        (IsStorableUpload (columns_of_upload row.now)) (FailsToOpen row.now) }
-    ensures keeps { ChangesWithin T.lenders T.state tx.old tx.new result }
 {
     insert_upload(tx, &UploadColumns::of_row(row))?;
     match &row.sha512 {
@@ -41,12 +36,10 @@ pub fn open_upload<T: Statements>(tx: &mut T, row: &UploadRow) -> Result<(), Sto
 /// Drops an upload with its segments, their bytes and the SHA-512 that was promised of it, if there
 /// is one of this number. A number of 2^63 or more is a fault of the store.
 pub fn drop_upload<T: Statements>(tx: &mut T, upload: u64) -> Result<(), StoreFault>
-    ensures map { FromMaps (T.state tx.old) (T.state tx.new)
-        (λ s. OnOk result (TablesAre (tables_of (T.state tx.new))
-        (record s { uploads = finmap.remove s.uploads upload }))) }
+    ensures does { ChangesMaps T.lenders T.state tx.old tx.new result
+        (upload < 2 ^ 63) (FailsToDrop upload)
+        (λ s becomes. becomes (record s { uploads = finmap.remove s.uploads upload })) }
     ensures numbers { RefusesNumbers (T.state tx.old) (T.state tx.new) result (upload < 2 ^ 63) }
-    ensures cause { FailsByOne T.state tx.old tx.new result (upload < 2 ^ 63) (FailsToDrop upload) }
-    ensures keeps { ChangesWithin T.lenders T.state tx.old tx.new result }
 {
     delete_blocks(tx, BlockOwner::Upload(upload))?;
     delete_sha512(tx, BlockOwner::Upload(upload))?;

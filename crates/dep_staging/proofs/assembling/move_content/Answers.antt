@@ -3,14 +3,15 @@ use Rattle.dep_tables.specs.Edits.{IsFirstBlock}
 use Rattle.dep_tables.specs.Rows.{IsStorableKey}
 use Rattle.dep_tables.specs.Tables.{tables_of}
 use Rattle.dep_tables.proofs.Results.{ok_then}
-use Rattle.dep_tables.proofs.Chains.{clean_before, stays_then, stays_ok, stays_err, still_ours, stays_put}
-use Rattle.dep_row_maps.proofs.Causes.{fails_then, if_err_then, if_err_is}
+use Rattle.dep_tables.proofs.Chains.{clean_before, stays_then, stays_ok, still_ours, stays_put}
+use Rattle.dep_row_maps.proofs.Causes.{fails_then, if_err_then}
 use Rattle.dep_row_maps.proofs.Runs.{one_run_moved, all_moved}
 use Rattle.dep_files.proofs.Results.{same_tables}
 use Rattle.dep_tables.specs.declared.owner.BlockOwner.TheVariants as owner
 use Rattle.dep_row_maps.specs.Causes.{FailsByStatement}
 use Rattle.dep_row_maps.specs.Causes.FailsByStatement.{block_found, blocks_moved, run_moved}
 use Rattle.dep_row_maps.proofs.FilesOwn.{no_upload}
+use Rattle.dep_row_maps.proofs.Calling.{tables_failed}
 use Rattle.dep_staging.proofs.assembling.move_content.Goals as goal
 
 pub runs-init : goal.runs-init
@@ -33,60 +34,67 @@ runs-preserved g c =
           (leads.ours, one_run_moved (record { owner = owner.Upload c.args.upload; at = c.run_end-at.result }) (owner.File c.args.file) (no_upload c.args.upload c.args.file) (tables_of old) (tables_of mid) (tables_of seen) (tables_of new) was.1 (same_tables mid seen same) leads.rows),
     )
 
-pub returns-in_default-clause-ok : goal.returns-in_default-clause-ok
-returns-in_default-clause-ok g c clean inside ours =
-    let old = g.T.Statements.state c.args.tx.now in
-    let mid = g.T.Statements.state c.runs.tx in
-    let seen = g.T.Statements.state c.first_block.new.tx in
-    let was = c.runs.invariant.1 (clean_before c.first_block.ensures.does.keeps.stays clean) inside ours in
-    let same = c.in_ok-start.ensures.does.keeps.same clean was.0 in
-    let none = subst (IsFirstBlock (owner.Upload c.args.upload) (tables_of mid)) c.in_default.is (c.in_ok-start.ensures.does.ok clean was.0) in
-    record { ours = still_ours mid seen same was.0; rows = all_moved (owner.Upload c.args.upload) (owner.File c.args.file) (tables_of old) (tables_of mid) (tables_of seen) was.1 (same_tables mid seen same) none }
+pub returns-in_default : goal.returns-in_default
+returns-in_default g c = record {
+  does = record {
+    ok = λ clean inside ours.
+        let old = g.T.Statements.state c.args.tx.now in
+        let mid = g.T.Statements.state c.runs.tx in
+        let seen = g.T.Statements.state c.first_block.new.tx in
+        let was = c.runs.invariant.1 (clean_before c.first_block.ensures.does.keeps.stays clean) inside ours in
+        let same = c.in_ok-start.ensures.does.keeps.same clean was.0 in
+        let none = subst (IsFirstBlock (owner.Upload c.args.upload) (tables_of mid)) c.in_default.is (c.in_ok-start.ensures.does.ok clean was.0) in
+        record { ours = still_ours mid seen same was.0; rows = all_moved (owner.Upload c.args.upload) (owner.File c.args.file) (tables_of old) (tables_of mid) (tables_of seen) was.1 (same_tables mid seen same) none };
+    cause = λ storable clean inside. tt;
+    stays = stays_ok (stays_then c.runs.invariant.0 c.in_ok-start.ensures.does.keeps.stays);
+  };
+}
 
-pub returns-clause-ok : goal.returns-clause-ok
-returns-clause-ok g c clean inside ours =
-    let inv = c.runs.invariant in
-    let before = clean_before c.move_blocks.ensures.does.keeps.stays clean in
-    let was = inv.1 before inside ours in
-    ok_then c.move_blocks.result (c.move_blocks.ensures.does.ok clean (inv.0.inside before inside) was.0) (λ leads. record { ours = leads.ours; rows = leads.rows ∙ was.1 })
+pub returns : goal.returns
+returns g c = record {
+  does = record {
+    ok = λ clean inside ours.
+        let inv = c.runs.invariant in
+        let before = clean_before c.move_blocks.ensures.does.keeps.stays clean in
+        let was = inv.1 before inside ours in
+        ok_then c.move_blocks.result (c.move_blocks.ensures.does.ok clean (inv.0.inside before inside) was.0) (λ leads. record { ours = leads.ours; rows = leads.rows ∙ was.1 });
+    cause = λ storable clean inside.
+        let old = c.args.tx.now in
+        let mid = c.runs.tx in
+        let new = c.move_blocks.new.tx in
+        let inv = c.runs.invariant in
+        let before = clean_before c.move_blocks.ensures.does.keeps.stays clean in
+        if_err_then c.move_blocks.result (c.move_blocks.ensures.does.cause storable clean (inv.0.inside before inside))
+        (λ fault failed. fails_then g.T.Statements.state old mid new inv.0.survives FailsByStatement fault (blocks_moved _ failed));
+    stays = stays_then c.runs.invariant.0 c.move_blocks.ensures.does.keeps.stays;
+  };
+}
 
-pub returns-in_err-start-clause-stays : goal.returns-in_err-start-clause-stays
-returns-in_err-start-clause-stays g c = stays_err c.from_residual.ensures.0 (stays_then c.runs.invariant.0 c.first_block.ensures.does.keeps.stays)
+pub returns-in_err-start : goal.returns-in_err-start
+returns-in_err-start g c = record {
+  does =
+      tables_failed c.from_residual.ensures.1
+      (λ storable clean inside.
+      let old = c.args.tx.now in
+      let mid = c.runs.tx in
+      let new = c.first_block.new.tx in
+      fails_then g.T.Statements.state old mid new c.runs.invariant.0.survives FailsByStatement _
+      (block_found _ (c.in_err-start.ensures.does.cause storable.0 clean)))
+      (stays_then c.runs.invariant.0 c.in_err-start.ensures.does.keeps.stays);
+}
 
-pub returns-in_default-clause-stays : goal.returns-in_default-clause-stays
-returns-in_default-clause-stays g c = stays_ok (stays_then c.runs.invariant.0 c.in_ok-start.ensures.does.keeps.stays)
-
-pub returns-in_err-move_run-clause-stays : goal.returns-in_err-move_run-clause-stays
-returns-in_err-move_run-clause-stays g c = stays_err c.from_residual-in_err-move_run.ensures.0 (stays_then (stays_then c.runs.invariant.0 c.in_ok-start.ensures.does.keeps.stays) c.move_run.ensures.does.keeps.stays)
-
-pub returns-clause-stays : goal.returns-clause-stays
-returns-clause-stays g c = stays_then c.runs.invariant.0 c.move_blocks.ensures.does.keeps.stays
-
-pub returns-in_err-start-clause-cause : goal.returns-in_err-start-clause-cause
-returns-in_err-start-clause-cause g c storable clean inside =
-    let old = c.args.tx.now in
-    let mid = c.runs.tx in
-    let new = c.first_block.new.tx in
-    if_err_is _ c.from_residual.result c.in_err-start.field-0.0 c.from_residual.ensures.1 (fails_then g.T.Statements.state old mid new c.runs.invariant.0.survives FailsByStatement _
-    (block_found _ (c.in_err-start.ensures.does.cause storable.0 clean)))
-
-pub returns-in_err-move_run-clause-cause : goal.returns-in_err-move_run-clause-cause
-returns-in_err-move_run-clause-cause g c storable clean inside =
-    let old = c.args.tx.now in
-    let seen = c.first_block.new.tx in
-    let new = c.move_run.new.tx in
-    let saw = stays_then c.runs.invariant.0 c.in_ok-start.ensures.does.keeps.stays in
-    let before = clean_before c.move_run.ensures.does.keeps.stays clean in
-    let key : IsStorableKey (record { owner = owner.Upload c.args.upload; at = c.run_end-at.result }) = record { owner = storable.0; part = omega (arith, c.run_end-at.ensures.part); place = omega (arith, c.run_end-at.ensures.place) } in
-    if_err_is _ c.from_residual-in_err-move_run.result c.in_err-move_run.field-0.0 c.from_residual-in_err-move_run.ensures.1 (fails_then g.T.Statements.state old seen new saw.survives FailsByStatement _
-    (run_moved _ (c.in_err-move_run.ensures.does.cause (key, storable.1) clean (saw.inside before inside))))
-
-pub returns-clause-cause : goal.returns-clause-cause
-returns-clause-cause g c storable clean inside =
-    let old = c.args.tx.now in
-    let mid = c.runs.tx in
-    let new = c.move_blocks.new.tx in
-    let inv = c.runs.invariant in
-    let before = clean_before c.move_blocks.ensures.does.keeps.stays clean in
-    if_err_then c.move_blocks.result (c.move_blocks.ensures.does.cause storable clean (inv.0.inside before inside))
-    (λ fault failed. fails_then g.T.Statements.state old mid new inv.0.survives FailsByStatement fault (blocks_moved _ failed))
+pub returns-in_err-move_run : goal.returns-in_err-move_run
+returns-in_err-move_run g c = record {
+  does =
+      tables_failed c.from_residual-in_err-move_run.ensures.1
+      (λ storable clean inside.
+      let old = c.args.tx.now in
+      let seen = c.first_block.new.tx in
+      let new = c.move_run.new.tx in
+      let saw = stays_then c.runs.invariant.0 c.in_ok-start.ensures.does.keeps.stays in
+      let before = clean_before c.move_run.ensures.does.keeps.stays clean in
+      let key : IsStorableKey (record { owner = owner.Upload c.args.upload; at = c.run_end-at.result }) = record { owner = storable.0; part = omega (arith, c.run_end-at.ensures.part); place = omega (arith, c.run_end-at.ensures.place) } in
+      fails_then g.T.Statements.state old seen new saw.survives FailsByStatement _
+      (run_moved _ (c.in_err-move_run.ensures.does.cause (key, storable.1) clean (saw.inside before inside))))
+      (stays_then (stays_then c.runs.invariant.0 c.in_ok-start.ensures.does.keeps.stays) c.in_err-move_run.ensures.does.keeps.stays);
+}

@@ -6,15 +6,20 @@ use Rattle.dep_files.proofs.Results.{same_tables}
 use Rattle.dep_staging.proofs.AheadLemmas.{due_too}
 use Rattle.dep_staging.proofs.hashing.hash_blocks.Goals as goal
 
-pub returns-then-not-branch-clause-map : goal.returns-then-not-branch-clause-map
-returns-then-not-branch-clause-map g c is_open clean ours s are sound running =
-    let old = g.T.Statements.state c.args.tx.now in
-    let mid = g.T.Statements.state c.loop.tx in
-    let earlier = clean_before c.hash_block.ensures.keeps.stays clean in
-    let same = c.loop.invariant.0.same is_open earlier ours in
-    let are_mid = subst (λ (t : Tables). TablesAre t s) (sym (same_tables old mid same)) are in
-    let so_far = c.loop.invariant.1 is_open earlier ours s are sound running in
-    due_too s c.hash_block.new.run false (c.hash_block.ensures.map clean (still_ours old mid same ours) s are_mid sound so_far)
+pub returns-then-not-branch : goal.returns-then-not-branch
+returns-then-not-branch g c = record {
+  does = record {
+    map = λ is_open clean ours s are sound running.
+        let old = g.T.Statements.state c.args.tx.now in
+        let mid = g.T.Statements.state c.loop.tx in
+        let earlier = clean_before c.hash_block.ensures.does.keeps.stays clean in
+        let same = c.loop.invariant.0.same is_open earlier ours in
+        let are_mid = subst (λ (t : Tables). TablesAre t s) (sym (same_tables old mid same)) are in
+        let so_far = c.loop.invariant.1 is_open earlier ours s are sound running in
+        due_too s c.hash_block.new.run false (c.hash_block.ensures.does.map clean (still_ours old mid same ours) s are_mid sound so_far);
+    keeps = may_ok (may_then c.loop.invariant.0 (may_read c.in_ok-hash_block.ensures.does.keeps));
+  };
+}
 
 pub loop-init : goal.loop-init
 loop-init g c = (may_put g.T.Statements.lenders g.T.Statements.state c.args.tx.now _, λ is_open clean ours s are sound running. running)
@@ -24,19 +29,32 @@ loop-preserved g c =
     let old = g.T.Statements.state c.args.tx.now in
     let mid = g.T.Statements.state c.loop.tx in
     let inv = c.loop.invariant in
-    let earlier = clean_before c.hash_block.ensures.keeps.stays in (
-      may_ok (may_then inv.0 (may_read c.in_ok-hash_block.ensures.keeps)),
+    let earlier = clean_before c.hash_block.ensures.does.keeps.stays in (
+      may_ok (may_then inv.0 (may_read c.in_ok-hash_block.ensures.does.keeps)),
       λ is_open clean ours s are sound running.
           let same = inv.0.same is_open (earlier clean) ours in
           let are_mid = subst (λ (t : Tables). TablesAre t s) (sym (same_tables old mid same)) are in
-          c.in_ok-hash_block.ensures.map clean (still_ours old mid same ours) s are_mid sound (inv.1 is_open (earlier clean) ours s are sound running),
+          c.in_ok-hash_block.ensures.does.map clean (still_ours old mid same ours) s are_mid sound (inv.1 is_open (earlier clean) ours s are sound running),
     )
 
-pub returns-clause-keeps : goal.returns-clause-keeps
-returns-clause-keeps g c = may_ok c.loop.invariant.0
+pub returns : goal.returns
+returns g c = record {
+  does = record {
+    map = c.loop.invariant.1;
+    keeps = may_ok c.loop.invariant.0;
+  };
+}
 
-pub returns-then-not-branch-clause-keeps : goal.returns-then-not-branch-clause-keeps
-returns-then-not-branch-clause-keeps g c = may_ok (may_then c.loop.invariant.0 (may_read c.in_ok-hash_block.ensures.keeps))
-
-pub returns-in_err-hash_block-clause-keeps : goal.returns-in_err-hash_block-clause-keeps
-returns-in_err-hash_block-clause-keeps g c = may_err c.from_residual.ensures.0 (may_then c.loop.invariant.0 (may_read c.hash_block.ensures.keeps))
+pub returns-in_err-hash_block : goal.returns-in_err-hash_block
+returns-in_err-hash_block g c = record {
+  does = record {
+    map = λ is_open clean ours s are sound running.
+        let old = g.T.Statements.state c.args.tx.now in
+        let mid = g.T.Statements.state c.loop.tx in
+        let earlier = clean_before c.hash_block.ensures.does.keeps.stays clean in
+        let same = c.loop.invariant.0.same is_open earlier ours in
+        let are_mid = subst (λ (t : Tables). TablesAre t s) (sym (same_tables old mid same)) are in
+        c.hash_block.ensures.does.map clean (still_ours old mid same ours) s are_mid sound (c.loop.invariant.1 is_open earlier ours s are sound running);
+    keeps = may_err c.from_residual.ensures.0 (may_then c.loop.invariant.0 (may_read c.hash_block.ensures.does.keeps));
+  };
+}

@@ -9,6 +9,7 @@ use Rattle.dep_files.proofs.Cuts.{one_block_more, all_blocks, few_blocks}
 use Rattle.dep_staging.specs.Causes.{FailsToReadBlock}
 use Rattle.dep_row_maps.proofs.Causes.{fails_then}
 use Rattle.dep_staging.proofs.Hashed.{counted}
+use Rattle.std.proofs.lemmas.Result.{IfOk-from_err}
 use Rattle.dep_staging.proofs.hashing.hash_segment.Goals as goal
 
 pub loop-place-init : goal.loop-place-init
@@ -24,27 +25,33 @@ loop-place-preserved g c =
     let old = g.T.Statements.state c.args.tx.now in
     let mid = g.T.Statements.state c.loop-place.tx in
     let inv = c.loop-place.invariant in
-    let earlier = clean_before c.segment_block.ensures.keeps.stays in (
+    let earlier = clean_before c.segment_block.ensures.does.keeps.stays in (
       inv.0,
-      may_ok (may_then inv.1 (may_read c.in_ok-block.ensures.keeps)),
+      may_ok (may_then inv.1 (may_read c.in_ok-block.ensures.does.keeps)),
       λ is_open clean ours s are bytes message its holds.
           let same = inv.1.same is_open (earlier clean) ours in
           let so_far = inv.2 is_open (earlier clean) ours s are bytes message its holds in
           let are_mid = subst (λ (t : Tables). TablesAre t s) (sym (same_tables old mid same)) are in
           let within : c.loop-place.place < length (blocks_of bytes) = subst (λ n. c.loop-place.place < n) (inv.0 ∙ counted s c.args.segment.now bytes its) c.loop-place-test.true in
-          let block = c.as_slice.ensures.value ∙ c.in_ok-block.ensures.map clean (still_ours old mid same ours) s are_mid bytes its in
+          let block = c.as_slice.ensures.value ∙ c.in_ok-block.ensures.does.map clean (still_ours old mid same ours) s are_mid bytes its in
           subst (Holds c.update.new.self) (append_assoc message _ _ ∙ ap (λ l. message ++ l) (one_block_more bytes c.loop-place.place c.as_slice.result.now within block)) (c.update.ensures _ so_far),
       inv.3,
     )
 
-pub returns-clause-map : goal.returns-clause-map
-returns-clause-map g c clean ours is_open s are bytes message its holds =
-    let inv = c.loop-place.invariant in
-    let past : length (blocks_of bytes) ≤ c.loop-place.place = subst (λ n. n ≤ c.loop-place.place) (inv.0 ∙ counted s c.args.segment.now bytes its) c.loop-place-test.false in
-    subst (Holds c.loop-place.hasher) (ap (λ l. message ++ l) (all_blocks bytes c.loop-place.place past)) (inv.2 is_open clean ours s are bytes message its holds)
+pub returns-clause-does : goal.returns-clause-does
+returns-clause-does g c = record {
+  map = λ is_open clean ours s are bytes message its holds.
+      let inv = c.loop-place.invariant in
+      let past : length (blocks_of bytes) ≤ c.loop-place.place = subst (λ n. n ≤ c.loop-place.place) (inv.0 ∙ counted s c.args.segment.now bytes its) c.loop-place-test.false in
+      subst (Holds c.loop-place.hasher) (ap (λ l. message ++ l) (all_blocks bytes c.loop-place.place past)) (inv.2 is_open clean ours s are bytes message its holds);
+  keeps = may_ok c.loop-place.invariant.1;
+}
 
-pub returns-in_err-block-clause-keeps : goal.returns-in_err-block-clause-keeps
-returns-in_err-block-clause-keeps g c = may_err c.from_residual.ensures.0 (may_then c.loop-place.invariant.1 (may_read c.segment_block.ensures.keeps))
+pub returns-in_err-block-clause-does : goal.returns-in_err-block-clause-does
+returns-in_err-block-clause-does g c = record {
+  map = λ is_open clean ours s are bytes message its holds. IfOk-from_err c.from_residual.result _ c.from_residual.ensures.0;
+  keeps = may_err c.from_residual.ensures.0 (may_then c.loop-place.invariant.1 (may_read c.segment_block.ensures.does.keeps));
+}
 
 pub returns-in_err-block-clause-cause : goal.returns-in_err-block-clause-cause
 returns-in_err-block-clause-cause g c clean ours is_open s are bytes its storable =
@@ -52,13 +59,10 @@ returns-in_err-block-clause-cause g c clean ours is_open s are bytes its storabl
     let mid = c.loop-place.tx in
     let new = c.segment_block.new.tx in
     let inv = c.loop-place.invariant in
-    let same = inv.1.same is_open (clean_before c.segment_block.ensures.keeps.stays clean) ours in
+    let same = inv.1.same is_open (clean_before c.segment_block.ensures.does.keeps.stays clean) ours in
     let are_mid = subst (λ (t : Tables). TablesAre t s) (sym (same_tables (g.T.Statements.state old) (g.T.Statements.state mid) same)) are in
     let within : c.loop-place.place < length (blocks_of bytes) = subst (λ n. c.loop-place.place < n) (inv.0 ∙ counted s c.args.segment.now bytes its) c.loop-place-test.true in
     let below : c.loop-place.place < 2 ^ 63 = omega (arith, inv.3, c.loop-place-test.true) in
     let known = fails_then g.T.Statements.state old mid new inv.1.stays.survives (FailsToReadBlock c.args.segment.now.upload c.args.segment.now.number) _
     (c.in_err-block.ensures.cause clean (still_ours (g.T.Statements.state old) (g.T.Statements.state mid) same ours) s are_mid bytes its within storable below) in
     search rules
-
-pub returns-clause-keeps : goal.returns-clause-keeps
-returns-clause-keeps g c = may_ok c.loop-place.invariant.1
