@@ -6,9 +6,8 @@ ghost use Rattle.dep_types.specs.State.{State, Upload};
 ghost use Rattle.dep_types.specs.Sound.{IsSound};
 ghost use Rattle.dep_operations.specs.Views.{touched_repeat, upload_state, upload_view};
 ghost use Rattle.dep_row_maps.specs.TablesAre.{segments_at};
-ghost use Rattle.dep_row_maps.specs.Clauses.{FromMaps};
+ghost use Rattle.dep_row_maps.specs.Clauses.{FromMaps, MayFind};
 ghost use Rattle.dep_row_maps.specs.Causes.{FailsByStatement, FailsSince};
-ghost use Rattle.dep_views.specs.Clauses.{MayFind};
 ghost use Rattle.dep_views.specs.Causes.{IsStorableSegment};
 ghost use Rattle.dep_views.specs.Seen.{AreViewsOf};
 

@@ -9,10 +9,9 @@ ghost use Rattle.dep_answers.specs.Subjects.{shown_at};
 ghost use Rattle.dep_answers.specs.declared.subject.Subject.TheVariants as subject;
 ghost use Rattle.dep_tables.specs.Tables.{IsOurs};
 ghost use Rattle.dep_tables.specs.Clauses.{RefusesNumbers};
-ghost use Rattle.dep_row_maps.specs.Clauses.{FromMaps};
+ghost use Rattle.dep_row_maps.specs.Clauses.{FromMaps, Finds, MayFind};
 ghost use Rattle.dep_row_maps.specs.TablesAre.{metadata_at};
 ghost use Rattle.dep_row_maps.specs.Causes.{FailsByOne, FailsByStatement, FailsHolding, FailsSince};
-ghost use Rattle.dep_views.specs.Clauses.{Finds, MayFind};
 ghost use Rattle.dep_views.specs.Causes.{HasSegments, IsStorableSubject, ShowsList};
 
 use crate::objects::load_object_view;

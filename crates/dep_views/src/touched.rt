@@ -8,7 +8,7 @@ ghost use Rattle.dep_bag.specs.Parts.{row_path};
 ghost use Rattle.dep_types.specs.Sound.{IsSound};
 ghost use Rattle.dep_operations.specs.Views.{touched_file, touched_object};
 ghost use Rattle.dep_row_maps.specs.Causes.{FailsByOne, FailsByStatement};
-ghost use Rattle.dep_views.specs.Clauses.{MayFind};
+ghost use Rattle.dep_row_maps.specs.Clauses.{MayFind};
 ghost use Rattle.dep_views.specs.Causes.{AreStorable};
 ghost use Rattle.dep_views.specs.Seen.{file_at_path, path_seen};
 

@@ -12,23 +12,23 @@ use Rattle.dep_views.proofs.objects.load_object_view.Goals as goal
 
 pub returns-in_default-clause-map : goal.returns-in_default-clause-map
 returns-in_default-clause-map g c clean inside ours s are sound =
-    none_viewed s c.args.object (sym c.in_default.is ∙ c.in_ok-described.ensures.map clean inside ours s are sound)
+    none_viewed s c.args.object (sym c.in_default.is ∙ c.in_ok-described.ensures.does.found clean inside ours s are sound)
 
 pub returns-clause-map : goal.returns-clause-map
 returns-clause-map g c clean inside ours s are sound =
     let old = g.T.Statements.state c.args.tx.now in
     let mid = g.T.Statements.state c.load_object.new.tx in
     let new = g.T.Statements.state c.load_files.new.tx in
-    let before = clean_before c.load_files.ensures.keeps.stays clean in
-    let same = c.in_ok-described.ensures.keeps.same before ours in
-    viewed s c.args.object c.in-Some.described c.in_ok-files.files (sym c.in-Some.is ∙ c.in_ok-described.ensures.map before inside ours s are sound)
-    (c.in_ok-files.ensures.map clean (still_ours old mid same ours) s (still_seen old mid s same are))
+    let before = clean_before c.load_files.ensures.does.keeps.stays clean in
+    let same = c.in_ok-described.ensures.does.keeps.same before ours in
+    viewed s c.args.object c.in-Some.described c.in_ok-files.files (sym c.in-Some.is ∙ c.in_ok-described.ensures.does.found before inside ours s are sound)
+    (c.in_ok-files.ensures.does.map clean (still_ours old mid same ours) s (still_seen old mid s same are))
 
 pub returns-in_err-files-clause-keeps : goal.returns-in_err-files-clause-keeps
-returns-in_err-files-clause-keeps g c = reads_err c.from_residual-in_err-files.ensures.0 (reads_then c.in_ok-described.ensures.keeps c.load_files.ensures.keeps)
+returns-in_err-files-clause-keeps g c = reads_err c.from_residual-in_err-files.ensures.0 (reads_then c.in_ok-described.ensures.does.keeps c.load_files.ensures.does.keeps)
 
 pub returns-clause-keeps : goal.returns-clause-keeps
-returns-clause-keeps g c = reads_ok (reads_then c.in_ok-described.ensures.keeps c.in_ok-files.ensures.keeps)
+returns-clause-keeps g c = reads_ok (reads_then c.in_ok-described.ensures.does.keeps c.in_ok-files.ensures.does.keeps)
 
 pub returns-in_err-described-clause-cause : goal.returns-in_err-described-clause-cause
 returns-in_err-described-clause-cause g c clean inside ours s are storable =
@@ -37,11 +37,11 @@ returns-in_err-described-clause-cause g c clean inside ours s are storable =
 pub returns-in_err-files-clause-cause : goal.returns-in_err-files-clause-cause
 returns-in_err-files-clause-cause g c clean inside ours s are storable =
     if_err_is _ c.from_residual-in_err-files.result c.in_err-files.field-0.0 c.from_residual-in_err-files.ensures.1
-    (fails_then g.T.Statements.state c.args.tx.now c.load_object.new.tx c.load_files.new.tx c.load_object.ensures.keeps.stays.survives (FailsHolding (metadata_at s.objects c.args.object ≢ finmap.empty)) _
-    (statement (files_read _ (c.in_err-files.ensures.cause storable clean))))
+    (fails_then g.T.Statements.state c.args.tx.now c.load_object.new.tx c.load_files.new.tx c.load_object.ensures.does.keeps.stays.survives (FailsHolding (metadata_at s.objects c.args.object ≢ finmap.empty)) _
+    (statement (files_read _ (c.in_err-files.ensures.does.cause storable clean))))
 
 pub returns-in_err-described-clause-keeps : goal.returns-in_err-described-clause-keeps
-returns-in_err-described-clause-keeps g c = reads_err c.from_residual.ensures.0 c.in_err-described.ensures.keeps
+returns-in_err-described-clause-keeps g c = reads_err c.from_residual.ensures.0 c.in_err-described.ensures.does.keeps
 
 pub returns-in_default-clause-keeps : goal.returns-in_default-clause-keeps
-returns-in_default-clause-keeps g c = reads_ok c.in_ok-described.ensures.keeps
+returns-in_default-clause-keeps g c = reads_ok c.in_ok-described.ensures.does.keeps

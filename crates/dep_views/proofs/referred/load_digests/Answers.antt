@@ -27,9 +27,9 @@ returns-clause-map g c = record {
   found = λ clean inside ours s are is_open sound running u it live.
       let within = segments_within s u it sound live.there in
       let whole = sym (c.is_complete.ensures.whole s u it live within) ∙ c.if-not-is_complete.false in
-      let hashed = c.in_ok-digests.ensures.map is_open clean ours s are u it live within running in
+      let hashed = c.in_ok-digests.ensures.does.map is_open clean ours s are u it live within running in
       ap (λ (l : Digests). Some l) hashed ∙ sym (ap (λ b. if b then Some (digests_of (assembled it)) else None) whole);
-  keeps = may_ok c.in_ok-digests.ensures.keeps;
+  keeps = may_ok c.in_ok-digests.ensures.does.keeps;
 }
 
 pub returns-in_err-digests-clause-cause : goal.returns-in_err-digests-clause-cause
@@ -42,5 +42,5 @@ returns-in_err-digests-clause-cause g c is_open clean inside ours s are sound u 
 pub returns-in_err-digests-clause-map : goal.returns-in_err-digests-clause-map
 returns-in_err-digests-clause-map g c = record {
   found = λ clean inside ours s are is_open sound running u it live. IfOk-from_err c.from_residual.result _ c.from_residual.ensures.0;
-  keeps = may_err c.from_residual.ensures.0 c.in_err-digests.ensures.keeps;
+  keeps = may_err c.from_residual.ensures.0 c.in_err-digests.ensures.does.keeps;
 }

@@ -8,10 +8,10 @@ use Rattle.dep_views.proofs.shown.show_file.Goals as goal
 pub returns-in_err-row-clause-cause : goal.returns-in_err-row-clause-cause
 returns-in_err-row-clause-cause g c storable clean inside =
     if_err_is _ c.from_residual.result c.in_err-row.field-0.0 c.from_residual.ensures.1
-    (fails_first g.T.Statements.state c.args.tx.now c.find_file.new.tx FailsByStatement _ (file_found _ (c.in_err-row.ensures.cause storable clean)))
+    (fails_first g.T.Statements.state c.args.tx.now c.find_file.new.tx FailsByStatement _ (file_found _ (c.in_err-row.ensures.does.cause storable clean)))
 
 pub returns-in_err-row-clause-map : goal.returns-in_err-row-clause-map
 returns-in_err-row-clause-map g c = record {
   found = λ clean inside ours s are. IfOk-from_err c.from_residual.result _ c.from_residual.ensures.0;
-  keeps = reads_err c.from_residual.ensures.0 c.in_err-row.ensures.keeps;
+  keeps = reads_err c.from_residual.ensures.0 c.in_err-row.ensures.does.keeps;
 }
