@@ -5,7 +5,7 @@ use Rattle.sqlite.specs.State as db
 use Rattle.dep_types.specs.State.{State, Object}
 use Rattle.dep_types.specs.declared.rows.ObjectRow.{ObjectRow}
 use Rattle.dep_types.specs.declared.store_fault.StoreFault.{StoreFault}
-use Rattle.dep_row_maps.specs.Clauses.{ChangesWithin, FromMaps, SeesState}
+use Rattle.dep_row_maps.specs.Clauses.{Does, FromMaps, SeesState}
 use Rattle.dep_row_maps.specs.Causes.{FailsByOne, FailsHolding, FailsSince}
 use Rattle.dep_decisions.specs.Effects.{appended, bytes_from}
 use Rattle.dep_decisions.specs.declared.decision.Source.{Source}
@@ -48,18 +48,14 @@ module _ {T A : Type 0} (state : T → db.State) (old new : T) (result : Result 
 
 module _ {T L A : Type 0} (lenders : T → L) (state : T → db.State) (old new : T)
     (result : Result A StoreFault) where
-  -- what a call does, and what each keeps that changes our tables
-  pub record Does (this : Type 0) : Type 0 where
-    pub done : this
-    pub keeps : ChangesWithin lenders state old new result
-
   -- so it turns a state
   abbrev pub Makes : (told : State → Type 0) → (after : State → State) → Type 0
-  Makes told after = Does (Turns state old new result told after)
+  Makes told after = Does lenders state old new result (Turns state old new result told after)
 
   -- the same where it is told of an object, whichever that is
   abbrev pub MakesOf : (told : Object → State → Type 0) → (after : Object → State → State) → Type 0
-  MakesOf told after = Does ((o : Object) → Turns state old new result (told o) (after o))
+  MakesOf told after = Does lenders state old new result
+      ((o : Object) → Turns state old new result (told o) (after o))
 
   -- where what the decision relies on is told, an Ok has carried it out on the maps
   abbrev pub CarriesOut : Change → Decision → Type 0

@@ -37,7 +37,7 @@ pub returns-clause-map : goal.returns-clause-map
 returns-clause-map g c = record {
   done = λ clean inside ours s are it.
       let new = g.T.Statements.state c.set_counters.new.tx in
-      let before = clean_before c.set_counters.ensures.keeps.stays clean in
+      let before = clean_before c.set_counters.ensures.does.keeps.stays clean in
       let view = c.args.view.now in
       let d = c.args.decision.now in
       let content = c.args.content.now in
@@ -46,9 +46,9 @@ returns-clause-map g c = record {
       let made = c.in_ok-change_maps.ensures.map.done before inside ours s are (numbers, told s view content d it) in
       let after : next ≡ counters_after s.next (numbers_for d) = c.after_taking-next.ensures ∙ ap (λ (was : Counters). counters_after was c.numbers_for.result) numbers.1 ∙ ap (counters_after s.next) c.numbers_for.ensures in
       ok_then c.set_counters.result
-      (c.set_counters.ensures.map clean (c.in_ok-change_maps.ensures.map.keeps.stays.inside before inside) (c.in_ok-change_maps.ensures.map.keeps.ours before inside ours) (with_maps s content d) made)
+      (c.set_counters.ensures.does.map clean (c.in_ok-change_maps.ensures.map.keeps.stays.inside before inside) (c.in_ok-change_maps.ensures.map.keeps.ours before inside ours) (with_maps s content d) made)
       (λ wrote. carried s content d (tables_of new) view.clock next numbers.0 after wrote);
-  keeps = changes_then c.in_ok-change_maps.ensures.map.keeps c.set_counters.ensures.keeps;
+  keeps = changes_then c.in_ok-change_maps.ensures.map.keeps c.set_counters.ensures.does.keeps;
 }
 
 pub returns-in_err-change_maps-clause-untouched : goal.returns-in_err-change_maps-clause-untouched
@@ -83,11 +83,11 @@ returns-clause-cause g c clean inside ours s are it =
     let d = c.args.decision.now in
     let content = c.args.content.now in
     let by = it.accepted in
-    let before = clean_before c.set_counters.ensures.keeps.stays clean in
+    let before = clean_before c.set_counters.ensures.does.keeps.stays clean in
     let numbers = numbers_told s view content d by in
     let after : c.after_taking-next.result ≡ counters_after view.next (numbers_for d) = c.after_taking-next.ensures ∙ ap (counters_after view.next) c.numbers_for.ensures in
     let storable = counters_fit s by.sound view (numbers_for d) c.after_taking-next.result numbers c.requires after _ refl in
-    if_err_then c.set_counters.result (c.set_counters.ensures.cause storable clean (c.in_ok-change_maps.ensures.map.keeps.stays.inside before inside))
+    if_err_then c.set_counters.result (c.set_counters.ensures.does.cause storable clean (c.in_ok-change_maps.ensures.map.keeps.stays.inside before inside))
     (λ fault failed. fails_then g.T.Statements.state c.args.tx.now c.change_maps.new.tx c.set_counters.new.tx c.in_ok-change_maps.ensures.map.keeps.stays.survives (FailsHolding (TakesMemory s d)) fault (statement (state_written _ failed)))
 
 pub returns-in_err-change_maps-clause-map : goal.returns-in_err-change_maps-clause-map

@@ -135,11 +135,11 @@ returns-in-Receive-clause-cause g c =
 pub returns-in-DropUpload-clause-map : goal.returns-in-DropUpload-clause-map
 returns-in-DropUpload-clause-map g c =
     carried_as g.T.Statements.state c.args.tx.now c.drop_upload.new.tx c.drop_upload.result c.args.change.now c.args.decision.now _ c.in-DropUpload.is
-    (record { done = λ clean inside ours s are told. c.drop_upload.ensures.map clean inside ours s are; keeps = c.drop_upload.ensures.keeps })
+    (record { done = λ clean inside ours s are told. c.drop_upload.ensures.does.map clean inside ours s are; keeps = c.drop_upload.ensures.does.keeps })
 
 pub returns-in-DropUpload-clause-cause : goal.returns-in-DropUpload-clause-cause
 returns-in-DropUpload-clause-cause g c =
     fails_alike g.T.Statements.state c.args.tx.now c.drop_upload.new.tx c.drop_upload.result c.args.change.now c.args.decision.now _ c.in-DropUpload.is
     (λ s storable clean inside.
     caused_among g.T.Statements.state (FailsToDrop c.in-DropUpload.upload) (FailsHolding ⊥) (λ at now fault failed. by_statement ⊥ at now fault (drop_among at now fault c.in-DropUpload.upload failed)) c.drop_upload.result c.args.tx.now c.drop_upload.new.tx
-    (c.drop_upload.ensures.cause storable clean inside))
+    (c.drop_upload.ensures.does.cause storable clean inside))

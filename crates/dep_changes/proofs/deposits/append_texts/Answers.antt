@@ -28,7 +28,7 @@ returns-clause-map g c = record {
       let view = c.args.change.now.view.now in
       let mid = g.T.Statements.state c.write_row.new.tx in
       let new = g.T.Statements.state c.append_metadata.new.tx in
-      let before = clean_before c.append_metadata.ensures.keeps.stays clean in
+      let before = clean_before c.append_metadata.ensures.does.keeps.stays clean in
       let numbers = told.0.0 in
       let row = told.1 in
       let n = c.args.row.object in
@@ -40,9 +40,9 @@ returns-clause-map g c = record {
       let one : State = with_object s n mark in
       let after : Object = with_texts s (joined (finmap.entries c.args.metadata.now) it.metadata) it in
       ok_then c.append_metadata.result
-      (c.append_metadata.ensures.map clean (c.in_ok-write_row.ensures.map.keeps.stays.inside before inside) (c.in_ok-write_row.ensures.map.keeps.ours before inside ours) one put mark (get_here s.objects n mark))
+      (c.append_metadata.ensures.does.done clean (c.in_ok-write_row.ensures.map.keeps.stays.inside before inside) (c.in_ok-write_row.ensures.map.keeps.ours before inside ours) one put mark (get_here s.objects n mark))
       (λ added. written_again (tables_of new) s n mark after added);
-  keeps = changes_then c.in_ok-write_row.ensures.map.keeps c.append_metadata.ensures.keeps;
+  keeps = changes_then c.in_ok-write_row.ensures.map.keeps c.append_metadata.ensures.does.keeps;
 }
 
 pub returns-in_err-write_row-clause-cause : goal.returns-in_err-write_row-clause-cause
@@ -60,7 +60,7 @@ returns-clause-cause g c it clean inside ours s are storable =
     let row = storable.1 in
     let more = c.args.metadata.now in
     let mid = g.T.Statements.state c.write_row.new.tx in
-    let before = clean_before c.append_metadata.ensures.keeps.stays clean in
+    let before = clean_before c.append_metadata.ensures.does.keeps.stays clean in
     let n = c.args.row.object in
     let now = c.texts_changed.result in
     let mark : Object = with_texts s it.metadata it in

@@ -9,4 +9,4 @@ returns-clause-cause g c fits clean inside =
     let m = c.new.result in
     let held = m ≢ finmap.empty in
     caused_among g.T.Statements.state (FailsHolding held) FailsByStatement (holding_nothing held (λ some. some c.new.ensures)) c.set_metadata-2.result c.args.tx.now c.set_metadata-2.new.tx
-    (c.set_metadata-2.ensures.cause (fits, no_places finmap.empty m c.new.ensures) clean inside)
+    (c.set_metadata-2.ensures.does.cause (fits, no_places finmap.empty m c.new.ensures) clean inside)

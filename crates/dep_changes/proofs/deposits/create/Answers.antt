@@ -35,13 +35,13 @@ returns-clause-map g c = record {
       let it : Object = blank s c.args.ingests in
       let is = blank_row_is s view.clock view.next numbers.0 numbers.1 now k c.args.ingests c.blank_row.ensures in
       let to = its_number k it now is ∙ number in
-      let put = at_number (tables_of mid) s now.object n it to (blank_added (tables_of mid) s now it (its_own k it now is) refl refl (c.in_ok-add_object.ensures.map before inside ours s are)) in
+      let put = at_number (tables_of mid) s now.object n it to (blank_added (tables_of mid) s now it (its_own k it now is) refl refl (c.in_ok-add_object.ensures.does.map before inside ours s are)) in
       let one : State = with_object s n it in
       ok_then c.fill.result
-      (c.fill.ensures.map.done it clean (c.in_ok-add_object.ensures.keeps.stays.inside before inside) (c.in_ok-add_object.ensures.keeps.ours before inside ours) one put
+      (c.fill.ensures.map.done it clean (c.in_ok-add_object.ensures.does.keeps.stays.inside before inside) (c.in_ok-add_object.ensures.does.keeps.ours before inside ours) one put
       ((numbers, still_have one.objects s content view.uploads c.args.numbered.now.deposit.now told.1.1), there_at one.objects k n it number (get_here s.objects n it)))
       (λ done. deposit_again (tables_of new) s content k n it c.args.numbered.now.deposit.now c.args.ingests number done);
-  keeps = changes_then c.in_ok-add_object.ensures.keeps c.fill.ensures.map.keeps;
+  keeps = changes_then c.in_ok-add_object.ensures.does.keeps c.fill.ensures.map.keeps;
 }
 
 pub returns-in_err-add_object-clause-cause : goal.returns-in_err-add_object-clause-cause
@@ -50,17 +50,17 @@ returns-in_err-add_object-clause-cause g c s storable clean inside =
     let held = HasCopies c.args.numbered.now.deposit.now in
     let fits = blank_fits view storable.0 c.blank_row.result _ _ storable.0.object c.blank_row.ensures in
     if_err_is _ c.from_residual.result c.in_err-add_object.field-0.0 c.from_residual.ensures.1
-    (fails_first g.T.Statements.state c.args.tx.now c.add_object.new.tx (FailsHolding held) _ (statement (object_added _ (c.in_err-add_object.ensures.cause fits clean inside))))
+    (fails_first g.T.Statements.state c.args.tx.now c.add_object.new.tx (FailsHolding held) _ (statement (object_added _ (c.in_err-add_object.ensures.does.cause fits clean inside))))
 
 pub returns-clause-cause : goal.returns-clause-cause
 returns-clause-cause g c s storable clean inside =
     let held = HasCopies c.args.numbered.now.deposit.now in
     let before = clean_before c.fill.ensures.map.keeps.stays clean in
-    caused_later g.T.Statements.state (FailsHolding held) (FailsHolding held) (λ at now fault it. it) c.fill.result c.args.tx.now c.add_object.new.tx c.fill.new.tx c.in_ok-add_object.ensures.keeps.stays.survives
-    (c.fill.ensures.cause (storable.0, storable.0.object, storable.1) clean (c.in_ok-add_object.ensures.keeps.stays.inside before inside))
+    caused_later g.T.Statements.state (FailsHolding held) (FailsHolding held) (λ at now fault it. it) c.fill.result c.args.tx.now c.add_object.new.tx c.fill.new.tx c.in_ok-add_object.ensures.does.keeps.stays.survives
+    (c.fill.ensures.cause (storable.0, storable.0.object, storable.1) clean (c.in_ok-add_object.ensures.does.keeps.stays.inside before inside))
 
 pub returns-in_err-add_object-clause-map : goal.returns-in_err-add_object-clause-map
 returns-in_err-add_object-clause-map g c = record {
   done = λ clean inside ours s are told. IfOk-from_err c.from_residual.result _ c.from_residual.ensures.0;
-  keeps = changes_err c.from_residual.ensures.0 c.in_err-add_object.ensures.keeps.stays;
+  keeps = changes_err c.from_residual.ensures.0 c.in_err-add_object.ensures.does.keeps.stays;
 }

@@ -15,7 +15,7 @@ returns-in-Files-clause-map g c =
 pub returns-in-Metadata-clause-map : goal.returns-in-Metadata-clause-map
 returns-in-Metadata-clause-map g c =
     subst (PutsIn g.T.Statements.lenders g.T.Statements.state c.args.tx.now c.set_metadata.new.tx c.set_metadata.result c.args.numbered.now.change c.args.object) (sym c.in-Metadata.is)
-    (record { done = λ o clean inside ours s are told. c.set_metadata.ensures.map clean inside ours s are o told.1; keeps = c.set_metadata.ensures.keeps })
+    (record { done = λ o clean inside ours s are told. c.set_metadata.ensures.does.map clean inside ours s are o told.1; keeps = c.set_metadata.ensures.does.keeps })
 
 pub returns-in-Files-clause-cause : goal.returns-in-Files-clause-cause
 returns-in-Files-clause-cause g c =
@@ -25,4 +25,4 @@ returns-in-Files-clause-cause g c =
 pub returns-in-Metadata-clause-cause : goal.returns-in-Metadata-clause-cause
 returns-in-Metadata-clause-cause g c =
     subst (λ (d : Deposit). FailsByOne g.T.Statements.state c.args.tx.now c.set_metadata.new.tx c.set_metadata.result (IsStorableAt c.args.numbered.now.change c.args.object d) (FailsHolding (HasCopies d))) (sym c.in-Metadata.is)
-    (λ storable. c.set_metadata.ensures.cause (storable.1, storable.2))
+    (λ storable. c.set_metadata.ensures.does.cause (storable.1, storable.2))

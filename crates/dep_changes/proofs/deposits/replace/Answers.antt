@@ -35,8 +35,8 @@ returns-clause-map g c n = record {
       let clean_three = clean_before c.fill.ensures.map.keeps.stays clean in
       let clean_two = clean_before c.write_row.ensures.map.keeps.stays clean_three in
       let clean_one = clean_before c.clear_metadata.ensures.map.keeps.stays clean_two in
-      let inside_one = c.in_ok-delete_files.ensures.keeps.stays.inside clean_one inside in
-      let ours_one = c.in_ok-delete_files.ensures.keeps.ours clean_one inside ours in
+      let inside_one = c.in_ok-delete_files.ensures.does.keeps.stays.inside clean_one inside in
+      let ours_one = c.in_ok-delete_files.ensures.does.keeps.ours clean_one inside ours in
       let inside_two = c.in_ok-clear_metadata.ensures.map.keeps.stays.inside clean_two inside_one in
       let ours_two = c.in_ok-clear_metadata.ensures.map.keeps.ours clean_two inside_one ours_one in
       let row = c.ingested_by-row.result in
@@ -45,7 +45,7 @@ returns-clause-map g c n = record {
       let row_of = ingested_row n o c.args.ingests c.in_ok-touched.field-0 row (row_is s n o view.object object.0 c.in_ok-touched.field-0 c.in_ok-touched.ensures.told) c.ingested_by-row.ensures in
       let number = its_number n it row row_of in
       let left : Object = record o { files = finmap.empty } in
-      let gone = at_number (tables_of one) s row.object n left number (c.in_ok-delete_files.ensures.map clean_one inside ours s are o (there_at s.objects row.object n o number object.1)) in
+      let gone = at_number (tables_of one) s row.object n left number (c.in_ok-delete_files.ensures.does.done clean_one inside ours s are o (there_at s.objects row.object n o number object.1)) in
       let first : State = with_object s n left in
       let bare : Object = record left { metadata = finmap.empty } in
       let cleared = written_again (tables_of two) s n left bare (at_number (tables_of two) first row.object n bare number
@@ -62,19 +62,19 @@ returns-clause-map g c n = record {
       (c.fill.ensures.map.done clear clean (c.in_ok-write_row.ensures.map.keeps.stays.inside clean_three inside_two) (c.in_ok-write_row.ensures.map.keeps.ours clean_three inside_two ours_two) third put
       ((numbers, still_have third.objects s content view.uploads c.args.numbered.now.deposit.now told.1.2), there_at third.objects row.object n clear number (get_here s.objects n clear)))
       (λ done. deposit_again (tables_of new) s content row.object n clear c.args.numbered.now.deposit.now ingested number done));
-  keeps = changes_then (changes_then (changes_then c.in_ok-delete_files.ensures.keeps c.in_ok-clear_metadata.ensures.map.keeps) c.in_ok-write_row.ensures.map.keeps) c.fill.ensures.map.keeps;
+  keeps = changes_then (changes_then (changes_then c.in_ok-delete_files.ensures.does.keeps c.in_ok-clear_metadata.ensures.map.keeps) c.in_ok-write_row.ensures.map.keeps) c.fill.ensures.map.keeps;
 }
 
 pub returns-in_err-clear_metadata-clause-map : goal.returns-in_err-clear_metadata-clause-map
 returns-in_err-clear_metadata-clause-map g c n = record {
   done = λ clean inside ours s are told. IfOk-from_err c.from_residual-in_err-clear_metadata.result _ c.from_residual-in_err-clear_metadata.ensures.0;
-  keeps = changes_err c.from_residual-in_err-clear_metadata.ensures.0 (stays_then c.in_ok-delete_files.ensures.keeps.stays c.clear_metadata.ensures.map.keeps.stays);
+  keeps = changes_err c.from_residual-in_err-clear_metadata.ensures.0 (stays_then c.in_ok-delete_files.ensures.does.keeps.stays c.clear_metadata.ensures.map.keeps.stays);
 }
 
 pub returns-in_err-write_row-clause-map : goal.returns-in_err-write_row-clause-map
 returns-in_err-write_row-clause-map g c n = record {
   done = λ clean inside ours s are told. IfOk-from_err c.from_residual-in_err-write_row.result _ c.from_residual-in_err-write_row.ensures.0;
-  keeps = changes_err c.from_residual-in_err-write_row.ensures.0 (stays_then (stays_then c.in_ok-delete_files.ensures.keeps.stays c.in_ok-clear_metadata.ensures.map.keeps.stays) c.write_row.ensures.map.keeps.stays);
+  keeps = changes_err c.from_residual-in_err-write_row.ensures.0 (stays_then (stays_then c.in_ok-delete_files.ensures.does.keeps.stays c.in_ok-clear_metadata.ensures.map.keeps.stays) c.write_row.ensures.map.keeps.stays);
 }
 
 pub returns-in_err-touched-clause-cause : goal.returns-in_err-touched-clause-cause
@@ -97,15 +97,15 @@ returns-in_err-clear_metadata-clause-cause g c n clean inside ours s are storabl
     let before = clean_before c.clear_metadata.ensures.map.keeps.stays clean in
     let row = ingested_fits c.in_ok-touched.field-0 c.ingested_by-row.result c.args.ingests (found_fits view told c.in_ok-touched.field-0 c.in_ok-touched.ensures.told) c.ingested_by-row.ensures in
     if_err_is _ c.from_residual-in_err-clear_metadata.result c.in_err-clear_metadata.field-0.0 c.from_residual-in_err-clear_metadata.ensures.1
-    (fails_later g.T.Statements.state c.args.tx.now c.delete_files.new.tx c.clear_metadata.new.tx c.in_ok-delete_files.ensures.keeps.stays.survives FailsByStatement (FailsHolding held) (by_statement held) _
-    (c.in_err-clear_metadata.ensures.cause row.object clean (c.in_ok-delete_files.ensures.keeps.stays.inside before inside)))
+    (fails_later g.T.Statements.state c.args.tx.now c.delete_files.new.tx c.clear_metadata.new.tx c.in_ok-delete_files.ensures.does.keeps.stays.survives FailsByStatement (FailsHolding held) (by_statement held) _
+    (c.in_err-clear_metadata.ensures.cause row.object clean (c.in_ok-delete_files.ensures.does.keeps.stays.inside before inside)))
 
 pub returns-in_err-write_row-clause-cause : goal.returns-in_err-write_row-clause-cause
 returns-in_err-write_row-clause-cause g c n clean inside ours s are storable =
     let view = c.args.numbered.now.change.view.now in
     let told = storable.1 in
     let held = HasCopies c.args.numbered.now.deposit.now in
-    let two = stays_then c.in_ok-delete_files.ensures.keeps.stays c.in_ok-clear_metadata.ensures.map.keeps.stays in
+    let two = stays_then c.in_ok-delete_files.ensures.does.keeps.stays c.in_ok-clear_metadata.ensures.map.keeps.stays in
     let before = clean_before c.write_row.ensures.map.keeps.stays clean in
     let row = ingested_fits c.in_ok-touched.field-0 c.ingested_by-row.result c.args.ingests (found_fits view told c.in_ok-touched.field-0 c.in_ok-touched.ensures.told) c.ingested_by-row.ensures in
     if_err_is _ c.from_residual-in_err-write_row.result c.in_err-write_row.field-0.0 c.from_residual-in_err-write_row.ensures.1
@@ -117,7 +117,7 @@ returns-clause-cause g c n clean inside ours s are storable =
     let view = c.args.numbered.now.change.view.now in
     let told = storable.1 in
     let held = HasCopies c.args.numbered.now.deposit.now in
-    let three = stays_then (stays_then c.in_ok-delete_files.ensures.keeps.stays c.in_ok-clear_metadata.ensures.map.keeps.stays) c.in_ok-write_row.ensures.map.keeps.stays in
+    let three = stays_then (stays_then c.in_ok-delete_files.ensures.does.keeps.stays c.in_ok-clear_metadata.ensures.map.keeps.stays) c.in_ok-write_row.ensures.map.keeps.stays in
     let before = clean_before c.fill.ensures.map.keeps.stays clean in
     let row = ingested_fits c.in_ok-touched.field-0 c.ingested_by-row.result c.args.ingests (found_fits view told c.in_ok-touched.field-0 c.in_ok-touched.ensures.told) c.ingested_by-row.ensures in
     caused_later g.T.Statements.state (FailsHolding held) (FailsHolding held) (λ at now fault it. it) c.fill.result c.args.tx.now c.write_row.new.tx c.fill.new.tx three.survives
@@ -132,5 +132,5 @@ returns-in_err-touched-clause-map g c n = record {
 pub returns-in_err-delete_files-clause-map : goal.returns-in_err-delete_files-clause-map
 returns-in_err-delete_files-clause-map g c n = record {
   done = λ clean inside ours s are told. IfOk-from_err c.from_residual-in_err-delete_files.result _ c.from_residual-in_err-delete_files.ensures.0;
-  keeps = changes_err c.from_residual-in_err-delete_files.ensures.0 c.in_err-delete_files.ensures.keeps.stays;
+  keeps = changes_err c.from_residual-in_err-delete_files.ensures.0 c.in_err-delete_files.ensures.does.keeps.stays;
 }

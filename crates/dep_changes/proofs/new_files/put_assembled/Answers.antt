@@ -49,8 +49,8 @@ returns-clause-map g c u = record {
       let row_is = made_row c.args.change.now s numbers new _ (assembled it) c.in_ok-row.row c.in_ok-row.ensures told.0.0 (ap (λ (w : UploadRow). w.size) is.0 ∙ sym source.whole.size, is.1) in
       subst (λ (found : Option Upload). OnOk c.assemble.result (SeesState (g.T.Statements.state c.assemble.new.tx) (deposited s numbers.object o numbers.file (made_file s new (option_map_or assembled found [])) u))) (sym source.there)
       (done_as (λ (n f w : ℕ). OnOk c.assemble.result (SeesState (g.T.Statements.state c.assemble.new.tx) (deposited s n o f file w))) s numbers.object numbers.file u o it file c.in_ok-row.row up.row row_is is.0 there source.there
-      (λ at_object at_upload upload_is same. c.assemble.ensures.map clean inside ours s are o it file at_object at_upload source.whole.segments upload_is same refl));
-  keeps = c.assemble.ensures.keeps;
+      (λ at_object at_upload upload_is same. c.assemble.ensures.does.map clean inside ours s are o it file at_object at_upload source.whole.segments upload_is same refl));
+  keeps = c.assemble.ensures.does.keeps;
 }
 
 pub returns-in_err-row-clause-cause : goal.returns-in_err-row-clause-cause
@@ -63,4 +63,4 @@ returns-clause-cause g c u storable clean inside =
     let whole = storable.3 in
     let upload = whole_fits c.in_ok-upload.upload.row whole.upload whole.it whole.fits (c.in_ok-upload.ensures.told whole.upload whole.it whole.told).0 in
     let fits = new_row_fits c.args.change.now storable.0 c.args.numbers c.args.new.now _ c.in_ok-row.row storable.1 storable.2 upload.size c.in_ok-row.ensures in
-    caused_among g.T.Statements.state FailsByStatement (FailsHolding ⊤) (by_statement ⊤) c.assemble.result c.args.tx.now c.assemble.new.tx (c.assemble.ensures.cause (upload, fits) clean inside)
+    caused_among g.T.Statements.state FailsByStatement (FailsHolding ⊤) (by_statement ⊤) c.assemble.result c.args.tx.now c.assemble.new.tx (c.assemble.ensures.does.cause (upload, fits) clean inside)

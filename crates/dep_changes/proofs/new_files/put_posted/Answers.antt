@@ -19,7 +19,7 @@ pub returns-clause-cause : goal.returns-clause-cause
 returns-clause-cause g c place storable clean inside =
     let size = subst (λ (bytes : List ℕ). IsStorable (length bytes)) (sym c.as_slice.ensures) storable.3 in
     let fits = new_row_fits c.args.change.now storable.0 c.args.numbers c.args.new.now _ c.in_ok-row.row storable.1 storable.2 size c.in_ok-row.ensures in
-    caused_among g.T.Statements.state FailsByStatement (FailsHolding ⊤) (by_statement ⊤) c.put_file.result c.args.tx.now c.put_file.new.tx (c.put_file.ensures.cause fits clean inside)
+    caused_among g.T.Statements.state FailsByStatement (FailsHolding ⊤) (by_statement ⊤) c.put_file.result c.args.tx.now c.put_file.new.tx (c.put_file.ensures.does.cause fits clean inside)
 
 pub returns-in_err-row-clause-map : goal.returns-in_err-row-clause-map
 returns-in_err-row-clause-map g c place = record {

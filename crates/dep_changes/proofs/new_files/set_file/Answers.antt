@@ -33,7 +33,7 @@ returns-clause-map g c n = record {
       let two = g.T.Statements.state c.delete_file.new.tx in
       let new = g.T.Statements.state c.put_posted.new.tx in
       let clean_two = clean_before (c.put_posted.ensures.map 0).keeps.stays clean in
-      let clean_one = clean_before c.delete_file.ensures.keeps.stays clean_two in
+      let clean_one = clean_before c.delete_file.ensures.does.keeps.stays clean_two in
       let inside_one = c.in_ok-write_row.ensures.map.keeps.stays.inside clean_one inside in
       let ours_one = c.in_ok-write_row.ensures.map.keeps.ours clean_one inside ours in
       let numbers = told.0 in
@@ -50,24 +50,24 @@ returns-clause-map g c n = record {
       let first : State = with_object s n mark in
       let left : Object = with_files s (finmap.remove o.files f) o in
       let gone = written_again (tables_of two) s n mark left
-      (c.in_ok-delete_file.ensures.map clean_two inside_one ours_one first put n mark file (get_here s.objects n mark) told.1.2.1) in
+      (c.in_ok-delete_file.ensures.does.map clean_two inside_one ours_one first put n mark file (get_here s.objects n mark) told.1.2.1) in
       let second : State = with_object s n left in
       let made : File = made_file s as_new content in
       let it : Object = with_files s (finmap.insert (finmap.remove o.files f) f made) o in
       let digests : c.in-Posted.digests ≡ digests_of content = let posted = c.in-Posted.is in cc in
       at_object s s.uploads new c.put_posted.result n o (λ (x : Object). with_files s (finmap.insert x.files f (file_from s content as_new)) x) object.1
       (ok_then c.put_posted.result
-      ((c.put_posted.ensures.map 0).done left clean (c.in_ok-delete_file.ensures.keeps.stays.inside clean_two inside_one) (c.in_ok-delete_file.ensures.keeps.ours clean_two inside_one ours_one) second gone
+      ((c.put_posted.ensures.map 0).done left clean (c.in_ok-delete_file.ensures.does.keeps.stays.inside clean_two inside_one) (c.in_ok-delete_file.ensures.does.keeps.ours clean_two inside_one ours_one) second gone
       ((numbers, digests), there_at second.objects row.object n left number (get_here s.objects n left)))
       (λ there. subst (λ (from : Source). TablesAre (tables_of new) (with_object s n (with_files s (finmap.insert o.files f (made_file s as_new (bytes_from s content from))) o))) (sym source)
       (file_replaced (tables_of new) s n o f made (written_again (tables_of new) s n left it (at_number (tables_of new) second row.object n it number there)))));
-  keeps = changes_then (changes_then c.in_ok-write_row.ensures.map.keeps c.in_ok-delete_file.ensures.keeps) (c.put_posted.ensures.map 0).keeps;
+  keeps = changes_then (changes_then c.in_ok-write_row.ensures.map.keeps c.in_ok-delete_file.ensures.does.keeps) (c.put_posted.ensures.map 0).keeps;
 }
 
 pub returns-in_err-delete_file-clause-map : goal.returns-in_err-delete_file-clause-map
 returns-in_err-delete_file-clause-map g c n = record {
   done = λ clean inside ours s are told. IfOk-from_err c.from_residual-in_err-delete_file.result _ c.from_residual-in_err-delete_file.ensures.0;
-  keeps = changes_err c.from_residual-in_err-delete_file.ensures.0 (stays_then c.in_ok-write_row.ensures.map.keeps.stays c.delete_file.ensures.keeps.stays);
+  keeps = changes_err c.from_residual-in_err-delete_file.ensures.0 (stays_then c.in_ok-write_row.ensures.map.keeps.stays c.delete_file.ensures.does.keeps.stays);
 }
 
 pub returns-in_err-row-clause-cause : goal.returns-in_err-row-clause-cause
@@ -83,15 +83,15 @@ returns-in_err-write_row-clause-cause g c n s storable clean inside =
 
 pub returns-in_err-delete_file-clause-cause : goal.returns-in_err-delete_file-clause-cause
 returns-in_err-delete_file-clause-cause g c n s storable clean inside =
-    let before = clean_before c.delete_file.ensures.keeps.stays clean in
+    let before = clean_before c.delete_file.ensures.does.keeps.stays clean in
     if_err_is _ c.from_residual-in_err-delete_file.result c.in_err-delete_file.field-0.0 c.from_residual-in_err-delete_file.ensures.1
     (fails_later g.T.Statements.state c.args.tx.now c.write_row.new.tx c.delete_file.new.tx c.in_ok-write_row.ensures.map.keeps.stays.survives FailsByStatement (FailsHolding ⊤) (by_statement ⊤) _
-    (c.in_err-delete_file.ensures.cause storable.1 clean (c.in_ok-write_row.ensures.map.keeps.stays.inside before inside)))
+    (c.in_err-delete_file.ensures.does.cause storable.1 clean (c.in_ok-write_row.ensures.map.keeps.stays.inside before inside)))
 
 pub returns-clause-cause : goal.returns-clause-cause
 returns-clause-cause g c n s storable clean inside =
     let view = c.args.change.now.view.now in
-    let two = stays_then c.in_ok-write_row.ensures.map.keeps.stays c.in_ok-delete_file.ensures.keeps.stays in
+    let two = stays_then c.in_ok-write_row.ensures.map.keeps.stays c.in_ok-delete_file.ensures.does.keeps.stays in
     let before = clean_before (c.put_posted.ensures.map 0).keeps.stays clean in
     let fits = found_fits view storable.0 c.in_ok-row.row c.in_ok-row.ensures.told in
     caused_later g.T.Statements.state (FailsHolding ⊤) (FailsHolding ⊤) (λ at now fault it. it) c.put_posted.result c.args.tx.now c.delete_file.new.tx c.put_posted.new.tx two.survives

@@ -30,15 +30,15 @@ returns-clause-map g c n = record {
       let new = g.T.Statements.state c.put_new_files.new.tx in
       let clean_two = clean_before c.put_new_files.ensures.map.keeps.stays clean in
       let clean_one = clean_before c.write_row.ensures.map.keeps.stays clean_two in
-      let inside_one = c.in_ok-delete_files.ensures.keeps.stays.inside clean_one inside in
-      let ours_one = c.in_ok-delete_files.ensures.keeps.ours clean_one inside ours in
+      let inside_one = c.in_ok-delete_files.ensures.does.keeps.stays.inside clean_one inside in
+      let ours_one = c.in_ok-delete_files.ensures.does.keeps.ours clean_one inside ours in
       let numbers = told.0 in
       let o = told.1.0 in
       let object = told.1.1 in
       let row = c.in_ok-row.row in
       let number = number_is s n o view.object object.0 row c.in_ok-row.ensures.told in
       let left : Object = record o { files = finmap.empty } in
-      let gone = at_number (tables_of one) s row.object n left number (c.in_ok-delete_files.ensures.map clean_one inside ours s are o (there_at s.objects row.object n o number object.1)) in
+      let gone = at_number (tables_of one) s row.object n left number (c.in_ok-delete_files.ensures.does.done clean_one inside ours s are o (there_at s.objects row.object n o number object.1)) in
       let first : State = with_object s n left in
       let now = c.files_changed.result in
       let bare : Object = with_files s finmap.empty o in
@@ -51,13 +51,13 @@ returns-clause-map g c n = record {
       (c.put_new_files.ensures.map.done bare clean (c.in_ok-write_row.ensures.map.keeps.stays.inside clean_two inside_one) (c.in_ok-write_row.ensures.map.keeps.ours clean_two inside_one ours_one) second put
       ((numbers, told.1.2), there_at second.objects row.object n bare number (get_here s.objects n bare)))
       (λ added. new_files_again (tables_of new) s content row.object n bare bare c.args.numbered.now.files.now number added));
-  keeps = changes_then (changes_then c.in_ok-delete_files.ensures.keeps c.in_ok-write_row.ensures.map.keeps) c.put_new_files.ensures.map.keeps;
+  keeps = changes_then (changes_then c.in_ok-delete_files.ensures.does.keeps c.in_ok-write_row.ensures.map.keeps) c.put_new_files.ensures.map.keeps;
 }
 
 pub returns-in_err-write_row-clause-map : goal.returns-in_err-write_row-clause-map
 returns-in_err-write_row-clause-map g c n = record {
   done = λ clean inside ours s are told. IfOk-from_err c.from_residual-in_err-write_row.result _ c.from_residual-in_err-write_row.ensures.0;
-  keeps = changes_err c.from_residual-in_err-write_row.ensures.0 (stays_then c.in_ok-delete_files.ensures.keeps.stays c.write_row.ensures.map.keeps.stays);
+  keeps = changes_err c.from_residual-in_err-write_row.ensures.0 (stays_then c.in_ok-delete_files.ensures.does.keeps.stays c.write_row.ensures.map.keeps.stays);
 }
 
 pub returns-in_err-row-clause-cause : goal.returns-in_err-row-clause-cause
@@ -81,15 +81,15 @@ returns-in_err-write_row-clause-cause g c n clean inside ours s are storable =
     let row = c.in_ok-row.row in
     let fits = files_fit view told.numbers row c.files_changed.result (found_fits view told row c.in_ok-row.ensures.told) c.files_changed.ensures in
     if_err_is _ c.from_residual-in_err-write_row.result c.in_err-write_row.field-0.0 c.from_residual-in_err-write_row.ensures.1
-    (fails_then g.T.Statements.state c.args.tx.now c.delete_files.new.tx c.write_row.new.tx c.in_ok-delete_files.ensures.keeps.stays.survives (FailsHolding held) _
-    (statement (object_written _ (c.in_err-write_row.ensures.cause fits clean (c.in_ok-delete_files.ensures.keeps.stays.inside before inside)))))
+    (fails_then g.T.Statements.state c.args.tx.now c.delete_files.new.tx c.write_row.new.tx c.in_ok-delete_files.ensures.does.keeps.stays.survives (FailsHolding held) _
+    (statement (object_written _ (c.in_err-write_row.ensures.cause fits clean (c.in_ok-delete_files.ensures.does.keeps.stays.inside before inside)))))
 
 pub returns-clause-cause : goal.returns-clause-cause
 returns-clause-cause g c n clean inside ours s are storable =
     let view = c.args.numbered.now.change.view.now in
     let told = storable.1 in
     let held = c.args.numbered.now.files.now ≢ [] in
-    let two = stays_then c.in_ok-delete_files.ensures.keeps.stays c.in_ok-write_row.ensures.map.keeps.stays in
+    let two = stays_then c.in_ok-delete_files.ensures.does.keeps.stays c.in_ok-write_row.ensures.map.keeps.stays in
     let before = clean_before c.put_new_files.ensures.map.keeps.stays clean in
     let fits = found_fits view told c.in_ok-row.row c.in_ok-row.ensures.told in
     caused_later g.T.Statements.state (FailsHolding held) (FailsHolding held) (λ at now fault it. it) c.put_new_files.result c.args.tx.now c.write_row.new.tx c.put_new_files.new.tx two.survives
@@ -104,5 +104,5 @@ returns-in_err-row-clause-map g c n = record {
 pub returns-in_err-delete_files-clause-map : goal.returns-in_err-delete_files-clause-map
 returns-in_err-delete_files-clause-map g c n = record {
   done = λ clean inside ours s are told. IfOk-from_err c.from_residual-in_err-delete_files.result _ c.from_residual-in_err-delete_files.ensures.0;
-  keeps = changes_err c.from_residual-in_err-delete_files.ensures.0 c.in_err-delete_files.ensures.keeps.stays;
+  keeps = changes_err c.from_residual-in_err-delete_files.ensures.0 c.in_err-delete_files.ensures.does.keeps.stays;
 }

@@ -24,7 +24,7 @@ returns-clause-map g c n = record {
       let view = c.args.change.now.view.now in
       let mid = g.T.Statements.state c.write_row.new.tx in
       let new = g.T.Statements.state c.delete_file.new.tx in
-      let before = clean_before c.delete_file.ensures.keeps.stays clean in
+      let before = clean_before c.delete_file.ensures.does.keeps.stays clean in
       let numbers = told.0 in
       let o = told.1.0 in
       let file = told.1.1 in
@@ -38,9 +38,9 @@ returns-clause-map g c n = record {
       let it : Object = with_files s (finmap.remove o.files c.args.file) o in
       at_object s s.uploads new c.delete_file.result n o (λ (x : Object). with_files s (finmap.remove x.files c.args.file) x) object.1
       (ok_then c.delete_file.result
-      (c.delete_file.ensures.map clean (c.in_ok-write_row.ensures.map.keeps.stays.inside before inside) (c.in_ok-write_row.ensures.map.keeps.ours before inside ours) one put n mark file (get_here s.objects n mark) told.1.2.1)
+      (c.delete_file.ensures.does.map clean (c.in_ok-write_row.ensures.map.keeps.stays.inside before inside) (c.in_ok-write_row.ensures.map.keeps.ours before inside ours) one put n mark file (get_here s.objects n mark) told.1.2.1)
       (λ gone. written_again (tables_of new) s n mark it gone));
-  keeps = changes_then c.in_ok-write_row.ensures.map.keeps c.delete_file.ensures.keeps;
+  keeps = changes_then c.in_ok-write_row.ensures.map.keeps c.delete_file.ensures.does.keeps;
 }
 
 pub returns-in_err-row-clause-cause : goal.returns-in_err-row-clause-cause
@@ -56,9 +56,9 @@ returns-in_err-write_row-clause-cause g c n s storable clean inside =
 
 pub returns-clause-cause : goal.returns-clause-cause
 returns-clause-cause g c n s storable clean inside =
-    let before = clean_before c.delete_file.ensures.keeps.stays clean in
+    let before = clean_before c.delete_file.ensures.does.keeps.stays clean in
     caused_later g.T.Statements.state FailsByStatement (FailsHolding ⊥) (by_statement ⊥) c.delete_file.result c.args.tx.now c.write_row.new.tx c.delete_file.new.tx c.in_ok-write_row.ensures.map.keeps.stays.survives
-    (c.delete_file.ensures.cause storable.1 clean (c.in_ok-write_row.ensures.map.keeps.stays.inside before inside))
+    (c.delete_file.ensures.does.cause storable.1 clean (c.in_ok-write_row.ensures.map.keeps.stays.inside before inside))
 
 pub returns-in_err-row-clause-map : goal.returns-in_err-row-clause-map
 returns-in_err-row-clause-map g c n = record {

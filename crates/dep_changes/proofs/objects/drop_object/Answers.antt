@@ -14,12 +14,12 @@ pub returns-clause-map : goal.returns-clause-map
 returns-clause-map g c = record {
   done = λ o clean inside ours s are there.
       let new = g.T.Statements.state c.delete_object.new.tx in
-      let before = clean_before c.delete_object.ensures.keeps.stays clean in
-      let none = c.in_ok-delete_files.ensures.map before inside ours s are o there in
+      let before = clean_before c.delete_object.ensures.does.keeps.stays clean in
+      let none = c.in_ok-delete_files.ensures.does.done before inside ours s are o there in
       ok_then c.delete_object.result
-      (c.delete_object.ensures.map clean (c.in_ok-delete_files.ensures.keeps.stays.inside before inside) (c.in_ok-delete_files.ensures.keeps.ours before inside ours) (without_files s c.args.object o) none (emptied s c.args.object o))
+      (c.delete_object.ensures.does.map clean (c.in_ok-delete_files.ensures.does.keeps.stays.inside before inside) (c.in_ok-delete_files.ensures.does.keeps.ours before inside ours) (without_files s c.args.object o) none (emptied s c.args.object o))
       (λ gone. gone_after (tables_of new) s c.args.object _ gone);
-  keeps = changes_then c.in_ok-delete_files.ensures.keeps c.delete_object.ensures.keeps;
+  keeps = changes_then c.in_ok-delete_files.ensures.does.keeps c.delete_object.ensures.does.keeps;
 }
 
 pub returns-in_err-delete_files-clause-cause : goal.returns-in_err-delete_files-clause-cause
@@ -29,12 +29,12 @@ returns-in_err-delete_files-clause-cause g c clean inside ours s are fits =
 
 pub returns-clause-cause : goal.returns-clause-cause
 returns-clause-cause g c clean inside ours s are fits =
-    let before = clean_before c.delete_object.ensures.keeps.stays clean in
-    caused_later g.T.Statements.state FailsByStatement (FailsHolding ⊥) (by_statement ⊥) c.delete_object.result c.args.tx.now c.delete_files.new.tx c.delete_object.new.tx c.in_ok-delete_files.ensures.keeps.stays.survives
-    (c.delete_object.ensures.cause fits.1 clean (c.in_ok-delete_files.ensures.keeps.stays.inside before inside))
+    let before = clean_before c.delete_object.ensures.does.keeps.stays clean in
+    caused_later g.T.Statements.state FailsByStatement (FailsHolding ⊥) (by_statement ⊥) c.delete_object.result c.args.tx.now c.delete_files.new.tx c.delete_object.new.tx c.in_ok-delete_files.ensures.does.keeps.stays.survives
+    (c.delete_object.ensures.does.cause fits.1 clean (c.in_ok-delete_files.ensures.does.keeps.stays.inside before inside))
 
 pub returns-in_err-delete_files-clause-map : goal.returns-in_err-delete_files-clause-map
 returns-in_err-delete_files-clause-map g c = record {
   done = λ o clean inside ours s are told. IfOk-from_err c.from_residual.result _ c.from_residual.ensures.0;
-  keeps = changes_err c.from_residual.ensures.0 c.in_err-delete_files.ensures.keeps.stays;
+  keeps = changes_err c.from_residual.ensures.0 c.in_err-delete_files.ensures.does.keeps.stays;
 }

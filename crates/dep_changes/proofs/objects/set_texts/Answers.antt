@@ -26,7 +26,7 @@ returns-clause-map g c n = record {
       let texts = c.args.metadata.now in
       let mid = g.T.Statements.state c.write_row.new.tx in
       let new = g.T.Statements.state c.set_metadata.new.tx in
-      let before = clean_before c.set_metadata.ensures.keeps.stays clean in
+      let before = clean_before c.set_metadata.ensures.does.keeps.stays clean in
       let numbers = told.0 in
       let o = told.1.0 in
       let object = told.1.1 in
@@ -39,9 +39,9 @@ returns-clause-map g c n = record {
       let one : State = with_object s n mark in
       at_object s s.uploads new c.set_metadata.result n o (with_texts s texts) object.1
       (ok_then c.set_metadata.result
-      (c.set_metadata.ensures.map clean (c.in_ok-write_row.ensures.map.keeps.stays.inside before inside) (c.in_ok-write_row.ensures.map.keeps.ours before inside ours) one put mark (there_at one.objects row.object n mark number (get_here s.objects n mark)))
+      (c.set_metadata.ensures.does.map clean (c.in_ok-write_row.ensures.map.keeps.stays.inside before inside) (c.in_ok-write_row.ensures.map.keeps.ours before inside ours) one put mark (there_at one.objects row.object n mark number (get_here s.objects n mark)))
       (λ set. written_again (tables_of new) s n mark (with_texts s texts o) (at_number (tables_of new) one row.object n (with_texts s texts o) number set)));
-  keeps = changes_then c.in_ok-write_row.ensures.map.keeps c.set_metadata.ensures.keeps;
+  keeps = changes_then c.in_ok-write_row.ensures.map.keeps c.set_metadata.ensures.does.keeps;
 }
 
 pub returns-in_err-row-clause-cause : goal.returns-in_err-row-clause-cause
@@ -60,10 +60,10 @@ pub returns-clause-cause : goal.returns-clause-cause
 returns-clause-cause g c n s storable clean inside =
     let view = c.args.change.now.view.now in
     let held = c.args.metadata.now ≢ finmap.empty in
-    let before = clean_before c.set_metadata.ensures.keeps.stays clean in
+    let before = clean_before c.set_metadata.ensures.does.keeps.stays clean in
     let fits = found_fits view storable.0 c.in_ok-row.row c.in_ok-row.ensures.told in
     caused_later g.T.Statements.state (FailsHolding held) (FailsHolding held) (λ at now fault it. it) c.set_metadata.result c.args.tx.now c.write_row.new.tx c.set_metadata.new.tx c.in_ok-write_row.ensures.map.keeps.stays.survives
-    (c.set_metadata.ensures.cause (fits.object, storable.1) clean (c.in_ok-write_row.ensures.map.keeps.stays.inside before inside))
+    (c.set_metadata.ensures.does.cause (fits.object, storable.1) clean (c.in_ok-write_row.ensures.map.keeps.stays.inside before inside))
 
 pub returns-in_err-row-clause-map : goal.returns-in_err-row-clause-map
 returns-in_err-row-clause-map g c n = record {

@@ -18,9 +18,9 @@ returns-clause-map g c = record {
       let numbers = told.0 in
       let it = fresh s c.args.opening.now in
       ok_then c.open_upload.result
-      (c.open_upload.ensures.map clean inside ours s are it (opened_row s c.args.opening.now view.clock view.next.upload numbers.0) refl)
-      (λ opened. upload_at (tables_of (g.T.Statements.state c.open_upload.new.tx)) s view.next.upload s.next.upload it (ap (λ (next : Counters). next.upload) numbers.1) opened.1);
-  keeps = c.open_upload.ensures.keeps;
+      (c.open_upload.ensures.does.map clean inside ours s are it (opened_row s c.args.opening.now view.clock view.next.upload numbers.0) refl)
+      (λ opened. upload_at (tables_of (g.T.Statements.state c.open_upload.new.tx)) s view.next.upload s.next.upload it (ap (λ (next : Counters). next.upload) numbers.1) opened);
+  keeps = c.open_upload.ensures.does.keeps;
 }
 
 pub returns-clause-cause : goal.returns-clause-cause
@@ -31,4 +31,4 @@ returns-clause-cause g c s storable clean inside =
     let o = c.args.opening.now in
     let row : UploadRow = record { upload = view.next.upload; size = o.size; count = o.count; segment_size = o.segment_size; sha256 = o.digest.sha256; sha512 = o.digest.sha512; last = view.clock } in
     caused_among g.T.Statements.state (FailsToOpen row) (FailsHolding ⊥) (λ at now fault failed. by_statement ⊥ at now fault (open_among at now fault row failed)) c.open_upload.result c.args.tx.now c.open_upload.new.tx
-    (c.open_upload.ensures.cause (record { upload = numbers.upload; size = sizes.size; count = sizes.count; segment_size = sizes.segment_size; last = numbers.clock }) clean inside)
+    (c.open_upload.ensures.does.cause (record { upload = numbers.upload; size = sizes.size; count = sizes.count; segment_size = sizes.segment_size; last = numbers.clock }) clean inside)

@@ -23,7 +23,7 @@ returns-then-is_some-clause-cause g c u s storable clean inside =
     let same = c.in_ok-live.ensures.told told.upload told.live told.told in
     let row = subst (λ (l : LiveUpload). IsStorableUpload (columns_of_upload (record l.row { last = c.args.change.now.view.now.clock }))) (sym same)
     (record { upload = fits.upload; size = fits.size; count = fits.count; segment_size = fits.segment_size; last = told.numbers.clock }) in
-    if_err_then c.rewrite_upload.result (c.rewrite_upload.ensures.cause row clean inside)
+    if_err_then c.rewrite_upload.result (c.rewrite_upload.ensures.does.cause row clean inside)
     (λ fault failed. fails_first g.T.Statements.state c.args.tx.now c.rewrite_upload.new.tx (FailsHolding ⊥) fault (statement (upload_written _ failed)))
 
 pub returns-clause-cause : goal.returns-clause-cause
@@ -35,7 +35,7 @@ returns-clause-cause g c u s storable clean inside =
     (record { upload = fits.upload; size = fits.size; count = fits.count; segment_size = fits.segment_size; last = told.numbers.clock }) in
     let size = subst (λ (bytes : List ℕ). IsStorable (length bytes)) (sym c.as_slice.ensures) storable.2 in
     caused_among g.T.Statements.state FailsByStatement (FailsHolding ⊥) (by_statement ⊥) c.put_segment.result c.args.tx.now c.put_segment.new.tx
-    (c.put_segment.ensures.cause (row, record { upload = row.upload; number = storable.1; size = size }) clean inside)
+    (c.put_segment.ensures.does.cause (row, record { upload = row.upload; number = storable.1; size = size }) clean inside)
 
 pub returns-in_err-live-clause-map : goal.returns-in_err-live-clause-map
 returns-in_err-live-clause-map g c u = record {
