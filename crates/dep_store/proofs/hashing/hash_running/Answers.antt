@@ -14,13 +14,13 @@ returns-in_err-more g c =
     let inside = c.tx-2-1.given.0.conn.now in
     let new = c.drop-tx.new.self.0 in
     let shut = clean_if_open (g.S.Store.view new.store) (g.met.S.Store.shut_if_dirty new.store) in
-    let work = works_within g.S.Store old new c.in_err-more.ensures.keeps.stays c.transaction-tx.ensures.begun left (λ is_open trees h. g.met.S.Store.settled old.store trees is_open h) shut in
+    let work = works_within g.S.Store old new c.in_err-more.ensures.does.keeps.stays c.transaction-tx.ensures.begun left (λ is_open trees h. g.met.S.Store.settled old.store trees is_open h) shut in
     let same : new ≡ c.connection-1.given.0 = search rules in
-    let reads = rw (c.transaction-tx.ensures.begun, left) at c.in_err-more.ensures.map in
+    let reads = rw (c.transaction-tx.ensures.begun, left) at c.in_err-more.ensures.does.map in
     record {
       running = λ is_open s stands are.
           let clean = was_clean (state g.S.Store inside) (state g.S.Store new) c.drop-tx.ensures.survives (shut (rw (← same) at is_open)) in
-          told_then g.S.Store old (state g.S.Store inside) (λ z. AreRunning z c.args.running.now → AreRunning z c.hash_ahead.new.running) (reads stands.stands.is_open) clean s stands are;
+          told_then g.S.Store old (state g.S.Store inside) (λ z. AreRunning z c.args.running.now → AreRunning z c.hash_ahead.new.running) (λ sure within. reads stands.stands.is_open sure) clean s stands are;
       restored = record {
         back = back_by_rollback g.S.Store old inside new work c.drop-tx.ensures.undone c.drop-tx.ensures.survives (c.is_autocommit-between.ensures.settled (search rules)) _ same;
         mode = subst (λ h. (state g.S.Store h).in_transaction ≡ false) same c.drop-tx.ensures.ended;
@@ -35,13 +35,13 @@ returns g c =
     let inside = c.tx-2-1.given.0.conn.now in
     let new = c.rollback.new.self.0 in
     let shut = clean_if_open (g.S.Store.view new.store) (g.met.S.Store.shut_if_dirty new.store) in
-    let work = works_within g.S.Store old new c.in_ok-more.ensures.keeps.stays c.transaction-tx.ensures.begun left (λ is_open trees h. g.met.S.Store.settled old.store trees is_open h) shut in
+    let work = works_within g.S.Store old new c.in_ok-more.ensures.does.keeps.stays c.transaction-tx.ensures.begun left (λ is_open trees h. g.met.S.Store.settled old.store trees is_open h) shut in
     let same : new ≡ c.connection-2-1.given.0 = search rules in
-    let reads = rw (c.transaction-tx.ensures.begun, left) at c.in_ok-more.ensures.map in
+    let reads = rw (c.transaction-tx.ensures.begun, left) at c.in_ok-more.ensures.does.map in
     record {
       running = λ is_open s stands are.
           let clean = was_clean (state g.S.Store inside) (state g.S.Store new) c.rollback.ensures.survives (shut (rw (← same) at is_open)) in
-          told_then g.S.Store old (state g.S.Store inside) (λ z. AreRunning z c.args.running.now → AreRunning z c.hash_ahead.new.running) (reads stands.stands.is_open) clean s stands are;
+          told_then g.S.Store old (state g.S.Store inside) (λ z. AreRunning z c.args.running.now → AreRunning z c.hash_ahead.new.running) (λ sure within. reads stands.stands.is_open sure) clean s stands are;
       restored = record {
         back = back_by_rollback g.S.Store old inside new work c.rollback.ensures.undone c.rollback.ensures.survives (c.is_autocommit-between.ensures.settled (search rules)) _ same;
         mode = subst (λ h. (state g.S.Store h).in_transaction ≡ false) same c.rollback.ensures.ended;

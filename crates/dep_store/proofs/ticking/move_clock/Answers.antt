@@ -11,7 +11,7 @@ returns-in_err-moved g c =
     let left : c.tick.new.tx.tx.now ≡ c.tx-2-1.given.0 = search rules in
     let inside = c.tx-2-1.given.0.conn.now in
     let new = c.drop-tx.new.self.0 in
-    let work = works_within g.S.Store old new c.in_err-moved.ensures.keeps.stays c.transaction-tx.ensures.begun left (λ is_open trees h. g.met.S.Store.settled old.store trees is_open h)
+    let work = works_within g.S.Store old new c.in_err-moved.ensures.does.keeps.stays c.transaction-tx.ensures.begun left (λ is_open trees h. g.met.S.Store.settled old.store trees is_open h)
     (clean_if_open (g.S.Store.view new.store) (g.met.S.Store.shut_if_dirty new.store)) in
     let same : new ≡ c.connection-1.given.0 = search rules in
     gave_up g.S.Store old inside new _ c.from_residual.result c.from_residual.ensures.0 work
@@ -24,11 +24,11 @@ returns g c =
     let inside = c.tx-2-1.given.0.conn.now in
     let new = c.commit.new.tx.0 in
     let worked = rw (c.transaction-tx.ensures.begun, left) at c.in_ok-moved.ensures in
-    let work = works_within g.S.Store old new c.in_ok-moved.ensures.keeps.stays c.transaction-tx.ensures.begun left (λ is_open trees h. g.met.S.Store.settled old.store trees is_open h)
+    let work = works_within g.S.Store old new c.in_ok-moved.ensures.does.keeps.stays c.transaction-tx.ensures.begun left (λ is_open trees h. g.met.S.Store.settled old.store trees is_open h)
     (clean_if_open (g.S.Store.view new.store) (g.met.S.Store.shut_if_dirty new.store)) in
     let same : new ≡ c.connection-2-1.given.0 = search rules in
     committed g.S.Store old inside new _ _ work
-    (ticks g.S.Store old inside c.args.config.now c.args.moment c.in_ok-moved.moved c.new-clock.result c.new-clock.ensures worked.map worked.keeps.ours)
+    (ticks g.S.Store old inside c.args.config.now c.args.moment c.in_ok-moved.moved c.new-clock.result c.new-clock.ensures worked.does.done worked.does.keeps.ours)
     c.in_ok-commit.ensures.ok c.commit.ensures.survives _ same
 
 pub returns-in_err-commit : goal.returns-in_err-commit
@@ -38,10 +38,10 @@ returns-in_err-commit g c =
     let inside = c.tx-2-1.given.0.conn.now in
     let new = c.commit.new.tx.0 in
     let worked = rw (c.transaction-tx.ensures.begun, left) at c.in_ok-moved.ensures in
-    let work = works_within g.S.Store old new c.in_ok-moved.ensures.keeps.stays c.transaction-tx.ensures.begun left (λ is_open trees h. g.met.S.Store.settled old.store trees is_open h)
+    let work = works_within g.S.Store old new c.in_ok-moved.ensures.does.keeps.stays c.transaction-tx.ensures.begun left (λ is_open trees h. g.met.S.Store.settled old.store trees is_open h)
     (clean_if_open (g.S.Store.view new.store) (g.met.S.Store.shut_if_dirty new.store)) in
     let same : new ≡ c.connection-2-1.given.0 = search rules in
     let told = err_from_is_err_and c.from_residual-in_err-commit.result c.from_residual-in_err-commit.ensures.1 in
     rw (told.1, told.2) (uncommitted g.S.Store old inside new _ c.new-clock.result c.in_err-commit.field-0.0 work
-    (ticks g.S.Store old inside c.args.config.now c.args.moment c.in_ok-moved.moved c.new-clock.result c.new-clock.ensures worked.map worked.keeps.ours)
-    (still_inside g.S.Store old c.in_ok-moved.ensures.keeps.stays c.transaction-tx.ensures.begun left) c.in_err-commit.ensures.err c.commit.ensures.survives _ same)
+    (ticks g.S.Store old inside c.args.config.now c.args.moment c.in_ok-moved.moved c.new-clock.result c.new-clock.ensures worked.does.done worked.does.keeps.ours)
+    (still_inside g.S.Store old c.in_ok-moved.ensures.does.keeps.stays c.transaction-tx.ensures.begun left) c.in_err-commit.ensures.err c.commit.ensures.survives _ same)
