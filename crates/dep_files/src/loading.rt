@@ -20,8 +20,8 @@ pub fn load_files<T: Statements>(
     alloc: Global,
     object: u64,
 ) -> Result<FileRows, StoreFault>
-    ensures does { QueriesMaps T.lenders T.state tx.old tx.new result (query_of_files {Z = Global} object)
-        (λ s found. found
+    ensures does { QueriesMaps T.lenders T.state tx.old tx.new result
+        (query_of_files {Z = Global} object) (λ s found. found
         ≡ map (λ e. file_row object e.0 e.1) (finmap.entries (files_at s.objects object))) }
 {
     Ok(FileRows::new(files_of(tx, alloc, object)?))

@@ -64,15 +64,6 @@ module _ {T L : Type 0} {lenders : T → L} {state : T → db.State} {old new : 
     })
 
     -- the same behind a call over maps
-    pub found_ok : {A C : Type 0} {x : C} {y : A} {known : State → C → Type 0} {told : State → A → Type 0} → QueriesMaps lenders state old new (Ok x) query known
-        → ((s : State) → known s x → told s y) → QueriesMaps lenders state old new (Ok y) query told
-    found_ok does tells = record {
-      map = λ clean ours s are. tells s (does.map clean ours s are);
-      numbers = λ great. never_failed _ _ (does.numbers great).0;
-      cause = λ storable clean. tt;
-      keeps = reads_ok does.keeps;
-    }
-
     pub found_err : {A C : Type 0} {r : Result A StoreFault} {fault : StoreFault} {known : State → C → Type 0} {told : State → A → Type 0} → IsErrAnd r (λ e. e ≡ fault)
         → QueriesMaps lenders state old new (Err fault) query known → QueriesMaps lenders state old new r query told
     found_err {A} {C} {r} {fault} {known} {told} is does = subst (λ (x : Result A StoreFault). QueriesMaps lenders state old new x query told) (sym (passed r fault is)) (record {
