@@ -1,5 +1,5 @@
 -- How a host goes on.
-use Rattle.std.proofs.Common.{◌≡◌, ◌⊎◌, ◌<◌, ◌≤◌, ◌+◌, ℕ, zero, suc, Bool, true, false, List, [], ◌∷◌, ◌++◌, Option, None, Some, refl, sym, ap, subst, ◌∙◌, append_assoc, length, get_or, set, take, IsTrue, add-one, inl, inr, arith}
+use Rattle.std.proofs.Common.{◌≡◌, ◌⊎◌, ◌<◌, ◌≤◌, ◌+◌, ℕ, zero, suc, Bool, true, false, List, [], ◌∷◌, ◌++◌, Option, None, Some, refl, sym, ap, subst, ◌∙◌, append_assoc, length, get_or, set, take, Ok, IsTrue, add-one, inl, inr, arith}
 use Rattle.std.proofs.lemmas.List.{append-nil, get_or_default, set-get_or, get_or_past}
 use Rattle.std.proofs.Math.ListN.{length-set}
 use Rattle.std.proofs.lemmas.Bool.{cases_lt}
@@ -11,6 +11,7 @@ use Rattle.dep_hub.specs.Holding.{KeepsHolding}
 use Rattle.dep_hub.specs.declared.hub.Hub.{Hub}
 use Rattle.dep_hub.specs.Standing.{IsClean, IsHonest}
 use Rattle.dep_hub.specs.Shut.{TellsOpen}
+use Rattle.dep_hub.specs.Errands.{Account, Asked, Runs}
 use Rattle.dep_outbox.specs.declared.wire.Wire.{Wire}
 use Rattle.dep_outbox.specs.Wires.{told}
 use Rattle.dep_host.specs.Courses.{is_ended, closing as why}
@@ -121,6 +122,9 @@ told_shut c is_open e told = subst (λ (b : Bool). TellsOpen c b) e told
 
 pub told_open : (c : Condition) (is_open : Bool) → is_open ≡ true → TellsOpen c is_open → TellsOpen c true
 told_open c is_open e told = subst (λ (b : Bool). TellsOpen c b) e told
+
+pub told_as : (x y : Account) (b c : Bool) → b ≡ c → Runs (Asked (Ok b)) x y → Runs (Asked (Ok c)) x y
+told_as x y b c e asked = subst (λ (b : Bool). Runs (Asked (Ok b)) x y) e asked
 
 -- nobody sits at one place more
 pub none_more : {X : Type 0} (seats : List (Option X)) → ((at : ℕ) → slot at seats ≡ None) → (at : ℕ) → slot at (seats ++ None ∷ []) ≡ None

@@ -9,6 +9,7 @@ use Rattle.std.proofs.lemmas.List.Elements.{Contains-append_right}
 use Rattle.std.proofs.lemmas.List.{append-nil, set-get_or, get_or_past, get_or-set_same, get_or-set_other}
 use Rattle.std.proofs.lemmas.Grind.{flat_map-append}
 use Rattle.dep_types.specs.Conditions.{Condition}
+use Rattle.dep_hub.specs.Errands.{Account}
 use Rattle.dep_host.specs.declared.seat.Seat.{Seat}
 use Rattle.dep_host.specs.declared.host.Host.{Host}
 use Rattle.dep_host.specs.declared.log.Refusal.{Refusal}
@@ -93,6 +94,9 @@ offer_kept {R = R} {K = K} {S = S} p q at r w (Some place) v h = (
   subst (λ (s : Option ℕ). is_some s ≡ false) (sym h.stays.shut) v.2,
 )
 
+pub not_told : {X : Type 0} (o : Option X) → IsSome o → is_some o ≡ false → ⊥
+not_told o some none = let bad : true ≡ false = sym some ∙ none in cc
+
 -- nothing is vacant once it was told that the store is shut
 pub none_once_shut : {A R K S : Type 0} (p : Host A R K S) → IsSome p.shut_since → IsOffer p None
 none_once_shut p shut = λ at v. let bad : true ≡ false = sym shut ∙ v.2 in cc
@@ -146,24 +150,24 @@ module _ {A R K S : Type 0} (condition : A → Condition) (unread : R → Option
         → Admits condition unread taken held notes p q l m at client (Err told)
     turned p q l m at client why told same h = subst (λ (r : Refusal). TurnsAway condition unread taken held notes p q l m client r) (sym same) h
 
-  module _ {L : Type 0} (size : S → ℕ) (notes : L → Option (List Note)) where
+  module _ {L : Type 0} (account : A → Account) (size : S → ℕ) (notes : L → Option (List Note)) where
     pub admitted : (p q : Host A R K S) (l m : L) (offer : Option ℕ) (at : ℕ) (client : Client R K S) (result : Result (Unit {0}) Refusal) → offer ≡ Some at → Admits condition unread taken held notes p q l m at client result
-        → Meets condition unread taken held size notes p q l m offer (came.Client client)
-    admitted p q l m offer at client (Ok x) is h = subst (λ (o : Option ℕ). Meets condition unread taken held size notes p q l m o (came.Client client)) (sym is) (lets_in h)
+        → Meets condition account unread taken held size notes p q l m offer (came.Client client)
+    admitted p q l m offer at client (Ok x) is h = subst (λ (o : Option ℕ). Meets condition account unread taken held size notes p q l m o (came.Client client)) (sym is) (lets_in h)
     admitted p q l m offer at client (Err why) is h = turns_away h
 
-    pub meets_as : (p q : Host A R K S) (l m : L) (offer : Option ℕ) (event other : Event R K S) → event ≡ other → Meets condition unread taken held size notes p q l m offer other → Meets condition unread taken held size notes p q l m offer event
-    meets_as p q l m offer event other is h = subst (λ (e : Event R K S). Meets condition unread taken held size notes p q l m offer e) (sym is) h
+    pub meets_as : (p q : Host A R K S) (l m : L) (offer : Option ℕ) (event other : Event R K S) → event ≡ other → Meets condition account unread taken held size notes p q l m offer other → Meets condition account unread taken held size notes p q l m offer event
+    meets_as p q l m offer event other is h = subst (λ (e : Event R K S). Meets condition account unread taken held size notes p q l m offer e) (sym is) h
 
     pub round_met : {T : Type 0} (p q : Host A R K S) (l m : L) (offer : Option ℕ) (event : Event R K S) (result : Result T Ended) → (result ≡ Err ended.Events → ⊥) → (result ≡ Err ended.Spent → ⊥)
-        → Meets condition unread taken held size notes p q l m offer event → IsMet condition unread taken held size notes p q l m offer event result
+        → Meets condition account unread taken held size notes p q l m offer event → IsMet condition account unread taken held size notes p q l m offer event result
     round_met p q l m offer event (Ok now) more few h = h
     round_met p q l m offer event (Err ended.Events) more few h = absurd (more refl)
     round_met p q l m offer event (Err ended.Shut) more few h = h
     round_met p q l m offer event (Err ended.Spent) more few h = absurd (few refl)
 
     -- what comes of an event
-    pub meets_go : {p q : Host A R K S} {l m : L} {offer : Option ℕ} {event : Event R K S} → Meets condition unread taken held size notes p q l m offer event → GoesOn condition unread taken held (position p) (position q)
+    pub meets_go : {p q : Host A R K S} {l m : L} {offer : Option ℕ} {event : Event R K S} → Meets condition account unread taken held size notes p q l m offer event → GoesOn condition unread taken held (position p) (position q)
     meets_go {p = p} {q = q} (wakes {at = at} {r = r} {w = w} h same) = wakes_there p q at r w (slot at p.seats.items) refl h
     meets_go {p = p} {q = q} (lets_in h) = one_step condition unread taken held (position p) (position q) _ (comes h.comes)
     meets_go {p = p} {q = q} (turns_away h) = one_step condition unread taken held (position p) (position q) [] (refused h.keeps)
@@ -171,13 +175,13 @@ module _ {A R K S : Type 0} (condition : A → Condition) (unread : R → Option
         both condition unread taken held (position p) (position h.mid) (position q) (h.goes.deeds, h.goes.steps)
         (both condition unread taken held (position h.mid) (position h.asks.mid) (position q) ([], h.asks.asks.steps) ([], h.asks.works))
 
-    pub meets_limits : {p q : Host A R K S} {l m : L} {offer : Option ℕ} {event : Event R K S} → Meets condition unread taken held size notes p q l m offer event → q.limits ≡ p.limits
+    pub meets_limits : {p q : Host A R K S} {l m : L} {offer : Option ℕ} {event : Event R K S} → Meets condition account unread taken held size notes p q l m offer event → q.limits ≡ p.limits
     meets_limits (wakes h same) = h.stays.limits
     meets_limits (lets_in h) = h.stays.limits
     meets_limits (turns_away h) = h.stays.limits
     meets_limits (makes_round h) = h.asks.stays.limits ∙ (h.asks.asks.limits ∙ h.stays.limits)
 
-    pub meets_told : {p q : Host A R K S} {l m : L} {offer : Option ℕ} {event : Event R K S} → Meets condition unread taken held size notes p q l m offer event → IsTold p.shut_since q.shut_since (seconds_of event)
+    pub meets_told : {p q : Host A R K S} {l m : L} {offer : Option ℕ} {event : Event R K S} → Meets condition account unread taken held size notes p q l m offer event → IsTold p.shut_since q.shut_since (seconds_of event)
     meets_told (wakes h same) = inl h.stays.shut
     meets_told (lets_in h) = inl h.stays.shut
     meets_told (turns_away h) = inl h.stays.shut
@@ -185,11 +189,11 @@ module _ {A R K S : Type 0} (condition : A → Condition) (unread : R → Option
         subst (λ (o : Option ℕ). IsTold o q.shut_since (time.second ∷ [])) h.stays.shut
         (subst (λ (o : Option ℕ). IsTold h.mid.shut_since o (time.second ∷ [])) (sym h.asks.stays.shut) h.asks.asks.told)
 
-    pub all_go : {p : Host A R K S} {l : L} {calls : List (Call R K S)} {q : Host A R K S} {m : L} → MeetsAll condition unread taken held size notes p l calls q m → GoesOn condition unread taken held (position p) (position q)
+    pub all_go : {p : Host A R K S} {l : L} {calls : List (Call R K S)} {q : Host A R K S} {m : L} → MeetsAll condition account unread taken held size notes p l calls q m → GoesOn condition unread taken held (position p) (position q)
     all_go {p = p} begins = no_step condition unread taken held (position p)
     all_go {p = p} (goes_on {q = q} {n = n} s offered h) = both condition unread taken held (position p) (position q) (position n) (all_go s) (meets_go h)
 
-    pub met_none : (told : Option (List (Call R K S))) (p : Host A R K S) (l : L) → Met condition unread taken held size notes told told p p l l ended.Spent
+    pub met_none : (told : Option (List (Call R K S))) (p : Host A R K S) (l : L) → Met condition account unread taken held size notes told told p p l l ended.Spent
     met_none told p l = record {
       calls = [];
       last = None;
@@ -201,9 +205,9 @@ module _ {A R K S : Type 0} (condition : A → Condition) (unread : R → Option
     }
 
     pub met_on : (old mid new : Option (List (Call R K S))) (p q r : Host A R K S) (l m n : L) (offer : Option ℕ) (event : Event R K S) (end : Ended)
-        → Met condition unread taken held size notes old mid p q l m ended.Spent → Grows mid new (record { offer = offer; event = event } ∷ []) → IsOffer q offer → Meets condition unread taken held size notes q r m n offer event
+        → Met condition account unread taken held size notes old mid p q l m ended.Spent → Grows mid new (record { offer = offer; event = event } ∷ []) → IsOffer q offer → Meets condition account unread taken held size notes q r m n offer event
         → (end ≡ ended.Events → ⊥) → ((end ≡ ended.Shut → ⊥) → AllByRecursion (λ second. is_overdue r.shut_since second r.limits ≡ false) (seconds_of event))
-        → (end ≡ ended.Shut → MayEnd r (seconds_of event)) → Met condition unread taken held size notes old new p r l n end
+        → (end ≡ ended.Shut → MayEnd r (seconds_of event)) → Met condition account unread taken held size notes old new p r l n end
     met_on old mid new p q r l m n offer event end s g offered h more now may =
         let call : Call R K S = record { offer = offer; event = event } in
         record {
@@ -219,10 +223,10 @@ module _ {A R K S : Type 0} (condition : A → Condition) (unread : R → Option
 
     -- the last event, behind which nothing more is asked for
     ended_by : (T : Type 0) (old mid new : Option (List (Call R K S))) (p q r : Host A R K S) (l m n : L) (offer : Option ℕ) (event : Event R K S) (end : Ended)
-        → Met condition unread taken held size notes old mid p q l m ended.Spent → Grows mid new (record { offer = offer; event = event } ∷ []) → IsOffer q offer → IsMet condition unread taken held size notes {T = T} q r m n offer event (Err end)
-        → (end ≡ ended.Shut → MayEnd r (seconds_of event)) → Met condition unread taken held size notes old new p r l n end
+        → Met condition account unread taken held size notes old mid p q l m ended.Spent → Grows mid new (record { offer = offer; event = event } ∷ []) → IsOffer q offer → IsMet condition account unread taken held size notes {T = T} q r m n offer event (Err end)
+        → (end ≡ ended.Shut → MayEnd r (seconds_of event)) → Met condition account unread taken held size notes old new p r l n end
     ended_by T old mid new p q r l m n offer event ended.Events s g offered h may =
-        let now : Met condition unread taken held size notes old new p q l m ended.Events = record {
+        let now : Met condition account unread taken held size notes old new p q l m ended.Events = record {
           calls = s.calls;
           last = offer;
           given = grows_on old mid new s.calls (record { offer = offer; event = came.End } ∷ []) s.given (subst (λ (e : Event R K S). Grows mid new (record { offer = offer; event = e } ∷ [])) h.0 g);
@@ -231,17 +235,17 @@ module _ {A R K S : Type 0} (condition : A → Condition) (unread : R → Option
           in_time = record { is_told = s.in_time.is_told; in_time = s.in_time.in_time };
           may_end = λ e. let bad : ended.Events ≡ ended.Shut = e in cc;
         } in
-        subst (λ (k : L). Met condition unread taken held size notes old new p r l k ended.Events) (sym h.2)
-        (subst (λ (k : Host A R K S). Met condition unread taken held size notes old new p k l m ended.Events) (sym h.1) now)
+        subst (λ (k : L). Met condition account unread taken held size notes old new p r l k ended.Events) (sym h.2)
+        (subst (λ (k : Host A R K S). Met condition account unread taken held size notes old new p k l m ended.Events) (sym h.1) now)
     ended_by T old mid new p q r l m n offer event ended.Shut s g offered h may =
         met_on old mid new p q r l m n offer event ended.Shut s g offered h (λ e. let bad : ended.Shut ≡ ended.Events = e in cc) (λ more. absurd (more refl)) may
     ended_by T old mid new p q r l m n offer event ended.Spent s g offered h may = absurd h
 
     pub met_last : {T : Type 0} (old mid new : Option (List (Call R K S))) (p q r : Host A R K S) (l m n : L) (offer : Option ℕ) (event : Event R K S) (end : Ended) (result : Result T Ended)
-        → result ≡ Err end → Met condition unread taken held size notes old mid p q l m ended.Spent → Grows mid new (record { offer = offer; event = event } ∷ []) → IsOffer q offer → IsMet condition unread taken held size notes q r m n offer event result
-        → (result ≡ Err ended.Shut → MayEnd r (seconds_of event)) → Met condition unread taken held size notes old new p r l n end
+        → result ≡ Err end → Met condition account unread taken held size notes old mid p q l m ended.Spent → Grows mid new (record { offer = offer; event = event } ∷ []) → IsOffer q offer → IsMet condition account unread taken held size notes q r m n offer event result
+        → (result ≡ Err ended.Shut → MayEnd r (seconds_of event)) → Met condition account unread taken held size notes old new p r l n end
     met_last {T = T} old mid new p q r l m n offer event end result is s g offered h may =
-        ended_by T old mid new p q r l m n offer event end s g offered (subst (λ (k : Result T Ended). IsMet condition unread taken held size notes q r m n offer event k) is h) (λ e. may (is ∙ ap Err e))
+        ended_by T old mid new p q r l m n offer event end s g offered (subst (λ (k : Result T Ended). IsMet condition account unread taken held size notes q r m n offer event k) is h) (λ e. may (is ∙ ap Err e))
 
-    pub is_the_end : {T : Type 0} (p q : Host A R K S) (l m : L) (offer : Option ℕ) (event : Event R K S) (result : Result T Ended) → result ≡ Err ended.Events → IsMet condition unread taken held size notes p q l m offer event result → event ≡ came.End
-    is_the_end {T = T} p q l m offer event result is h = let at_end = subst (λ (k : Result T Ended). IsMet condition unread taken held size notes p q l m offer event k) is h in at_end.0
+    pub is_the_end : {T : Type 0} (p q : Host A R K S) (l m : L) (offer : Option ℕ) (event : Event R K S) (result : Result T Ended) → result ≡ Err ended.Events → IsMet condition account unread taken held size notes p q l m offer event result → event ≡ came.End
+    is_the_end {T = T} p q l m offer event result is h = let at_end = subst (λ (k : Result T Ended). IsMet condition account unread taken held size notes p q l m offer event k) is h in at_end.0

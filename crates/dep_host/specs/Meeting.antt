@@ -1,12 +1,14 @@
 -- What a host makes of what comes to it, event by event.
-use Rattle.std.specs.Prelude.{◌≡◌, ◌⊎◌, ◌<◌, ◌≤◌, ℕ, Bool, true, List, [], ◌∷◌, ◌++◌, length, set, Option, None, Some, IsNone, IsSome}
+use Rattle.std.specs.Prelude.{◌≡◌, ◌⊎◌, ◌<◌, ◌≤◌, ℕ, Bool, true, false, List, [], ◌∷◌, ◌++◌, length, set, Option, None, Some, IsNone, IsSome}
 use Rattle.std.specs.List.{Contains}
 use Rattle.std.specs.Option.{option_map}
 use Rattle.std.specs.declared.result.Result.{Result}
 use Rattle.std.specs.declared.result.Result.TheVariants as result
-use Rattle.dep_types.specs.Conditions.{Condition}
+use Rattle.dep_types.specs.Conditions.{Condition, HasCleanDisk}
+use Rattle.dep_types.specs.declared.store_fault.StoreFault.{StoreFault}
 use Rattle.dep_types.specs.Writing.{HasRisen}
 use Rattle.dep_hub.specs.Shut.{TellsOpen}
+use Rattle.dep_hub.specs.Errands.{Account, Asked, WorkedAhead, Runs, FailsToTell}
 use Rattle.dep_hub.specs.Numbers.{most_connections, last_number}
 use Rattle.dep_hub.specs.declared.hub.Hub.{Hub}
 use Rattle.dep_host.specs.declared.seat.Seat.{Seat}
@@ -66,23 +68,37 @@ MayRefuse p client refusal.Full =
 MayRefuse p client refusal.Memory = IsNone p.shut_since
 MayRefuse p client refusal.Shut = IsSome p.shut_since
 
-module _ {A R K S : Type 0} (condition : A → Condition) (unread : R → Option (List ℕ))
-    (taken : K → Option (List ℕ)) (held : S → Option (List ℕ)) where
-  -- It was asked at a second whether the store is open: it is shut; or open, unless its disk has
-  -- told a lie; or this could not be told, which is counted.
+module _ {A R K S : Type 0} (condition : A → Condition) (account : A → Account)
+    (unread : R → Option (List ℕ)) (taken : K → Option (List ℕ)) (held : S → Option (List ℕ)) where
+  -- What it makes of the answer whether its store is open: it goes on, unless the store is shut, and
+  -- counts where this could not be told, for which there was a cause.
+  abbrev pub GoesBy : (p q : Host A R K S) → (second : ℕ) → Result Bool StoreFault → Type 0
+  GoesBy p q second (result.Ok true) = IsNone q.shut_since × (q.unanswered ≡ p.unanswered)
+      × TellsOpen (condition q.hub.store) true
+  GoesBy p q second (result.Ok false) = (q.shut_since ≡ Some second)
+      × (q.unanswered ≡ p.unanswered) × TellsOpen (condition q.hub.store) false
+  GoesBy p q second (result.Err fault) = IsNone q.shut_since × HasRisen p.unanswered q.unanswered
+      × (HasCleanDisk (condition q.hub.store)
+      → FailsToTell (account p.hub.store) (account q.hub.store) fault)
+
+  -- it asked its store at a second whether it is open, and went by the answer, unless it was told
+  -- before that it is shut
   pub record IsAsked (p q : Host A R K S) (second : ℕ) : Type 0 where
     pub steps : Steps condition unread taken held (position p) [] (position q)
     pub told : IsTold p.shut_since q.shut_since (second ∷ [])
     pub limits : q.limits ≡ p.limits
-    pub known : IsSome q.shut_since
-        ⊎ (TellsOpen (condition q.hub.store) true ⊎ HasRisen p.unanswered q.unanswered)
+    pub known : (IsSome p.shut_since × (q ≡ p)) ⊎ ((answer : Result Bool StoreFault)
+        × Runs (Asked answer) (account p.hub.store) (account q.hub.store)
+        × GoesBy p q second answer)
 
-  -- it was asked whether the store is open, which may have worked ahead then
+  -- it asked whether its store is open, and then had it work ahead, unless it is shut
   pub record AsksOn (p q : Host A R K S) (second : ℕ) : Type 0 where
     pub mid : Host A R K S
     pub asks : IsAsked p mid second
     pub works : Steps condition unread taken held (position mid) [] (position q)
     pub stays : Stays mid q
+    pub ahead : IsNone mid.shut_since
+        → Runs WorkedAhead (account mid.hub.store) (account q.hub.store)
 
   -- each place had its turn at that time, and then it was asked whether the store is open
   pub record MakesRound (size : S → ℕ) (p q : Host A R K S) (time : Time) : Type 0 where
@@ -121,9 +137,9 @@ module _ {A R K S L : Type 0} (condition : A → Condition) (unread : R → Opti
   Admits p q l m at client (result.Ok _) = LetsIn p q l m at client
   Admits p q l m at client (result.Err why) = TurnsAway p q l m client why
 
-module _ {A R K S L : Type 0} (condition : A → Condition) (unread : R → Option (List ℕ))
-    (taken : K → Option (List ℕ)) (held : S → Option (List ℕ)) (size : S → ℕ)
-    (notes : L → Option (List Note)) where
+module _ {A R K S L : Type 0} (condition : A → Condition) (account : A → Account)
+    (unread : R → Option (List ℕ)) (taken : K → Option (List ℕ)) (held : S → Option (List ℕ))
+    (size : S → ℕ) (notes : L → Option (List Note)) where
   -- what it makes of one event, before which this place was offered: who is let in sits there
   pub data Meets (p q : Host A R K S) (l m : L) : (offer : Option ℕ) → Event R K S → Type 0 where
     wakes : {offer : Option ℕ} {at : ℕ} {r w : Bool} → Wakes p q at r w → m ≡ l
@@ -135,7 +151,7 @@ module _ {A R K S L : Type 0} (condition : A → Condition) (unread : R → Opti
         → TurnsAway condition unread taken held notes p q l m client why
         → Meets p q l m offer (came.Client client)
     makes_round : {offer : Option ℕ} {time : Time}
-        → MakesRound condition unread taken held size p q time
+        → MakesRound condition account unread taken held size p q time
         → Meets p q l m offer (came.Round time)
 
   -- an event was met, or was the end, by whether it goes on

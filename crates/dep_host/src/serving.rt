@@ -44,7 +44,7 @@ pub fn serve<
     L: HostLog,
 >(host: &mut Host<A, R, K, S>, events: &mut E, buffer: &mut ReadBuffer, log: &mut L) -> Ended
     // What came, and what was made of each.
-    ensures met { Met A.condition R.unread K.taken S.held S.size L.notes (E.given events.old)
+    ensures met { Met A.condition A.account R.unread K.taken S.held S.size L.notes (E.given events.old)
         (E.given events.new) host.old host.new log.old log.new result }
     ensures goes { GoesOn A.condition R.unread K.taken S.held (position host.old)
         (position host.new) }
@@ -80,7 +80,7 @@ fn meet<A: Archive, R: Source + Drop, K: Sink + Drop, S: Spool + Drop, L: HostLo
 ) -> Result<Now, Ended>
     requires fresh { IsFresh K.taken S.held event }
     requires vacant { IsOffer host.old now.vacancy }
-    ensures met { IsMet A.condition R.unread K.taken S.held S.size L.notes host.old host.new
+    ensures met { IsMet A.condition A.account R.unread K.taken S.held S.size L.notes host.old host.new
         log.old log.new now.vacancy event result }
     ensures vacant { IfOk result (λ next. IsOffer host.new next.vacancy) }
     ensures shut { result ≡ Err Ended.Shut → MayEnd host.new (seconds_of event) }
@@ -118,7 +118,7 @@ fn go_on<A: Archive, R: Source + Drop, K: Sink + Drop, S: Spool + Drop>(
     is_busy: bool,
     second: u64,
 ) -> Result<Now, Ended>
-    ensures asks { AsksOn A.condition R.unread K.taken S.held host.old host.new second }
+    ensures asks { AsksOn A.condition A.account R.unread K.taken S.held host.old host.new second }
     ensures vacant { IfOk result (λ next. IsOffer host.new next.vacancy) }
     ensures end { result ≢ Err Ended.Events }
     ensures unspent { result ≢ Err Ended.Spent }
@@ -151,7 +151,7 @@ fn let_in<A: Archive, R: Source + Drop, K: Sink + Drop, S: Spool + Drop, L: Host
 )
     requires fresh { IsFresh K.taken S.held (Event.Client client) }
     requires vacant { IsOffer host.old vacancy }
-    ensures { Meets A.condition R.unread K.taken S.held S.size L.notes host.old host.new
+    ensures { Meets A.condition A.account R.unread K.taken S.held S.size L.notes host.old host.new
         log.old log.new vacancy (Event.Client client) }
 {
     match vacancy {

@@ -4,6 +4,6 @@ use Rattle.dep_host.proofs.serving.serve.Given as goal
 
 abbrev pub invariant-loop : goal.invariant-loop
 invariant-loop g l = record {
-  met : Met g.A.Archive.condition g.R.Source.unread g.K.Sink.taken g.S.Spool.held g.S.Spool.size g.L.HostLog.notes (g.E.Events.given l.fn.events) (g.E.Events.given l.events) l.fn.host l.host l.fn.log l.log Spent;
+  met : Met g.A.Archive.condition g.A.Archive.account g.R.Source.unread g.K.Sink.taken g.S.Spool.held g.S.Spool.size g.L.HostLog.notes (g.E.Events.given l.fn.events) (g.E.Events.given l.events) l.fn.host l.host l.fn.log l.log Spent;
   vacant : IsOffer l.host l.now.vacancy;
 }
