@@ -22,7 +22,7 @@ use Rattle.dep_host.specs.declared.log.Closing.{Closing}
 use Rattle.dep_host.specs.declared.log.Closing.TheVariants.{Large}
 use Rattle.dep_host.specs.declared.course.Phase.TheVariants.{Open}
 use Rattle.dep_host.specs.Seats.{SameClient}
-use Rattle.dep_host.specs.Hosting.{Position, slot, HasTime, MayGo, Stays, Deed, unfinished_of, unfinished_in, Goes, Asks, Refused, Step, refused, asks, rests, Steps, begins, goes_on, GoesOn, Sheds}
+use Rattle.dep_host.specs.Hosting.{Position, slot, HasTime, MayGo, Stays, Deed, unfinished_of, unfinished_in, Goes, Asks, Refused, Step, refused, asks, rests, Steps, begins, goes_on, Sheds}
 
 -- the places that there are stay
 pub there_still : {X : Type 0} (l : List X) (at : ℕ) (x : X) → at < length l → at < length (set l at x)
@@ -166,14 +166,11 @@ pub kept_more : {R K S : Type 0} (seats : List (Option (Seat R K S))) (at : ℕ)
 kept_more seats at h = ap (λ (n : ℕ). unfinished_in (take n seats)) (add-one at) ∙ kept_suc seats at h
 
 module _ {A R K S : Type 0} (condition : A → Condition) (unread : R → Option (List ℕ)) (taken : K → Option (List ℕ)) (held : S → Option (List ℕ)) where
-  pub one_step : (p q : Position A R K S) (more : List Deed) → Step condition unread taken held p q more → GoesOn condition unread taken held p q
-  one_step p q more s = (more, goes_on begins s)
-
-  pub no_step : (p : Position A R K S) → GoesOn condition unread taken held p p
-  no_step p = ([], begins)
-
   pub stands_still : (p : Position A R K S) → Steps condition unread taken held p [] p
   stands_still p = begins
+
+  pub alone : (p q : Position A R K S) (more : List Deed) → Step condition unread taken held p q more → Steps condition unread taken held p more q
+  alone p q more s = goes_on begins s
 
   pub steps_join : {p q r : Position A R K S} {xs ys : List Deed} → Steps condition unread taken held p xs q → Steps condition unread taken held q ys r → Steps condition unread taken held p (xs ++ ys) r
   steps_join {p = p} {q = q} {xs = xs} s begins = subst (λ (l : List Deed). Steps condition unread taken held p l q) (sym (append-nil xs)) s
@@ -181,9 +178,6 @@ module _ {A R K S : Type 0} (condition : A → Condition) (unread : R → Option
       subst (λ (l : List Deed). Steps condition unread taken held p l r) (append_assoc xs ys more) (goes_on (steps_join s t) step)
 
   -- one stretch after another
-  pub both : (p q r : Position A R K S) → GoesOn condition unread taken held p q → GoesOn condition unread taken held q r → GoesOn condition unread taken held p r
-  both p q r g h = (g.0 ++ h.0, steps_join g.1 h.1)
-
   -- nothing changed
   pub untouched : (p q : Position A R K S) → q.hub ≡ p.hub → q.limits ≡ p.limits → q.shut ≡ p.shut → q.seats ≡ p.seats → Refused condition unread taken held p q
   untouched p q hub limits shut seats = record {

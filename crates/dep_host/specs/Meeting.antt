@@ -1,5 +1,5 @@
 -- What a host makes of what comes to it, event by event.
-use Rattle.std.specs.Prelude.{◌≡◌, ◌⊎◌, ◌<◌, ◌≤◌, ℕ, Bool, true, false, List, [], ◌∷◌, ◌++◌, length, set, Option, None, Some, IsNone, IsSome}
+use Rattle.std.specs.Prelude.{◌≡◌, ◌⊎◌, ◌<◌, ◌≤◌, ◌-◌, ◌^◌, ℕ, Bool, true, false, List, [], ◌∷◌, ◌++◌, length, set, Option, None, Some, IsNone, IsSome}
 use Rattle.std.specs.List.{Contains}
 use Rattle.std.specs.Option.{option_map}
 use Rattle.std.specs.declared.result.Result.{Result}
@@ -24,7 +24,7 @@ use Rattle.dep_host.specs.declared.serving.Ended.TheVariants as ended
 use Rattle.dep_host.specs.Coming.{Call, origin, seated_from, seconds_in}
 use Rattle.dep_host.specs.Courses.{is_overdue}
 use Rattle.dep_host.specs.Seats.{woken_seat}
-use Rattle.dep_host.specs.Hosting.{Comes, GoesRound, HasTime, IsEmpty, IsVacant, Refused, Stays, Steps, position, slot}
+use Rattle.dep_host.specs.Hosting.{Comes, Deed, Opens, GoesRound, HasTime, IsEmpty, IsVacant, Refused, Stays, Steps, position, slot}
 use Rattle.dep_host.specs.Notes.{Note, LetIn, TurnedAway, Grows}
 use Rattle.dep_host.specs.Rounds.{EndsInTime, IsTold}
 
@@ -141,45 +141,56 @@ module _ {A R K S L : Type 0} (condition : A → Condition) (account : A → Acc
     (unread : R → Option (List ℕ)) (taken : K → Option (List ℕ)) (held : S → Option (List ℕ))
     (size : S → ℕ) (notes : L → Option (List Note)) where
   -- what it makes of one event, before which this place was offered: who is let in sits there
-  pub data Meets (p q : Host A R K S) (l m : L) : (offer : Option ℕ) → Event R K S → Type 0 where
+  pub data Meets (p q : Host A R K S) (l m : L) : (offer : Option ℕ) → Event R K S → List Deed
+      → Type 0 where
     wakes : {offer : Option ℕ} {at : ℕ} {r w : Bool} → Wakes p q at r w → m ≡ l
-        → Meets p q l m offer (came.Ready at r w)
+        → Meets p q l m offer (came.Ready at r w) []
     lets_in : {client : Client R K S} {at : ℕ}
-        → LetsIn condition unread taken held notes p q l m at client
+        → (let_in : LetsIn condition unread taken held notes p q l m at client)
         → Meets p q l m (Some at) (came.Client client)
+        (Opens at let_in.seat.connection (unread let_in.seat.source) ∷ [])
     turns_away : {offer : Option ℕ} {client : Client R K S} {why : Refusal}
         → TurnsAway condition unread taken held notes p q l m client why
-        → Meets p q l m offer (came.Client client)
+        → Meets p q l m offer (came.Client client) []
     makes_round : {offer : Option ℕ} {time : Time}
-        → MakesRound condition account unread taken held size p q time
-        → Meets p q l m offer (came.Round time)
+        → (round : MakesRound condition account unread taken held size p q time)
+        → Meets p q l m offer (came.Round time) round.goes.deeds
 
-  -- an event was met, or was the end, by whether it goes on
+  -- an event was met by some deeds, or was the end, by whether it goes on
   abbrev pub IsMet : {T : Type 0} → (p q : Host A R K S) → (l m : L) → (offer : Option ℕ)
       → Event R K S → Result T Ended → Type 0
-  IsMet p q l m offer event (result.Ok now) = Meets p q l m offer event
+  IsMet p q l m offer event (result.Ok now) =
+      (deeds : List Deed) × Meets p q l m offer event deeds
   IsMet p q l m offer event (result.Err ended.Events) = (event ≡ came.End) × (q ≡ p) × (m ≡ l)
-  IsMet p q l m offer event (result.Err ended.Shut) = Meets p q l m offer event
+  IsMet p q l m offer event (result.Err ended.Shut) =
+      (deeds : List Deed) × Meets p q l m offer event deeds
   IsMet p q l m offer event (result.Err ended.Spent) = ⊥
 
-  -- what it makes of all of them, one after another: before each a free place was offered, if there
-  -- was one
+  -- what it makes of all of them, one after another, and all its deeds in them: before each a free
+  -- place was offered, if there was one
   pub data MeetsAll (p : Host A R K S) (l : L)
-      : List (Call R K S) → Host A R K S → L → Type 0 where
-    begins : MeetsAll p l [] p l
+      : List (Call R K S) → List Deed → Host A R K S → L → Type 0 where
+    begins : MeetsAll p l [] [] p l
     goes_on : {calls : List (Call R K S)} {offer : Option ℕ} {event : Event R K S}
-        {q n : Host A R K S} {m o : L} → MeetsAll p l calls q m → IsOffer q offer
-        → Meets q n m o offer event
-        → MeetsAll p l (calls ++ record { offer = offer; event = event } ∷ []) n o
+        {deeds more : List Deed} {q n : Host A R K S} {m o : L} → MeetsAll p l calls deeds q m
+        → IsOffer q offer → Meets q n m o offer event more
+        → MeetsAll p l (calls ++ record { offer = offer; event = event } ∷ []) (deeds ++ more) n o
 
-  -- What came in a call, where it is told, and what became of each: it was met, up to the end, and
-  -- no round was too late, nor a shut store left too soon.
+  -- What came in a call, where it is told, and what became of each, by these deeds and no others: it
+  -- was met, up to the end, and no round was too late, nor a shut store left too soon. No more is
+  -- asked for once so many came.
   pub record Met (told_old told_new : Option (List (Call R K S))) (p q : Host A R K S) (l m : L)
-      (end : Ended) : Type 0 where
+      (deeds : List Deed) (most : ℕ) (end : Ended) : Type 0 where
     pub calls : List (Call R K S)
     pub last : Option ℕ
     pub given : Grows told_old told_new (all_given end last calls)
-    pub each : MeetsAll p l calls q m
+    pub each : MeetsAll p l calls deeds q m
+    pub steps : Steps condition unread taken held (position p) deeds (position q)
     pub offered : end ≡ ended.Events → IsOffer q last
     pub in_time : EndsInTime (seconds_in calls) p.shut_since q.shut_since q.limits end
     pub may_end : end ≡ ended.Shut → MayEnd q (seconds_in calls)
+    pub spent : end ≡ ended.Spent → length calls ≡ most
+
+-- so many events are met at most
+abbrev pub most_events : ℕ
+most_events = 2 ^ 64 - 1
