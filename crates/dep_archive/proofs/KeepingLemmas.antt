@@ -1,7 +1,15 @@
 -- What was hashed of uploads is what was received of them, as the state goes on.
-use Rattle.std.proofs.Common.{inl, inr, Result, Ok, Err, IsErr, IsTrue, arith, get_or}
+use Rattle.std.proofs.Common.{◌≢◌, inl, inr, Result, Ok, Err, IsErr, IsTrue, arith, get_or, refl, sym, subst}
 use Rattle.std.proofs.lemmas.Result.{IfOk-weaker, on_err_weaker}
 use Rattle.sqlite.specs.State as db
+use Rattle.sqlite.specs.declared.error.ErrorCode.TheVariants as code
+use Rattle.sqlite.specs.declared.error.Error.{Error}
+use Rattle.sqlite.specs.declared.error.Error.TheVariants.{SqliteFailure}
+use Rattle.sqlite_trees.specs.declared.error.StoreError.{StoreError}
+use Rattle.sqlite_trees.specs.declared.error.StoreError.TheVariants.{OutOfMemory, Io, Corrupt, Full, Broken, Unstorable}
+use Rattle.dep_types.specs.declared.store_fault.StoreFault.{StoreFault}
+use Rattle.dep_tables.specs.Faults.{fault_for}
+use Rattle.dep_hub.specs.Errands.{FailsToTell}
 use Rattle.dep_types.specs.State.{State}
 use Rattle.dep_decisions.specs.Laws.{KeepsSegments}
 use Rattle.dep_staging.specs.HashedAhead.{AreRunning, IsRunning}
@@ -13,7 +21,7 @@ use Rattle.dep_types.specs.Conditions.{Condition}
 use Rattle.dep_hub.specs.Archives.{TriesTo, KeepsAll, FailsIfShut}
 use Rattle.dep_store.specs.Archive as store
 use Rattle.dep_store.specs.Shut as db_shut
-use Rattle.dep_archive.specs.Archive.{Keeps, shown_by}
+use Rattle.dep_archive.specs.Archive.{Keeps, shown_by, told_by}
 
 -- what was hashed of one upload
 still_running : (s t : State) (run : RunningHash) → KeepsSegments s t → IsRunning s run → IsRunning t run
@@ -67,3 +75,21 @@ tries_failed old new holds told next fault (Err e) failed it =
 pub fails_failed : {A E F : Type 0} (old new : Condition) (fault : F) (r : Result A E) → IsErr r → FailsIfShut {A = A} old new (Err fault) → FailsIfShut old new r
 fails_failed old new fault (Ok answer) failed it = cc failed
 fails_failed old new fault (Err e) failed it = record { opened = λ clean. tt; left = it.left }
+
+-- ---- why it isn't told whether it is open
+
+by_cause : (old new : db.State) (cause : StoreError) → db.HasCause old new ⊥ cause → db.store_error cause ≢ SqliteFailure code.Closed
+    → FailsToTell (told_by old) (told_by new) (fault_for (db.store_error cause))
+by_cause old new OutOfMemory has other = tt
+by_cause old new Io has other = inr has
+by_cause old new Corrupt has other = inr has
+by_cause old new Full has other = inr has
+by_cause old new Broken has other = absurd (other refl)
+by_cause old new Unstorable has other = absurd has
+
+-- as its database fails to tell it
+pub fails_to_tell : (old new : db.State) (fault : StoreFault) → db_shut.FailsToTell old new fault → FailsToTell (told_by old) (told_by new) fault
+fails_to_tell old new fault (inl (busy, same)) = subst (λ (f : StoreFault). FailsToTell (told_by old) (told_by new) f) (sym same) (inl busy)
+fails_to_tell old new fault (inr (e, (cause, is, has, rolled, told), other, same)) =
+    subst (λ (f : StoreFault). FailsToTell (told_by old) (told_by new) f) (sym same)
+    (subst (λ (x : Error). x ≢ SqliteFailure code.Closed → FailsToTell (told_by old) (told_by new) (fault_for x)) (sym is) (by_cause old new cause has) other)

@@ -1,4 +1,5 @@
 -- How a store that hashes segments ahead stands, as those who serve it see it.
+use Rattle.std.specs.Prelude.{None}
 use Rattle.sqlite.specs.State as db
 use Rattle.sqlite.specs.Held.{state}
 use Rattle.sqlite.specs.Tree.{Trees}
@@ -8,6 +9,7 @@ use Rattle.dep_types.specs.State.{State}
 use Rattle.dep_staging.specs.HashedAhead.{AreRunning}
 use Rattle.dep_staging.specs.declared.running.RunningHashes.{RunningHashes}
 use Rattle.dep_schema.specs.States.{StandsFor, IsLeftAs}
+use Rattle.dep_hub.specs.Errands.{Account}
 use Rattle.dep_archive.specs.declared.archive.HashingStore.{HashingStore}
 
 -- the database stands for the state, and what was hashed is what was received there
@@ -31,3 +33,10 @@ shown_by d running = record {
 -- how the store stands, with what was hashed
 abbrev pub condition_of : {S : Type 0} → (g : Ghosts S) → HashingStore S → Condition
 condition_of g archive = shown_by (state g archive.store) archive.running
+
+-- what its database tells of its answers: it shows nothing of what it is asked for
+abbrev pub told_by : db.State → Account
+told_by d = record { errands = None; is_busy = d.in_transaction; faults = d.faults }
+
+abbrev pub account_of : {S : Type 0} → (g : Ghosts S) → HashingStore S → Account
+account_of g archive = told_by (state g archive.store)

@@ -5,7 +5,7 @@ ghost use Rattle.sqlite.proofs.StateLemmas.{clean_if_open};
 ghost use Rattle.dep_types.specs.State.{State};
 ghost use Rattle.dep_staging.specs.HashedAhead.{AreRunning};
 ghost use Rattle.dep_schema.proofs.Transacting.{leaves_as_was};
-ghost use Rattle.dep_archive.specs.Archive.{condition_of};
+ghost use Rattle.dep_archive.specs.Archive.{account_of, condition_of};
 
 use dep_answers::{Performed, Service};
 use dep_decisions::Operation;
@@ -76,6 +76,8 @@ impl<S: Alter> HashingStore<S> {
 
 impl<S: Alter> Archive for HashingStore<S> {
     ghost condition = { condition_of S.Store };
+
+    ghost account = { account_of S.Store };
 
     fn tick(&mut self, config: &Config, moment: Moment) -> Result<Moment, StoreFault> {
         self.store.tick(config, moment)

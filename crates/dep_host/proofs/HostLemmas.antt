@@ -1,5 +1,5 @@
 -- How a host goes on.
-use Rattle.std.proofs.Common.{◌≡◌, ◌⊎◌, ◌<◌, ◌≤◌, ◌+◌, ℕ, zero, suc, Bool, true, false, List, [], ◌∷◌, ◌++◌, Option, None, Some, refl, sym, ap, subst, ◌∙◌, append_assoc, length, get_or, set, take, IsTrue, add-one, inl, inr, arith}
+use Rattle.std.proofs.Common.{◌≡◌, ◌⊎◌, ◌<◌, ◌≤◌, ◌+◌, ℕ, zero, suc, Bool, true, false, List, [], ◌∷◌, ◌++◌, Option, None, Some, refl, sym, ap, subst, ◌∙◌, append_assoc, length, get_or, set, take, Ok, IsTrue, add-one, inl, inr, arith}
 use Rattle.std.proofs.lemmas.List.{append-nil, get_or_default, set-get_or, get_or_past}
 use Rattle.std.proofs.Math.ListN.{length-set}
 use Rattle.std.proofs.lemmas.Bool.{cases_lt}
@@ -11,6 +11,7 @@ use Rattle.dep_hub.specs.Holding.{KeepsHolding}
 use Rattle.dep_hub.specs.declared.hub.Hub.{Hub}
 use Rattle.dep_hub.specs.Standing.{IsClean, IsHonest}
 use Rattle.dep_hub.specs.Shut.{TellsOpen}
+use Rattle.dep_hub.specs.Errands.{Account, Asked, Runs}
 use Rattle.dep_outbox.specs.declared.wire.Wire.{Wire}
 use Rattle.dep_outbox.specs.Wires.{told}
 use Rattle.dep_host.specs.Courses.{is_ended, closing as why}
@@ -21,7 +22,7 @@ use Rattle.dep_host.specs.declared.log.Closing.{Closing}
 use Rattle.dep_host.specs.declared.log.Closing.TheVariants.{Large}
 use Rattle.dep_host.specs.declared.course.Phase.TheVariants.{Open}
 use Rattle.dep_host.specs.Seats.{SameClient}
-use Rattle.dep_host.specs.Hosting.{Position, slot, HasTime, MayGo, Stays, Deed, unfinished_of, unfinished_in, Goes, Asks, Refused, Step, refused, asks, rests, Steps, begins, goes_on, GoesOn, Sheds}
+use Rattle.dep_host.specs.Hosting.{Position, slot, HasTime, MayGo, Stays, Deed, unfinished_of, unfinished_in, Goes, Asks, Refused, Step, refused, asks, rests, Steps, begins, goes_on, Sheds}
 
 -- the places that there are stay
 pub there_still : {X : Type 0} (l : List X) (at : ℕ) (x : X) → at < length l → at < length (set l at x)
@@ -122,6 +123,9 @@ told_shut c is_open e told = subst (λ (b : Bool). TellsOpen c b) e told
 pub told_open : (c : Condition) (is_open : Bool) → is_open ≡ true → TellsOpen c is_open → TellsOpen c true
 told_open c is_open e told = subst (λ (b : Bool). TellsOpen c b) e told
 
+pub told_as : (x y : Account) (b c : Bool) → b ≡ c → Runs (Asked (Ok b)) x y → Runs (Asked (Ok c)) x y
+told_as x y b c e asked = subst (λ (b : Bool). Runs (Asked (Ok b)) x y) e asked
+
 -- nobody sits at one place more
 pub none_more : {X : Type 0} (seats : List (Option X)) → ((at : ℕ) → slot at seats ≡ None) → (at : ℕ) → slot at (seats ++ None ∷ []) ≡ None
 none_more [] h zero = refl
@@ -162,14 +166,11 @@ pub kept_more : {R K S : Type 0} (seats : List (Option (Seat R K S))) (at : ℕ)
 kept_more seats at h = ap (λ (n : ℕ). unfinished_in (take n seats)) (add-one at) ∙ kept_suc seats at h
 
 module _ {A R K S : Type 0} (condition : A → Condition) (unread : R → Option (List ℕ)) (taken : K → Option (List ℕ)) (held : S → Option (List ℕ)) where
-  pub one_step : (p q : Position A R K S) (more : List Deed) → Step condition unread taken held p q more → GoesOn condition unread taken held p q
-  one_step p q more s = (more, goes_on begins s)
-
-  pub no_step : (p : Position A R K S) → GoesOn condition unread taken held p p
-  no_step p = ([], begins)
-
   pub stands_still : (p : Position A R K S) → Steps condition unread taken held p [] p
   stands_still p = begins
+
+  pub alone : (p q : Position A R K S) (more : List Deed) → Step condition unread taken held p q more → Steps condition unread taken held p more q
+  alone p q more s = goes_on begins s
 
   pub steps_join : {p q r : Position A R K S} {xs ys : List Deed} → Steps condition unread taken held p xs q → Steps condition unread taken held q ys r → Steps condition unread taken held p (xs ++ ys) r
   steps_join {p = p} {q = q} {xs = xs} s begins = subst (λ (l : List Deed). Steps condition unread taken held p l q) (sym (append-nil xs)) s
@@ -177,9 +178,6 @@ module _ {A R K S : Type 0} (condition : A → Condition) (unread : R → Option
       subst (λ (l : List Deed). Steps condition unread taken held p l r) (append_assoc xs ys more) (goes_on (steps_join s t) step)
 
   -- one stretch after another
-  pub both : (p q r : Position A R K S) → GoesOn condition unread taken held p q → GoesOn condition unread taken held q r → GoesOn condition unread taken held p r
-  both p q r g h = (g.0 ++ h.0, steps_join g.1 h.1)
-
   -- nothing changed
   pub untouched : (p q : Position A R K S) → q.hub ≡ p.hub → q.limits ≡ p.limits → q.shut ≡ p.shut → q.seats ≡ p.seats → Refused condition unread taken held p q
   untouched p q hub limits shut seats = record {

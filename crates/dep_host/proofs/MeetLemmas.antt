@@ -1,14 +1,15 @@
 -- What a host makes of what comes to it.
-use Rattle.std.proofs.Common.{◌≡◌, inl, inr, ◌<◌, ℕ, Bool, true, false, if◌then◌else◌, List, [], ◌∷◌, ◌++◌, Option, None, Some, is_some, refl, sym, ap, subst, ◌∙◌, append_assoc, length, set, IsSome, arith}
+use Rattle.std.proofs.Common.{◌≡◌, inl, inr, ◌<◌, ◌+◌, ℕ, Bool, true, false, if◌then◌else◌, List, [], ◌∷◌, ◌++◌, Option, None, Some, is_some, refl, sym, ap, subst, ◌∙◌, append_assoc, length, set, IsSome, arith}
 use Rattle.std.specs.Option.{option_map}
 use Rattle.std.specs.declared.result.Result.{Result}
 use Rattle.std.specs.declared.result.Result.TheVariants.{Ok, Err}
 use Rattle.std.specs.List.{AllByRecursion}
 use Rattle.std.proofs.lemmas.Bool.{cases_eq, cases_lt}
 use Rattle.std.proofs.lemmas.List.Elements.{Contains-append_right}
-use Rattle.std.proofs.lemmas.List.{append-nil, set-get_or, get_or_past, get_or-set_same, get_or-set_other}
+use Rattle.std.proofs.lemmas.List.{append-nil, length-append, set-get_or, get_or_past, get_or-set_same, get_or-set_other}
 use Rattle.std.proofs.lemmas.Grind.{flat_map-append}
 use Rattle.dep_types.specs.Conditions.{Condition}
+use Rattle.dep_hub.specs.Errands.{Account}
 use Rattle.dep_host.specs.declared.seat.Seat.{Seat}
 use Rattle.dep_host.specs.declared.host.Host.{Host}
 use Rattle.dep_host.specs.declared.log.Refusal.{Refusal}
@@ -21,11 +22,11 @@ use Rattle.dep_host.specs.declared.serving.Ended.TheVariants as ended
 use Rattle.dep_host.specs.Coming.{Call, seconds_of, seconds_in}
 use Rattle.dep_host.specs.Courses.{is_overdue}
 use Rattle.dep_host.specs.Seats.{woken_seat}
-use Rattle.dep_host.specs.Hosting.{GoesOn, position, slot, refused, comes}
-use Rattle.dep_host.specs.Meeting.{IsOffer, MayEnd, Wakes, MayRefuse, TurnsAway, Admits, Meets, wakes, lets_in, turns_away, makes_round, IsMet, MeetsAll, begins, goes_on, all_given, Met}
+use Rattle.dep_host.specs.Hosting.{Deed, Position, Steps, position, slot, refused, comes}
+use Rattle.dep_host.specs.Meeting.{IsOffer, MayEnd, Wakes, MayRefuse, TurnsAway, Admits, Meets, wakes, lets_in, turns_away, makes_round, IsMet, begins, goes_on, all_given, Met}
 use Rattle.dep_host.specs.Notes.{Note, Grows}
 use Rattle.dep_host.specs.Rounds.{IsTold, EndsInTime}
-use Rattle.dep_host.proofs.HostLemmas.{untouched, woken, one_step, no_step, both}
+use Rattle.dep_host.proofs.HostLemmas.{untouched, woken, alone, stands_still, steps_join}
 use Rattle.dep_host.proofs.RoundLemmas.{rounds_begin, rounds_go_on, one_second}
 
 pub grows_none : {X : Type 0} (told : Option (List X)) → Grows told told []
@@ -93,6 +94,9 @@ offer_kept {R = R} {K = K} {S = S} p q at r w (Some place) v h = (
   subst (λ (s : Option ℕ). is_some s ≡ false) (sym h.stays.shut) v.2,
 )
 
+pub not_told : {X : Type 0} (o : Option X) → IsSome o → is_some o ≡ false → ⊥
+not_told o some none = let bad : true ≡ false = sym some ∙ none in cc
+
 -- nothing is vacant once it was told that the store is shut
 pub none_once_shut : {A R K S : Type 0} (p : Host A R K S) → IsSome p.shut_since → IsOffer p None
 none_once_shut p shut = λ at v. let bad : true ≡ false = sym shut ∙ v.2 in cc
@@ -129,16 +133,18 @@ seconds_more {R = R} {K = K} {S = S} calls call =
     flat_map-append (λ (c : Call R K S). seconds_of c.event) calls (call ∷ []) ∙ ap (λ (l : List ℕ). seconds_in calls ++ l) (append-nil (seconds_of call.event))
 
 module _ {A R K S : Type 0} (condition : A → Condition) (unread : R → Option (List ℕ)) (taken : K → Option (List ℕ)) (held : S → Option (List ℕ)) where
-  wakes_there : (p q : Host A R K S) (at : ℕ) (r w : Bool) (o : Option (Seat R K S)) → slot at p.seats.items ≡ o → Wakes p q at r w → GoesOn condition unread taken held (position p) (position q)
-  wakes_there p q at r w None e h = one_step condition unread taken held (position p) (position q) []
+  wakes_there : (p q : Host A R K S) (at : ℕ) (r w : Bool) (o : Option (Seat R K S)) → slot at p.seats.items ≡ o → Wakes p q at r w → Steps condition unread taken held (position p) [] (position q)
+  wakes_there p q at r w None e h = alone condition unread taken held (position p) (position q) []
       (refused (untouched condition unread taken held (position p) (position q) h.same_hub h.stays.limits h.stays.shut
       (h.seats ∙ sym (changes_none (λ (s : Seat R K S). woken_seat s r w) p.seats.items at e))))
-  wakes_there p q at r w (Some before) e h = (
-    [],
-    woken condition unread taken held (position p) (position q) at before (woken_seat before r w) (sits_within p.seats.items at before e) e
-        (h.seats ∙ ap (λ (o : Option (Seat R K S)). set p.seats.items at (option_map (λ (s : Seat R K S). woken_seat s r w) o)) e)
-        h.same_hub h.stays.limits h.stays.shut (record { connection = refl; address = refl }) refl refl (λ h. h) (λ h. h) refl,
-  )
+  wakes_there p q at r w (Some before) e h =
+      woken condition unread taken held (position p) (position q) at before (woken_seat before r w) (sits_within p.seats.items at before e) e
+      (h.seats ∙ ap (λ (o : Option (Seat R K S)). set p.seats.items at (option_map (λ (s : Seat R K S). woken_seat s r w) o)) e)
+      h.same_hub h.stays.limits h.stays.shut (record { connection = refl; address = refl }) refl refl (λ h. h) (λ h. h) refl
+
+  -- behind what was done nothing more is
+  still_on : (p q r : Position A R K S) (deeds : List Deed) → Steps condition unread taken held p deeds q → Steps condition unread taken held q [] r → Steps condition unread taken held p deeds r
+  still_on p q r deeds s t = subst (λ (l : List Deed). Steps condition unread taken held p l r) (append-nil deeds) (steps_join condition unread taken held s t)
 
   module _ {L : Type 0} (notes : L → Option (List Note)) where
     -- it was turned away for what was answered
@@ -146,38 +152,43 @@ module _ {A R K S : Type 0} (condition : A → Condition) (unread : R → Option
         → Admits condition unread taken held notes p q l m at client (Err told)
     turned p q l m at client why told same h = subst (λ (r : Refusal). TurnsAway condition unread taken held notes p q l m client r) (sym same) h
 
-  module _ {L : Type 0} (size : S → ℕ) (notes : L → Option (List Note)) where
-    pub admitted : (p q : Host A R K S) (l m : L) (offer : Option ℕ) (at : ℕ) (client : Client R K S) (result : Result (Unit {0}) Refusal) → offer ≡ Some at → Admits condition unread taken held notes p q l m at client result
-        → Meets condition unread taken held size notes p q l m offer (came.Client client)
-    admitted p q l m offer at client (Ok x) is h = subst (λ (o : Option ℕ). Meets condition unread taken held size notes p q l m o (came.Client client)) (sym is) (lets_in h)
-    admitted p q l m offer at client (Err why) is h = turns_away h
+  module _ {L : Type 0} (account : A → Account) (size : S → ℕ) (notes : L → Option (List Note)) where
+    -- it was met by some deeds
+    abbrev IsMetBySome : (p q : Host A R K S) (l m : L) (offer : Option ℕ) (event : Event R K S) → Type 0
+    IsMetBySome p q l m offer event = (deeds : List Deed) × Meets condition account unread taken held size notes p q l m offer event deeds
 
-    pub meets_as : (p q : Host A R K S) (l m : L) (offer : Option ℕ) (event other : Event R K S) → event ≡ other → Meets condition unread taken held size notes p q l m offer other → Meets condition unread taken held size notes p q l m offer event
-    meets_as p q l m offer event other is h = subst (λ (e : Event R K S). Meets condition unread taken held size notes p q l m offer e) (sym is) h
+    pub admitted : (p q : Host A R K S) (l m : L) (offer : Option ℕ) (at : ℕ) (client : Client R K S) (result : Result (Unit {0}) Refusal) → offer ≡ Some at → Admits condition unread taken held notes p q l m at client result
+        → IsMetBySome p q l m offer (came.Client client)
+    admitted p q l m offer at client (Ok x) is h = subst (λ (o : Option ℕ). IsMetBySome p q l m o (came.Client client)) (sym is) (_, lets_in h)
+    admitted p q l m offer at client (Err why) is h = ([], turns_away h)
+
+    pub meets_as : (p q : Host A R K S) (l m : L) (offer : Option ℕ) (event other : Event R K S) → event ≡ other → IsMetBySome p q l m offer other → IsMetBySome p q l m offer event
+    meets_as p q l m offer event other is h = subst (λ (e : Event R K S). IsMetBySome p q l m offer e) (sym is) h
 
     pub round_met : {T : Type 0} (p q : Host A R K S) (l m : L) (offer : Option ℕ) (event : Event R K S) (result : Result T Ended) → (result ≡ Err ended.Events → ⊥) → (result ≡ Err ended.Spent → ⊥)
-        → Meets condition unread taken held size notes p q l m offer event → IsMet condition unread taken held size notes p q l m offer event result
+        → IsMetBySome p q l m offer event → IsMet condition account unread taken held size notes p q l m offer event result
     round_met p q l m offer event (Ok now) more few h = h
     round_met p q l m offer event (Err ended.Events) more few h = absurd (more refl)
     round_met p q l m offer event (Err ended.Shut) more few h = h
     round_met p q l m offer event (Err ended.Spent) more few h = absurd (few refl)
 
     -- what comes of an event
-    pub meets_go : {p q : Host A R K S} {l m : L} {offer : Option ℕ} {event : Event R K S} → Meets condition unread taken held size notes p q l m offer event → GoesOn condition unread taken held (position p) (position q)
+    meets_go : {p q : Host A R K S} {l m : L} {offer : Option ℕ} {event : Event R K S} {deeds : List Deed} → Meets condition account unread taken held size notes p q l m offer event deeds
+        → Steps condition unread taken held (position p) deeds (position q)
     meets_go {p = p} {q = q} (wakes {at = at} {r = r} {w = w} h same) = wakes_there p q at r w (slot at p.seats.items) refl h
-    meets_go {p = p} {q = q} (lets_in h) = one_step condition unread taken held (position p) (position q) _ (comes h.comes)
-    meets_go {p = p} {q = q} (turns_away h) = one_step condition unread taken held (position p) (position q) [] (refused h.keeps)
+    meets_go {p = p} {q = q} (lets_in h) = alone condition unread taken held (position p) (position q) _ (comes h.comes)
+    meets_go {p = p} {q = q} (turns_away h) = alone condition unread taken held (position p) (position q) [] (refused h.keeps)
     meets_go {p = p} {q = q} (makes_round h) =
-        both condition unread taken held (position p) (position h.mid) (position q) (h.goes.deeds, h.goes.steps)
-        (both condition unread taken held (position h.mid) (position h.asks.mid) (position q) ([], h.asks.asks.steps) ([], h.asks.works))
+        still_on (position p) (position h.asks.mid) (position q) h.goes.deeds
+        (still_on (position p) (position h.mid) (position h.asks.mid) h.goes.deeds h.goes.steps h.asks.asks.steps) h.asks.works
 
-    pub meets_limits : {p q : Host A R K S} {l m : L} {offer : Option ℕ} {event : Event R K S} → Meets condition unread taken held size notes p q l m offer event → q.limits ≡ p.limits
+    pub meets_limits : {p q : Host A R K S} {l m : L} {offer : Option ℕ} {event : Event R K S} {deeds : List Deed} → Meets condition account unread taken held size notes p q l m offer event deeds → q.limits ≡ p.limits
     meets_limits (wakes h same) = h.stays.limits
     meets_limits (lets_in h) = h.stays.limits
     meets_limits (turns_away h) = h.stays.limits
     meets_limits (makes_round h) = h.asks.stays.limits ∙ (h.asks.asks.limits ∙ h.stays.limits)
 
-    pub meets_told : {p q : Host A R K S} {l m : L} {offer : Option ℕ} {event : Event R K S} → Meets condition unread taken held size notes p q l m offer event → IsTold p.shut_since q.shut_since (seconds_of event)
+    pub meets_told : {p q : Host A R K S} {l m : L} {offer : Option ℕ} {event : Event R K S} {deeds : List Deed} → Meets condition account unread taken held size notes p q l m offer event deeds → IsTold p.shut_since q.shut_since (seconds_of event)
     meets_told (wakes h same) = inl h.stays.shut
     meets_told (lets_in h) = inl h.stays.shut
     meets_told (turns_away h) = inl h.stays.shut
@@ -185,63 +196,94 @@ module _ {A R K S : Type 0} (condition : A → Condition) (unread : R → Option
         subst (λ (o : Option ℕ). IsTold o q.shut_since (time.second ∷ [])) h.stays.shut
         (subst (λ (o : Option ℕ). IsTold h.mid.shut_since o (time.second ∷ [])) (sym h.asks.stays.shut) h.asks.asks.told)
 
-    pub all_go : {p : Host A R K S} {l : L} {calls : List (Call R K S)} {q : Host A R K S} {m : L} → MeetsAll condition unread taken held size notes p l calls q m → GoesOn condition unread taken held (position p) (position q)
-    all_go {p = p} begins = no_step condition unread taken held (position p)
-    all_go {p = p} (goes_on {q = q} {n = n} s offered h) = both condition unread taken held (position p) (position q) (position n) (all_go s) (meets_go h)
-
-    pub met_none : (told : Option (List (Call R K S))) (p : Host A R K S) (l : L) → Met condition unread taken held size notes told told p p l l ended.Spent
+    pub met_none : (told : Option (List (Call R K S))) (p : Host A R K S) (l : L) → Met condition account unread taken held size notes told told p p l l [] 0 ended.Spent
     met_none told p l = record {
       calls = [];
       last = None;
       given = grows_none told;
       each = begins;
+      steps = stands_still condition unread taken held (position p);
       offered = λ e. let bad : ended.Spent ≡ ended.Events = e in cc;
       in_time = rounds_begin p.shut_since p.limits;
       may_end = λ e. let bad : ended.Spent ≡ ended.Shut = e in cc;
+      spent = λ e. refl;
     }
 
-    pub met_on : (old mid new : Option (List (Call R K S))) (p q r : Host A R K S) (l m n : L) (offer : Option ℕ) (event : Event R K S) (end : Ended)
-        → Met condition unread taken held size notes old mid p q l m ended.Spent → Grows mid new (record { offer = offer; event = event } ∷ []) → IsOffer q offer → Meets condition unread taken held size notes q r m n offer event
+    pub met_on : (old mid new : Option (List (Call R K S))) (p q r : Host A R K S) (l m n : L) (offer : Option ℕ) (event : Event R K S) (deeds more : List Deed) (count most : ℕ) (end : Ended)
+        → Met condition account unread taken held size notes old mid p q l m deeds count ended.Spent → Grows mid new (record { offer = offer; event = event } ∷ []) → IsOffer q offer
+        → Meets condition account unread taken held size notes q r m n offer event more
         → (end ≡ ended.Events → ⊥) → ((end ≡ ended.Shut → ⊥) → AllByRecursion (λ second. is_overdue r.shut_since second r.limits ≡ false) (seconds_of event))
-        → (end ≡ ended.Shut → MayEnd r (seconds_of event)) → Met condition unread taken held size notes old new p r l n end
-    met_on old mid new p q r l m n offer event end s g offered h more now may =
+        → (end ≡ ended.Shut → MayEnd r (seconds_of event)) → (end ≡ ended.Spent → most ≡ count + 1)
+        → Met condition account unread taken held size notes old new p r l n (deeds ++ more) most end
+    met_on old mid new p q r l m n offer event deeds more count most end s g offered h events now may next =
         let call : Call R K S = record { offer = offer; event = event } in
         record {
           calls = s.calls ++ call ∷ [];
           last = None;
-          given = given_more old new (s.calls ++ call ∷ []) end more (grows_on old mid new s.calls (call ∷ []) s.given g);
+          given = given_more old new (s.calls ++ call ∷ []) end events (grows_on old mid new s.calls (call ∷ []) s.given g);
           each = goes_on s.each offered h;
-          offered = λ e. absurd (more e);
+          steps = steps_join condition unread taken held s.steps (meets_go h);
+          offered = λ e. absurd (events e);
           in_time = subst (λ (l : List ℕ). EndsInTime l p.shut_since r.shut_since r.limits end) (sym (seconds_more s.calls call))
               (rounds_go_on (seconds_in s.calls) (seconds_of event) p.shut_since q.shut_since r.shut_since q.limits r.limits end s.in_time (meets_told h) (one_second event) (meets_limits h) now);
           may_end = λ e. subst (λ (l : List ℕ). MayEnd r l) (sym (seconds_more s.calls call)) (may_end_on r (seconds_in s.calls) (seconds_of event) (may e));
+          spent = λ e.
+              let long : length (s.calls ++ call ∷ []) ≡ length s.calls + 1 = length-append s.calls (call ∷ []) in
+              let so_far = s.spent refl in
+              let on = next e in
+              omega (arith, long, so_far, on);
         }
 
     -- the last event, behind which nothing more is asked for
-    ended_by : (T : Type 0) (old mid new : Option (List (Call R K S))) (p q r : Host A R K S) (l m n : L) (offer : Option ℕ) (event : Event R K S) (end : Ended)
-        → Met condition unread taken held size notes old mid p q l m ended.Spent → Grows mid new (record { offer = offer; event = event } ∷ []) → IsOffer q offer → IsMet condition unread taken held size notes {T = T} q r m n offer event (Err end)
-        → (end ≡ ended.Shut → MayEnd r (seconds_of event)) → Met condition unread taken held size notes old new p r l n end
-    ended_by T old mid new p q r l m n offer event ended.Events s g offered h may =
-        let now : Met condition unread taken held size notes old new p q l m ended.Events = record {
+    ended_by : (T : Type 0) (old mid new : Option (List (Call R K S))) (p q r : Host A R K S) (l m n : L) (offer : Option ℕ) (event : Event R K S) (deeds : List Deed) (count most : ℕ) (end : Ended)
+        → Met condition account unread taken held size notes old mid p q l m deeds count ended.Spent → Grows mid new (record { offer = offer; event = event } ∷ []) → IsOffer q offer
+        → IsMet condition account unread taken held size notes {T = T} q r m n offer event (Err end)
+        → (end ≡ ended.Shut → MayEnd r (seconds_of event)) → (all : List Deed) × Met condition account unread taken held size notes old new p r l n all most end
+    ended_by T old mid new p q r l m n offer event deeds count most ended.Events s g offered h may =
+        let now : Met condition account unread taken held size notes old new p q l m deeds most ended.Events = record {
           calls = s.calls;
           last = offer;
           given = grows_on old mid new s.calls (record { offer = offer; event = came.End } ∷ []) s.given (subst (λ (e : Event R K S). Grows mid new (record { offer = offer; event = e } ∷ [])) h.0 g);
           each = s.each;
+          steps = s.steps;
           offered = λ e. offered;
           in_time = record { is_told = s.in_time.is_told; in_time = s.in_time.in_time };
           may_end = λ e. let bad : ended.Events ≡ ended.Shut = e in cc;
-        } in
-        subst (λ (k : L). Met condition unread taken held size notes old new p r l k ended.Events) (sym h.2)
-        (subst (λ (k : Host A R K S). Met condition unread taken held size notes old new p k l m ended.Events) (sym h.1) now)
-    ended_by T old mid new p q r l m n offer event ended.Shut s g offered h may =
-        met_on old mid new p q r l m n offer event ended.Shut s g offered h (λ e. let bad : ended.Shut ≡ ended.Events = e in cc) (λ more. absurd (more refl)) may
-    ended_by T old mid new p q r l m n offer event ended.Spent s g offered h may = absurd h
+          spent = λ e. let bad : ended.Events ≡ ended.Spent = e in cc;
+        } in (
+          deeds,
+          subst (λ (k : L). Met condition account unread taken held size notes old new p r l k deeds most ended.Events) (sym h.2)
+              (subst (λ (k : Host A R K S). Met condition account unread taken held size notes old new p k l m deeds most ended.Events) (sym h.1) now),
+        )
+    ended_by T old mid new p q r l m n offer event deeds count most ended.Shut s g offered h may = (
+      deeds ++ h.0,
+      met_on old mid new p q r l m n offer event deeds h.0 count most ended.Shut s g offered h.1 (λ e. let bad : ended.Shut ≡ ended.Events = e in cc) (λ more. absurd (more refl)) may
+          (λ e. let bad : ended.Shut ≡ ended.Spent = e in cc),
+    )
+    ended_by T old mid new p q r l m n offer event deeds count most ended.Spent s g offered h may = absurd h
 
-    pub met_last : {T : Type 0} (old mid new : Option (List (Call R K S))) (p q r : Host A R K S) (l m n : L) (offer : Option ℕ) (event : Event R K S) (end : Ended) (result : Result T Ended)
-        → result ≡ Err end → Met condition unread taken held size notes old mid p q l m ended.Spent → Grows mid new (record { offer = offer; event = event } ∷ []) → IsOffer q offer → IsMet condition unread taken held size notes q r m n offer event result
-        → (result ≡ Err ended.Shut → MayEnd r (seconds_of event)) → Met condition unread taken held size notes old new p r l n end
-    met_last {T = T} old mid new p q r l m n offer event end result is s g offered h may =
-        ended_by T old mid new p q r l m n offer event end s g offered (subst (λ (k : Result T Ended). IsMet condition unread taken held size notes q r m n offer event k) is h) (λ e. may (is ∙ ap Err e))
+    pub met_last : {T : Type 0} (old mid new : Option (List (Call R K S))) (p q r : Host A R K S) (l m n : L) (offer : Option ℕ) (event : Event R K S) (deeds : List Deed) (count most : ℕ) (end : Ended) (result : Result T Ended)
+        → result ≡ Err end → Met condition account unread taken held size notes old mid p q l m deeds count ended.Spent → Grows mid new (record { offer = offer; event = event } ∷ []) → IsOffer q offer
+        → IsMet condition account unread taken held size notes q r m n offer event result
+        → (result ≡ Err ended.Shut → MayEnd r (seconds_of event)) → (all : List Deed) × Met condition account unread taken held size notes old new p r l n all most end
+    met_last {T = T} old mid new p q r l m n offer event deeds count most end result is s g offered h may =
+        ended_by T old mid new p q r l m n offer event deeds count most end s g offered (subst (λ (k : Result T Ended). IsMet condition account unread taken held size notes q r m n offer event k) is h) (λ e. may (is ∙ ap Err e))
 
-    pub is_the_end : {T : Type 0} (p q : Host A R K S) (l m : L) (offer : Option ℕ) (event : Event R K S) (result : Result T Ended) → result ≡ Err ended.Events → IsMet condition unread taken held size notes p q l m offer event result → event ≡ came.End
-    is_the_end {T = T} p q l m offer event result is h = let at_end = subst (λ (k : Result T Ended). IsMet condition unread taken held size notes p q l m offer event k) is h in at_end.0
+    pub met_next : (old mid new : Option (List (Call R K S))) (p q r : Host A R K S) (l m n : L) (offer : Option ℕ) (event : Event R K S) (count most : ℕ)
+        → (deeds : List Deed) × Met condition account unread taken held size notes old mid p q l m deeds count ended.Spent → Grows mid new (record { offer = offer; event = event } ∷ []) → IsOffer q offer
+        → IsMetBySome q r m n offer event → AllByRecursion (λ second. is_overdue r.shut_since second r.limits ≡ false) (seconds_of event) → most ≡ count + 1
+        → (deeds : List Deed) × Met condition account unread taken held size notes old new p r l n deeds most ended.Spent
+    met_next old mid new p q r l m n offer event count most s g offered h now next = (
+      s.0 ++ h.0,
+      met_on old mid new p q r l m n offer event s.0 h.0 count most ended.Spent s.1 g offered h.1 (λ e. let bad : ended.Spent ≡ ended.Events = e in cc) (λ more. now)
+          (λ e. let bad : ended.Spent ≡ ended.Shut = e in cc) (λ e. next),
+    )
+
+    -- as many came as may
+    pub met_all : (old new : Option (List (Call R K S))) (p q : Host A R K S) (l m : L) (count most : ℕ) → count ≡ most
+        → (deeds : List Deed) × Met condition account unread taken held size notes old new p q l m deeds count ended.Spent
+        → (deeds : List Deed) × Met condition account unread taken held size notes old new p q l m deeds most ended.Spent
+    met_all old new p q l m count most e h = subst (λ (n : ℕ). (deeds : List Deed) × Met condition account unread taken held size notes old new p q l m deeds n ended.Spent) e h
+
+    pub is_the_end : {T : Type 0} (p q : Host A R K S) (l m : L) (offer : Option ℕ) (event : Event R K S) (result : Result T Ended) → result ≡ Err ended.Events → IsMet condition account unread taken held size notes p q l m offer event result → event ≡ came.End
+    is_the_end {T = T} p q l m offer event result is h = let at_end = subst (λ (k : Result T Ended). IsMet condition account unread taken held size notes p q l m offer event k) is h in at_end.0

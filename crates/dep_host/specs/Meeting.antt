@@ -1,12 +1,14 @@
 -- What a host makes of what comes to it, event by event.
-use Rattle.std.specs.Prelude.{◌≡◌, ◌⊎◌, ◌<◌, ◌≤◌, ℕ, Bool, true, List, [], ◌∷◌, ◌++◌, length, set, Option, None, Some, IsNone, IsSome}
+use Rattle.std.specs.Prelude.{◌≡◌, ◌⊎◌, ◌<◌, ◌≤◌, ◌-◌, ◌^◌, ℕ, Bool, true, false, List, [], ◌∷◌, ◌++◌, length, set, Option, None, Some, IsNone, IsSome}
 use Rattle.std.specs.List.{Contains}
 use Rattle.std.specs.Option.{option_map}
 use Rattle.std.specs.declared.result.Result.{Result}
 use Rattle.std.specs.declared.result.Result.TheVariants as result
-use Rattle.dep_types.specs.Conditions.{Condition}
+use Rattle.dep_types.specs.Conditions.{Condition, HasCleanDisk}
+use Rattle.dep_types.specs.declared.store_fault.StoreFault.{StoreFault}
 use Rattle.dep_types.specs.Writing.{HasRisen}
 use Rattle.dep_hub.specs.Shut.{TellsOpen}
+use Rattle.dep_hub.specs.Errands.{Account, Asked, WorkedAhead, Runs, FailsToTell}
 use Rattle.dep_hub.specs.Numbers.{most_connections, last_number}
 use Rattle.dep_hub.specs.declared.hub.Hub.{Hub}
 use Rattle.dep_host.specs.declared.seat.Seat.{Seat}
@@ -22,7 +24,7 @@ use Rattle.dep_host.specs.declared.serving.Ended.TheVariants as ended
 use Rattle.dep_host.specs.Coming.{Call, origin, seated_from, seconds_in}
 use Rattle.dep_host.specs.Courses.{is_overdue}
 use Rattle.dep_host.specs.Seats.{woken_seat}
-use Rattle.dep_host.specs.Hosting.{Comes, GoesRound, HasTime, IsEmpty, IsVacant, Refused, Stays, Steps, position, slot}
+use Rattle.dep_host.specs.Hosting.{Comes, Deed, Opens, GoesRound, HasTime, IsEmpty, IsVacant, Refused, Stays, Steps, position, slot}
 use Rattle.dep_host.specs.Notes.{Note, LetIn, TurnedAway, Grows}
 use Rattle.dep_host.specs.Rounds.{EndsInTime, IsTold}
 
@@ -66,23 +68,37 @@ MayRefuse p client refusal.Full =
 MayRefuse p client refusal.Memory = IsNone p.shut_since
 MayRefuse p client refusal.Shut = IsSome p.shut_since
 
-module _ {A R K S : Type 0} (condition : A → Condition) (unread : R → Option (List ℕ))
-    (taken : K → Option (List ℕ)) (held : S → Option (List ℕ)) where
-  -- It was asked at a second whether the store is open: it is shut; or open, unless its disk has
-  -- told a lie; or this could not be told, which is counted.
+module _ {A R K S : Type 0} (condition : A → Condition) (account : A → Account)
+    (unread : R → Option (List ℕ)) (taken : K → Option (List ℕ)) (held : S → Option (List ℕ)) where
+  -- What it makes of the answer whether its store is open: it goes on, unless the store is shut, and
+  -- counts where this could not be told, for which there was a cause.
+  abbrev pub GoesBy : (p q : Host A R K S) → (second : ℕ) → Result Bool StoreFault → Type 0
+  GoesBy p q second (result.Ok true) = IsNone q.shut_since × (q.unanswered ≡ p.unanswered)
+      × TellsOpen (condition q.hub.store) true
+  GoesBy p q second (result.Ok false) = (q.shut_since ≡ Some second)
+      × (q.unanswered ≡ p.unanswered) × TellsOpen (condition q.hub.store) false
+  GoesBy p q second (result.Err fault) = IsNone q.shut_since × HasRisen p.unanswered q.unanswered
+      × (HasCleanDisk (condition q.hub.store)
+      → FailsToTell (account p.hub.store) (account q.hub.store) fault)
+
+  -- it asked its store at a second whether it is open, and went by the answer, unless it was told
+  -- before that it is shut
   pub record IsAsked (p q : Host A R K S) (second : ℕ) : Type 0 where
     pub steps : Steps condition unread taken held (position p) [] (position q)
     pub told : IsTold p.shut_since q.shut_since (second ∷ [])
     pub limits : q.limits ≡ p.limits
-    pub known : IsSome q.shut_since
-        ⊎ (TellsOpen (condition q.hub.store) true ⊎ HasRisen p.unanswered q.unanswered)
+    pub known : (IsSome p.shut_since × (q ≡ p)) ⊎ ((answer : Result Bool StoreFault)
+        × Runs (Asked answer) (account p.hub.store) (account q.hub.store)
+        × GoesBy p q second answer)
 
-  -- it was asked whether the store is open, which may have worked ahead then
+  -- it asked whether its store is open, and then had it work ahead, unless it is shut
   pub record AsksOn (p q : Host A R K S) (second : ℕ) : Type 0 where
     pub mid : Host A R K S
     pub asks : IsAsked p mid second
     pub works : Steps condition unread taken held (position mid) [] (position q)
     pub stays : Stays mid q
+    pub ahead : IsNone mid.shut_since
+        → Runs WorkedAhead (account mid.hub.store) (account q.hub.store)
 
   -- each place had its turn at that time, and then it was asked whether the store is open
   pub record MakesRound (size : S → ℕ) (p q : Host A R K S) (time : Time) : Type 0 where
@@ -121,49 +137,60 @@ module _ {A R K S L : Type 0} (condition : A → Condition) (unread : R → Opti
   Admits p q l m at client (result.Ok _) = LetsIn p q l m at client
   Admits p q l m at client (result.Err why) = TurnsAway p q l m client why
 
-module _ {A R K S L : Type 0} (condition : A → Condition) (unread : R → Option (List ℕ))
-    (taken : K → Option (List ℕ)) (held : S → Option (List ℕ)) (size : S → ℕ)
-    (notes : L → Option (List Note)) where
+module _ {A R K S L : Type 0} (condition : A → Condition) (account : A → Account)
+    (unread : R → Option (List ℕ)) (taken : K → Option (List ℕ)) (held : S → Option (List ℕ))
+    (size : S → ℕ) (notes : L → Option (List Note)) where
   -- what it makes of one event, before which this place was offered: who is let in sits there
-  pub data Meets (p q : Host A R K S) (l m : L) : (offer : Option ℕ) → Event R K S → Type 0 where
+  pub data Meets (p q : Host A R K S) (l m : L) : (offer : Option ℕ) → Event R K S → List Deed
+      → Type 0 where
     wakes : {offer : Option ℕ} {at : ℕ} {r w : Bool} → Wakes p q at r w → m ≡ l
-        → Meets p q l m offer (came.Ready at r w)
+        → Meets p q l m offer (came.Ready at r w) []
     lets_in : {client : Client R K S} {at : ℕ}
-        → LetsIn condition unread taken held notes p q l m at client
+        → (let_in : LetsIn condition unread taken held notes p q l m at client)
         → Meets p q l m (Some at) (came.Client client)
+        (Opens at let_in.seat.connection (unread let_in.seat.source) ∷ [])
     turns_away : {offer : Option ℕ} {client : Client R K S} {why : Refusal}
         → TurnsAway condition unread taken held notes p q l m client why
-        → Meets p q l m offer (came.Client client)
+        → Meets p q l m offer (came.Client client) []
     makes_round : {offer : Option ℕ} {time : Time}
-        → MakesRound condition unread taken held size p q time
-        → Meets p q l m offer (came.Round time)
+        → (round : MakesRound condition account unread taken held size p q time)
+        → Meets p q l m offer (came.Round time) round.goes.deeds
 
-  -- an event was met, or was the end, by whether it goes on
+  -- an event was met by some deeds, or was the end, by whether it goes on
   abbrev pub IsMet : {T : Type 0} → (p q : Host A R K S) → (l m : L) → (offer : Option ℕ)
       → Event R K S → Result T Ended → Type 0
-  IsMet p q l m offer event (result.Ok now) = Meets p q l m offer event
+  IsMet p q l m offer event (result.Ok now) =
+      (deeds : List Deed) × Meets p q l m offer event deeds
   IsMet p q l m offer event (result.Err ended.Events) = (event ≡ came.End) × (q ≡ p) × (m ≡ l)
-  IsMet p q l m offer event (result.Err ended.Shut) = Meets p q l m offer event
+  IsMet p q l m offer event (result.Err ended.Shut) =
+      (deeds : List Deed) × Meets p q l m offer event deeds
   IsMet p q l m offer event (result.Err ended.Spent) = ⊥
 
-  -- what it makes of all of them, one after another: before each a free place was offered, if there
-  -- was one
+  -- what it makes of all of them, one after another, and all its deeds in them: before each a free
+  -- place was offered, if there was one
   pub data MeetsAll (p : Host A R K S) (l : L)
-      : List (Call R K S) → Host A R K S → L → Type 0 where
-    begins : MeetsAll p l [] p l
+      : List (Call R K S) → List Deed → Host A R K S → L → Type 0 where
+    begins : MeetsAll p l [] [] p l
     goes_on : {calls : List (Call R K S)} {offer : Option ℕ} {event : Event R K S}
-        {q n : Host A R K S} {m o : L} → MeetsAll p l calls q m → IsOffer q offer
-        → Meets q n m o offer event
-        → MeetsAll p l (calls ++ record { offer = offer; event = event } ∷ []) n o
+        {deeds more : List Deed} {q n : Host A R K S} {m o : L} → MeetsAll p l calls deeds q m
+        → IsOffer q offer → Meets q n m o offer event more
+        → MeetsAll p l (calls ++ record { offer = offer; event = event } ∷ []) (deeds ++ more) n o
 
-  -- What came in a call, where it is told, and what became of each: it was met, up to the end, and
-  -- no round was too late, nor a shut store left too soon.
+  -- What came in a call, where it is told, and what became of each, by these deeds and no others: it
+  -- was met, up to the end, and no round was too late, nor a shut store left too soon. No more is
+  -- asked for once so many came.
   pub record Met (told_old told_new : Option (List (Call R K S))) (p q : Host A R K S) (l m : L)
-      (end : Ended) : Type 0 where
+      (deeds : List Deed) (most : ℕ) (end : Ended) : Type 0 where
     pub calls : List (Call R K S)
     pub last : Option ℕ
     pub given : Grows told_old told_new (all_given end last calls)
-    pub each : MeetsAll p l calls q m
+    pub each : MeetsAll p l calls deeds q m
+    pub steps : Steps condition unread taken held (position p) deeds (position q)
     pub offered : end ≡ ended.Events → IsOffer q last
     pub in_time : EndsInTime (seconds_in calls) p.shut_since q.shut_since q.limits end
     pub may_end : end ≡ ended.Shut → MayEnd q (seconds_in calls)
+    pub spent : end ≡ ended.Spent → length calls ≡ most
+
+-- so many events are met at most
+abbrev pub most_events : ℕ
+most_events = 2 ^ 64 - 1

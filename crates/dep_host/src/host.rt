@@ -2,6 +2,7 @@
 ghost use Rattle.std.specs.Prelude.{◌≡◌, ◌⊎◌, ◌<◌, ◌≤◌, ℕ, [], None, length, nat_lt, IfOk, IfErr, IfSome, IsSomeAnd, is_some, IsSome, IsNone, if◌then◌else◌, ◌∷◌, true, false};
 ghost use Rattle.std.specs.Io.KnownBytes.{IsAtEnd};
 ghost use Rattle.dep_outbox.specs.Wires.{told};
+ghost use Rattle.dep_hub.specs.Errands.{WorkedAhead, Runs};
 ghost use Rattle.dep_host.specs.Hosting.{Steps, Serves, Goes, GoesRound, Sheds, Stays, HasTime, MayGo, IsEmpty, IsVacant, IsWaiting, position, slot, unfinished_of, unfinished_in};
 ghost use Rattle.dep_host.specs.Coming.{origin, seated_from};
 ghost use Rattle.dep_host.specs.Courses.{is_overdue};
@@ -73,7 +74,8 @@ impl<A: Archive, R: Source + Drop, K: Sink + Drop, S: Spool + Drop> Host<A, R, K
     /// Asks at a second whether the store is open, until it is told that it isn't. From then on no
     /// client is let in, and no connection is read. It answers whether it was never told so.
     pub fn is_open(&mut self, second: u64) -> bool
-        ensures asks { IsAsked A.condition R.unread K.taken S.held self.old self.new second }
+        ensures asks { IsAsked A.condition A.account R.unread K.taken S.held self.old self.new
+            second }
         ensures untold { result ≡ true → IsNone self.new.shut_since }
         ensures shut { result ≡ false → IsSome self.new.shut_since }
     {
@@ -86,7 +88,7 @@ impl<A: Archive, R: Source + Drop, K: Sink + Drop, S: Spool + Drop> Host<A, R, K
                 false
             }
             Ok(true) => true,
-            Err(_) => {
+            Err(_fault) => {
                 self.unanswered = self.unanswered.saturating_add(1);
                 true
             }
@@ -99,6 +101,8 @@ impl<A: Archive, R: Source + Drop, K: Sink + Drop, S: Spool + Drop> Host<A, R, K
         ensures goes { Steps A.condition R.unread K.taken S.held (position self.old) []
             (position self.new) }
         ensures stays { Stays self.old self.new }
+        ensures asked { Runs WorkedAhead (A.account self.old.hub.store)
+            (A.account self.new.hub.store) }
     {
         self.hub.work_ahead()
     }

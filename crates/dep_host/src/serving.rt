@@ -1,10 +1,10 @@
 //! Serving all clients until no more comes.
-ghost use Rattle.std.specs.Prelude.{◌≡◌, ◌≢◌, [], ◌∷◌, Err, IfOk, IsNone, IsTrue, false};
+ghost use Rattle.std.specs.Prelude.{◌≡◌, ◌≢◌, List, [], ◌∷◌, Err, IfOk, IsNone, IsTrue, false};
 ghost use Rattle.std.specs.List.{AllByRecursion};
 ghost use Rattle.dep_host.specs.Coming.{IsFresh, seconds_of};
 ghost use Rattle.dep_host.specs.Courses.{is_overdue};
-ghost use Rattle.dep_host.specs.Hosting.{GoesOn, position};
-ghost use Rattle.dep_host.specs.Meeting.{AsksOn, IsMet, IsOffer, MayEnd, Meets, Met};
+ghost use Rattle.dep_host.specs.Hosting.{Deed, GoesOn, position};
+ghost use Rattle.dep_host.specs.Meeting.{AsksOn, IsMet, IsOffer, MayEnd, Meets, Met, most_events};
 ghost use Rattle.dep_host.specs.Runs.{Promises};
 
 use crate::events::{Client, Event, Events};
@@ -44,8 +44,9 @@ pub fn serve<
     L: HostLog,
 >(host: &mut Host<A, R, K, S>, events: &mut E, buffer: &mut ReadBuffer, log: &mut L) -> Ended
     // What came, and what was made of each.
-    ensures met { Met A.condition R.unread K.taken S.held S.size L.notes (E.given events.old)
-        (E.given events.new) host.old host.new log.old log.new result }
+    ensures met { (deeds : List Deed) × Met A.condition A.account R.unread K.taken S.held S.size
+        L.notes (E.given events.old) (E.given events.new) host.old host.new log.old log.new
+        deeds most_events result }
     ensures goes { GoesOn A.condition R.unread K.taken S.held (position host.old)
         (position host.new) }
     // The archive promise, for all connections.
@@ -60,7 +61,7 @@ pub fn serve<
         vacancy: host.vacancy(),
         is_busy: true,
     };
-    for _ in 0..u64::MAX {
+    for count in 0..u64::MAX {
         let event = events.next(now.vacancy, now.is_busy);
         match meet(host, now, event, buffer, log) {
             Ok(next) => now = next,
@@ -80,7 +81,7 @@ fn meet<A: Archive, R: Source + Drop, K: Sink + Drop, S: Spool + Drop, L: HostLo
 ) -> Result<Now, Ended>
     requires fresh { IsFresh K.taken S.held event }
     requires vacant { IsOffer host.old now.vacancy }
-    ensures met { IsMet A.condition R.unread K.taken S.held S.size L.notes host.old host.new
+    ensures met { IsMet A.condition A.account R.unread K.taken S.held S.size L.notes host.old host.new
         log.old log.new now.vacancy event result }
     ensures vacant { IfOk result (λ next. IsOffer host.new next.vacancy) }
     ensures shut { result ≡ Err Ended.Shut → MayEnd host.new (seconds_of event) }
@@ -118,7 +119,7 @@ fn go_on<A: Archive, R: Source + Drop, K: Sink + Drop, S: Spool + Drop>(
     is_busy: bool,
     second: u64,
 ) -> Result<Now, Ended>
-    ensures asks { AsksOn A.condition R.unread K.taken S.held host.old host.new second }
+    ensures asks { AsksOn A.condition A.account R.unread K.taken S.held host.old host.new second }
     ensures vacant { IfOk result (λ next. IsOffer host.new next.vacancy) }
     ensures end { result ≢ Err Ended.Events }
     ensures unspent { result ≢ Err Ended.Spent }
@@ -151,8 +152,8 @@ fn let_in<A: Archive, R: Source + Drop, K: Sink + Drop, S: Spool + Drop, L: Host
 )
     requires fresh { IsFresh K.taken S.held (Event.Client client) }
     requires vacant { IsOffer host.old vacancy }
-    ensures { Meets A.condition R.unread K.taken S.held S.size L.notes host.old host.new
-        log.old log.new vacancy (Event.Client client) }
+    ensures { (deeds : List Deed) × Meets A.condition A.account R.unread K.taken S.held S.size
+        L.notes host.old host.new log.old log.new vacancy (Event.Client client) deeds }
 {
     match vacancy {
         Some(at) => {

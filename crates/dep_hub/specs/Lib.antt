@@ -15,3 +15,4 @@ pub mod Archives
 pub mod Faults
 pub mod Shut
 pub mod Flushing
+pub mod Errands

@@ -1,11 +1,12 @@
 //! An archive, as those who serve it see it.
 
-ghost use Rattle.std.specs.Prelude.{◌≡◌, IsTrue, IfOk};
+ghost use Rattle.std.specs.Prelude.{◌≡◌, IsTrue, IfOk, IfErr};
 ghost use Rattle.dep_types.specs.State.{State};
 ghost use Rattle.dep_fields.specs.Fit.{AreFit};
 ghost use Rattle.dep_answers.specs.Steps.{operation_step};
 ghost use Rattle.dep_types.specs.Conditions.{Condition, StandsFor, HasCleanDisk, Leaves};
 ghost use Rattle.dep_hub.specs.Shut.{TellsOpen};
+ghost use Rattle.dep_hub.specs.Errands.{Account, Asked, WorkedAhead, Runs, FailsToTell};
 ghost use Rattle.dep_hub.specs.Archives.{Ticks, MakesStep, Streams, KeepsState, KeepsAll, FailsIfShut, CountsFailures};
 
 use dep_answers::{Performed, Service};
@@ -17,6 +18,9 @@ use dep_types::{Config, Outlet, StoreFault, StreamFault};
 pub trait Archive {
     /// How it stands.
     ghost condition: { Self → Condition };
+
+    /// What it tells of what it is asked for beside the steps.
+    ghost account: { Self → Account };
 
     /// Moves the clock to the moment, and never back, and ends the uploads that were left idle. It
     /// answers the clock.
@@ -48,12 +52,16 @@ pub trait Archive {
     /// Before that is known memory may run out, or the disk fail once more: ask again then.
     fn is_open(&mut self) -> Result<bool, StoreFault>
         ensures told { IfOk result (TellsOpen (condition self.new)) }
+        ensures cause { HasCleanDisk (condition self.new)
+            → IfErr result (FailsToTell (account self.old) (account self.new)) }
+        ensures asked { Runs (Asked result) (account self.old) (account self.new) }
         ensures rests { KeepsAll (condition self.old) (condition self.new) };
 
     /// Does a bounded part of the work that a later request would have to wait for, and tells whether
     /// more is left. It changes nothing that is kept, but a fault may shut it, which `is_open` tells.
     /// Its answer is about time alone, so no clause speaks of it.
     fn work_ahead(&mut self) -> bool
+        ensures asked { Runs WorkedAhead (account self.old) (account self.new) }
         ensures rests { KeepsAll (condition self.old) (condition self.new) };
 
     // An open archive has an honest disk.

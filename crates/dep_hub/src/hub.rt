@@ -35,9 +35,10 @@ const MOST_CONNECTIONS: usize = 1_024;
 const LAST_NUMBER: u64 = 4_000_000_000_000_000_000;
 
 impl<A: Archive> Hub<A> {
-    ghost use Rattle.dep_hub.specs.Standing.{StandsAfter, StandsAt, GoesOnFrom, GoesOnAs, KeepsStore, LeavesItsState, store_of, Adds, Moves, ComesTo, intake_of};
+    ghost use Rattle.dep_hub.specs.Standing.{StandsAfter, StandsAt, GoesOnFrom, GoesOnAs, IsHonest, KeepsStore, LeavesItsState, store_of, Adds, Moves, ComesTo, intake_of};
     ghost use Rattle.dep_hub.specs.Holding.{HoldsOn, RestsOn, MovesLine, OffersTo, ComesToNext, with_held};
     ghost use Rattle.dep_hub.specs.Shut.{TellsOpen};
+    ghost use Rattle.dep_hub.specs.Errands.{Asked, WorkedAhead, Runs, FailsToTell};
 
     /// A hub over the store, without connections. A refusal hands the store back.
     pub fn new(alloc: Global, config: Config, store: A) -> Result<Hub<A>, (HubFault, A)>
@@ -205,6 +206,10 @@ impl<A: Archive> Hub<A> {
     /// part in it, so it is no event of a run.
     pub fn is_open(&mut self) -> Result<bool, StoreFault>
         ensures told { IfOk result (TellsOpen (store_of A.condition self.new)) }
+        ensures cause { IsHonest A.condition self.new
+            → IfErr result (FailsToTell (A.account self.old.store) (A.account self.new.store)) }
+        ensures asked { Runs (Asked result) (A.account self.old.store)
+            (A.account self.new.store) }
         ensures rests { RestsOn A.condition self.old self.new }
     {
         self.store.is_open()
@@ -213,6 +218,7 @@ impl<A: Archive> Hub<A> {
     /// Does a part of the work that a later request would have to wait for, and tells whether more is
     /// left (`Archive::work_ahead`). No connection has a part in it, so it is no event of a run.
     pub fn work_ahead(&mut self) -> bool
+        ensures asked { Runs WorkedAhead (A.account self.old.store) (A.account self.new.store) }
         ensures rests { RestsOn A.condition self.old self.new }
     {
         self.store.work_ahead()

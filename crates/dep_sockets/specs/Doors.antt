@@ -1,42 +1,91 @@
 -- What serving from a hub comes to, whose clients come by a door.
-use Rattle.std.specs.Prelude.{◌≡◌, ℕ, Bool, false, List, [], Option, None, IsTrue}
+use Rattle.std.specs.Prelude.{◌≡◌, ℕ, Bool, true, false, List, [], Option, IsNone, IsTrue}
 use Rattle.dep_types.specs.State.{State}
 use Rattle.dep_types.specs.Conditions.{Condition}
 use Rattle.dep_hub.specs.Records.{Record}
+use Rattle.dep_hub.specs.Errands.{Account}
 use Rattle.dep_hub.specs.Standing.{StandsAfter, IsClean, IsHonest}
 use Rattle.dep_hub.specs.declared.hub.Hub.{Hub}
-use Rattle.dep_host.specs.Hosting.{Deed, Position, Steps, slot}
+use Rattle.dep_host.specs.Coming.{Call}
+use Rattle.dep_host.specs.Hosting.{Deed, IsEmpty, position}
+use Rattle.dep_host.specs.Meeting.{Met, most_events}
+use Rattle.dep_host.specs.Notes.{Note}
 use Rattle.dep_host.specs.Runs.{StandsBehind}
+use Rattle.dep_host.specs.declared.host.Host.{Host}
+use Rattle.dep_host.specs.declared.limits.Limits.{Limits}
+use Rattle.dep_host.specs.declared.serving.Ended.{Ended}
+use Rattle.dep_host.specs.declared.serving.Ended.TheVariants as ended
 use Rattle.dep_program.specs.declared.outcome.Outcome.{Outcome}
 use Rattle.dep_program.specs.declared.outcome.Outcome.TheVariants.{Done, StoreFault, TransferFault}
 
-module _ {A R K S : Type 0} (condition : A → Condition) (unread : R → Option (List ℕ))
-    (taken : K → Option (List ℕ)) (held : S → Option (List ℕ)) where
-  -- from a host without connections over this hub these deeds led to one over this store, which was let go
-  pub record ServesFrom (old : Hub A) (store : A) (deeds : List Deed) : Type 0 where
-    pub first : Position A R K S
-    pub last : Position A R K S
+-- what a door shows
+pub record Doorway (R K S : Type 0) : Type 0 where
+  -- what came by it so far, each with the place that was offered for it, where it shows that
+  pub given : Option (List (Call R K S))
+  -- it lets clients in
+  pub is_open : Bool
+  -- no more comes
+  pub is_over : Bool
+  -- it was broken off: more may come, and isn't told
+  pub is_cut : Bool
+
+-- a door, by what it shows
+abbrev pub doorway : {R K S E : Type 0} → (given : E → Option (List (Call R K S)))
+    → (is_open is_over is_cut : E → Bool) → E → Doorway R K S
+doorway given is_open is_over is_cut door = record {
+  given = given door;
+  is_open = is_open door;
+  is_over = is_over door;
+  is_cut = is_cut door;
+}
+
+module _ {A R K S L : Type 0} (condition : A → Condition) (account : A → Account)
+    (unread : R → Option (List ℕ)) (taken : K → Option (List ℕ)) (held : S → Option (List ℕ))
+    (size : S → ℕ) (notes : L → Option (List Note)) where
+  -- A host without connections over this hub, within these limits, met all that came by the door, up to
+  -- the end, by these deeds. The store was then let go.
+  pub record ServesFrom (before after : Doorway R K S) (l m : L) (limits : Limits) (old : Hub A)
+      (store : A) (deeds : List Deed) (end : Ended) : Type 0 where
+    pub first : Host A R K S
+    pub last : Host A R K S
+    -- the log, once it was told of the door
+    pub log : L
     pub over : first.hub ≡ old
-    pub empty : (at : ℕ) → slot at first.seats ≡ None
-    pub steps : Steps condition unread taken held first deeds last
+    pub within : first.limits ≡ limits
+    pub untold : IsNone first.shut_since
+    pub empty : IsEmpty (position first)
+    pub noted : notes log ≡ notes l
+    pub met : Met condition account unread taken held size notes before.given after.given first last
+        log m deeds most_events end
     pub left : store ≡ last.hub.store
 
-  -- what serving from a hub comes to, by a door through which no more comes, or more may, and which was
-  -- broken off or not
-  pub data EndsHub (is_over is_cut : Bool) (old : Hub A) (store : A) : List Deed → Outcome → Type 0 where
+  -- what serving from a hub comes to, by a door
+  pub data EndsHub (before after : Doorway R K S) (l m : L) (limits : Limits) (old : Hub A)
+      (store : A) : List Deed → Outcome → Type 0 where
     -- no more came
-    served : {deeds : List Deed} → ServesFrom old store deeds → IsTrue is_over → is_cut ≡ false
-        → EndsHub is_over is_cut old store deeds Done
+    served : {deeds : List Deed}
+        → ServesFrom before after l m limits old store deeds ended.Events
+        → IsTrue after.is_over → after.is_cut ≡ false
+        → EndsHub before after l m limits old store deeds Done
     -- a fault had shut the store
-    shut : {deeds : List Deed} → ServesFrom old store deeds → ¬ IsTrue (condition store).is_open
-        → EndsHub is_over is_cut old store deeds StoreFault
-    -- the door was broken off, or more came than can be counted, which nothing shows
-    broken_off : {deeds : List Deed} → ServesFrom old store deeds
-        → EndsHub is_over is_cut old store deeds TransferFault
-    -- there was no memory to begin, which nothing shows
-    not_begun : store ≡ old.store → EndsHub is_over is_cut old store [] StoreFault
+    shut : {deeds : List Deed} → ServesFrom before after l m limits old store deeds ended.Shut
+        → ¬ IsTrue (condition store).is_open
+        → EndsHub before after l m limits old store deeds StoreFault
+    -- the door was broken off
+    broken_off : {deeds : List Deed}
+        → ServesFrom before after l m limits old store deeds ended.Events
+        → after.is_cut ≡ true
+        → EndsHub before after l m limits old store deeds TransferFault
+    -- more came than can be counted
+    spent : {deeds : List Deed}
+        → ServesFrom before after l m limits old store deeds ended.Spent
+        → EndsHub before after l m limits old store deeds TransferFault
+    -- there was no memory to begin, which nothing shows, and the door was left alone
+    not_begun : store ≡ old.store → after ≡ before
+        → EndsHub before after l m limits old store [] StoreFault
     -- the door could not be opened
-    not_let_in : store ≡ old.store → EndsHub is_over is_cut old store [] TransferFault
+    not_let_in : store ≡ old.store → after.is_open ≡ false → after.given ≡ before.given
+        → EndsHub before after l m limits old store [] TransferFault
 
 -- What was done leads from where this hub stood to this store: behind all records that the hub stood
 -- for, a hub over the store stands for those of the deeds.

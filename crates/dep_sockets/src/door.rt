@@ -1,23 +1,30 @@
 //! Where clients come from.
-ghost use Rattle.std.specs.Prelude.{◌≡◌, Bool};
+ghost use Rattle.std.specs.Prelude.{◌≡◌, Bool, is_some};
 
 use crate::file_spool::FileSpool;
 use crate::socket::{SocketSink, SocketSource};
 use crate::sockets::Sockets;
 use crate::spools::Spools;
 use dep_host::{Event, Events};
+use dep_outbox::{Sink, Source, Spool};
 use std::alloc::Global;
 use std::fs::Files;
 use std::net::{Net, SocketAddr};
 use std::time::Clock;
 
 /// What lets clients in, from a moment on.
-pub trait Door {
+pub trait Door<R: Source, K: Sink, S: Spool>: Events<R, K, S> {
+    /// Whether it lets clients in.
+    ghost is_open: { Self → Bool };
+
     /// Whether it was broken off: more may come, and isn't told.
     ghost is_cut: { Self → Bool };
 
     /// Lets clients in from now on, and answers whether it can.
-    fn open(&mut self) -> bool;
+    fn open(&mut self) -> bool
+        ensures told { result ≡ is_open self.new }
+        // None came meanwhile.
+        ensures given { Self.given self.new ≡ Self.given self.old };
 
     /// Whether it was broken off, once no more is told.
     fn was_cut(&self) -> bool
@@ -59,10 +66,14 @@ impl<'a, R: Files + Net + Clock> SocketDoor<'a, R> {
     }
 }
 
-impl<'a, R: Files + Net + Clock> Door for SocketDoor<'a, R> {
+impl<'a, R: Files + Net + Clock> Door<SocketSource, SocketSink, FileSpool<'a, R>>
+    for SocketDoor<'a, R> {
+    ghost is_open = { λ door. is_some door.sockets };
+
     ghost is_cut = { λ door. door.is_cut };
 
     fn open(&mut self) -> bool {
+        drop(self.sockets.take());
         match Sockets::listen(self.alloc, self.rt, self.spools, self.address, self.clients) {
             Ok(sockets) => {
                 drop(self.sockets.replace(sockets));

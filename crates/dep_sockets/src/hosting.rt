@@ -1,12 +1,12 @@
 //! A hub that is served by a door.
 ghost use Rattle.std.specs.Prelude.{◌≡◌, List};
 ghost use Rattle.dep_host.specs.Hosting.{Deed};
-ghost use Rattle.dep_sockets.specs.Doors.{EndsHub, WentOn};
+ghost use Rattle.dep_sockets.specs.Doors.{EndsHub, WentOn, doorway};
 ghost use Rattle.dep_sockets.specs.Outcomes.{outcome_at};
 
 use crate::door::Door;
 use dep_host::laws::hosts_make_a_run;
-use dep_host::{Ended, Events, Host, HostLog, Limits, MOST_READ, ReadBuffer, serve};
+use dep_host::{Ended, Host, HostLog, Limits, MOST_READ, ReadBuffer, serve};
 use dep_hub::laws::nothing_held;
 use dep_hub::{Archive, Hub};
 use dep_outbox::{Sink, Source, Spool};
@@ -16,7 +16,8 @@ use std::alloc::Global;
 /// A log of a host that is told of its door, too.
 pub trait DoorLog: HostLog {
     /// The door was opened, or couldn't be.
-    fn door(&mut self, is_open: bool);
+    fn door(&mut self, is_open: bool)
+        ensures noted { Self.notes self.new ≡ Self.notes self.old };
 }
 
 /// Serves whoever comes by the door, and hands the store back. The log is told of the door once it is open, so that who
@@ -26,11 +27,13 @@ pub fn serve_hub<
     R: Source + Drop,
     K: Sink + Drop,
     P: Spool + Drop,
-    E: Events<R, K, P> + Door,
+    E: Door<R, K, P>,
     L: DoorLog,
 >(alloc: Global, hub: Hub<A>, limits: Limits, door: &mut E, log: &mut L) -> (Outcome, A)
-    ensures ends { (deeds : List Deed) × EndsHub A.condition R.unread K.taken P.held (E.is_over door.new)
-        (E.is_cut door.new) hub result.1 deeds result.0 × WentOn A.condition hub result.1 deeds }
+    ensures ends { (deeds : List Deed) × EndsHub A.condition A.account R.unread K.taken P.held P.size L.notes
+        (doorway E.given E.is_open E.is_over E.is_cut door.old)
+        (doorway E.given E.is_open E.is_over E.is_cut door.new)
+        log.old log.new limits hub result.1 deeds result.0 × WentOn A.condition hub result.1 deeds }
 {
     nothing_held::<A>();
     hosts_make_a_run::<A, R, K, P>();

@@ -2,7 +2,7 @@
 ghost use Rattle.sqlite.specs.Steps.{over_memory};
 ghost use Rattle.sqlite.proofs.Callers.{memory_is_clean};
 ghost use Rattle.dep_schema.proofs.Transacting.{leaves_as_was};
-ghost use Rattle.dep_archive.specs.Archive.{condition_of};
+ghost use Rattle.dep_archive.specs.Archive.{account_of, condition_of};
 
 use crate::calls::answered;
 use crate::files::MemoryFiles;
@@ -27,6 +27,8 @@ pub struct MemoryArchive {
 
 impl Archive for MemoryArchive {
     ghost condition = { λ a. condition_of over_memory a.store };
+
+    ghost account = { λ a. account_of over_memory a.store };
 
     fn tick(&mut self, config: &Config, moment: Moment) -> Result<Moment, StoreFault> {
         self.store.tick(config, moment)

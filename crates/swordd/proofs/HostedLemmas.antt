@@ -1,5 +1,5 @@
 -- What a host makes of the database of the hub that it serves from.
-use Rattle.std.proofs.Common.{◌≡◌, ℕ, Bool, List, [], ◌∷◌, ◌++◌, append-nil, IsTrue, refl, sym, subst, ◌∙◌}
+use Rattle.std.proofs.Common.{◌≡◌, ℕ, List, [], ◌∷◌, ◌++◌, append-nil, IsTrue, refl, sym, subst, ◌∙◌}
 use Rattle.sqlite.specs.State as db
 use Rattle.sqlite.specs.State.{HasCleanDisk}
 use Rattle.sqlite.specs.Held.{Held, state}
@@ -13,7 +13,7 @@ use Rattle.dep_schema.specs.States.{StandsFor, IsLeftAs}
 use Rattle.dep_schema.specs.declared.opening.OpenFault.{OpenFault}
 use Rattle.dep_schema.proofs.Transacting.{IsSettled, leaves_as_was}
 use Rattle.dep_store.specs.Migrating.{Keeps}
-use Rattle.dep_archive.specs.Archive.{condition_of}
+use Rattle.dep_archive.specs.Archive.{account_of, condition_of}
 use Rattle.dep_archive.specs.declared.archive.HashingStore.{HashingStore}
 use Rattle.dep_archive.specs.Starting.{OpeningLeaves, outcome_of_start}
 use Rattle.dep_archive.specs.declared.starting.StartFault.{StartFault}
@@ -28,8 +28,10 @@ use Rattle.dep_host.specs.Hosting.{Deed}
 use Rattle.dep_host.specs.Runs.{StandsBehind}
 use Rattle.dep_host.specs.Runs as runs
 use Rattle.dep_program.specs.declared.outcome.Outcome.{Outcome}
-use Rattle.dep_sockets.specs.Doors.{EndsHub, WentOn}
-use Rattle.swordd.specs.Hosted.{LedBy, IsHosted, HostsDatabase, hosts, not_checked, not_made, not_opened}
+use Rattle.dep_host.specs.declared.limits.Limits.{Limits as Bounds}
+use Rattle.dep_sockets.specs.Doors.{Doorway, EndsHub, WentOn}
+use Rattle.swordd.specs.declared.host_log.StandardErrorLog.{StandardErrorLog}
+use Rattle.swordd.specs.Hosted.{LedBy, IsHosted, HostsDatabase, hosts, not_checked, not_made, not_opened, unshown}
 
 module _ {S : Type 0} (g : Ghosts S) (clean : (h : Held S) → IsTrue (state g h).is_open → HasCleanDisk (state g h))
     (settled : (h : Held S) → IsTrue (state g h).is_open → IsSettled (state g h)) (given : Held S) (config : Config) (opened : Hub (HashingStore S))
@@ -63,13 +65,15 @@ module _ {S : Type 0} (g : Ghosts S) (clean : (h : Held S) → IsTrue (state g h
             (it.behind is_open first records (again (it.honest (clean it.new.store.store is_open)) found left first records run));
       })
 
-  module _ {R K P : Type 0} (unread : R → Option (List ℕ)) (taken : K → Option (List ℕ)) (held : P → Option (List ℕ)) where
+  module _ {R K P : Type 0} (unread : R → Option (List ℕ)) (taken : K → Option (List ℕ)) (held : P → Option (List ℕ)) (size : P → ℕ) where
     -- what was done over the hub is done over its database
-    pub over_hub : {is_over is_cut : Bool} (store : HashingStore S) (back : Held S) (deeds : List Deed) (outcome : Outcome) → back ≡ store.store
-        → EndsHub (condition_of g) unread taken held is_over is_cut opened store deeds outcome → WentOn (condition_of g) opened store deeds
-        → HostsDatabase g unread taken held is_over is_cut config given back outcome
-    over_hub store back deeds outcome same it went =
-        hosts opened store deeds it same (subst (λ (h : Held S). IsHosted config (state g given) (state g h) deeds) (sym same) (hosted_by store deeds went))
+    pub over_hub : {before after : Doorway R K P} {limits bounds : Bounds} {log_before log_after : StandardErrorLog} (store : HashingStore S) (back : Held S) (deeds : List Deed) (outcome : Outcome) → back ≡ store.store
+        → bounds ≡ limits → EndsHub (condition_of g) (account_of g) unread taken held size unshown before after log_before log_after bounds opened store deeds outcome → WentOn (condition_of g) opened store deeds
+        → HostsDatabase g unread taken held size before after limits config given back outcome
+    over_hub {before = before} {after = after} {limits = limits} {log_before = log_before} {log_after = log_after} store back deeds outcome same bounded it went =
+        hosts opened store deeds log_before log_after
+        (subst (λ (b : Bounds). EndsHub (condition_of g) (account_of g) unread taken held size unshown before after log_before log_after b opened store deeds outcome) bounded it)
+        same (subst (λ (h : Held S). IsHosted config (state g given) (state g h) deeds) (sym same) (hosted_by store deeds went))
 
 -- nobody was served
 stays : (config : Config) (d : db.State) (s first : State) (records : List Record) → IsSettled d → StandsFor d s → Run config first records (first_world s) → LedBy config d first records []
@@ -91,7 +95,7 @@ stays config d s first records settled stands went =
           );
     }
 
-module _ {S R K P : Type 0} (g : Ghosts S) (unread : R → Option (List ℕ)) (taken : K → Option (List ℕ)) (held : P → Option (List ℕ))
+module _ {S R K P : Type 0} (g : Ghosts S) (unread : R → Option (List ℕ)) (taken : K → Option (List ℕ)) (held : P → Option (List ℕ)) (size : P → ℕ)
     (clean : (h : Held S) → IsTrue (state g h).is_open → HasCleanDisk (state g h)) (settled : (h : Held S) → IsTrue (state g h).is_open → IsSettled (state g h))
     (config : Config) (given back : Held S) where
   abbrev KeptFor : HubFault → Type 0
@@ -104,16 +108,16 @@ module _ {S R K P : Type 0} (g : Ghosts S) (unread : R → Option (List ℕ)) (t
     again = λ is_open found left first records went. stays config (state g back) found first records (settled back is_open) ((kept (clean back is_open)).1 found left) went;
   }
 
-  without : {is_over is_cut : Bool} (why : StartFault) → ((f : OpenFault) → why ≡ fault.Open f → IsTrue (state g back).is_open → Keeps (state g given) (state g back))
-      → ((f : HubFault) → why ≡ fault.Hub f → KeptFor f) → (why ≡ fault.Hub refused_by.Config → ¬ IsChecked config) → OpeningLeaves config (state g given) (state g back)
-      → HostsDatabase g unread taken held is_over is_cut config given back (outcome_of_start why)
-  without (fault.Open f) left kept checked stop = not_opened (left f refl) stop
-  without (fault.Hub refused_by.Config) left kept checked stop = not_checked (checked refl) (unserved refused_by.Config (kept refused_by.Config refl))
-  without (fault.Hub refused_by.Memory) left kept checked stop = not_made (unserved refused_by.Memory (kept refused_by.Memory refl))
+  without : {before after : Doorway R K P} {limits : Bounds} (why : StartFault) → ((f : OpenFault) → why ≡ fault.Open f → IsTrue (state g back).is_open → Keeps (state g given) (state g back))
+      → ((f : HubFault) → why ≡ fault.Hub f → KeptFor f) → (why ≡ fault.Hub refused_by.Config → ¬ IsChecked config) → OpeningLeaves config (state g given) (state g back) → after ≡ before
+      → HostsDatabase g unread taken held size before after limits config given back (outcome_of_start why)
+  without (fault.Open f) left kept checked stop alone = not_opened (left f refl) stop alone
+  without (fault.Hub refused_by.Config) left kept checked stop alone = not_checked (checked refl) (unserved refused_by.Config (kept refused_by.Config refl)) alone
+  without (fault.Hub refused_by.Memory) left kept checked stop alone = not_made (unserved refused_by.Memory (kept refused_by.Memory refl)) alone
 
   -- no hub was made
-  pub without_hub : {is_over is_cut : Bool} (why : StartFault) → ((f : OpenFault) → why ≡ fault.Open f → IsTrue (state g back).is_open → Keeps (state g given) (state g back))
-      → ((f : HubFault) → why ≡ fault.Hub f → KeptFor f) → (why ≡ fault.Hub refused_by.Config → ¬ IsChecked config) → OpeningLeaves config (state g given) (state g back)
-      → (outcome : Outcome) → outcome ≡ outcome_of_start why → HostsDatabase g unread taken held is_over is_cut config given back outcome
-  without_hub {is_over = is_over} {is_cut = is_cut} why left kept checked stop outcome same =
-      subst (λ (o : Outcome). HostsDatabase g unread taken held is_over is_cut config given back o) (sym same) (without why left kept checked stop)
+  pub without_hub : {before after : Doorway R K P} {limits : Bounds} (why : StartFault) → ((f : OpenFault) → why ≡ fault.Open f → IsTrue (state g back).is_open → Keeps (state g given) (state g back))
+      → ((f : HubFault) → why ≡ fault.Hub f → KeptFor f) → (why ≡ fault.Hub refused_by.Config → ¬ IsChecked config) → OpeningLeaves config (state g given) (state g back) → after ≡ before
+      → (outcome : Outcome) → outcome ≡ outcome_of_start why → HostsDatabase g unread taken held size before after limits config given back outcome
+  without_hub {before = before} {after = after} {limits = limits} why left kept checked stop alone outcome same =
+      subst (λ (o : Outcome). HostsDatabase g unread taken held size before after limits config given back o) (sym same) (without why left kept checked stop alone)

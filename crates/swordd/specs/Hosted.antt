@@ -1,5 +1,5 @@
 -- What is made of the database of a store that many clients are served from, and why no more are.
-use Rattle.std.specs.Prelude.{◌≡◌, ℕ, Bool, List, [], ◌∷◌, ◌++◌, Option, IsTrue}
+use Rattle.std.specs.Prelude.{◌≡◌, ℕ, List, [], ◌∷◌, ◌++◌, Option, None, IsTrue}
 use Rattle.sqlite.specs.State as db
 use Rattle.sqlite.specs.Held.{Held, state}
 use Rattle.sqlite_trees.specs.declared.store.Store.{Ghosts}
@@ -9,14 +9,18 @@ use Rattle.dep_types.specs.declared.config.Config.{Config}
 use Rattle.dep_schema.specs.Standing.{HoldsNone}
 use Rattle.dep_schema.specs.States.{StandsFor, IsLeftAs, Leaves}
 use Rattle.dep_store.specs.Migrating.{Keeps}
-use Rattle.dep_archive.specs.Archive.{condition_of}
+use Rattle.dep_archive.specs.Archive.{account_of, condition_of}
 use Rattle.dep_archive.specs.declared.archive.HashingStore.{HashingStore}
 use Rattle.dep_archive.specs.Starting.{OpeningLeaves}
 use Rattle.dep_hub.specs.Records.{World, Record, Run, first_world, stopped}
 use Rattle.dep_hub.specs.declared.hub.Hub.{Hub}
 use Rattle.dep_host.specs.Hosting.{Deed}
 use Rattle.dep_host.specs.Runs.{Follows}
-use Rattle.dep_sockets.specs.Doors.{EndsHub}
+use Rattle.dep_host.specs.Notes.{Note}
+use Rattle.dep_host.specs.declared.limits.Limits.{Limits as Bounds}
+use Rattle.dep_configuration.specs.declared.configuration.Limits.{Limits}
+use Rattle.dep_sockets.specs.Doors.{Doorway, EndsHub}
+use Rattle.swordd.specs.declared.host_log.StandardErrorLog.{StandardErrorLog}
 use Rattle.dep_program.specs.declared.outcome.Outcome.{Outcome}
 use Rattle.dep_program.specs.declared.outcome.Outcome.TheVariants.{Usage, StoreFault}
 
@@ -40,24 +44,39 @@ pub record IsHosted (config : Config) (old new : db.State) (deeds : List Deed) :
       → (first : State) (records : List Record) → Run config first records (first_world found)
       → LedBy config new first records deeds
 
+-- the log of a host on standard error shows nothing of what it was told
+abbrev pub unshown : StandardErrorLog → Option (List Note)
+unshown log = None
+
+-- what bounds the host's connections, as it is configured
+abbrev pub host_limits : Limits → Bounds
+host_limits limits = record {
+  idle_seconds = limits.idle_seconds;
+  least_rate = limits.least_rate;
+  address_connections = limits.address_connections;
+  unfinished_bytes = limits.unfinished_bytes;
+}
+
 module _ {S R K P : Type 0} (g : Ghosts S) (unread : R → Option (List ℕ)) (taken : K → Option (List ℕ))
-    (held : P → Option (List ℕ)) where
-  -- what serving many clients from a database comes to
-  pub data HostsDatabase (is_over is_cut : Bool) (config : Config) (given back : Held S)
-      : Outcome → Type 0 where
+    (held : P → Option (List ℕ)) (size : P → ℕ) where
+  -- what serving many clients from a database comes to, by a door
+  pub data HostsDatabase (before after : Doorway R K P) (limits : Bounds) (config : Config)
+      (given back : Held S) : Outcome → Type 0 where
     -- it was served from a hub over the store, and the machine went on with what was done
     hosts : {outcome : Outcome} (hub : Hub (HashingStore S)) (left : HashingStore S) (deeds : List Deed)
-        → EndsHub (condition_of g) unread taken held is_over is_cut hub left deeds outcome
+        (log_before log_after : StandardErrorLog)
+        → EndsHub (condition_of g) (account_of g) unread taken held size unshown before after
+        log_before log_after limits hub left deeds outcome
         → back ≡ left.store
         → IsHosted config (state g given) (state g back) deeds
-        → HostsDatabase is_over is_cut config given back outcome
-    -- the configuration is refused
+        → HostsDatabase before after limits config given back outcome
+    -- the configuration is refused, and the door left alone
     not_checked : ¬ IsChecked config → IsHosted config (state g given) (state g back) []
-        → HostsDatabase is_over is_cut config given back Usage
+        → after ≡ before → HostsDatabase before after limits config given back Usage
     -- there was no memory for a hub, which nothing shows
-    not_made : IsHosted config (state g given) (state g back) []
-        → HostsDatabase is_over is_cut config given back StoreFault
+    not_made : IsHosted config (state g given) (state g back) [] → after ≡ before
+        → HostsDatabase before after limits config given back StoreFault
     -- it was not opened as a store
     not_opened : (IsTrue (state g back).is_open → Keeps (state g given) (state g back))
-        → OpeningLeaves config (state g given) (state g back)
-        → HostsDatabase is_over is_cut config given back StoreFault
+        → OpeningLeaves config (state g given) (state g back) → after ≡ before
+        → HostsDatabase before after limits config given back StoreFault

@@ -1,12 +1,12 @@
 //! A store in a file, served at an address.
 ghost use Rattle.std.specs.Prelude.{◌≡◌, false};
 ghost use Rattle.sqlite.specs.Held.{state};
-ghost use Rattle.swordd.specs.Hosted.{HostsDatabase};
+ghost use Rattle.dep_sockets.specs.Doors.{doorway};
+ghost use Rattle.swordd.specs.Hosted.{HostsDatabase, host_limits};
 
 use crate::host_log::StandardErrorLog;
 use dep_archive::open_hub;
 use dep_configuration::{Configuration, Limits};
-use dep_host::Events;
 use dep_outbox::{Sink, Source, Spool};
 use dep_program::Outcome;
 use dep_sockets::{Door, SocketDoor, Spools, serve_hub};
@@ -76,13 +76,7 @@ impl Work for Service<'_> {
 }
 
 /// Opens the store in the database, serves whoever comes by the door, and hands the database back.
-fn host_database<
-    S: Alter,
-    R: Source + Drop,
-    K: Sink + Drop,
-    P: Spool + Drop,
-    E: Events<R, K, P> + Door,
->(
+fn host_database<S: Alter, R: Source + Drop, K: Sink + Drop, P: Spool + Drop, E: Door<R, K, P>>(
     rt: &HostRuntime,
     place: &Place,
     config: Config,
@@ -90,8 +84,10 @@ fn host_database<
     door: &mut E,
 ) -> (Outcome, Connection<S>)
     requires settled { (state S.Store connection).in_transaction ≡ false }
-    ensures hosts { HostsDatabase S.Store R.unread K.taken P.held (E.is_over door.new) (E.is_cut door.new)
-        config connection result.1 result.0 }
+    ensures hosts { HostsDatabase S.Store R.unread K.taken P.held P.size
+        (doorway E.given E.is_open E.is_over E.is_cut door.old)
+        (doorway E.given E.is_open E.is_over E.is_cut door.new)
+        (host_limits place.now.limits) config connection result.1 result.0 }
 {
     match open_hub(rt.alloc(), config, connection, &mut Unwatched) {
         Ok(hub) => {
@@ -112,7 +108,9 @@ fn host_database<
     }
 }
 
-fn host_limits(limits: &Limits) -> dep_host::Limits {
+fn host_limits(limits: &Limits) -> dep_host::Limits
+    ensures { result ≡ host_limits limits.now }
+{
     dep_host::Limits {
         idle_seconds: limits.idle_seconds,
         least_rate: limits.least_rate,

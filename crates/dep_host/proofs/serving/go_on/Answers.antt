@@ -1,6 +1,6 @@
 use Rattle.std.proofs.Common.{ap, is_some, ◌∙◌}
 use Rattle.dep_host.proofs.HostLemmas.{stands_still, stays_same}
-use Rattle.dep_host.proofs.MeetLemmas.{none_once_shut}
+use Rattle.dep_host.proofs.MeetLemmas.{none_once_shut, not_told}
 use Rattle.dep_host.proofs.RoundLemmas.{untold_in_time}
 use Rattle.dep_host.proofs.serving.go_on.Goals as goal
 
@@ -10,6 +10,7 @@ returns-then-is_open-clause-asks g c = record {
   asks = c.is_open.ensures.asks;
   works = c.work_ahead-is_left.ensures.goes;
   stays = c.work_ahead-is_left.ensures.stays;
+  ahead = λ none. c.work_ahead-is_left.ensures.asked;
 }
 
 pub returns-then-is_open-clause-time : goal.returns-then-is_open-clause-time
@@ -22,6 +23,7 @@ returns-then-is_empty-clause-asks g c = record {
   asks = c.is_open.ensures.asks;
   works = stands_still g.A.Archive.condition g.R.Source.unread g.K.Sink.taken g.S.Spool.held _;
   stays = stays_same _;
+  ahead = λ none. absurd (not_told (c.is_open.new.self).shut_since (c.is_open.ensures.shut c.if-is_open.false) none);
 }
 
 pub returns-clause-asks : goal.returns-clause-asks
@@ -30,6 +32,7 @@ returns-clause-asks g c = record {
   asks = c.is_open.ensures.asks;
   works = stands_still g.A.Archive.condition g.R.Source.unread g.K.Sink.taken g.S.Spool.held _;
   stays = stays_same _;
+  ahead = λ none. absurd (not_told (c.is_open.new.self).shut_since (c.is_open.ensures.shut c.if-is_open.false) none);
 }
 
 pub returns-clause-vacant : goal.returns-clause-vacant

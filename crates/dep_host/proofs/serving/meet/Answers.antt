@@ -1,4 +1,4 @@
-use Rattle.std.proofs.Common.{◌≡◌, false, refl}
+use Rattle.std.proofs.Common.{◌≡◌, false, [], refl}
 use Rattle.std.proofs.lemmas.Result.{IfOk-weaker}
 use Rattle.dep_host.specs.Courses.{is_overdue}
 use Rattle.dep_host.specs.Meeting.{wakes, makes_round}
@@ -7,23 +7,26 @@ use Rattle.dep_host.proofs.MeetLemmas.{meets_as, round_met, offer_kept}
 use Rattle.dep_host.proofs.serving.meet.Goals as goal
 
 pub returns-in-Ready-clause-met : goal.returns-in-Ready-clause-met
-returns-in-Ready-clause-met g c = meets_as g.A.Archive.condition g.R.Source.unread g.K.Sink.taken g.S.Spool.held g.S.Spool.size g.L.HostLog.notes _ _ _ _ c.args.now.vacancy c.args.event _ c.in-Ready.is (wakes c.awake.ensures refl)
+returns-in-Ready-clause-met g c = meets_as g.A.Archive.condition g.R.Source.unread g.K.Sink.taken g.S.Spool.held g.A.Archive.account g.S.Spool.size g.L.HostLog.notes _ _ _ _ c.args.now.vacancy c.args.event _ c.in-Ready.is ([], wakes c.awake.ensures refl)
 
 pub returns-in-Client-clause-met : goal.returns-in-Client-clause-met
-returns-in-Client-clause-met g c = meets_as g.A.Archive.condition g.R.Source.unread g.K.Sink.taken g.S.Spool.held g.S.Spool.size g.L.HostLog.notes _ _ _ _ c.args.now.vacancy c.args.event _ c.in-Client.is c.let_in.ensures
+returns-in-Client-clause-met g c = meets_as g.A.Archive.condition g.R.Source.unread g.K.Sink.taken g.S.Spool.held g.A.Archive.account g.S.Spool.size g.L.HostLog.notes _ _ _ _ c.args.now.vacancy c.args.event _ c.in-Client.is c.let_in.ensures
 
 pub returns-in-End-clause-met : goal.returns-in-End-clause-met
 returns-in-End-clause-met g c = (c.in-End.is, refl, refl)
 
 pub returns-in-Round-clause-met : goal.returns-in-Round-clause-met
-returns-in-Round-clause-met g c = round_met g.A.Archive.condition g.R.Source.unread g.K.Sink.taken g.S.Spool.held g.S.Spool.size g.L.HostLog.notes _ _ _ _ c.args.now.vacancy c.args.event c.go_on.result c.go_on.ensures.end c.go_on.ensures.unspent
-    (meets_as g.A.Archive.condition g.R.Source.unread g.K.Sink.taken g.S.Spool.held g.S.Spool.size g.L.HostLog.notes _ _ _ _ c.args.now.vacancy c.args.event _ c.in-Round.is (makes_round (record {
-      mid = c.round-is_busy.new.self;
-      goes = c.round-is_busy.ensures.goes;
-      left = c.round-is_busy.ensures.left;
-      stays = c.round-is_busy.ensures.stays;
-      asks = c.go_on.ensures.asks;
-    })))
+returns-in-Round-clause-met g c = round_met g.A.Archive.condition g.R.Source.unread g.K.Sink.taken g.S.Spool.held g.A.Archive.account g.S.Spool.size g.L.HostLog.notes _ _ _ _ c.args.now.vacancy c.args.event c.go_on.result c.go_on.ensures.end c.go_on.ensures.unspent
+    (meets_as g.A.Archive.condition g.R.Source.unread g.K.Sink.taken g.S.Spool.held g.A.Archive.account g.S.Spool.size g.L.HostLog.notes _ _ _ _ c.args.now.vacancy c.args.event _ c.in-Round.is (
+      _,
+      makes_round (record {
+        mid = c.round-is_busy.new.self;
+        goes = c.round-is_busy.ensures.goes;
+        left = c.round-is_busy.ensures.left;
+        stays = c.round-is_busy.ensures.stays;
+        asks = c.go_on.ensures.asks;
+      }),
+    ))
 
 pub returns-in-Ready-clause-vacant : goal.returns-in-Ready-clause-vacant
 returns-in-Ready-clause-vacant g c = offer_kept c.args.host.now c.awake.new.self _ _ _ _ c.requires.vacant c.awake.ensures

@@ -1,42 +1,43 @@
-use Rattle.std.proofs.Common.{◌≡◌, true, false, Err, ap, sym, ◌∙◌}
+use Rattle.std.proofs.Common.{◌≡◌, rules, [], true, false, Err, refl, ap, sym, ◌∙◌}
 use Rattle.dep_host.proofs.CloseLemmas.{promised}
 use Rattle.dep_host.proofs.ShutLemmas.{steps_rightly}
-use Rattle.dep_host.proofs.MeetLemmas.{met_none, met_on, met_last, is_the_end, all_go}
+use Rattle.dep_host.proofs.MeetLemmas.{met_none, met_next, met_last, met_all, is_the_end}
+use Rattle.dep_host.specs.Meeting.{most_events}
 use Rattle.dep_host.specs.declared.serving.Ended.TheVariants.{Events, Shut, Spent}
 use Rattle.dep_host.proofs.serving.serve.Goals as goal
 
-pub loop-init : goal.loop-init
-loop-init g c = record {
-  met = met_none g.A.Archive.condition g.R.Source.unread g.K.Sink.taken g.S.Spool.held g.S.Spool.size g.L.HostLog.notes _ _ _;
+pub loop-count-init : goal.loop-count-init
+loop-count-init g c = record {
+  met = ([], met_none g.A.Archive.condition g.R.Source.unread g.K.Sink.taken g.S.Spool.held g.A.Archive.account g.S.Spool.size g.L.HostLog.notes _ _ _);
   vacant = c.vacancy.ensures;
 }
 
-pub loop-preserved : goal.loop-preserved
-loop-preserved g c = record {
-  met = met_on g.A.Archive.condition g.R.Source.unread g.K.Sink.taken g.S.Spool.held g.S.Spool.size g.L.HostLog.notes _ _ _ _ _ _ _ _ _ c.loop.now.vacancy c.next-event.result Spent c.loop.invariant.met c.next-event.ensures.given
-      c.loop.invariant.vacant c.in-Ok.ensures.met (λ e. let bad : Spent ≡ Events = e in cc) (λ more. c.in-Ok.ensures.time) (λ e. let bad : Spent ≡ Shut = e in cc);
+pub loop-count-preserved : goal.loop-count-preserved
+loop-count-preserved g c = record {
+  met = met_next g.A.Archive.condition g.R.Source.unread g.K.Sink.taken g.S.Spool.held g.A.Archive.account g.S.Spool.size g.L.HostLog.notes _ _ _ _ _ _ _ _ _ c.loop-count.now.vacancy c.next-event.result _ _ c.loop-count.invariant.met c.next-event.ensures.given
+      c.loop-count.invariant.vacant c.in-Ok.ensures.met c.in-Ok.ensures.time refl;
   vacant = c.in-Ok.ensures.vacant;
 }
 
 pub returns-in-Err : goal.returns-in-Err
 returns-in-Err g c =
-    let met = met_last g.A.Archive.condition g.R.Source.unread g.K.Sink.taken g.S.Spool.held g.S.Spool.size g.L.HostLog.notes _ _ _ _ _ _ _ _ _ c.loop.now.vacancy c.next-event.result c.in-Err.ended c.meet.result c.in-Err.is c.loop.invariant.met c.next-event.ensures.given c.loop.invariant.vacant c.meet.ensures.met c.meet.ensures.shut in
-    let goes = all_go g.A.Archive.condition g.R.Source.unread g.K.Sink.taken g.S.Spool.held g.S.Spool.size g.L.HostLog.notes met.each in
+    let met = met_last g.A.Archive.condition g.R.Source.unread g.K.Sink.taken g.S.Spool.held g.A.Archive.account g.S.Spool.size g.L.HostLog.notes _ _ _ _ _ _ _ _ _ c.loop-count.now.vacancy c.next-event.result _ _ most_events c.in-Err.ended c.meet.result c.in-Err.is c.loop-count.invariant.met.1 c.next-event.ensures.given c.loop-count.invariant.vacant c.meet.ensures.met c.meet.ensures.shut in
     record {
       met = met;
-      goes = goes;
-      promise = promised g.A.Archive.condition g.R.Source.unread g.K.Sink.taken g.S.Spool.held c.hosts_keep_the_archive_promise.ensures _ _ goes;
-      end = λ e. c.next-event.ensures.end (is_the_end g.A.Archive.condition g.R.Source.unread g.K.Sink.taken g.S.Spool.held g.S.Spool.size g.L.HostLog.notes _ _ _ _ _ c.next-event.result c.meet.result (c.in-Err.is ∙ ap Err e) c.meet.ensures.met);
-      shut = λ ends none. steps_rightly g.A.Archive.condition g.R.Source.unread g.K.Sink.taken g.S.Spool.held goes.1 (λ some clean. let bad : true ≡ false = sym some ∙ none in cc) ((c.meet.ensures.shut (c.in-Err.is ∙ ap Err ends)).0);
+      goes = (met.0, met.1.steps);
+      promise = promised g.A.Archive.condition g.R.Source.unread g.K.Sink.taken g.S.Spool.held c.hosts_keep_the_archive_promise.ensures _ _ (met.0, met.1.steps);
+      end = λ e. c.next-event.ensures.end (is_the_end g.A.Archive.condition g.R.Source.unread g.K.Sink.taken g.S.Spool.held g.A.Archive.account g.S.Spool.size g.L.HostLog.notes _ _ _ _ _ c.next-event.result c.meet.result (c.in-Err.is ∙ ap Err e) c.meet.ensures.met);
+      shut = λ ends none. steps_rightly g.A.Archive.condition g.R.Source.unread g.K.Sink.taken g.S.Spool.held met.1.steps (λ some clean. let bad : true ≡ false = sym some ∙ none in cc) ((c.meet.ensures.shut (c.in-Err.is ∙ ap Err ends)).0);
     }
 
 pub returns : goal.returns
 returns g c =
-    let goes = all_go g.A.Archive.condition g.R.Source.unread g.K.Sink.taken g.S.Spool.held g.S.Spool.size g.L.HostLog.notes c.loop.invariant.met.each in
+    let met = c.loop-count.invariant.met in
+    let all : c.loop-count.count ≡ most_events = search rules in
     record {
-      met = c.loop.invariant.met;
-      goes = goes;
-      promise = promised g.A.Archive.condition g.R.Source.unread g.K.Sink.taken g.S.Spool.held c.hosts_keep_the_archive_promise.ensures _ _ goes;
+      met = met_all g.A.Archive.condition g.R.Source.unread g.K.Sink.taken g.S.Spool.held g.A.Archive.account g.S.Spool.size g.L.HostLog.notes _ _ _ _ _ _ _ _ all met;
+      goes = (met.0, met.1.steps);
+      promise = promised g.A.Archive.condition g.R.Source.unread g.K.Sink.taken g.S.Spool.held c.hosts_keep_the_archive_promise.ensures _ _ (met.0, met.1.steps);
       end = λ e. let bad : Spent ≡ Events = e in cc;
       shut = λ e none. let bad : Spent ≡ Shut = e in cc;
     }

@@ -1,9 +1,12 @@
+use Rattle.std.specs.Prelude.{List}
+use Rattle.dep_host.specs.Hosting.{Deed}
 use Rattle.dep_host.specs.Meeting.{IsOffer, Met}
 use Rattle.dep_host.specs.declared.serving.Ended.TheVariants.{Spent}
 use Rattle.dep_host.proofs.serving.serve.Given as goal
 
-abbrev pub invariant-loop : goal.invariant-loop
-invariant-loop g l = record {
-  met : Met g.A.Archive.condition g.R.Source.unread g.K.Sink.taken g.S.Spool.held g.S.Spool.size g.L.HostLog.notes (g.E.Events.given l.fn.events) (g.E.Events.given l.events) l.fn.host l.host l.fn.log l.log Spent;
+abbrev pub invariant-loop-count : goal.invariant-loop-count
+invariant-loop-count g l = record {
+  met : (deeds : List Deed) × Met g.A.Archive.condition g.A.Archive.account g.R.Source.unread g.K.Sink.taken g.S.Spool.held g.S.Spool.size g.L.HostLog.notes (g.E.Events.given l.fn.events) (g.E.Events.given l.events) l.fn.host l.host l.fn.log l.log
+      deeds l.count Spent;
   vacant : IsOffer l.host l.now.vacancy;
 }

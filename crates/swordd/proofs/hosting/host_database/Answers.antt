@@ -1,4 +1,4 @@
-use Rattle.std.proofs.Common.{◌∙◌}
+use Rattle.std.proofs.Common.{refl, ◌∙◌}
 use Rattle.sqlite.proofs.StateLemmas.{clean_if_open}
 use Rattle.swordd.proofs.HostedLemmas.{over_hub, without_hub}
 use Rattle.swordd.proofs.hosting.host_database.Goals as goal
@@ -8,8 +8,8 @@ returns-in-Ok g c = record {
   hosts = over_hub g.S.Store (λ h is_open. clean_if_open (g.S.Store.view h.store) (g.met.S.Store.shut_if_dirty h.store) is_open)
       (λ h is_open trees may. g.met.S.Store.settled h.store trees is_open may) c.args.connection c.args.config c.in-Ok.hub
       c.in-Ok.ensures.config c.in-Ok.ensures.fresh c.in-Ok.ensures.again
-      g.R.Source.unread g.K.Sink.taken g.P.Spool.held
-      c.serve_hub-outcome.result.1 c.close.result c.serve_hub-outcome.ensures.ends.0 c.serve_hub-outcome.result.0 (c.close.ensures ∙ c.into_store.ensures)
+      g.R.Source.unread g.K.Sink.taken g.P.Spool.held g.P.Spool.size
+      c.serve_hub-outcome.result.1 c.close.result c.serve_hub-outcome.ensures.ends.0 c.serve_hub-outcome.result.0 (c.close.ensures ∙ c.into_store.ensures) c.host_limits.ensures
       c.serve_hub-outcome.ensures.ends.1 c.serve_hub-outcome.ensures.ends.2;
 }
 
@@ -17,8 +17,8 @@ pub returns-in-Err : goal.returns-in-Err
 returns-in-Err g c =
     let it = c.in-Err in
     record {
-      hosts = without_hub g.S.Store g.R.Source.unread g.K.Sink.taken g.P.Spool.held
+      hosts = without_hub g.S.Store g.R.Source.unread g.K.Sink.taken g.P.Spool.held g.P.Spool.size
           (λ h is_open. clean_if_open (g.S.Store.view h.store) (g.met.S.Store.shut_if_dirty h.store) is_open)
           (λ h is_open trees may. g.met.S.Store.settled h.store trees is_open may) c.args.config c.args.connection it.connection
-          it.fault it.ensures.left it.ensures.kept it.ensures.refused it.ensures.stop c.outcome.result c.outcome.ensures;
+          it.fault it.ensures.left it.ensures.kept it.ensures.refused it.ensures.stop refl c.outcome.result c.outcome.ensures;
     }

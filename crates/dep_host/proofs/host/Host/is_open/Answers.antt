@@ -1,6 +1,6 @@
-use Rattle.std.proofs.Common.{[], inl, inr, refl, sym, ◌∙◌, rules}
+use Rattle.std.proofs.Common.{[], false, true, Ok, Err, inl, inr, refl, sym, ◌∙◌, rules}
 use Rattle.std.proofs.lemmas.List.Elements.{Contains-push}
-use Rattle.dep_host.proofs.HostLemmas.{asked, stands_still, told_shut, told_open}
+use Rattle.dep_host.proofs.HostLemmas.{asked, stands_still, told_shut, told_open, told_as}
 use Rattle.dep_host.proofs.host.Host.is_open.Goals as goal
 
 pub returns-then-is_some-clause-asks : goal.returns-then-is_some-clause-asks
@@ -8,7 +8,7 @@ returns-then-is_some-clause-asks g c = record {
   steps = stands_still g.A.Archive.condition g.R.Source.unread g.K.Sink.taken g.S.Spool.held _;
   told = inl refl;
   limits = refl;
-  known = inl (sym c.is_some.ensures ∙ c.if-is_some.true);
+  known = inl (sym c.is_some.ensures ∙ c.if-is_some.true, refl);
 }
 
 pub returns-in-Ok-false-clause-asks : goal.returns-in-Ok-false-clause-asks
@@ -22,7 +22,11 @@ returns-in-Ok-false-clause-asks g c = record {
   });
   told = inr (sym c.is_some.ensures ∙ c.if-is_some.false, Contains-push [] c.args.second);
   limits = refl;
-  known = inl refl;
+  known = inr (
+    Ok false,
+    told_as (g.A.Archive.account c.args.self.now.hub.store) (g.A.Archive.account c.is_open.new.self.store) c.in-Ok-false.field-0 false (search rules) c.in-Ok-false.ensures.asked,
+    (refl, refl, told_shut (g.A.Archive.condition c.is_open.new.self.store) c.in-Ok-false.field-0 (search rules) c.in-Ok-false.ensures.told),
+  );
 }
 
 pub returns-in-Ok-true-clause-asks : goal.returns-in-Ok-true-clause-asks
@@ -36,7 +40,11 @@ returns-in-Ok-true-clause-asks g c = record {
   });
   told = inl refl;
   limits = refl;
-  known = inr (inl (told_open (g.A.Archive.condition c.is_open.new.self.store) c.in-Ok-true.field-0 (search rules) c.in-Ok-true.ensures.told));
+  known = inr (
+    Ok true,
+    told_as (g.A.Archive.account c.args.self.now.hub.store) (g.A.Archive.account c.is_open.new.self.store) c.in-Ok-true.field-0 true (search rules) c.in-Ok-true.ensures.asked,
+    (sym c.is_some.ensures ∙ c.if-is_some.false, refl, told_open (g.A.Archive.condition c.is_open.new.self.store) c.in-Ok-true.field-0 (search rules) c.in-Ok-true.ensures.told),
+  );
 }
 
 pub returns-in-Err-clause-asks : goal.returns-in-Err-clause-asks
@@ -50,5 +58,5 @@ returns-in-Err-clause-asks g c = record {
   });
   told = inl refl;
   limits = refl;
-  known = inr (inr c.saturating_add-self.ensures);
+  known = inr (Err c.in-Err._fault, c.in-Err.ensures.asked, (sym c.is_some.ensures ∙ c.if-is_some.false, c.saturating_add-self.ensures, c.in-Err.ensures.cause));
 }

@@ -4,5 +4,6 @@ use Rattle.dep_hub.proofs.hub.Hub.work_ahead.Goals as goal
 
 pub returns : goal.returns
 returns g c = record {
+  asked = c.work_ahead.ensures.asked;
   rests = rests_on g.A.Archive.condition c.args.self.now _ refl refl refl (g.met.A.Archive.settled c.args.self.now.store) c.work_ahead.ensures.rests;
 }
