@@ -13,7 +13,7 @@ use std::alloc::Global;
 const MOST_SENDS: u32 = 16;
 
 /// What a flush came to.
-#[derive(Clone, Copy, Debug, PartialEq, Eq)]
+#[derive(Clone, Copy, PartialEq, Eq)]
 pub enum Flushed {
     /// Nothing is owed any more.
     All,
