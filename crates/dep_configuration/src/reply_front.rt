@@ -14,25 +14,7 @@ const BEFORE_NAME: &[u8] =
 /// The status that a reply of the server tells, by its front: a `100 Continue` before it is passed over. The
 /// front has to hold the first 12 bytes of the reply.
 pub fn status_of_front(front: &[u8]) -> Option<u16> {
-    status_of(reply_in(front))
-}
-
-/// The name of the refusal that a reply of the server tells, by its front: `None` where its status is below 400,
-/// its content isn't an error document, or the name doesn't stand in the front's first 1,024 bytes.
-pub fn refusal_of_front(front: &[u8]) -> Option<&str> {
-    let reply = reply_in(front);
-    if status_of(reply)? < 400 {
-        return None;
-    }
-    name_in(content_of(reply)?)
-}
-
-// The reply, without a `100 Continue` before it.
-fn reply_in(front: &[u8]) -> &[u8] {
-    front.strip_prefix(CONTINUE).unwrap_or(front)
-}
-
-fn status_of(reply: &[u8]) -> Option<u16> {
+    let reply = front.strip_prefix(CONTINUE).unwrap_or(front);
     let behind = reply.strip_prefix(VERSION)?;
     match decimal(behind.get(..3)?, 999) {
         Number::Value(status) => u16::try_from(status).ok(),
@@ -40,13 +22,22 @@ fn status_of(reply: &[u8]) -> Option<u16> {
     }
 }
 
-// What stands behind the head of a reply, in its first 1,024 bytes.
+/// The name of the refusal that a reply of the server tells, by its front: `None` where its status is below 400,
+/// its content isn't an error document, or the name doesn't stand in the front's first 1,024 bytes.
+pub fn refusal_of_front(front: &[u8]) -> Option<&str> {
+    if status_of_front(front)? < 400 {
+        return None;
+    }
+    let reply = front.strip_prefix(CONTINUE).unwrap_or(front);
+    name_in(content_of(reply.get(..1_024).unwrap_or(reply))?)
+}
+
+// What stands behind the head of a reply.
 fn content_of(reply: &[u8]) -> Option<&[u8]> {
-    let known = reply.get(..1_024).unwrap_or(reply);
-    let end = known
+    let end = reply
         .windows(4)
         .position(|four| four == b"\r\n\r\n".as_slice())?;
-    known.get(end..)?.get(4..)
+    reply.get(end..)?.get(4..)
 }
 
 // The name of the refusal in an error document.
