@@ -167,3 +167,48 @@ module _ {A : Type 0} (old new : State) (result : Result A StoreFault) where
   abbrev pub FailsByReadingNumbers : Type 0 → List ℕ → Row → (List Row → Type 0) → Type 0
   FailsByReadingNumbers storable sql params are_ours = storable → HasCleanDisk new
       → IfErr result (FailsToReadNumbers are_ours sql params old new)
+
+-- a statement that shows no rows
+pub record Statement : Type 1 where
+  -- its numbers are below 2^63, as SQL's are
+  pub storable : Type 0
+  -- what SQLite runs
+  pub text : List ℕ
+  -- what its parameters are bound to
+  pub values : Row
+  -- what it makes of our tables
+  pub change : Tables → Tables
+
+-- a statement that shows rows, of which such a value is read
+pub record Query (A : Type 0) : Type 1 where
+  -- its numbers are below 2^63, as SQL's are
+  pub storable : Type 0
+  -- what SQLite is asked
+  pub text : List ℕ
+  -- what its parameters are bound to
+  pub values : Row
+  -- the rows that it shows of our tables
+  pub are_ours : List Row → Type 0
+  -- whether what is read of them is copied, which takes memory
+  pub copies : Type 0
+  -- what the value tells of our tables
+  pub told : Tables → A → Type 0
+
+module _ {T L A : Type 0} (lenders : T → L) (state : T → State) (old new : T)
+    (result : Result A StoreFault) where
+  -- what a call does that runs this statement
+  pub record Writes (statement : Statement) : Type 0 where
+    pub ok : Changes (state old) (state new) result statement.change
+    pub numbers : RefusesNumbers (state old) (state new) result statement.storable
+    pub cause : FailsByRunning (state old) (state new) result statement.storable statement.text
+        statement.values
+    pub keeps : RunsWithin lenders state old new result
+
+  -- what a call does that asks this query
+  pub record Queries (query : Query A) : Type 0 where
+    pub ok : Reads (state old) (state new) result query.told
+    pub numbers : RefusesNumbers (state old) (state new) result query.storable
+    pub cause : query.storable → HasCleanDisk (state new)
+        → IfErr result (FailsWithRows query.copies query.are_ours query.text query.values
+        (state old) (state new))
+    pub keeps : ReadsWithin lenders state old new result

@@ -4,5 +4,6 @@ pub mod Rows
 pub mod Tables
 pub mod Edits
 pub mod Clauses
+pub mod Statements
 pub mod Faults
 pub mod Versions

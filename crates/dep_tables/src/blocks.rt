@@ -1,13 +1,12 @@
 //! The bytes of contents, in blocks.
 
-ghost use Rattle.std.specs.Prelude.{◌≡◌, ◌∷◌, [], pos, ◌<◌, ◌^◌, option_map};
-ghost use Rattle.std.specs.Option.{option_to_list};
-ghost use Rattle.sqlite.specs.declared.types.Value.TheVariants.{Int, Blob};
+ghost use Rattle.std.specs.Prelude.{◌≡◌, ◌∷◌, []};
+ghost use Rattle.sqlite.specs.declared.types.Value.TheVariants.{Blob};
 ghost use Rattle.sqlite.specs.Values.{bound};
-ghost use Rattle.dep_tables.specs.Rows.{IsStorableOwner, owner_values, IsStorableKey, key_values, block_values, move_values, move_run_values, place_values, IsBytesRow, IsPlaceRow};
-ghost use Rattle.dep_tables.specs.Edits.{with_new_block, without_blocks_of, without_run, with_blocks_moved, with_run_moved, LacksBlock, AreBytesAt, IsFirstBlock, IsBlockAfter};
-ghost use Rattle.dep_tables.specs.Clauses.{AtMostOne, Changes, Shows, Reads, RefusesNumbers, FailsByRunning, FailsByReading, FailsByReadingNumbers, RunsWithin, ReadsWithin};
-ghost use Rattle.dep_tables.specs.Texts.{insert_block_text, delete_blocks_text, delete_run_text, move_blocks_text, move_run_text, read_block_text, first_block_text, next_block_text};
+ghost use Rattle.dep_tables.specs.Rows.{IsStorableOwner, IsStorableKey, block_values, move_values, move_run_values, place_values};
+ghost use Rattle.dep_tables.specs.Edits.{LacksBlock};
+ghost use Rattle.dep_tables.specs.Clauses.{Shows, Writes, Queries};
+ghost use Rattle.dep_tables.specs.Statements.{insertion_of_block, deletion_of_blocks, deletion_of_run, move_of_blocks, move_of_run, query_of_block, query_of_first_block, query_of_next_block};
 
 use crate::calls::Statements;
 use crate::columns::ColumnKind::{self, Bytes, Number};
@@ -34,14 +33,8 @@ pub fn insert_block<T: Statements>(
     key: &BlockKey,
     bytes: &[u8],
 ) -> Result<(), StoreFault>
-    ensures ok { Changes (T.state tx.old) (T.state tx.new) result
-        (with_new_block key.now bytes.now) }
+    ensures does { Writes T.lenders T.state tx.old tx.new result (insertion_of_block key.now bytes.now) }
     ensures free { Shows (T.state tx.old) (T.state tx.new) result (LacksBlock key.now) }
-    ensures numbers { RefusesNumbers (T.state tx.old) (T.state tx.new) result
-        (IsStorableKey key.now) }
-    ensures cause { FailsByRunning (T.state tx.old) (T.state tx.new) result
-        (IsStorableKey key.now) insert_block_text (block_values key.now bytes.now) }
-    ensures keeps { RunsWithin T.lenders T.state tx.old tx.new result }
 {
     if !is_storable_key(key) {
         return Err(StoreFault::Store);
@@ -54,12 +47,7 @@ pub fn insert_block<T: Statements>(
 
 /// Deletes the blocks of an owner. A number of 2^63 or more is a fault of the store.
 pub fn delete_blocks<T: Statements>(tx: &mut T, owner: BlockOwner) -> Result<(), StoreFault>
-    ensures ok { Changes (T.state tx.old) (T.state tx.new) result (without_blocks_of owner) }
-    ensures numbers { RefusesNumbers (T.state tx.old) (T.state tx.new) result
-        (IsStorableOwner owner) }
-    ensures cause { FailsByRunning (T.state tx.old) (T.state tx.new) result
-        (IsStorableOwner owner) delete_blocks_text (owner_values owner) }
-    ensures keeps { RunsWithin T.lenders T.state tx.old tx.new result }
+    ensures does { Writes T.lenders T.state tx.old tx.new result (deletion_of_blocks owner) }
 {
     if !is_storable_owner(owner) {
         return Err(StoreFault::Store);
@@ -72,12 +60,7 @@ pub fn delete_blocks<T: Statements>(tx: &mut T, owner: BlockOwner) -> Result<(),
 
 /// Deletes the blocks of a part that stand before a place. A number of 2^63 or more is a fault of the store.
 pub fn delete_run<T: Statements>(tx: &mut T, end: &BlockKey) -> Result<(), StoreFault>
-    ensures ok { Changes (T.state tx.old) (T.state tx.new) result (without_run end.now) }
-    ensures numbers { RefusesNumbers (T.state tx.old) (T.state tx.new) result
-        (IsStorableKey end.now) }
-    ensures cause { FailsByRunning (T.state tx.old) (T.state tx.new) result
-        (IsStorableKey end.now) delete_run_text (key_values end.now) }
-    ensures keeps { RunsWithin T.lenders T.state tx.old tx.new result }
+    ensures does { Writes T.lenders T.state tx.old tx.new result (deletion_of_run end.now) }
 {
     if !is_storable_key(end) {
         return Err(StoreFault::Store);
@@ -104,12 +87,7 @@ pub fn move_blocks<T: Statements>(
     owner: BlockOwner,
     to: BlockOwner,
 ) -> Result<(), StoreFault>
-    ensures ok { Changes (T.state tx.old) (T.state tx.new) result (with_blocks_moved owner to) }
-    ensures numbers { RefusesNumbers (T.state tx.old) (T.state tx.new) result
-        (IsStorableOwner owner × IsStorableOwner to) }
-    ensures cause { FailsByRunning (T.state tx.old) (T.state tx.new) result
-        (IsStorableOwner owner × IsStorableOwner to) move_blocks_text (move_values owner to) }
-    ensures keeps { RunsWithin T.lenders T.state tx.old tx.new result }
+    ensures does { Writes T.lenders T.state tx.old tx.new result (move_of_blocks owner to) }
 {
     if !is_storable_owner(owner) || !is_storable_owner(to) {
         return Err(StoreFault::Store);
@@ -132,12 +110,7 @@ fn move_run_params(end: &BlockKey, to: BlockOwner) -> [ValueRef<'static>; 6]
 
 /// Gives the blocks of a part that stand before a place to another owner. It is a fault of the store where that has a block of the same part and place, and where a number is 2^63 or more.
 pub fn move_run<T: Statements>(tx: &mut T, end: &BlockKey, to: BlockOwner) -> Result<(), StoreFault>
-    ensures ok { Changes (T.state tx.old) (T.state tx.new) result (with_run_moved end.now to) }
-    ensures numbers { RefusesNumbers (T.state tx.old) (T.state tx.new) result
-        (IsStorableKey end.now × IsStorableOwner to) }
-    ensures cause { FailsByRunning (T.state tx.old) (T.state tx.new) result
-        (IsStorableKey end.now × IsStorableOwner to) move_run_text (move_run_values end.now to) }
-    ensures keeps { RunsWithin T.lenders T.state tx.old tx.new result }
+    ensures does { Writes T.lenders T.state tx.old tx.new result (move_of_run end.now to) }
 {
     if !is_storable_key(end) || !is_storable_owner(to) {
         return Err(StoreFault::Store);
@@ -195,14 +168,7 @@ impl FromRow for Vec<u8> {
 
 /// The bytes of the block of this key, if there is one. A number of 2^63 or more is a fault of the store.
 pub fn read_block<T: Statements>(tx: &mut T, key: &BlockKey) -> Result<Option<Vec<u8>>, StoreFault>
-    ensures ok { Reads (T.state tx.old) (T.state tx.new) result
-        (λ t found. AreBytesAt key.now t
-        (option_to_list (option_map (λ bytes. Blob bytes.items) found))) }
-    ensures numbers { RefusesNumbers (T.state tx.old) (T.state tx.new) result
-        (IsStorableKey key.now) }
-    ensures cause { FailsByReading (T.state tx.old) (T.state tx.new) result
-        (IsStorableKey key.now) read_block_text (key_values key.now) (AtMostOne IsBytesRow) }
-    ensures keeps { ReadsWithin T.lenders T.state tx.old tx.new result }
+    ensures does { Queries T.lenders T.state tx.old tx.new result (query_of_block key.now) }
 {
     if !is_storable_key(key) {
         return Err(StoreFault::Store);
@@ -219,12 +185,7 @@ pub fn first_block<T: Statements>(
     tx: &mut T,
     owner: BlockOwner,
 ) -> Result<Option<BlockPlace>, StoreFault>
-    ensures ok { Reads (T.state tx.old) (T.state tx.new) result (IsFirstBlock owner) }
-    ensures numbers { RefusesNumbers (T.state tx.old) (T.state tx.new) result
-        (IsStorableOwner owner) }
-    ensures cause { FailsByReadingNumbers (T.state tx.old) (T.state tx.new) result
-        (IsStorableOwner owner) first_block_text (owner_values owner) (AtMostOne IsPlaceRow) }
-    ensures keeps { ReadsWithin T.lenders T.state tx.old tx.new result }
+    ensures does { Queries T.lenders T.state tx.old tx.new result (query_of_first_block owner) }
 {
     if !is_storable_owner(owner) {
         return Err(StoreFault::Store);
@@ -241,12 +202,7 @@ pub fn next_block<T: Statements>(
     tx: &mut T,
     after: &BlockKey,
 ) -> Result<Option<BlockPlace>, StoreFault>
-    ensures ok { Reads (T.state tx.old) (T.state tx.new) result (IsBlockAfter after.now) }
-    ensures numbers { RefusesNumbers (T.state tx.old) (T.state tx.new) result
-        (IsStorableKey after.now) }
-    ensures cause { FailsByReadingNumbers (T.state tx.old) (T.state tx.new) result
-        (IsStorableKey after.now) next_block_text (key_values after.now) (AtMostOne IsPlaceRow) }
-    ensures keeps { ReadsWithin T.lenders T.state tx.old tx.new result }
+    ensures does { Queries T.lenders T.state tx.old tx.new result (query_of_next_block after.now) }
 {
     if !is_storable_key(after) {
         return Err(StoreFault::Store);

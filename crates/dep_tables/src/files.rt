@@ -1,12 +1,11 @@
 //! The rows of the files.
 
-ghost use Rattle.std.specs.Prelude.{All, ◌≡◌, ◌↔◌, pos, IsTrue, ◌<◌, ◌^◌, ◌∷◌, []};
-ghost use Rattle.sqlite.specs.declared.types.Value.TheVariants.{Int};
+ghost use Rattle.std.specs.Prelude.{◌≡◌, ◌↔◌, IsTrue};
 ghost use Rattle.sqlite.specs.Values.{bound};
-ghost use Rattle.dep_tables.specs.Rows.{IsStorableFile, file_row_values, IsFileRow};
-ghost use Rattle.dep_tables.specs.Edits.{with_new_file_row, without_file_row, without_file_rows, LacksFileRow, IsFileRowAt, AreFileRowsOf};
-ghost use Rattle.dep_tables.specs.Clauses.{AtMostOne, Changes, Shows, Reads, RefusesNumbers, FailsByRunning, FailsByReading, RunsWithin, ReadsWithin};
-ghost use Rattle.dep_tables.specs.Texts.{insert_file_text, delete_file_text, delete_files_text, find_file_text, files_of_text};
+ghost use Rattle.dep_tables.specs.Rows.{IsStorableFile, file_row_values};
+ghost use Rattle.dep_tables.specs.Edits.{LacksFileRow};
+ghost use Rattle.dep_tables.specs.Clauses.{Shows, Writes, Queries};
+ghost use Rattle.dep_tables.specs.Statements.{insertion_of_file, deletion_of_file, deletion_of_files, query_of_file, query_of_files};
 
 use crate::calls::Statements;
 use crate::columns::ColumnKind::{self, Flag, Number, Sha256, Sha512, Text, TextOrNull};
@@ -48,13 +47,8 @@ fn file_params(row: &FileRow) -> [ValueRef<'_>; 10]
 
 /// Adds a row; the SHA-512 has a table of its own. It is a fault of the store where there is a row of this key, and where a number is 2^63 or more.
 pub fn insert_file<T: Statements>(tx: &mut T, row: &FileRow) -> Result<(), StoreFault>
-    ensures ok { Changes (T.state tx.old) (T.state tx.new) result (with_new_file_row row.now) }
+    ensures does { Writes T.lenders T.state tx.old tx.new result (insertion_of_file row.now) }
     ensures free { Shows (T.state tx.old) (T.state tx.new) result (LacksFileRow row.now.file) }
-    ensures numbers { RefusesNumbers (T.state tx.old) (T.state tx.new) result
-        (IsStorableFile row.now) }
-    ensures cause { FailsByRunning (T.state tx.old) (T.state tx.new) result
-        (IsStorableFile row.now) insert_file_text (file_row_values row.now) }
-    ensures keeps { RunsWithin T.lenders T.state tx.old tx.new result }
 {
     if !is_storable_file(row) {
         return Err(StoreFault::Store);
@@ -67,11 +61,7 @@ pub fn insert_file<T: Statements>(tx: &mut T, row: &FileRow) -> Result<(), Store
 
 /// Deletes the row of this key, if there is one. A number of 2^63 or more is a fault of the store.
 pub fn delete_file<T: Statements>(tx: &mut T, file: u64) -> Result<(), StoreFault>
-    ensures ok { Changes (T.state tx.old) (T.state tx.new) result (without_file_row file) }
-    ensures numbers { RefusesNumbers (T.state tx.old) (T.state tx.new) result (file < 2 ^ 63) }
-    ensures cause { FailsByRunning (T.state tx.old) (T.state tx.new) result
-        (file < 2 ^ 63) delete_file_text (Int (pos file) ∷ []) }
-    ensures keeps { RunsWithin T.lenders T.state tx.old tx.new result }
+    ensures does { Writes T.lenders T.state tx.old tx.new result (deletion_of_file file) }
 {
     if file >= LIMIT {
         return Err(StoreFault::Store);
@@ -81,11 +71,7 @@ pub fn delete_file<T: Statements>(tx: &mut T, file: u64) -> Result<(), StoreFaul
 
 /// Deletes the rows of an object. A number of 2^63 or more is a fault of the store.
 pub fn delete_files<T: Statements>(tx: &mut T, object: u64) -> Result<(), StoreFault>
-    ensures ok { Changes (T.state tx.old) (T.state tx.new) result (without_file_rows object) }
-    ensures numbers { RefusesNumbers (T.state tx.old) (T.state tx.new) result (object < 2 ^ 63) }
-    ensures cause { FailsByRunning (T.state tx.old) (T.state tx.new) result
-        (object < 2 ^ 63) delete_files_text (Int (pos object) ∷ []) }
-    ensures keeps { RunsWithin T.lenders T.state tx.old tx.new result }
+    ensures does { Writes T.lenders T.state tx.old tx.new result (deletion_of_files object) }
 {
     if object >= LIMIT {
         return Err(StoreFault::Store);
@@ -131,11 +117,7 @@ impl FromRow for FileRow {
 
 /// The row of this key, with the SHA-512 of the file. It is a fault of the store where the row is not one that `insert_file` writes, where the file has no SHA-512, and for a number of 2^63 or more.
 pub fn find_file<T: Statements>(tx: &mut T, file: u64) -> Result<Option<FileRow>, StoreFault>
-    ensures ok { Reads (T.state tx.old) (T.state tx.new) result (IsFileRowAt file) }
-    ensures numbers { RefusesNumbers (T.state tx.old) (T.state tx.new) result (file < 2 ^ 63) }
-    ensures cause { FailsByReading (T.state tx.old) (T.state tx.new) result
-        (file < 2 ^ 63) find_file_text (Int (pos file) ∷ []) (AtMostOne IsFileRow) }
-    ensures keeps { ReadsWithin T.lenders T.state tx.old tx.new result }
+    ensures does { Queries T.lenders T.state tx.old tx.new result (query_of_file file) }
 {
     if file >= LIMIT {
         return Err(StoreFault::Store);
@@ -153,12 +135,7 @@ pub fn files_of<T: Statements>(
     alloc: Global,
     object: u64,
 ) -> Result<Vec<FileRow>, StoreFault>
-    ensures ok { Reads (T.state tx.old) (T.state tx.new) result
-        (λ t found. AreFileRowsOf object t found.items) }
-    ensures numbers { RefusesNumbers (T.state tx.old) (T.state tx.new) result (object < 2 ^ 63) }
-    ensures cause { FailsByReading (T.state tx.old) (T.state tx.new) result
-        (object < 2 ^ 63) files_of_text (Int (pos object) ∷ []) (All IsFileRow) }
-    ensures keeps { ReadsWithin T.lenders T.state tx.old tx.new result }
+    ensures does { Queries T.lenders T.state tx.old tx.new result (query_of_files object) }
 {
     if object >= LIMIT {
         return Err(StoreFault::Store);

@@ -1,12 +1,11 @@
 //! The rows of the objects' metadata.
 
-ghost use Rattle.std.specs.Prelude.{All, ◌≡◌, ◌↔◌, IsTrue, ◌<◌, ◌^◌, ◌∷◌, [], pos};
-ghost use Rattle.sqlite.specs.declared.types.Value.TheVariants.{Int};
+ghost use Rattle.std.specs.Prelude.{◌≡◌, ◌↔◌, IsTrue};
 ghost use Rattle.sqlite.specs.Values.{bound};
-ghost use Rattle.dep_tables.specs.Rows.{IsStorableMetadata, metadata_values, IsMetadataRow};
-ghost use Rattle.dep_tables.specs.Edits.{with_new_metadata_row, without_metadata_rows, LacksMetadataRow, AreMetadataRowsOf};
-ghost use Rattle.dep_tables.specs.Clauses.{Changes, Shows, Reads, RefusesNumbers, FailsByRunning, FailsByReading, RunsWithin, ReadsWithin};
-ghost use Rattle.dep_tables.specs.Texts.{insert_metadata_text, delete_metadata_text, metadata_of_text};
+ghost use Rattle.dep_tables.specs.Rows.{IsStorableMetadata, metadata_values};
+ghost use Rattle.dep_tables.specs.Edits.{LacksMetadataRow};
+ghost use Rattle.dep_tables.specs.Clauses.{Shows, Writes, Queries};
+ghost use Rattle.dep_tables.specs.Statements.{insertion_of_metadata, deletion_of_metadata, query_of_metadata};
 
 use crate::calls::Statements;
 use crate::columns::ColumnKind::{self, Number};
@@ -51,13 +50,8 @@ fn metadata_params(row: &MetadataRow) -> [ValueRef<'_>; 4]
 
 /// Adds a row. It is a fault of the store where there is a row of this object, name and place, and where a number is 2^63 or more.
 pub fn insert_metadata<T: Statements>(tx: &mut T, row: &MetadataRow) -> Result<(), StoreFault>
-    ensures ok { Changes (T.state tx.old) (T.state tx.new) result (with_new_metadata_row row.now) }
+    ensures does { Writes T.lenders T.state tx.old tx.new result (insertion_of_metadata row.now) }
     ensures free { Shows (T.state tx.old) (T.state tx.new) result (LacksMetadataRow row.now) }
-    ensures numbers { RefusesNumbers (T.state tx.old) (T.state tx.new) result
-        (IsStorableMetadata row.now) }
-    ensures cause { FailsByRunning (T.state tx.old) (T.state tx.new) result
-        (IsStorableMetadata row.now) insert_metadata_text (metadata_values row.now) }
-    ensures keeps { RunsWithin T.lenders T.state tx.old tx.new result }
 {
     if !is_storable_metadata(row) {
         return Err(StoreFault::Store);
@@ -70,11 +64,7 @@ pub fn insert_metadata<T: Statements>(tx: &mut T, row: &MetadataRow) -> Result<(
 
 /// Deletes the rows of an object. A number of 2^63 or more is a fault of the store.
 pub fn delete_metadata<T: Statements>(tx: &mut T, object: u64) -> Result<(), StoreFault>
-    ensures ok { Changes (T.state tx.old) (T.state tx.new) result (without_metadata_rows object) }
-    ensures numbers { RefusesNumbers (T.state tx.old) (T.state tx.new) result (object < 2 ^ 63) }
-    ensures cause { FailsByRunning (T.state tx.old) (T.state tx.new) result
-        (object < 2 ^ 63) delete_metadata_text (Int (pos object) ∷ []) }
-    ensures keeps { RunsWithin T.lenders T.state tx.old tx.new result }
+    ensures does { Writes T.lenders T.state tx.old tx.new result (deletion_of_metadata object) }
 {
     if object >= LIMIT {
         return Err(StoreFault::Store);
@@ -114,12 +104,7 @@ pub fn metadata_of<T: Statements>(
     alloc: Global,
     object: u64,
 ) -> Result<Vec<MetadataRow>, StoreFault>
-    ensures ok { Reads (T.state tx.old) (T.state tx.new) result
-        (λ t found. AreMetadataRowsOf object t found.items) }
-    ensures numbers { RefusesNumbers (T.state tx.old) (T.state tx.new) result (object < 2 ^ 63) }
-    ensures cause { FailsByReading (T.state tx.old) (T.state tx.new) result
-        (object < 2 ^ 63) metadata_of_text (Int (pos object) ∷ []) (All IsMetadataRow) }
-    ensures keeps { ReadsWithin T.lenders T.state tx.old tx.new result }
+    ensures does { Queries T.lenders T.state tx.old tx.new result (query_of_metadata object) }
 {
     if object >= LIMIT {
         return Err(StoreFault::Store);

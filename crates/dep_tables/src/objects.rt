@@ -1,12 +1,11 @@
 //! The rows of the objects.
 
-ghost use Rattle.std.specs.Prelude.{◌≡◌, ◌↔◌, pos, IsTrue, ◌<◌, ◌^◌, ◌∷◌, []};
-ghost use Rattle.sqlite.specs.declared.types.Value.TheVariants.{Int};
+ghost use Rattle.std.specs.Prelude.{◌≡◌, ◌↔◌, IsTrue};
 ghost use Rattle.sqlite.specs.Values.{bound};
-ghost use Rattle.dep_tables.specs.Rows.{IsStorableObject, object_values, IsNumberRow, IsObjectRow};
-ghost use Rattle.dep_tables.specs.Edits.{with_new_object_row, with_object_row, without_object_row, LacksObjectRow, IsObjectRowAt, IsObjectAfter};
-ghost use Rattle.dep_tables.specs.Clauses.{AtMostOne, Changes, Shows, Reads, RefusesNumbers, FailsByRunning, FailsByReadingNumbers, RunsWithin, ReadsWithin};
-ghost use Rattle.dep_tables.specs.Texts.{insert_object_text, write_object_text, delete_object_text, find_object_text, next_object_text};
+ghost use Rattle.dep_tables.specs.Rows.{IsStorableObject, object_values};
+ghost use Rattle.dep_tables.specs.Edits.{LacksObjectRow};
+ghost use Rattle.dep_tables.specs.Clauses.{Shows, Writes, Queries};
+ghost use Rattle.dep_tables.specs.Statements.{insertion_of_object, update_of_object, deletion_of_object, query_of_object, query_of_next_object};
 
 use crate::calls::Statements;
 use crate::columns::ColumnKind::{self, Flag, Number};
@@ -42,13 +41,8 @@ fn object_params(row: &ObjectRow) -> [ValueRef<'static>; 6]
 
 /// Adds a row. It is a fault of the store where there is a row of this key, and where a number is 2^63 or more.
 pub fn insert_object<T: Statements>(tx: &mut T, row: &ObjectRow) -> Result<(), StoreFault>
-    ensures ok { Changes (T.state tx.old) (T.state tx.new) result (with_new_object_row row.now) }
+    ensures does { Writes T.lenders T.state tx.old tx.new result (insertion_of_object row.now) }
     ensures free { Shows (T.state tx.old) (T.state tx.new) result (LacksObjectRow row.now.object) }
-    ensures numbers { RefusesNumbers (T.state tx.old) (T.state tx.new) result
-        (IsStorableObject row.now) }
-    ensures cause { FailsByRunning (T.state tx.old) (T.state tx.new) result
-        (IsStorableObject row.now) insert_object_text (object_values row.now) }
-    ensures keeps { RunsWithin T.lenders T.state tx.old tx.new result }
 {
     if !is_storable_object(row) {
         return Err(StoreFault::Store);
@@ -61,12 +55,7 @@ pub fn insert_object<T: Statements>(tx: &mut T, row: &ObjectRow) -> Result<(), S
 
 /// Sets the row of this key, if there is one. A number of 2^63 or more is a fault of the store.
 pub fn write_object<T: Statements>(tx: &mut T, row: &ObjectRow) -> Result<(), StoreFault>
-    ensures ok { Changes (T.state tx.old) (T.state tx.new) result (with_object_row row.now) }
-    ensures numbers { RefusesNumbers (T.state tx.old) (T.state tx.new) result
-        (IsStorableObject row.now) }
-    ensures cause { FailsByRunning (T.state tx.old) (T.state tx.new) result
-        (IsStorableObject row.now) write_object_text (object_values row.now) }
-    ensures keeps { RunsWithin T.lenders T.state tx.old tx.new result }
+    ensures does { Writes T.lenders T.state tx.old tx.new result (update_of_object row.now) }
 {
     if !is_storable_object(row) {
         return Err(StoreFault::Store);
@@ -79,11 +68,7 @@ pub fn write_object<T: Statements>(tx: &mut T, row: &ObjectRow) -> Result<(), St
 
 /// Deletes the row of this key, if there is one. A number of 2^63 or more is a fault of the store.
 pub fn delete_object<T: Statements>(tx: &mut T, object: u64) -> Result<(), StoreFault>
-    ensures ok { Changes (T.state tx.old) (T.state tx.new) result (without_object_row object) }
-    ensures numbers { RefusesNumbers (T.state tx.old) (T.state tx.new) result (object < 2 ^ 63) }
-    ensures cause { FailsByRunning (T.state tx.old) (T.state tx.new) result
-        (object < 2 ^ 63) delete_object_text (Int (pos object) ∷ []) }
-    ensures keeps { RunsWithin T.lenders T.state tx.old tx.new result }
+    ensures does { Writes T.lenders T.state tx.old tx.new result (deletion_of_object object) }
 {
     if object >= LIMIT {
         return Err(StoreFault::Store);
@@ -120,11 +105,7 @@ impl FromRow for ObjectRow {
 
 /// The row of this key. It is a fault of the store where the row is not one that `insert_object` writes, and for a number of 2^63 or more.
 pub fn find_object<T: Statements>(tx: &mut T, object: u64) -> Result<Option<ObjectRow>, StoreFault>
-    ensures ok { Reads (T.state tx.old) (T.state tx.new) result (IsObjectRowAt object) }
-    ensures numbers { RefusesNumbers (T.state tx.old) (T.state tx.new) result (object < 2 ^ 63) }
-    ensures cause { FailsByReadingNumbers (T.state tx.old) (T.state tx.new) result
-        (object < 2 ^ 63) find_object_text (Int (pos object) ∷ []) (AtMostOne IsObjectRow) }
-    ensures keeps { ReadsWithin T.lenders T.state tx.old tx.new result }
+    ensures does { Queries T.lenders T.state tx.old tx.new result (query_of_object object) }
 {
     if object >= LIMIT {
         return Err(StoreFault::Store);
@@ -138,11 +119,7 @@ pub fn find_object<T: Statements>(tx: &mut T, object: u64) -> Result<Option<Obje
 
 /// The least object above this one. A number of 2^63 or more is a fault of the store.
 pub fn next_object<T: Statements>(tx: &mut T, after: u64) -> Result<Option<u64>, StoreFault>
-    ensures ok { Reads (T.state tx.old) (T.state tx.new) result (IsObjectAfter after) }
-    ensures numbers { RefusesNumbers (T.state tx.old) (T.state tx.new) result (after < 2 ^ 63) }
-    ensures cause { FailsByReadingNumbers (T.state tx.old) (T.state tx.new) result
-        (after < 2 ^ 63) next_object_text (Int (pos after) ∷ []) (AtMostOne IsNumberRow) }
-    ensures keeps { ReadsWithin T.lenders T.state tx.old tx.new result }
+    ensures does { Queries T.lenders T.state tx.old tx.new result (query_of_next_object after) }
 {
     if after >= LIMIT {
         return Err(StoreFault::Store);

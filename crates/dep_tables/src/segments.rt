@@ -1,12 +1,11 @@
 //! The rows of the segments of staged uploads.
 
-ghost use Rattle.std.specs.Prelude.{All, ◌≡◌, ◌↔◌, IsTrue, ◌<◌, ◌^◌, ◌∷◌, [], pos};
-ghost use Rattle.sqlite.specs.declared.types.Value.TheVariants.{Int};
+ghost use Rattle.std.specs.Prelude.{◌≡◌, ◌↔◌, IsTrue};
 ghost use Rattle.sqlite.specs.Values.{bound};
-ghost use Rattle.dep_tables.specs.Rows.{IsStorableSegment, segment_values, IsSegmentRow};
-ghost use Rattle.dep_tables.specs.Edits.{with_new_segment_row, without_segment_rows, LacksSegmentRow, AreSegmentRowsOf};
-ghost use Rattle.dep_tables.specs.Clauses.{Changes, Shows, Reads, RefusesNumbers, FailsByRunning, FailsByReading, RunsWithin, ReadsWithin};
-ghost use Rattle.dep_tables.specs.Texts.{insert_segment_text, delete_segments_text, segments_of_text};
+ghost use Rattle.dep_tables.specs.Rows.{IsStorableSegment, segment_values};
+ghost use Rattle.dep_tables.specs.Edits.{LacksSegmentRow};
+ghost use Rattle.dep_tables.specs.Clauses.{Shows, Writes, Queries};
+ghost use Rattle.dep_tables.specs.Statements.{insertion_of_segment, deletion_of_segments, query_of_segments};
 
 use crate::calls::Statements;
 use crate::columns::ColumnKind::{self, Number};
@@ -47,13 +46,8 @@ fn segment_params(row: &SegmentRow) -> [ValueRef<'static>; 3]
 
 /// Adds a row. It is a fault of the store where there is a row of this upload and number, and where a number is 2^63 or more.
 pub fn insert_segment<T: Statements>(tx: &mut T, row: &SegmentRow) -> Result<(), StoreFault>
-    ensures ok { Changes (T.state tx.old) (T.state tx.new) result (with_new_segment_row row.now) }
+    ensures does { Writes T.lenders T.state tx.old tx.new result (insertion_of_segment row.now) }
     ensures free { Shows (T.state tx.old) (T.state tx.new) result (LacksSegmentRow row.now) }
-    ensures numbers { RefusesNumbers (T.state tx.old) (T.state tx.new) result
-        (IsStorableSegment row.now) }
-    ensures cause { FailsByRunning (T.state tx.old) (T.state tx.new) result
-        (IsStorableSegment row.now) insert_segment_text (segment_values row.now) }
-    ensures keeps { RunsWithin T.lenders T.state tx.old tx.new result }
 {
     if !is_storable_segment(row) {
         return Err(StoreFault::Store);
@@ -66,11 +60,7 @@ pub fn insert_segment<T: Statements>(tx: &mut T, row: &SegmentRow) -> Result<(),
 
 /// Deletes the rows of an upload. A number of 2^63 or more is a fault of the store.
 pub fn delete_segments<T: Statements>(tx: &mut T, upload: u64) -> Result<(), StoreFault>
-    ensures ok { Changes (T.state tx.old) (T.state tx.new) result (without_segment_rows upload) }
-    ensures numbers { RefusesNumbers (T.state tx.old) (T.state tx.new) result (upload < 2 ^ 63) }
-    ensures cause { FailsByRunning (T.state tx.old) (T.state tx.new) result
-        (upload < 2 ^ 63) delete_segments_text (Int (pos upload) ∷ []) }
-    ensures keeps { RunsWithin T.lenders T.state tx.old tx.new result }
+    ensures does { Writes T.lenders T.state tx.old tx.new result (deletion_of_segments upload) }
 {
     if upload >= LIMIT {
         return Err(StoreFault::Store);
@@ -108,12 +98,7 @@ pub fn segments_of<T: Statements>(
     alloc: Global,
     upload: u64,
 ) -> Result<Vec<SegmentRow>, StoreFault>
-    ensures ok { Reads (T.state tx.old) (T.state tx.new) result
-        (λ t found. AreSegmentRowsOf upload t found.items) }
-    ensures numbers { RefusesNumbers (T.state tx.old) (T.state tx.new) result (upload < 2 ^ 63) }
-    ensures cause { FailsByReading (T.state tx.old) (T.state tx.new) result
-        (upload < 2 ^ 63) segments_of_text (Int (pos upload) ∷ []) (All IsSegmentRow) }
-    ensures keeps { ReadsWithin T.lenders T.state tx.old tx.new result }
+    ensures does { Queries T.lenders T.state tx.old tx.new result (query_of_segments upload) }
 {
     if upload >= LIMIT {
         return Err(StoreFault::Store);

@@ -1,11 +1,7 @@
 //! The SHA-256 values that the rows of files keep.
 
-ghost use Rattle.std.specs.Prelude.{All, ◌<◌, ◌^◌, ◌∷◌, [], pos};
-ghost use Rattle.sqlite.specs.declared.types.Value.TheVariants.{Int};
-ghost use Rattle.dep_tables.specs.Rows.{IsSha256Row};
-ghost use Rattle.dep_tables.specs.Edits.{AreSha256sOf};
-ghost use Rattle.dep_tables.specs.Clauses.{Reads, RefusesNumbers, FailsByReading, ReadsWithin};
-ghost use Rattle.dep_tables.specs.Texts.{sha256s_of_text};
+ghost use Rattle.dep_tables.specs.Clauses.{Queries};
+ghost use Rattle.dep_tables.specs.Statements.{query_of_sha256s};
 
 use crate::calls::Statements;
 use crate::columns::ColumnKind::{self, Number, Sha256};
@@ -54,12 +50,7 @@ pub fn sha256s_of<T: Statements>(
     alloc: Global,
     object: u64,
 ) -> Result<Vec<FileSha256>, StoreFault>
-    ensures ok { Reads (T.state tx.old) (T.state tx.new) result
-        (λ t found. AreSha256sOf object t found.items) }
-    ensures numbers { RefusesNumbers (T.state tx.old) (T.state tx.new) result (object < 2 ^ 63) }
-    ensures cause { FailsByReading (T.state tx.old) (T.state tx.new) result
-        (object < 2 ^ 63) sha256s_of_text (Int (pos object) ∷ []) (All IsSha256Row) }
-    ensures keeps { ReadsWithin T.lenders T.state tx.old tx.new result }
+    ensures does { Queries T.lenders T.state tx.old tx.new result (query_of_sha256s object) }
 {
     if object >= LIMIT {
         return Err(StoreFault::Store);

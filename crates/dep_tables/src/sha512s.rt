@@ -1,13 +1,12 @@
 //! The SHA-512 values of the files, and those that uploads promised.
 
-ghost use Rattle.std.specs.Prelude.{◌≡◌, ◌∷◌, [], option_map};
-ghost use Rattle.std.specs.Option.{option_to_list};
+ghost use Rattle.std.specs.Prelude.{◌≡◌, ◌∷◌, []};
 ghost use Rattle.sqlite.specs.declared.types.Value.TheVariants.{Blob};
 ghost use Rattle.sqlite.specs.Values.{bound};
-ghost use Rattle.dep_tables.specs.Rows.{IsStorableOwner, owner_values, sha512_values, IsSha512Row};
-ghost use Rattle.dep_tables.specs.Edits.{with_new_sha512, without_sha512, LacksSha512, IsSha512Of};
-ghost use Rattle.dep_tables.specs.Clauses.{AtMostOne, Changes, Shows, Reads, RefusesNumbers, FailsByRunning, FailsByReadingNumbers, RunsWithin, ReadsWithin};
-ghost use Rattle.dep_tables.specs.Texts.{insert_sha512_text, delete_sha512_text, find_sha512_text};
+ghost use Rattle.dep_tables.specs.Rows.{IsStorableOwner, sha512_values};
+ghost use Rattle.dep_tables.specs.Edits.{LacksSha512};
+ghost use Rattle.dep_tables.specs.Clauses.{Shows, Writes, Queries};
+ghost use Rattle.dep_tables.specs.Statements.{insertion_of_sha512, deletion_of_sha512, query_of_sha512};
 
 use crate::calls::Statements;
 use crate::columns::ColumnKind::{self, Sha512};
@@ -41,14 +40,8 @@ pub fn insert_sha512<T: Statements>(
     owner: BlockOwner,
     value: &[u8; 64],
 ) -> Result<(), StoreFault>
-    ensures ok { Changes (T.state tx.old) (T.state tx.new) result
-        (with_new_sha512 owner value.now) }
+    ensures does { Writes T.lenders T.state tx.old tx.new result (insertion_of_sha512 owner value.now) }
     ensures free { Shows (T.state tx.old) (T.state tx.new) result (LacksSha512 owner) }
-    ensures numbers { RefusesNumbers (T.state tx.old) (T.state tx.new) result
-        (IsStorableOwner owner) }
-    ensures cause { FailsByRunning (T.state tx.old) (T.state tx.new) result
-        (IsStorableOwner owner) insert_sha512_text (sha512_values owner value.now) }
-    ensures keeps { RunsWithin T.lenders T.state tx.old tx.new result }
 {
     if !is_storable_owner(owner) {
         return Err(StoreFault::Store);
@@ -61,12 +54,7 @@ pub fn insert_sha512<T: Statements>(
 
 /// Deletes the SHA-512 of an owner, if it has one. A number of 2^63 or more is a fault of the store.
 pub fn delete_sha512<T: Statements>(tx: &mut T, owner: BlockOwner) -> Result<(), StoreFault>
-    ensures ok { Changes (T.state tx.old) (T.state tx.new) result (without_sha512 owner) }
-    ensures numbers { RefusesNumbers (T.state tx.old) (T.state tx.new) result
-        (IsStorableOwner owner) }
-    ensures cause { FailsByRunning (T.state tx.old) (T.state tx.new) result
-        (IsStorableOwner owner) delete_sha512_text (owner_values owner) }
-    ensures keeps { RunsWithin T.lenders T.state tx.old tx.new result }
+    ensures does { Writes T.lenders T.state tx.old tx.new result (deletion_of_sha512 owner) }
 {
     if !is_storable_owner(owner) {
         return Err(StoreFault::Store);
@@ -104,13 +92,7 @@ pub fn find_sha512<T: Statements>(
     tx: &mut T,
     owner: BlockOwner,
 ) -> Result<Option<[u8; 64]>, StoreFault>
-    ensures ok { Reads (T.state tx.old) (T.state tx.new) result
-        (λ t found. IsSha512Of owner t (option_to_list (option_map (λ value. Blob value) found))) }
-    ensures numbers { RefusesNumbers (T.state tx.old) (T.state tx.new) result
-        (IsStorableOwner owner) }
-    ensures cause { FailsByReadingNumbers (T.state tx.old) (T.state tx.new) result
-        (IsStorableOwner owner) find_sha512_text (owner_values owner) (AtMostOne IsSha512Row) }
-    ensures keeps { ReadsWithin T.lenders T.state tx.old tx.new result }
+    ensures does { Queries T.lenders T.state tx.old tx.new result (query_of_sha512 owner) }
 {
     if !is_storable_owner(owner) {
         return Err(StoreFault::Store);

@@ -1,13 +1,10 @@
 //! The row of the clock and the counters.
 
-ghost use Rattle.std.specs.Prelude.{◌≡◌, IfErr, ◌↔◌, IsTrue, Some, ◌<◌, ◌^◌, []};
-ghost use Rattle.sqlite.specs.declared.types.Value.TheVariants.{Int};
-ghost use Rattle.sqlite.specs.State.{HasCleanDisk};
+ghost use Rattle.std.specs.Prelude.{◌≡◌, ◌↔◌, IsTrue};
 ghost use Rattle.sqlite.specs.Values.{bound};
-ghost use Rattle.dep_tables.specs.Rows.{IsStorableState, IsStateRow, state_values};
-ghost use Rattle.dep_tables.specs.Edits.{with_state_row, HasStateRow};
-ghost use Rattle.dep_tables.specs.Clauses.{Changes, Reads, RefusesNumbers, FailsByRunning, FailsToReadNumbers, JustOne, RunsWithin, ReadsWithin};
-ghost use Rattle.dep_tables.specs.Texts.{write_state_text, read_state_text};
+ghost use Rattle.dep_tables.specs.Rows.{IsStorableState, state_values};
+ghost use Rattle.dep_tables.specs.Clauses.{Writes, Queries};
+ghost use Rattle.dep_tables.specs.Statements.{update_of_state, query_of_state};
 
 use crate::calls::Statements;
 use crate::columns::ColumnKind::{self, Number};
@@ -51,12 +48,7 @@ fn state_params(row: &StateRow) -> [ValueRef<'static>; 5]
 
 /// Sets the row, if there is one. A number of 2^63 or more is a fault of the store.
 pub fn write_state<T: Statements>(tx: &mut T, row: &StateRow) -> Result<(), StoreFault>
-    ensures ok { Changes (T.state tx.old) (T.state tx.new) result (with_state_row row.now) }
-    ensures numbers { RefusesNumbers (T.state tx.old) (T.state tx.new) result
-        (IsStorableState row.now) }
-    ensures cause { FailsByRunning (T.state tx.old) (T.state tx.new) result
-        (IsStorableState row.now) write_state_text (state_values row.now) }
-    ensures keeps { RunsWithin T.lenders T.state tx.old tx.new result }
+    ensures does { Writes T.lenders T.state tx.old tx.new result (update_of_state row.now) }
 {
     if !is_storable_state(row) {
         return Err(StoreFault::Store);
@@ -97,11 +89,7 @@ impl FromRow for StateRow {
 
 /// Reads the row. It is a fault of the store where there is none, or where it is not one that `write_state` writes.
 pub fn read_state<T: Statements>(tx: &mut T) -> Result<StateRow, StoreFault>
-    ensures ok { Reads (T.state tx.old) (T.state tx.new) result HasStateRow }
-    ensures cause { HasCleanDisk (T.state tx.new)
-        → IfErr result (FailsToReadNumbers (JustOne IsStateRow) read_state_text []
-        (T.state tx.old) (T.state tx.new)) }
-    ensures keeps { ReadsWithin T.lenders T.state tx.old tx.new result }
+    ensures does { Queries T.lenders T.state tx.old tx.new result query_of_state }
 {
     let found = ask_one(
         tx,

@@ -1,12 +1,11 @@
 //! The rows of the staged uploads.
 
-ghost use Rattle.std.specs.Prelude.{◌≡◌, ◌↔◌, pos, IsTrue, ◌<◌, ◌^◌, ◌∷◌, []};
-ghost use Rattle.sqlite.specs.declared.types.Value.TheVariants.{Int};
+ghost use Rattle.std.specs.Prelude.{◌≡◌, ◌↔◌, IsTrue};
 ghost use Rattle.sqlite.specs.Values.{bound};
-ghost use Rattle.dep_tables.specs.Rows.{IsStorableUpload, columns_of_upload, upload_values, IsUploadRow, IsLeftRow};
-ghost use Rattle.dep_tables.specs.Edits.{with_new_upload_row, with_upload_row, without_upload_row, LacksUploadRow, IsUploadRowAt, IsLeftBefore};
-ghost use Rattle.dep_tables.specs.Clauses.{AtMostOne, Changes, Shows, Reads, RefusesNumbers, FailsByRunning, FailsByReadingNumbers, RunsWithin, ReadsWithin};
-ghost use Rattle.dep_tables.specs.Texts.{insert_upload_text, write_upload_text, delete_upload_text, find_upload_text, left_before_text};
+ghost use Rattle.dep_tables.specs.Rows.{IsStorableUpload, columns_of_upload, upload_values};
+ghost use Rattle.dep_tables.specs.Edits.{LacksUploadRow};
+ghost use Rattle.dep_tables.specs.Clauses.{Shows, Writes, Queries};
+ghost use Rattle.dep_tables.specs.Statements.{insertion_of_upload, update_of_upload, deletion_of_upload, query_of_upload, query_of_left_upload};
 
 use crate::calls::Statements;
 use crate::columns::ColumnKind::{self, Number, Sha256OrNull};
@@ -85,13 +84,8 @@ fn upload_params(row: &UploadColumns) -> [ValueRef<'_>; 6]
 
 /// Adds a row. It is a fault of the store where there is a row of this key, and where a number is 2^63 or more.
 pub fn insert_upload<T: Statements>(tx: &mut T, row: &UploadColumns) -> Result<(), StoreFault>
-    ensures ok { Changes (T.state tx.old) (T.state tx.new) result (with_new_upload_row row.now) }
+    ensures does { Writes T.lenders T.state tx.old tx.new result (insertion_of_upload row.now) }
     ensures free { Shows (T.state tx.old) (T.state tx.new) result (LacksUploadRow row.now.upload) }
-    ensures numbers { RefusesNumbers (T.state tx.old) (T.state tx.new) result
-        (IsStorableUpload row.now) }
-    ensures cause { FailsByRunning (T.state tx.old) (T.state tx.new) result
-        (IsStorableUpload row.now) insert_upload_text (upload_values row.now) }
-    ensures keeps { RunsWithin T.lenders T.state tx.old tx.new result }
 {
     if !is_storable_upload(row) {
         return Err(StoreFault::Store);
@@ -104,12 +98,7 @@ pub fn insert_upload<T: Statements>(tx: &mut T, row: &UploadColumns) -> Result<(
 
 /// Sets the row of this key, if there is one. A number of 2^63 or more is a fault of the store.
 pub fn write_upload<T: Statements>(tx: &mut T, row: &UploadColumns) -> Result<(), StoreFault>
-    ensures ok { Changes (T.state tx.old) (T.state tx.new) result (with_upload_row row.now) }
-    ensures numbers { RefusesNumbers (T.state tx.old) (T.state tx.new) result
-        (IsStorableUpload row.now) }
-    ensures cause { FailsByRunning (T.state tx.old) (T.state tx.new) result
-        (IsStorableUpload row.now) write_upload_text (upload_values row.now) }
-    ensures keeps { RunsWithin T.lenders T.state tx.old tx.new result }
+    ensures does { Writes T.lenders T.state tx.old tx.new result (update_of_upload row.now) }
 {
     if !is_storable_upload(row) {
         return Err(StoreFault::Store);
@@ -122,11 +111,7 @@ pub fn write_upload<T: Statements>(tx: &mut T, row: &UploadColumns) -> Result<()
 
 /// Deletes the row of this key, if there is one. A number of 2^63 or more is a fault of the store.
 pub fn delete_upload<T: Statements>(tx: &mut T, upload: u64) -> Result<(), StoreFault>
-    ensures ok { Changes (T.state tx.old) (T.state tx.new) result (without_upload_row upload) }
-    ensures numbers { RefusesNumbers (T.state tx.old) (T.state tx.new) result (upload < 2 ^ 63) }
-    ensures cause { FailsByRunning (T.state tx.old) (T.state tx.new) result
-        (upload < 2 ^ 63) delete_upload_text (Int (pos upload) ∷ []) }
-    ensures keeps { RunsWithin T.lenders T.state tx.old tx.new result }
+    ensures does { Writes T.lenders T.state tx.old tx.new result (deletion_of_upload upload) }
 {
     if upload >= LIMIT {
         return Err(StoreFault::Store);
@@ -166,11 +151,7 @@ pub fn find_upload<T: Statements>(
     tx: &mut T,
     upload: u64,
 ) -> Result<Option<UploadColumns>, StoreFault>
-    ensures ok { Reads (T.state tx.old) (T.state tx.new) result (IsUploadRowAt upload) }
-    ensures numbers { RefusesNumbers (T.state tx.old) (T.state tx.new) result (upload < 2 ^ 63) }
-    ensures cause { FailsByReadingNumbers (T.state tx.old) (T.state tx.new) result
-        (upload < 2 ^ 63) find_upload_text (Int (pos upload) ∷ []) (AtMostOne IsUploadRow) }
-    ensures keeps { ReadsWithin T.lenders T.state tx.old tx.new result }
+    ensures does { Queries T.lenders T.state tx.old tx.new result (query_of_upload upload) }
 {
     if upload >= LIMIT {
         return Err(StoreFault::Store);
@@ -207,11 +188,7 @@ impl FromRow for LeftUpload {
 
 /// Of the uploads that were last written to before this moment (in seconds of Unix time), the one that was left the longest, and the least number of several; none where there is none. It is a fault of the store where the row is not one of two numbers, and for a moment of 2^63 or more.
 pub fn left_before<T: Statements>(tx: &mut T, moment: u64) -> Result<Option<LeftUpload>, StoreFault>
-    ensures ok { Reads (T.state tx.old) (T.state tx.new) result (IsLeftBefore moment) }
-    ensures numbers { RefusesNumbers (T.state tx.old) (T.state tx.new) result (moment < 2 ^ 63) }
-    ensures cause { FailsByReadingNumbers (T.state tx.old) (T.state tx.new) result
-        (moment < 2 ^ 63) left_before_text (Int (pos moment) ∷ []) (AtMostOne IsLeftRow) }
-    ensures keeps { ReadsWithin T.lenders T.state tx.old tx.new result }
+    ensures does { Queries T.lenders T.state tx.old tx.new result (query_of_left_upload moment) }
 {
     if moment >= LIMIT {
         return Err(StoreFault::Store);

@@ -21,13 +21,13 @@ runs-preserved g c =
     let seen = g.T.Statements.state c.first_block.new.tx in
     let new = g.T.Statements.state c.delete_run.new.tx in
     let inv = c.runs.invariant in
-    let saw = stays_then inv.0 c.in_ok-start.ensures.keeps.stays in (
-      stays_ok (stays_then saw c.in_ok-delete_run.ensures.keeps.stays),
+    let saw = stays_then inv.0 c.in_ok-start.ensures.does.keeps.stays in (
+      stays_ok (stays_then saw c.in_ok-delete_run.ensures.does.keeps.stays),
       λ clean inside ours.
-          let before = clean_before c.delete_run.ensures.keeps.stays clean in
-          let was = inv.1 (clean_before c.first_block.ensures.keeps.stays before) inside ours in
-          let same = c.in_ok-start.ensures.keeps.same before was.0 in
-          let leads = c.in_ok-delete_run.ensures.ok clean (saw.inside before inside) (still_ours mid seen same was.0) in
+          let before = clean_before c.delete_run.ensures.does.keeps.stays clean in
+          let was = inv.1 (clean_before c.first_block.ensures.does.keeps.stays before) inside ours in
+          let same = c.in_ok-start.ensures.does.keeps.same before was.0 in
+          let leads = c.in_ok-delete_run.ensures.does.ok clean (saw.inside before inside) (still_ours mid seen same was.0) in
           (leads.ours, one_run_deleted (record { owner = c.args.owner; at = c.run_end-at.result }) (tables_of old) (tables_of mid) (tables_of seen) (tables_of new) was.1 (same_tables mid seen same) leads.rows),
     )
 
@@ -36,29 +36,29 @@ returns-in_default-clause-ok g c clean inside ours =
     let old = g.T.Statements.state c.args.tx.now in
     let mid = g.T.Statements.state c.runs.tx in
     let seen = g.T.Statements.state c.first_block.new.tx in
-    let was = c.runs.invariant.1 (clean_before c.first_block.ensures.keeps.stays clean) inside ours in
-    let same = c.in_ok-start.ensures.keeps.same clean was.0 in
-    let none = subst (IsFirstBlock c.args.owner (tables_of mid)) c.in_default.is (c.in_ok-start.ensures.ok clean was.0) in
+    let was = c.runs.invariant.1 (clean_before c.first_block.ensures.does.keeps.stays clean) inside ours in
+    let same = c.in_ok-start.ensures.does.keeps.same clean was.0 in
+    let none = subst (IsFirstBlock c.args.owner (tables_of mid)) c.in_default.is (c.in_ok-start.ensures.does.ok clean was.0) in
     record { ours = still_ours mid seen same was.0; rows = all_deleted c.args.owner (tables_of old) (tables_of mid) (tables_of seen) was.1 (same_tables mid seen same) none }
 
 pub returns-clause-ok : goal.returns-clause-ok
 returns-clause-ok g c clean inside ours =
     let inv = c.runs.invariant in
-    let before = clean_before c.delete_blocks.ensures.keeps.stays clean in
+    let before = clean_before c.delete_blocks.ensures.does.keeps.stays clean in
     let was = inv.1 before inside ours in
-    ok_then c.delete_blocks.result (c.delete_blocks.ensures.ok clean (inv.0.inside before inside) was.0) (λ leads. record { ours = leads.ours; rows = leads.rows ∙ was.1 })
+    ok_then c.delete_blocks.result (c.delete_blocks.ensures.does.ok clean (inv.0.inside before inside) was.0) (λ leads. record { ours = leads.ours; rows = leads.rows ∙ was.1 })
 
 pub returns-in_err-start-clause-stays : goal.returns-in_err-start-clause-stays
-returns-in_err-start-clause-stays g c = stays_err c.from_residual.ensures.0 (stays_then c.runs.invariant.0 c.first_block.ensures.keeps.stays)
+returns-in_err-start-clause-stays g c = stays_err c.from_residual.ensures.0 (stays_then c.runs.invariant.0 c.first_block.ensures.does.keeps.stays)
 
 pub returns-in_default-clause-stays : goal.returns-in_default-clause-stays
-returns-in_default-clause-stays g c = stays_ok (stays_then c.runs.invariant.0 c.in_ok-start.ensures.keeps.stays)
+returns-in_default-clause-stays g c = stays_ok (stays_then c.runs.invariant.0 c.in_ok-start.ensures.does.keeps.stays)
 
 pub returns-in_err-delete_run-clause-stays : goal.returns-in_err-delete_run-clause-stays
-returns-in_err-delete_run-clause-stays g c = stays_err c.from_residual-in_err-delete_run.ensures.0 (stays_then (stays_then c.runs.invariant.0 c.in_ok-start.ensures.keeps.stays) c.delete_run.ensures.keeps.stays)
+returns-in_err-delete_run-clause-stays g c = stays_err c.from_residual-in_err-delete_run.ensures.0 (stays_then (stays_then c.runs.invariant.0 c.in_ok-start.ensures.does.keeps.stays) c.delete_run.ensures.does.keeps.stays)
 
 pub returns-clause-stays : goal.returns-clause-stays
-returns-clause-stays g c = stays_then c.runs.invariant.0 c.delete_blocks.ensures.keeps.stays
+returns-clause-stays g c = stays_then c.runs.invariant.0 c.delete_blocks.ensures.does.keeps.stays
 
 pub returns-in_err-start-clause-cause : goal.returns-in_err-start-clause-cause
 returns-in_err-start-clause-cause g c storable clean inside =
@@ -66,18 +66,18 @@ returns-in_err-start-clause-cause g c storable clean inside =
     let mid = c.runs.tx in
     let new = c.first_block.new.tx in
     if_err_is _ c.from_residual.result c.in_err-start.field-0.0 c.from_residual.ensures.1 (fails_then g.T.Statements.state old mid new c.runs.invariant.0.survives (FailsToDeleteBlocks c.args.owner) _
-    (found (c.in_err-start.ensures.cause storable clean)))
+    (found (c.in_err-start.ensures.does.cause storable clean)))
 
 pub returns-in_err-delete_run-clause-cause : goal.returns-in_err-delete_run-clause-cause
 returns-in_err-delete_run-clause-cause g c storable clean inside =
     let old = c.args.tx.now in
     let seen = c.first_block.new.tx in
     let new = c.delete_run.new.tx in
-    let saw = stays_then c.runs.invariant.0 c.in_ok-start.ensures.keeps.stays in
-    let before = clean_before c.delete_run.ensures.keeps.stays clean in
+    let saw = stays_then c.runs.invariant.0 c.in_ok-start.ensures.does.keeps.stays in
+    let before = clean_before c.delete_run.ensures.does.keeps.stays clean in
     let key : IsStorableKey (record { owner = c.args.owner; at = c.run_end-at.result }) = record { owner = storable; part = omega (arith, c.run_end-at.ensures.part); place = omega (arith, c.run_end-at.ensures.place) } in
     if_err_is _ c.from_residual-in_err-delete_run.result c.in_err-delete_run.field-0.0 c.from_residual-in_err-delete_run.ensures.1 (fails_then g.T.Statements.state old seen new saw.survives (FailsToDeleteBlocks c.args.owner) _
-    (run _ (c.in_err-delete_run.ensures.cause key clean (saw.inside before inside))))
+    (run _ (c.in_err-delete_run.ensures.does.cause key clean (saw.inside before inside))))
 
 pub returns-clause-cause : goal.returns-clause-cause
 returns-clause-cause g c storable clean inside =
@@ -85,8 +85,8 @@ returns-clause-cause g c storable clean inside =
     let mid = c.runs.tx in
     let new = c.delete_blocks.new.tx in
     let inv = c.runs.invariant in
-    let before = clean_before c.delete_blocks.ensures.keeps.stays clean in
-    if_err_then c.delete_blocks.result (c.delete_blocks.ensures.cause storable clean (inv.0.inside before inside))
+    let before = clean_before c.delete_blocks.ensures.does.keeps.stays clean in
+    if_err_then c.delete_blocks.result (c.delete_blocks.ensures.does.cause storable clean (inv.0.inside before inside))
     (λ fault failed. fails_then g.T.Statements.state old mid new inv.0.survives (FailsToDeleteBlocks c.args.owner) fault (rest failed))
 
 pub returns-in_err-start-clause-numbers : goal.returns-in_err-start-clause-numbers

@@ -18,17 +18,17 @@ loop-place-preserved g c =
     let blocks = blocks_of (g.C.Content.bytes c.args.content.now) in
     let within : c.loop-place.place < length blocks = subst (λ n. c.loop-place.place < n) inv.0 c.loop-place-test.true in (
       inv.0,
-      stays_ok (stays_then inv.1 c.in_ok-insert_block.ensures.keeps.stays),
+      stays_ok (stays_then inv.1 c.in_ok-insert_block.ensures.does.keeps.stays),
       λ clean inside ours.
-          let before = clean_before c.insert_block.ensures.keeps.stays clean in
+          let before = clean_before c.insert_block.ensures.does.keeps.stays clean in
           let was = inv.2 before inside ours in
-          let leads = c.in_ok-insert_block.ensures.ok clean (inv.1.inside before inside) was.ours in
+          let leads = c.in_ok-insert_block.ensures.does.ok clean (inv.1.inside before inside) was.ours in
           record { ours = leads.ours; rows = one_more c.args.owner c.args.part (tables_of old) (tables_of mid) (tables_of new) blocks c.loop-place.place c.block.result.now within c.block.ensures was.rows leads.rows },
       inv.3,
     )
 
 pub returns-in_err-insert_block-clause-stays : goal.returns-in_err-insert_block-clause-stays
-returns-in_err-insert_block-clause-stays g c = stays_err c.from_residual.ensures.0 (stays_then c.loop-place.invariant.1 c.insert_block.ensures.keeps.stays)
+returns-in_err-insert_block-clause-stays g c = stays_err c.from_residual.ensures.0 (stays_then c.loop-place.invariant.1 c.insert_block.ensures.does.keeps.stays)
 
 pub returns-in_err-insert_block-clause-cause : goal.returns-in_err-insert_block-clause-cause
 returns-in_err-insert_block-clause-cause g c storable clean inside =
@@ -36,7 +36,7 @@ returns-in_err-insert_block-clause-cause g c storable clean inside =
     let mid = c.loop-place.tx in
     let new = c.insert_block.new.tx in
     let inv = c.loop-place.invariant in
-    let before = clean_before c.insert_block.ensures.keeps.stays clean in
+    let before = clean_before c.insert_block.ensures.does.keeps.stays clean in
     let key : IsStorableKey (block_key c.args.owner c.args.part c.loop-place.place) = record { owner = storable.0; part = storable.1; place = omega (arith, inv.3, c.loop-place-test.true) } in
     if_err_is _ c.from_residual.result c.in_err-insert_block.field-0.0 c.from_residual.ensures.1 (fails_then g.T.Statements.state old mid new inv.1.survives FailsByStatement _
-    (block_added _ (c.in_err-insert_block.ensures.cause key clean (inv.1.inside before inside))))
+    (block_added _ (c.in_err-insert_block.ensures.does.cause key clean (inv.1.inside before inside))))

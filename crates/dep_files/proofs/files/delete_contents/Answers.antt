@@ -20,13 +20,13 @@ rows-preserved g c =
     let new = g.T.Statements.state c.delete_sha512.new.tx in
     let inv = c.rows.invariant in
     let within : c.rows.row-index < length c.args.rows.now = omega arith in (
-      stays_ok (stays_then (stays_then inv.0 c.in_ok-delete_blocks.ensures.stays) c.in_ok-delete_sha512.ensures.keeps.stays),
+      stays_ok (stays_then (stays_then inv.0 c.in_ok-delete_blocks.ensures.stays) c.in_ok-delete_sha512.ensures.does.keeps.stays),
       λ clean inside ours.
-          let clean_one = clean_before c.delete_sha512.ensures.keeps.stays clean in
+          let clean_one = clean_before c.delete_sha512.ensures.does.keeps.stays clean in
           let before = clean_before c.delete_blocks.ensures.stays clean_one in
           let was = inv.1 before inside ours in
           let first = c.in_ok-delete_blocks.ensures.ok clean_one (inv.0.inside before inside) was.ours in
-          let second = c.in_ok-delete_sha512.ensures.ok clean ((stays_then inv.0 c.in_ok-delete_blocks.ensures.stays).inside clean_one inside) first.ours in
+          let second = c.in_ok-delete_sha512.ensures.does.ok clean ((stays_then inv.0 c.in_ok-delete_blocks.ensures.stays).inside clean_one inside) first.ours in
           record { ours = second.ours; rows = one_more_gone (tables_of old) (tables_of mid) (tables_of one) (tables_of new) c.args.rows.now c.rows.row-index _ within c.row-item.is was.rows first.rows second.rows },
     )
 
@@ -35,7 +35,7 @@ returns-in_err-delete_blocks-clause-stays g c = stays_err c.from_residual.ensure
 
 pub returns-in_err-delete_sha512-clause-stays : goal.returns-in_err-delete_sha512-clause-stays
 returns-in_err-delete_sha512-clause-stays g c =
-    stays_err c.from_residual-in_err-delete_sha512.ensures.0 (stays_then (stays_then c.rows.invariant.0 c.in_ok-delete_blocks.ensures.stays) c.delete_sha512.ensures.keeps.stays)
+    stays_err c.from_residual-in_err-delete_sha512.ensures.0 (stays_then (stays_then c.rows.invariant.0 c.in_ok-delete_blocks.ensures.stays) c.delete_sha512.ensures.does.keeps.stays)
 
 pub returns-clause-ok : goal.returns-clause-ok
 returns-clause-ok g c = rw (take_all c.rows.row-index c.args.rows.now c.rows-test.false) at c.rows.invariant.1
@@ -58,8 +58,8 @@ returns-in_err-delete_sha512-clause-cause g c storable clean inside =
     let one = c.delete_blocks.new.tx in
     let new = c.delete_sha512.new.tx in
     let stays = stays_then c.rows.invariant.0 c.in_ok-delete_blocks.ensures.stays in
-    let before = clean_before c.delete_sha512.ensures.keeps.stays clean in
+    let before = clean_before c.delete_sha512.ensures.does.keeps.stays clean in
     let within : c.rows.row-index < length c.args.rows.now = omega arith in
     let below = subst (λ (r : FileRow). r.file < 2 ^ 63) (sym c.row-item.is) (All-get_or (λ (r : FileRow). r.file < 2 ^ 63) c.args.rows.now c.rows.row-index _ within storable) in
     if_err_is _ c.from_residual-in_err-delete_sha512.result c.in_err-delete_sha512.field-0.0 c.from_residual-in_err-delete_sha512.ensures.1 (fails_then g.T.Statements.state old one new stays.survives FailsByStatement _
-    (sha512_deleted _ (c.in_err-delete_sha512.ensures.cause below clean (stays.inside before inside))))
+    (sha512_deleted _ (c.in_err-delete_sha512.ensures.does.cause below clean (stays.inside before inside))))

@@ -17,11 +17,11 @@ returns-clause-map g c clean inside ours s are n o it there has =
     let one = g.T.Statements.state c.delete_blocks.new.tx in
     let two = g.T.Statements.state c.delete_sha512.new.tx in
     let new = g.T.Statements.state c.delete_file.new.tx in
-    let clean_two = clean_before c.delete_file.ensures.keeps.stays clean in
-    let clean_one = clean_before c.delete_sha512.ensures.keeps.stays clean_two in
+    let clean_two = clean_before c.delete_file.ensures.does.keeps.stays clean in
+    let clean_one = clean_before c.delete_sha512.ensures.does.keeps.stays clean_two in
     let first = c.in_ok-delete_blocks.ensures.ok clean_one inside ours in
-    let second = c.in_ok-delete_sha512.ensures.ok clean_two (c.in_ok-delete_blocks.ensures.stays.inside clean_one inside) first.ours in
-    ok_then c.delete_file.result (c.delete_file.ensures.ok clean second.shows.mode second.ours)
+    let second = c.in_ok-delete_sha512.ensures.does.ok clean_two (c.in_ok-delete_blocks.ensures.stays.inside clean_one inside) first.ours in
+    ok_then c.delete_file.result (c.delete_file.ensures.does.ok clean second.shows.mode second.ours)
     (λ leads. file_gone (tables_of old) (tables_of one) (tables_of two) (tables_of new) s c.args.file are ours.trees.ordered.1.1.1.1.0 first.rows second.rows leads.rows n o it there has)
 
 pub returns-clause-absent : goal.returns-clause-absent
@@ -30,19 +30,19 @@ returns-clause-absent g c clean inside ours s are none =
     let one = g.T.Statements.state c.delete_blocks.new.tx in
     let two = g.T.Statements.state c.delete_sha512.new.tx in
     let new = g.T.Statements.state c.delete_file.new.tx in
-    let clean_two = clean_before c.delete_file.ensures.keeps.stays clean in
-    let clean_one = clean_before c.delete_sha512.ensures.keeps.stays clean_two in
+    let clean_two = clean_before c.delete_file.ensures.does.keeps.stays clean in
+    let clean_one = clean_before c.delete_sha512.ensures.does.keeps.stays clean_two in
     let first = c.in_ok-delete_blocks.ensures.ok clean_one inside ours in
-    let second = c.in_ok-delete_sha512.ensures.ok clean_two (c.in_ok-delete_blocks.ensures.stays.inside clean_one inside) first.ours in
-    ok_then c.delete_file.result (c.delete_file.ensures.ok clean second.shows.mode second.ours)
+    let second = c.in_ok-delete_sha512.ensures.does.ok clean_two (c.in_ok-delete_blocks.ensures.stays.inside clean_one inside) first.ours in
+    ok_then c.delete_file.result (c.delete_file.ensures.does.ok clean second.shows.mode second.ours)
     (λ leads. file_absent (tables_of old) (tables_of one) (tables_of two) (tables_of new) s c.args.file are ours.trees.ordered.1.1.1.1.0 first.rows second.rows leads.rows none)
 
 pub returns-in_err-delete_sha512-clause-keeps : goal.returns-in_err-delete_sha512-clause-keeps
-returns-in_err-delete_sha512-clause-keeps g c = changes_err c.from_residual-in_err-delete_sha512.ensures.0 (stays_then c.in_ok-delete_blocks.ensures.stays c.delete_sha512.ensures.keeps.stays)
+returns-in_err-delete_sha512-clause-keeps g c = changes_err c.from_residual-in_err-delete_sha512.ensures.0 (stays_then c.in_ok-delete_blocks.ensures.stays c.delete_sha512.ensures.does.keeps.stays)
 
 pub returns-clause-keeps : goal.returns-clause-keeps
 returns-clause-keeps g c =
-    changes_then (changes_then (by_sees _ c.in_ok-delete_blocks.ensures.stays c.in_ok-delete_blocks.ensures.ok) (by_leads _ c.in_ok-delete_sha512.ensures.keeps.stays c.in_ok-delete_sha512.ensures.ok)) (by_leads _ c.delete_file.ensures.keeps.stays c.delete_file.ensures.ok)
+    changes_then (changes_then (by_sees _ c.in_ok-delete_blocks.ensures.stays c.in_ok-delete_blocks.ensures.ok) (by_leads _ c.in_ok-delete_sha512.ensures.does.keeps.stays c.in_ok-delete_sha512.ensures.does.ok)) (by_leads _ c.delete_file.ensures.does.keeps.stays c.delete_file.ensures.does.ok)
 
 pub returns-in_err-delete_blocks-clause-cause : goal.returns-in_err-delete_blocks-clause-cause
 returns-in_err-delete_blocks-clause-cause g c storable clean inside =
@@ -54,19 +54,19 @@ returns-in_err-delete_sha512-clause-cause g c storable clean inside =
     let old = c.args.tx.now in
     let one = c.delete_blocks.new.tx in
     let new = c.delete_sha512.new.tx in
-    let before = clean_before c.delete_sha512.ensures.keeps.stays clean in
+    let before = clean_before c.delete_sha512.ensures.does.keeps.stays clean in
     if_err_is _ c.from_residual-in_err-delete_sha512.result c.in_err-delete_sha512.field-0.0 c.from_residual-in_err-delete_sha512.ensures.1
     (fails_then g.T.Statements.state old one new c.delete_blocks.ensures.stays.survives FailsByStatement _
-    (sha512_deleted _ (c.in_err-delete_sha512.ensures.cause storable clean (c.in_ok-delete_blocks.ensures.stays.inside before inside))))
+    (sha512_deleted _ (c.in_err-delete_sha512.ensures.does.cause storable clean (c.in_ok-delete_blocks.ensures.stays.inside before inside))))
 
 pub returns-clause-cause : goal.returns-clause-cause
 returns-clause-cause g c storable clean inside =
     let old = c.args.tx.now in
     let two = c.delete_sha512.new.tx in
     let new = c.delete_file.new.tx in
-    let stays = stays_then c.in_ok-delete_blocks.ensures.stays c.in_ok-delete_sha512.ensures.keeps.stays in
-    let before = clean_before c.delete_file.ensures.keeps.stays clean in
-    if_err_then c.delete_file.result (c.delete_file.ensures.cause storable clean (stays.inside before inside))
+    let stays = stays_then c.in_ok-delete_blocks.ensures.stays c.in_ok-delete_sha512.ensures.does.keeps.stays in
+    let before = clean_before c.delete_file.ensures.does.keeps.stays clean in
+    if_err_then c.delete_file.result (c.delete_file.ensures.does.cause storable clean (stays.inside before inside))
     (λ fault failed. fails_then g.T.Statements.state old two new stays.survives FailsByStatement fault (file_deleted _ failed))
 
 pub returns-in_err-delete_sha512-clause-numbers : goal.returns-in_err-delete_sha512-clause-numbers

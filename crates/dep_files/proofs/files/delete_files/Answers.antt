@@ -21,31 +21,31 @@ returns-clause-map g c clean inside ours s are o there =
     let one = g.T.Statements.state c.files_of.new.tx in
     let two = g.T.Statements.state c.delete_contents.new.tx in
     let new = g.T.Statements.state c.delete_files.new.tx in
-    let clean_two = clean_before c.delete_files.ensures.keeps.stays clean in
+    let clean_two = clean_before c.delete_files.ensures.does.keeps.stays clean in
     let clean_one = clean_before c.delete_contents.ensures.stays clean_two in
-    let same = c.in_ok-rows.ensures.keeps.same clean_one ours in
+    let same = c.in_ok-rows.ensures.does.keeps.same clean_one ours in
     let ours_one = still_ours old one same ours in
     let tables_one = same_tables old one same in
     let found = c.in_ok-rows.rows.items in
-    let is = files_read (tables_of old) s are c.args.object found (c.in_ok-rows.ensures.ok clean_one ours) in
-    let gone = c.in_ok-delete_contents.ensures.ok clean_two (c.in_ok-rows.ensures.keeps.stays.inside clean_one inside) ours_one in
+    let is = files_read (tables_of old) s are c.args.object found (c.in_ok-rows.ensures.does.ok clean_one ours) in
+    let gone = c.in_ok-delete_contents.ensures.ok clean_two (c.in_ok-rows.ensures.does.keeps.stays.inside clean_one inside) ours_one in
     let numbers = λ (rows : List FileRow). map (λ (r : FileRow). r.file) rows in
     let first : tables_of two ≡ without_contents (numbers found) (tables_of old) =
     gone.rows ∙ ap (λ rows. without_contents (numbers rows) (tables_of one)) c.as_slice.ensures.value ∙ ap (without_contents (numbers found)) tables_one in
-    ok_then c.delete_files.result (c.delete_files.ensures.ok clean (c.in_ok-delete_contents.ensures.stays.inside clean_two (c.in_ok-rows.ensures.keeps.stays.inside clean_one inside)) gone.ours)
+    ok_then c.delete_files.result (c.delete_files.ensures.does.ok clean (c.in_ok-delete_contents.ensures.stays.inside clean_two (c.in_ok-rows.ensures.does.keeps.stays.inside clean_one inside)) gone.ours)
     (λ leads. files_gone (tables_of old) (tables_of two) (tables_of new) s c.args.object o found are ours.trees.ordered.1.1.1.1.0 there is first leads.rows)
 
 pub returns-in_err-delete_contents-clause-keeps : goal.returns-in_err-delete_contents-clause-keeps
-returns-in_err-delete_contents-clause-keeps g c = changes_err c.from_residual-in_err-delete_contents.ensures.0 (stays_then c.in_ok-rows.ensures.keeps.stays c.delete_contents.ensures.stays)
+returns-in_err-delete_contents-clause-keeps g c = changes_err c.from_residual-in_err-delete_contents.ensures.0 (stays_then c.in_ok-rows.ensures.does.keeps.stays c.delete_contents.ensures.stays)
 
 pub returns-clause-keeps : goal.returns-clause-keeps
 returns-clause-keeps g c =
-    changes_then (changes_then (reads_change c.in_ok-rows.ensures.keeps) (by_sees _ c.in_ok-delete_contents.ensures.stays c.in_ok-delete_contents.ensures.ok)) (by_leads _ c.delete_files.ensures.keeps.stays c.delete_files.ensures.ok)
+    changes_then (changes_then (reads_change c.in_ok-rows.ensures.does.keeps) (by_sees _ c.in_ok-delete_contents.ensures.stays c.in_ok-delete_contents.ensures.ok)) (by_leads _ c.delete_files.ensures.does.keeps.stays c.delete_files.ensures.does.ok)
 
 pub returns-in_err-rows-clause-cause : goal.returns-in_err-rows-clause-cause
 returns-in_err-rows-clause-cause g c clean inside ours s are sound storable =
     if_err_is _ c.from_residual.result c.in_err-rows.field-0.0 c.from_residual.ensures.1 (fails_first g.T.Statements.state c.args.tx.now c.files_of.new.tx FailsByStatement _
-    (rows_read _ (c.in_err-rows.ensures.cause storable clean)))
+    (rows_read _ (c.in_err-rows.ensures.does.cause storable clean)))
 
 pub returns-in_err-delete_contents-clause-cause : goal.returns-in_err-delete_contents-clause-cause
 returns-in_err-delete_contents-clause-cause g c clean inside ours s are sound storable =
@@ -54,27 +54,27 @@ returns-in_err-delete_contents-clause-cause g c clean inside ours s are sound st
     let new = c.delete_contents.new.tx in
     let before = clean_before c.delete_contents.ensures.stays clean in
     let found = c.in_ok-rows.rows.items in
-    let is = files_read (tables_of (g.T.Statements.state old)) s are c.args.object found (c.in_ok-rows.ensures.ok before ours) in
+    let is = files_read (tables_of (g.T.Statements.state old)) s are c.args.object found (c.in_ok-rows.ensures.does.ok before ours) in
     let below = All-same (λ (r : FileRow). r.file < 2 ^ 63) c.as_slice.result.now found c.as_slice.ensures.value (storable_files s c.args.object found sound is) in
     if_err_is _ c.from_residual-in_err-delete_contents.result c.in_err-delete_contents.field-0.0 c.from_residual-in_err-delete_contents.ensures.1
-    (fails_behind_them g.T.Statements.state old mid new c.files_of.ensures.keeps.stays.survives FailsByStatement _
-    (c.in_err-delete_contents.ensures.cause below clean (c.in_ok-rows.ensures.keeps.stays.inside before inside)))
+    (fails_behind_them g.T.Statements.state old mid new c.files_of.ensures.does.keeps.stays.survives FailsByStatement _
+    (c.in_err-delete_contents.ensures.cause below clean (c.in_ok-rows.ensures.does.keeps.stays.inside before inside)))
 
 pub returns-clause-cause : goal.returns-clause-cause
 returns-clause-cause g c clean inside ours s are sound storable =
     let old = c.args.tx.now in
     let mid = c.delete_contents.new.tx in
     let new = c.delete_files.new.tx in
-    let stays = stays_then c.in_ok-rows.ensures.keeps.stays c.in_ok-delete_contents.ensures.stays in
-    let before = clean_before c.delete_files.ensures.keeps.stays clean in
-    if_err_then c.delete_files.result (c.delete_files.ensures.cause storable clean (stays.inside before inside))
+    let stays = stays_then c.in_ok-rows.ensures.does.keeps.stays c.in_ok-delete_contents.ensures.stays in
+    let before = clean_before c.delete_files.ensures.does.keeps.stays clean in
+    if_err_then c.delete_files.result (c.delete_files.ensures.does.cause storable clean (stays.inside before inside))
     (λ fault failed. fails_then g.T.Statements.state old mid new stays.survives FailsByStatement fault (files_deleted _ failed))
 
 pub returns-in_err-delete_contents-clause-numbers : goal.returns-in_err-delete_contents-clause-numbers
-returns-in_err-delete_contents-clause-numbers g c great = never_failed _ _ (c.in_ok-rows.ensures.numbers great).0
+returns-in_err-delete_contents-clause-numbers g c great = never_failed _ _ (c.in_ok-rows.ensures.does.numbers great).0
 
 pub returns-clause-numbers : goal.returns-clause-numbers
-returns-clause-numbers g c great = never_failed _ _ (c.in_ok-rows.ensures.numbers great).0
+returns-clause-numbers g c great = never_failed _ _ (c.in_ok-rows.ensures.does.numbers great).0
 
 pub returns-in_err-rows-clause-keeps : goal.returns-in_err-rows-clause-keeps
-returns-in_err-rows-clause-keeps g c = changes_err c.from_residual.ensures.0 c.in_err-rows.ensures.keeps.stays
+returns-in_err-rows-clause-keeps g c = changes_err c.from_residual.ensures.0 c.in_err-rows.ensures.does.keeps.stays

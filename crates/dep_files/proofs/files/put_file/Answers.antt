@@ -20,22 +20,22 @@ returns-clause-map g c clean inside ours s are o file there is same =
     let one = g.T.Statements.state c.put_blocks.new.tx in
     let two = g.T.Statements.state c.insert_sha512.new.tx in
     let new = g.T.Statements.state c.insert_file.new.tx in
-    let clean_two = clean_before c.insert_file.ensures.keeps.stays clean in
-    let clean_one = clean_before c.insert_sha512.ensures.keeps.stays clean_two in
+    let clean_two = clean_before c.insert_file.ensures.does.keeps.stays clean in
+    let clean_one = clean_before c.insert_sha512.ensures.does.keeps.stays clean_two in
     let first = c.in_ok-put_blocks.ensures.ok clean_one inside ours in
-    let second = c.in_ok-insert_sha512.ensures.ok clean_two (c.in_ok-put_blocks.ensures.stays.inside clean_one inside) first.ours in
-    ok_both c.insert_file.result (c.insert_file.ensures.ok clean second.shows.mode second.ours) (c.insert_file.ensures.free clean second.shows.mode second.ours)
+    let second = c.in_ok-insert_sha512.ensures.does.ok clean_two (c.in_ok-put_blocks.ensures.stays.inside clean_one inside) first.ours in
+    ok_both c.insert_file.result (c.insert_file.ensures.does.ok clean second.shows.mode second.ours) (c.insert_file.ensures.free clean second.shows.mode second.ours)
     (λ leads free. file_put (tables_of old) (tables_of one) (tables_of two) (tables_of new) s c.args.row.now (g.C.Content.bytes c.args.content.now) o file are
     ours.trees.ordered.1.1.1.1.0 ours.trees.ordered.1.1.1.1.1.1.1.1.0 ours.trees.ordered.1.1.1.1.1.1.1.1.1.0 there is same first.rows second.rows leads.rows free)
 
 pub returns-clause-rows : goal.returns-clause-rows
 returns-clause-rows g c clean inside ours =
-    let clean_two = clean_before c.insert_file.ensures.keeps.stays clean in
-    let clean_one = clean_before c.insert_sha512.ensures.keeps.stays clean_two in
+    let clean_two = clean_before c.insert_file.ensures.does.keeps.stays clean in
+    let clean_one = clean_before c.insert_sha512.ensures.does.keeps.stays clean_two in
     let first = c.in_ok-put_blocks.ensures.ok clean_one inside ours in
-    let second = c.in_ok-insert_sha512.ensures.ok clean_two (c.in_ok-put_blocks.ensures.stays.inside clean_one inside) first.ours in
+    let second = c.in_ok-insert_sha512.ensures.does.ok clean_two (c.in_ok-put_blocks.ensures.stays.inside clean_one inside) first.ours in
     let value = sha512_values (owner.File c.args.row.now.file) c.args.row.now.sha512 in
-    ok_then c.insert_file.result (c.insert_file.ensures.ok clean second.shows.mode second.ours)
+    ok_then c.insert_file.result (c.insert_file.ensures.does.ok clean second.shows.mode second.ours)
     (λ leads. record {
       ours = leads.ours;
       rows = leads.rows ∙ ap (λ (t : Tables). record t { files = put_row (stored_file c.args.row.now) t.files }) (second.rows ∙ ap (λ (t : Tables). record t { sha512s = put_next value t.sha512s }) first.rows);
@@ -46,19 +46,19 @@ returns-clause-free g c clean inside ours s are =
     let old = g.T.Statements.state c.args.tx.now in
     let one = g.T.Statements.state c.put_blocks.new.tx in
     let two = g.T.Statements.state c.insert_sha512.new.tx in
-    let clean_two = clean_before c.insert_file.ensures.keeps.stays clean in
-    let clean_one = clean_before c.insert_sha512.ensures.keeps.stays clean_two in
+    let clean_two = clean_before c.insert_file.ensures.does.keeps.stays clean in
+    let clean_one = clean_before c.insert_sha512.ensures.does.keeps.stays clean_two in
     let first = c.in_ok-put_blocks.ensures.ok clean_one inside ours in
-    let second = c.in_ok-insert_sha512.ensures.ok clean_two (c.in_ok-put_blocks.ensures.stays.inside clean_one inside) first.ours in
+    let second = c.in_ok-insert_sha512.ensures.does.ok clean_two (c.in_ok-put_blocks.ensures.stays.inside clean_one inside) first.ours in
     ok_then c.insert_file.result (c.insert_file.ensures.free clean second.shows.mode second.ours)
     (λ free. free_of (tables_of old) (tables_of one) (tables_of two) c.args.row.now.file _ _ first.rows second.rows s are ours.trees.ordered.1.1.1.1.0 free)
 
 pub returns-in_err-insert_sha512-clause-keeps : goal.returns-in_err-insert_sha512-clause-keeps
-returns-in_err-insert_sha512-clause-keeps g c = changes_err c.from_residual-in_err-insert_sha512.ensures.0 (stays_then c.in_ok-put_blocks.ensures.stays c.insert_sha512.ensures.keeps.stays)
+returns-in_err-insert_sha512-clause-keeps g c = changes_err c.from_residual-in_err-insert_sha512.ensures.0 (stays_then c.in_ok-put_blocks.ensures.stays c.insert_sha512.ensures.does.keeps.stays)
 
 pub returns-clause-keeps : goal.returns-clause-keeps
 returns-clause-keeps g c =
-    changes_then (changes_then (by_sees _ c.in_ok-put_blocks.ensures.stays c.in_ok-put_blocks.ensures.ok) (by_leads _ c.in_ok-insert_sha512.ensures.keeps.stays c.in_ok-insert_sha512.ensures.ok)) (by_leads _ c.insert_file.ensures.keeps.stays c.insert_file.ensures.ok)
+    changes_then (changes_then (by_sees _ c.in_ok-put_blocks.ensures.stays c.in_ok-put_blocks.ensures.ok) (by_leads _ c.in_ok-insert_sha512.ensures.does.keeps.stays c.in_ok-insert_sha512.ensures.does.ok)) (by_leads _ c.insert_file.ensures.does.keeps.stays c.insert_file.ensures.does.ok)
 
 pub returns-in_err-put_blocks-clause-cause : goal.returns-in_err-put_blocks-clause-cause
 returns-in_err-put_blocks-clause-cause g c storable clean inside =
@@ -69,17 +69,17 @@ returns-in_err-insert_sha512-clause-cause g c storable clean inside =
     let old = c.args.tx.now in
     let one = c.put_blocks.new.tx in
     let new = c.insert_sha512.new.tx in
-    let before = clean_before c.insert_sha512.ensures.keeps.stays clean in
+    let before = clean_before c.insert_sha512.ensures.does.keeps.stays clean in
     if_err_is _ c.from_residual-in_err-insert_sha512.result c.in_err-insert_sha512.field-0.0 c.from_residual-in_err-insert_sha512.ensures.1
     (fails_then g.T.Statements.state old one new c.put_blocks.ensures.stays.survives FailsByStatement _
-    (sha512_added _ (c.in_err-insert_sha512.ensures.cause storable.file clean (c.in_ok-put_blocks.ensures.stays.inside before inside))))
+    (sha512_added _ (c.in_err-insert_sha512.ensures.does.cause storable.file clean (c.in_ok-put_blocks.ensures.stays.inside before inside))))
 
 pub returns-clause-cause : goal.returns-clause-cause
 returns-clause-cause g c storable clean inside =
     let old = c.args.tx.now in
     let two = c.insert_sha512.new.tx in
     let new = c.insert_file.new.tx in
-    let stays = stays_then c.in_ok-put_blocks.ensures.stays c.in_ok-insert_sha512.ensures.keeps.stays in
-    let before = clean_before c.insert_file.ensures.keeps.stays clean in
-    if_err_then c.insert_file.result (c.insert_file.ensures.cause storable clean (stays.inside before inside))
+    let stays = stays_then c.in_ok-put_blocks.ensures.stays c.in_ok-insert_sha512.ensures.does.keeps.stays in
+    let before = clean_before c.insert_file.ensures.does.keeps.stays clean in
+    if_err_then c.insert_file.result (c.insert_file.ensures.does.cause storable clean (stays.inside before inside))
     (λ fault failed. fails_then g.T.Statements.state old two new stays.survives FailsByStatement fault (file_added _ failed))

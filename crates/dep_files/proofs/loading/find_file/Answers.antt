@@ -5,4 +5,4 @@ use Rattle.dep_files.proofs.loading.find_file.Goals as goal
 
 pub returns-clause-map : goal.returns-clause-map
 returns-clause-map g c clean ours s are =
-    c.of_object.ensures ∙ file_read (tables_of (g.T.Statements.state c.args.tx.now)) s are ours.trees.ordered.1.1.1.1.0 c.args.file c.in_ok-find_file.field-0 (c.in_ok-find_file.ensures.ok clean ours) c.args.object
+    c.of_object.ensures ∙ file_read (tables_of (g.T.Statements.state c.args.tx.now)) s are ours.trees.ordered.1.1.1.1.0 c.args.file c.in_ok-find_file.field-0 (c.in_ok-find_file.ensures.does.ok clean ours) c.args.object

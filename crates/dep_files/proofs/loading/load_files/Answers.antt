@@ -5,4 +5,4 @@ use Rattle.dep_files.proofs.loading.load_files.Goals as goal
 
 pub returns-clause-map : goal.returns-clause-map
 returns-clause-map g c clean ours s are =
-    c.new.ensures ∙ files_read (tables_of (g.T.Statements.state c.args.tx.now)) s are c.args.object c.in_ok-files_of.field-0.items (c.in_ok-files_of.ensures.ok clean ours)
+    c.new.ensures ∙ files_read (tables_of (g.T.Statements.state c.args.tx.now)) s are c.args.object c.in_ok-files_of.field-0.items (c.in_ok-files_of.ensures.does.ok clean ours)

@@ -8,5 +8,5 @@ use Rattle.dep_objects.proofs.clock.set_counters.Goals as goal
 pub returns-clause-map : goal.returns-clause-map
 returns-clause-map g c clean inside ours s are =
     let next = record s { clock = c.args.row.now.clock; next = c.args.row.now.next } in
-    ok_then c.write_state.result (c.write_state.ensures.ok clean inside ours)
+    ok_then c.write_state.result (c.write_state.ensures.does.ok clean inside ours)
     (λ leads. subst (λ t. TablesAre t next) (sym leads.rows) (state_written (tables_of (g.T.Statements.state c.args.tx.now)) s are c.args.row.now.clock c.args.row.now.next))

@@ -23,11 +23,11 @@ texts-preserved g c =
     let inv = c.texts.invariant in
     let within : c.texts.text-index < length c.args.entry.now.texts = omega (arith, ap length inv.3, c.texts-test.true) in
     let next_place : c.texts.place + 1 ≡ c.args.start + (c.texts.text-index + 1) = omega (arith, inv.2) in (
-      stays_ok (stays_then {r = Ok tt} inv.0 c.in_ok-insert_metadata.ensures.keeps.stays),
+      stays_ok (stays_then {r = Ok tt} inv.0 c.in_ok-insert_metadata.ensures.does.keeps.stays),
       λ clean inside ours.
-          let before = clean_before c.insert_metadata.ensures.keeps.stays clean in
+          let before = clean_before c.insert_metadata.ensures.does.keeps.stays clean in
           let was = inv.1 before inside ours in
-          let leads = c.in_ok-insert_metadata.ensures.ok clean (inv.0.inside before inside) was.ours in
+          let leads = c.in_ok-insert_metadata.ensures.does.ok clean (inv.0.inside before inside) was.ours in
           record {
             ours = leads.ours;
             rows = one_more_text (tables_of old) (tables_of mid) (tables_of new) c.args.object c.args.entry.now.name c.args.start c.texts.place c.args.entry.now.texts c.texts.text-index c.text-item.result within
@@ -39,7 +39,7 @@ texts-preserved g c =
     )
 
 pub returns-in_err-insert_metadata-clause-stays : goal.returns-in_err-insert_metadata-clause-stays
-returns-in_err-insert_metadata-clause-stays g c = stays_err c.from_residual-in_err-insert_metadata.ensures.0 (stays_then c.texts.invariant.0 c.insert_metadata.ensures.keeps.stays)
+returns-in_err-insert_metadata-clause-stays g c = stays_err c.from_residual-in_err-insert_metadata.ensures.0 (stays_then c.texts.invariant.0 c.insert_metadata.ensures.does.keeps.stays)
 
 pub returns-clause-ok : goal.returns-clause-ok
 returns-clause-ok g c =
@@ -60,7 +60,7 @@ returns-in_err-insert_metadata-clause-cause g c storable clean inside =
     let inv = c.texts.invariant in
     let texts = c.args.entry.now.texts in
     let within : c.texts.text-index < length texts = omega (arith, ap length inv.3, c.texts-test.true) in
-    let before = clean_before c.insert_metadata.ensures.keeps.stays clean in
+    let before = clean_before c.insert_metadata.ensures.does.keeps.stays clean in
     let fits : IsStorableMetadata c.in_ok-text_row.field-0 = subst IsStorableMetadata (sym c.in_ok-text_row.ensures) (record { object = storable.0; place = omega (arith, storable.1, inv.2, within) }) in
     if_err_is _ c.from_residual-in_err-insert_metadata.result c.in_err-insert_metadata.field-0.0 c.from_residual-in_err-insert_metadata.ensures.1
-    (fails_then g.T.Statements.state c.args.tx.now c.texts.tx c.insert_metadata.new.tx inv.0.survives (FailsHolding (texts ≢ [])) _ (statement (metadata_added _ (c.in_err-insert_metadata.ensures.cause fits clean (inv.0.inside before inside)))))
+    (fails_then g.T.Statements.state c.args.tx.now c.texts.tx c.insert_metadata.new.tx inv.0.survives (FailsHolding (texts ≢ [])) _ (statement (metadata_added _ (c.in_err-insert_metadata.ensures.does.cause fits clean (inv.0.inside before inside)))))

@@ -6,7 +6,7 @@ use Rattle.dep_objects.proofs.objects.add_object.Goals as goal
 
 pub returns-clause-map : goal.returns-clause-map
 returns-clause-map g c clean inside ours s are =
-    ok_both c.insert_object.result (c.insert_object.ensures.ok clean inside ours) (c.insert_object.ensures.free clean inside ours)
+    ok_both c.insert_object.result (c.insert_object.ensures.does.ok clean inside ours) (c.insert_object.ensures.free clean inside ours)
     (λ leads free. put_new s c.args.row.now (tables_of (g.T.Statements.state c.args.tx.now)) (tables_of (g.T.Statements.state c.insert_object.new.tx)) are free leads.rows)
 
 pub returns-clause-free : goal.returns-clause-free

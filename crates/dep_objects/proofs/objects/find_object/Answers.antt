@@ -5,5 +5,5 @@ use Rattle.dep_objects.proofs.objects.find_object.Goals as goal
 
 pub returns-clause-map : goal.returns-clause-map
 returns-clause-map g c clean inside ours s are =
-    if_then c.find_object.result (c.find_object.ensures.ok clean ours)
+    if_then c.find_object.result (c.find_object.ensures.does.ok clean ours)
     (λ found read. object_read (tables_of (g.T.Statements.state c.args.tx.now)) s are c.args.object found read)

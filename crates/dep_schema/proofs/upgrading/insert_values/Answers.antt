@@ -13,11 +13,11 @@ values-preserved g c =
     let new = g.T.Statements.state c.insert_sha512.new.tx in
     let inv = c.values.invariant in
     let within : c.values.value-index < length c.args.values.now = omega arith in (
-      stays_ok (stays_then inv.0 c.in_ok-insert_sha512.ensures.keeps.stays),
+      stays_ok (stays_then inv.0 c.in_ok-insert_sha512.ensures.does.keeps.stays),
       λ clean inside ours.
-          let before = clean_before c.insert_sha512.ensures.keeps.stays clean in
+          let before = clean_before c.insert_sha512.ensures.does.keeps.stays clean in
           let was = inv.1 before inside ours in
-          let leads = c.in_ok-insert_sha512.ensures.ok clean (inv.0.inside before inside) was.ours in
+          let leads = c.in_ok-insert_sha512.ensures.does.ok clean (inv.0.inside before inside) was.ours in
           record { ours = leads.ours; rows = one_more_value (tables_of old) (tables_of mid) (tables_of new) c.args.values.now c.values.value-index _ within was.rows leads.rows },
     )
 
@@ -28,14 +28,14 @@ pub returns-in_err-insert_sha512-clause-works : goal.returns-in_err-insert_sha51
 returns-in_err-insert_sha512-clause-works g c = record {
   cause = λ clean inside.
       let stays = c.values.invariant.0 in
-      let before = clean_before c.insert_sha512.ensures.keeps.stays clean in
+      let before = clean_before c.insert_sha512.ensures.does.keeps.stays clean in
       let within : c.values.value-index < length c.args.values.now = omega arith in
       let goes_on = stays.inside before inside in
-      let failed = c.in_err-insert_sha512.ensures in
+      let failed = c.in_err-insert_sha512.ensures.does in
       if_err_is _ c.from_residual.result _ c.from_residual.ensures.1
       (put_fails g.T.Statements.state c.args.values.now c.args.tx.now c.values.tx c.insert_sha512.new.tx stays.survives c.values.value-index _ within _
       (λ below. failed.cause below clean goes_on) (λ above. told_fault (failed.numbers above).0));
-  stays = stays_err c.from_residual.ensures.0 (stays_then c.values.invariant.0 c.insert_sha512.ensures.keeps.stays);
+  stays = stays_err c.from_residual.ensures.0 (stays_then c.values.invariant.0 c.insert_sha512.ensures.does.keeps.stays);
 }
 
 pub returns-clause-works : goal.returns-clause-works

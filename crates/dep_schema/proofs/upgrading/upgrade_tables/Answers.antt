@@ -11,18 +11,18 @@ pub returns-clause-ok : goal.returns-clause-ok
 returns-clause-ok g c clean inside older =
     let extended = c.in_ok-extend_schema.ensures in
     let inserted = c.in_ok-insert_values.ensures in
-    let filled = clean_before c.write_version.ensures.keeps.stays clean in
+    let filled = clean_before c.write_version.ensures.does.keeps.stays clean in
     let there = clean_before inserted.works.stays filled in
     let made = extended.ok there inside older in
     let goes_on = extended.works.stays.inside there inside in
     let put = inserted.ok filled goes_on made.ours in
-    ok_then c.write_version.result (c.write_version.ensures.ok clean (inserted.works.stays.inside filled goes_on) put.ours)
+    ok_then c.write_version.result (c.write_version.ensures.does.ok clean (inserted.works.stays.inside filled goes_on) put.ours)
     (λ led. record { ours = led.ours; rows = led.rows ∙ ap with_our_version (put.rows ∙ ap (with_sha512s c.args.values.now) made.rows) })
 
 pub returns-clause-free : goal.returns-clause-free
 returns-clause-free g c clean inside =
     let extended = c.in_ok-extend_schema.ensures in
-    let there = clean_before c.in_ok-insert_values.ensures.works.stays (clean_before c.write_version.ensures.keeps.stays clean) in
+    let there = clean_before c.in_ok-insert_values.ensures.works.stays (clean_before c.write_version.ensures.does.keeps.stays clean) in
     if_ok c.write_version.result (extended.free there inside)
 
 pub returns-clause-works : goal.returns-clause-works
@@ -30,13 +30,13 @@ returns-clause-works g c = record {
   cause = λ clean inside.
       let extended = c.in_ok-extend_schema.ensures in
       let inserted = c.in_ok-insert_values.ensures in
-      let filled = clean_before c.write_version.ensures.keeps.stays clean in
+      let filled = clean_before c.write_version.ensures.does.keeps.stays clean in
       let there = clean_before inserted.works.stays filled in
       let goes_on = inserted.works.stays.inside filled (extended.works.stays.inside there inside) in
       let since = survived (g.T.Statements.state c.args.tx.now) (g.T.Statements.state c.extend_schema.new.tx) (g.T.Statements.state c.insert_values.new.tx) extended.works.stays.survives inserted.works.stays.survives in
-      if_err_then c.write_version.result (c.write_version.ensures.cause clean goes_on)
+      if_err_then c.write_version.result (c.write_version.ensures.does.cause tt clean goes_on)
       (λ fault failed. inr (extended.free there inside, fails_then g.T.Statements.state c.args.tx.now c.insert_values.new.tx c.write_version.new.tx since (FailsToFill c.args.values.now) fault (inr failed)));
-  stays = stays_then c.in_ok-extend_schema.ensures.works.stays (stays_then c.in_ok-insert_values.ensures.works.stays c.write_version.ensures.keeps.stays);
+  stays = stays_then c.in_ok-extend_schema.ensures.works.stays (stays_then c.in_ok-insert_values.ensures.works.stays c.write_version.ensures.does.keeps.stays);
 }
 
 -- where the schema was not extended, or a value not put in, nothing is said of an Ok

@@ -17,17 +17,17 @@ returns-clause-map g c clean inside ours s are o it file there held whole upload
     let four = g.T.Statements.state c.delete_upload.new.tx in
     let five = g.T.Statements.state c.insert_sha512.new.tx in
     let new = g.T.Statements.state c.insert_file.new.tx in
-    let clean_five = clean_before c.insert_file.ensures.keeps.stays clean in
-    let clean_four = clean_before c.insert_sha512.ensures.keeps.stays clean_five in
-    let clean_three = clean_before c.delete_upload.ensures.keeps.stays clean_four in
-    let clean_two = clean_before c.delete_segments.ensures.keeps.stays clean_three in
-    let clean_one = clean_before c.delete_sha512.ensures.keeps.stays clean_two in
+    let clean_five = clean_before c.insert_file.ensures.does.keeps.stays clean in
+    let clean_four = clean_before c.insert_sha512.ensures.does.keeps.stays clean_five in
+    let clean_three = clean_before c.delete_upload.ensures.does.keeps.stays clean_four in
+    let clean_two = clean_before c.delete_segments.ensures.does.keeps.stays clean_three in
+    let clean_one = clean_before c.delete_sha512.ensures.does.keeps.stays clean_two in
     let first = c.in_ok-move_content.ensures.ok clean_one inside ours in
-    let second = c.in_ok-delete_sha512.ensures.ok clean_two (c.in_ok-move_content.ensures.stays.inside clean_one inside) first.ours in
-    let third = c.in_ok-delete_segments.ensures.ok clean_three second.shows.mode second.ours in
-    let fourth = c.in_ok-delete_upload.ensures.ok clean_four third.shows.mode third.ours in
-    let fifth = c.in_ok-insert_sha512.ensures.ok clean_five fourth.shows.mode fourth.ours in
-    ok_both c.insert_file.result (c.insert_file.ensures.ok clean fifth.shows.mode fifth.ours) (c.insert_file.ensures.free clean fifth.shows.mode fifth.ours)
+    let second = c.in_ok-delete_sha512.ensures.does.ok clean_two (c.in_ok-move_content.ensures.stays.inside clean_one inside) first.ours in
+    let third = c.in_ok-delete_segments.ensures.does.ok clean_three second.shows.mode second.ours in
+    let fourth = c.in_ok-delete_upload.ensures.does.ok clean_four third.shows.mode third.ours in
+    let fifth = c.in_ok-insert_sha512.ensures.does.ok clean_five fourth.shows.mode fourth.ours in
+    ok_both c.insert_file.result (c.insert_file.ensures.does.ok clean fifth.shows.mode fifth.ours) (c.insert_file.ensures.free clean fifth.shows.mode fifth.ours)
     (λ leads free. made (tables_of old) (tables_of one) (tables_of two) (tables_of three) (tables_of four) (tables_of five) (tables_of new) c.args.upload.now c.args.row.now first.rows second.rows third.rows fourth.rows fifth.rows leads.rows
     s o it file are ours.trees.ordered.1.1.1.1.0 ours.trees.ordered.1.1.1.1.1.1.1.1.1.0 there held whole row_is content free)
 
@@ -40,35 +40,35 @@ returns-clause-free g c clean inside ours s are =
     let four = g.T.Statements.state c.delete_upload.new.tx in
     let five = g.T.Statements.state c.insert_sha512.new.tx in
     let new = g.T.Statements.state c.insert_file.new.tx in
-    let clean_five = clean_before c.insert_file.ensures.keeps.stays clean in
-    let clean_four = clean_before c.insert_sha512.ensures.keeps.stays clean_five in
-    let clean_three = clean_before c.delete_upload.ensures.keeps.stays clean_four in
-    let clean_two = clean_before c.delete_segments.ensures.keeps.stays clean_three in
-    let clean_one = clean_before c.delete_sha512.ensures.keeps.stays clean_two in
+    let clean_five = clean_before c.insert_file.ensures.does.keeps.stays clean in
+    let clean_four = clean_before c.insert_sha512.ensures.does.keeps.stays clean_five in
+    let clean_three = clean_before c.delete_upload.ensures.does.keeps.stays clean_four in
+    let clean_two = clean_before c.delete_segments.ensures.does.keeps.stays clean_three in
+    let clean_one = clean_before c.delete_sha512.ensures.does.keeps.stays clean_two in
     let first = c.in_ok-move_content.ensures.ok clean_one inside ours in
-    let second = c.in_ok-delete_sha512.ensures.ok clean_two (c.in_ok-move_content.ensures.stays.inside clean_one inside) first.ours in
-    let third = c.in_ok-delete_segments.ensures.ok clean_three second.shows.mode second.ours in
-    let fourth = c.in_ok-delete_upload.ensures.ok clean_four third.shows.mode third.ours in
-    let fifth = c.in_ok-insert_sha512.ensures.ok clean_five fourth.shows.mode fourth.ours in
-    ok_both c.insert_file.result (c.insert_file.ensures.ok clean fifth.shows.mode fifth.ours) (c.insert_file.ensures.free clean fifth.shows.mode fifth.ours)
+    let second = c.in_ok-delete_sha512.ensures.does.ok clean_two (c.in_ok-move_content.ensures.stays.inside clean_one inside) first.ours in
+    let third = c.in_ok-delete_segments.ensures.does.ok clean_three second.shows.mode second.ours in
+    let fourth = c.in_ok-delete_upload.ensures.does.ok clean_four third.shows.mode third.ours in
+    let fifth = c.in_ok-insert_sha512.ensures.does.ok clean_five fourth.shows.mode fourth.ours in
+    ok_both c.insert_file.result (c.insert_file.ensures.does.ok clean fifth.shows.mode fifth.ours) (c.insert_file.ensures.free clean fifth.shows.mode fifth.ours)
     (λ leads free. file_was_free (tables_of old) (tables_of one) (tables_of two) (tables_of three) (tables_of four) (tables_of five) (tables_of new) c.args.upload.now c.args.row.now first.rows second.rows third.rows fourth.rows fifth.rows leads.rows
     s are ours.trees.ordered.1.1.1.1.0 free)
 
 pub returns-in_err-delete_sha512-clause-keeps : goal.returns-in_err-delete_sha512-clause-keeps
-returns-in_err-delete_sha512-clause-keeps g c = changes_err c.from_residual-in_err-delete_sha512.ensures.0 (stays_then c.in_ok-move_content.ensures.stays c.delete_sha512.ensures.keeps.stays)
+returns-in_err-delete_sha512-clause-keeps g c = changes_err c.from_residual-in_err-delete_sha512.ensures.0 (stays_then c.in_ok-move_content.ensures.stays c.delete_sha512.ensures.does.keeps.stays)
 
 pub returns-in_err-delete_segments-clause-keeps : goal.returns-in_err-delete_segments-clause-keeps
-returns-in_err-delete_segments-clause-keeps g c = changes_err c.from_residual-in_err-delete_segments.ensures.0 (stays_then (stays_then c.in_ok-move_content.ensures.stays c.in_ok-delete_sha512.ensures.keeps.stays) c.delete_segments.ensures.keeps.stays)
+returns-in_err-delete_segments-clause-keeps g c = changes_err c.from_residual-in_err-delete_segments.ensures.0 (stays_then (stays_then c.in_ok-move_content.ensures.stays c.in_ok-delete_sha512.ensures.does.keeps.stays) c.delete_segments.ensures.does.keeps.stays)
 
 pub returns-in_err-delete_upload-clause-keeps : goal.returns-in_err-delete_upload-clause-keeps
-returns-in_err-delete_upload-clause-keeps g c = changes_err c.from_residual-in_err-delete_upload.ensures.0 (stays_then (stays_then (stays_then c.in_ok-move_content.ensures.stays c.in_ok-delete_sha512.ensures.keeps.stays) c.in_ok-delete_segments.ensures.keeps.stays) c.delete_upload.ensures.keeps.stays)
+returns-in_err-delete_upload-clause-keeps g c = changes_err c.from_residual-in_err-delete_upload.ensures.0 (stays_then (stays_then (stays_then c.in_ok-move_content.ensures.stays c.in_ok-delete_sha512.ensures.does.keeps.stays) c.in_ok-delete_segments.ensures.does.keeps.stays) c.delete_upload.ensures.does.keeps.stays)
 
 pub returns-in_err-insert_sha512-clause-keeps : goal.returns-in_err-insert_sha512-clause-keeps
-returns-in_err-insert_sha512-clause-keeps g c = changes_err c.from_residual-in_err-insert_sha512.ensures.0 (stays_then (stays_then (stays_then (stays_then c.in_ok-move_content.ensures.stays c.in_ok-delete_sha512.ensures.keeps.stays) c.in_ok-delete_segments.ensures.keeps.stays) c.in_ok-delete_upload.ensures.keeps.stays) c.insert_sha512.ensures.keeps.stays)
+returns-in_err-insert_sha512-clause-keeps g c = changes_err c.from_residual-in_err-insert_sha512.ensures.0 (stays_then (stays_then (stays_then (stays_then c.in_ok-move_content.ensures.stays c.in_ok-delete_sha512.ensures.does.keeps.stays) c.in_ok-delete_segments.ensures.does.keeps.stays) c.in_ok-delete_upload.ensures.does.keeps.stays) c.insert_sha512.ensures.does.keeps.stays)
 
 pub returns-clause-keeps : goal.returns-clause-keeps
 returns-clause-keeps g c =
-    changes_then (changes_then (changes_then (changes_then (changes_then (by_sees _ c.in_ok-move_content.ensures.stays c.in_ok-move_content.ensures.ok) (by_leads _ c.in_ok-delete_sha512.ensures.keeps.stays c.in_ok-delete_sha512.ensures.ok)) (by_leads _ c.in_ok-delete_segments.ensures.keeps.stays c.in_ok-delete_segments.ensures.ok)) (by_leads _ c.in_ok-delete_upload.ensures.keeps.stays c.in_ok-delete_upload.ensures.ok)) (by_leads _ c.in_ok-insert_sha512.ensures.keeps.stays c.in_ok-insert_sha512.ensures.ok)) (by_leads _ c.insert_file.ensures.keeps.stays c.insert_file.ensures.ok)
+    changes_then (changes_then (changes_then (changes_then (changes_then (by_sees _ c.in_ok-move_content.ensures.stays c.in_ok-move_content.ensures.ok) (by_leads _ c.in_ok-delete_sha512.ensures.does.keeps.stays c.in_ok-delete_sha512.ensures.does.ok)) (by_leads _ c.in_ok-delete_segments.ensures.does.keeps.stays c.in_ok-delete_segments.ensures.does.ok)) (by_leads _ c.in_ok-delete_upload.ensures.does.keeps.stays c.in_ok-delete_upload.ensures.does.ok)) (by_leads _ c.in_ok-insert_sha512.ensures.does.keeps.stays c.in_ok-insert_sha512.ensures.does.ok)) (by_leads _ c.insert_file.ensures.does.keeps.stays c.insert_file.ensures.does.ok)
 
 pub returns-in_err-move_content-clause-cause : goal.returns-in_err-move_content-clause-cause
 returns-in_err-move_content-clause-cause g c storable clean inside =
@@ -80,46 +80,46 @@ returns-in_err-delete_sha512-clause-cause g c storable clean inside =
     let one = c.move_content.new.tx in
     let new = c.delete_sha512.new.tx in
     let stays = c.in_ok-move_content.ensures.stays in
-    let within = stays.inside (clean_before c.delete_sha512.ensures.keeps.stays clean) inside in
+    let within = stays.inside (clean_before c.delete_sha512.ensures.does.keeps.stays clean) inside in
     if_err_is _ c.from_residual-in_err-delete_sha512.result c.in_err-delete_sha512.field-0.0 c.from_residual-in_err-delete_sha512.ensures.1 (fails_then g.T.Statements.state old one new stays.survives FailsByStatement _
-    (sha512_deleted _ (c.in_err-delete_sha512.ensures.cause storable.0.upload clean within)))
+    (sha512_deleted _ (c.in_err-delete_sha512.ensures.does.cause storable.0.upload clean within)))
 
 pub returns-in_err-delete_segments-clause-cause : goal.returns-in_err-delete_segments-clause-cause
 returns-in_err-delete_segments-clause-cause g c storable clean inside =
     let old = c.args.tx.now in
     let two = c.delete_sha512.new.tx in
     let new = c.delete_segments.new.tx in
-    let stays = stays_then c.in_ok-move_content.ensures.stays c.in_ok-delete_sha512.ensures.keeps.stays in
-    let within = stays.inside (clean_before c.delete_segments.ensures.keeps.stays clean) inside in
+    let stays = stays_then c.in_ok-move_content.ensures.stays c.in_ok-delete_sha512.ensures.does.keeps.stays in
+    let within = stays.inside (clean_before c.delete_segments.ensures.does.keeps.stays clean) inside in
     if_err_is _ c.from_residual-in_err-delete_segments.result c.in_err-delete_segments.field-0.0 c.from_residual-in_err-delete_segments.ensures.1 (fails_then g.T.Statements.state old two new stays.survives FailsByStatement _
-    (segments_deleted _ (c.in_err-delete_segments.ensures.cause storable.0.upload clean within)))
+    (segments_deleted _ (c.in_err-delete_segments.ensures.does.cause storable.0.upload clean within)))
 
 pub returns-in_err-delete_upload-clause-cause : goal.returns-in_err-delete_upload-clause-cause
 returns-in_err-delete_upload-clause-cause g c storable clean inside =
     let old = c.args.tx.now in
     let three = c.delete_segments.new.tx in
     let new = c.delete_upload.new.tx in
-    let stays = stays_then (stays_then c.in_ok-move_content.ensures.stays c.in_ok-delete_sha512.ensures.keeps.stays) c.in_ok-delete_segments.ensures.keeps.stays in
-    let within = stays.inside (clean_before c.delete_upload.ensures.keeps.stays clean) inside in
+    let stays = stays_then (stays_then c.in_ok-move_content.ensures.stays c.in_ok-delete_sha512.ensures.does.keeps.stays) c.in_ok-delete_segments.ensures.does.keeps.stays in
+    let within = stays.inside (clean_before c.delete_upload.ensures.does.keeps.stays clean) inside in
     if_err_is _ c.from_residual-in_err-delete_upload.result c.in_err-delete_upload.field-0.0 c.from_residual-in_err-delete_upload.ensures.1 (fails_then g.T.Statements.state old three new stays.survives FailsByStatement _
-    (upload_deleted _ (c.in_err-delete_upload.ensures.cause storable.0.upload clean within)))
+    (upload_deleted _ (c.in_err-delete_upload.ensures.does.cause storable.0.upload clean within)))
 
 pub returns-in_err-insert_sha512-clause-cause : goal.returns-in_err-insert_sha512-clause-cause
 returns-in_err-insert_sha512-clause-cause g c storable clean inside =
     let old = c.args.tx.now in
     let four = c.delete_upload.new.tx in
     let new = c.insert_sha512.new.tx in
-    let stays = stays_then (stays_then (stays_then c.in_ok-move_content.ensures.stays c.in_ok-delete_sha512.ensures.keeps.stays) c.in_ok-delete_segments.ensures.keeps.stays) c.in_ok-delete_upload.ensures.keeps.stays in
-    let within = stays.inside (clean_before c.insert_sha512.ensures.keeps.stays clean) inside in
+    let stays = stays_then (stays_then (stays_then c.in_ok-move_content.ensures.stays c.in_ok-delete_sha512.ensures.does.keeps.stays) c.in_ok-delete_segments.ensures.does.keeps.stays) c.in_ok-delete_upload.ensures.does.keeps.stays in
+    let within = stays.inside (clean_before c.insert_sha512.ensures.does.keeps.stays clean) inside in
     if_err_is _ c.from_residual-in_err-insert_sha512.result c.in_err-insert_sha512.field-0.0 c.from_residual-in_err-insert_sha512.ensures.1 (fails_then g.T.Statements.state old four new stays.survives FailsByStatement _
-    (sha512_added _ (c.in_err-insert_sha512.ensures.cause storable.1.file clean within)))
+    (sha512_added _ (c.in_err-insert_sha512.ensures.does.cause storable.1.file clean within)))
 
 pub returns-clause-cause : goal.returns-clause-cause
 returns-clause-cause g c storable clean inside =
     let old = c.args.tx.now in
     let five = c.insert_sha512.new.tx in
     let new = c.insert_file.new.tx in
-    let stays = stays_then (stays_then (stays_then (stays_then c.in_ok-move_content.ensures.stays c.in_ok-delete_sha512.ensures.keeps.stays) c.in_ok-delete_segments.ensures.keeps.stays) c.in_ok-delete_upload.ensures.keeps.stays) c.in_ok-insert_sha512.ensures.keeps.stays in
-    let within = stays.inside (clean_before c.insert_file.ensures.keeps.stays clean) inside in
-    if_err_then c.insert_file.result (c.insert_file.ensures.cause storable.1 clean within)
+    let stays = stays_then (stays_then (stays_then (stays_then c.in_ok-move_content.ensures.stays c.in_ok-delete_sha512.ensures.does.keeps.stays) c.in_ok-delete_segments.ensures.does.keeps.stays) c.in_ok-delete_upload.ensures.does.keeps.stays) c.in_ok-insert_sha512.ensures.does.keeps.stays in
+    let within = stays.inside (clean_before c.insert_file.ensures.does.keeps.stays clean) inside in
+    if_err_then c.insert_file.result (c.insert_file.ensures.does.cause storable.1 clean within)
     (λ fault failed. fails_then g.T.Statements.state old five new stays.survives FailsByStatement fault (file_added _ failed))

@@ -23,13 +23,13 @@ runs-preserved g c =
     let seen = g.T.Statements.state c.first_block.new.tx in
     let new = g.T.Statements.state c.move_run.new.tx in
     let inv = c.runs.invariant in
-    let saw = stays_then inv.0 c.in_ok-start.ensures.keeps.stays in (
-      stays_ok (stays_then saw c.in_ok-move_run.ensures.keeps.stays),
+    let saw = stays_then inv.0 c.in_ok-start.ensures.does.keeps.stays in (
+      stays_ok (stays_then saw c.in_ok-move_run.ensures.does.keeps.stays),
       λ clean inside ours.
-          let before = clean_before c.move_run.ensures.keeps.stays clean in
-          let was = inv.1 (clean_before c.first_block.ensures.keeps.stays before) inside ours in
-          let same = c.in_ok-start.ensures.keeps.same before was.0 in
-          let leads = c.in_ok-move_run.ensures.ok clean (saw.inside before inside) (still_ours mid seen same was.0) in
+          let before = clean_before c.move_run.ensures.does.keeps.stays clean in
+          let was = inv.1 (clean_before c.first_block.ensures.does.keeps.stays before) inside ours in
+          let same = c.in_ok-start.ensures.does.keeps.same before was.0 in
+          let leads = c.in_ok-move_run.ensures.does.ok clean (saw.inside before inside) (still_ours mid seen same was.0) in
           (leads.ours, one_run_moved (record { owner = owner.Upload c.args.upload; at = c.run_end-at.result }) (owner.File c.args.file) (no_upload c.args.upload c.args.file) (tables_of old) (tables_of mid) (tables_of seen) (tables_of new) was.1 (same_tables mid seen same) leads.rows),
     )
 
@@ -38,29 +38,29 @@ returns-in_default-clause-ok g c clean inside ours =
     let old = g.T.Statements.state c.args.tx.now in
     let mid = g.T.Statements.state c.runs.tx in
     let seen = g.T.Statements.state c.first_block.new.tx in
-    let was = c.runs.invariant.1 (clean_before c.first_block.ensures.keeps.stays clean) inside ours in
-    let same = c.in_ok-start.ensures.keeps.same clean was.0 in
-    let none = subst (IsFirstBlock (owner.Upload c.args.upload) (tables_of mid)) c.in_default.is (c.in_ok-start.ensures.ok clean was.0) in
+    let was = c.runs.invariant.1 (clean_before c.first_block.ensures.does.keeps.stays clean) inside ours in
+    let same = c.in_ok-start.ensures.does.keeps.same clean was.0 in
+    let none = subst (IsFirstBlock (owner.Upload c.args.upload) (tables_of mid)) c.in_default.is (c.in_ok-start.ensures.does.ok clean was.0) in
     record { ours = still_ours mid seen same was.0; rows = all_moved (owner.Upload c.args.upload) (owner.File c.args.file) (tables_of old) (tables_of mid) (tables_of seen) was.1 (same_tables mid seen same) none }
 
 pub returns-clause-ok : goal.returns-clause-ok
 returns-clause-ok g c clean inside ours =
     let inv = c.runs.invariant in
-    let before = clean_before c.move_blocks.ensures.keeps.stays clean in
+    let before = clean_before c.move_blocks.ensures.does.keeps.stays clean in
     let was = inv.1 before inside ours in
-    ok_then c.move_blocks.result (c.move_blocks.ensures.ok clean (inv.0.inside before inside) was.0) (λ leads. record { ours = leads.ours; rows = leads.rows ∙ was.1 })
+    ok_then c.move_blocks.result (c.move_blocks.ensures.does.ok clean (inv.0.inside before inside) was.0) (λ leads. record { ours = leads.ours; rows = leads.rows ∙ was.1 })
 
 pub returns-in_err-start-clause-stays : goal.returns-in_err-start-clause-stays
-returns-in_err-start-clause-stays g c = stays_err c.from_residual.ensures.0 (stays_then c.runs.invariant.0 c.first_block.ensures.keeps.stays)
+returns-in_err-start-clause-stays g c = stays_err c.from_residual.ensures.0 (stays_then c.runs.invariant.0 c.first_block.ensures.does.keeps.stays)
 
 pub returns-in_default-clause-stays : goal.returns-in_default-clause-stays
-returns-in_default-clause-stays g c = stays_ok (stays_then c.runs.invariant.0 c.in_ok-start.ensures.keeps.stays)
+returns-in_default-clause-stays g c = stays_ok (stays_then c.runs.invariant.0 c.in_ok-start.ensures.does.keeps.stays)
 
 pub returns-in_err-move_run-clause-stays : goal.returns-in_err-move_run-clause-stays
-returns-in_err-move_run-clause-stays g c = stays_err c.from_residual-in_err-move_run.ensures.0 (stays_then (stays_then c.runs.invariant.0 c.in_ok-start.ensures.keeps.stays) c.move_run.ensures.keeps.stays)
+returns-in_err-move_run-clause-stays g c = stays_err c.from_residual-in_err-move_run.ensures.0 (stays_then (stays_then c.runs.invariant.0 c.in_ok-start.ensures.does.keeps.stays) c.move_run.ensures.does.keeps.stays)
 
 pub returns-clause-stays : goal.returns-clause-stays
-returns-clause-stays g c = stays_then c.runs.invariant.0 c.move_blocks.ensures.keeps.stays
+returns-clause-stays g c = stays_then c.runs.invariant.0 c.move_blocks.ensures.does.keeps.stays
 
 pub returns-in_err-start-clause-cause : goal.returns-in_err-start-clause-cause
 returns-in_err-start-clause-cause g c storable clean inside =
@@ -68,18 +68,18 @@ returns-in_err-start-clause-cause g c storable clean inside =
     let mid = c.runs.tx in
     let new = c.first_block.new.tx in
     if_err_is _ c.from_residual.result c.in_err-start.field-0.0 c.from_residual.ensures.1 (fails_then g.T.Statements.state old mid new c.runs.invariant.0.survives FailsByStatement _
-    (block_found _ (c.in_err-start.ensures.cause storable.0 clean)))
+    (block_found _ (c.in_err-start.ensures.does.cause storable.0 clean)))
 
 pub returns-in_err-move_run-clause-cause : goal.returns-in_err-move_run-clause-cause
 returns-in_err-move_run-clause-cause g c storable clean inside =
     let old = c.args.tx.now in
     let seen = c.first_block.new.tx in
     let new = c.move_run.new.tx in
-    let saw = stays_then c.runs.invariant.0 c.in_ok-start.ensures.keeps.stays in
-    let before = clean_before c.move_run.ensures.keeps.stays clean in
+    let saw = stays_then c.runs.invariant.0 c.in_ok-start.ensures.does.keeps.stays in
+    let before = clean_before c.move_run.ensures.does.keeps.stays clean in
     let key : IsStorableKey (record { owner = owner.Upload c.args.upload; at = c.run_end-at.result }) = record { owner = storable.0; part = omega (arith, c.run_end-at.ensures.part); place = omega (arith, c.run_end-at.ensures.place) } in
     if_err_is _ c.from_residual-in_err-move_run.result c.in_err-move_run.field-0.0 c.from_residual-in_err-move_run.ensures.1 (fails_then g.T.Statements.state old seen new saw.survives FailsByStatement _
-    (run_moved _ (c.in_err-move_run.ensures.cause (key, storable.1) clean (saw.inside before inside))))
+    (run_moved _ (c.in_err-move_run.ensures.does.cause (key, storable.1) clean (saw.inside before inside))))
 
 pub returns-clause-cause : goal.returns-clause-cause
 returns-clause-cause g c storable clean inside =
@@ -87,6 +87,6 @@ returns-clause-cause g c storable clean inside =
     let mid = c.runs.tx in
     let new = c.move_blocks.new.tx in
     let inv = c.runs.invariant in
-    let before = clean_before c.move_blocks.ensures.keeps.stays clean in
-    if_err_then c.move_blocks.result (c.move_blocks.ensures.cause storable clean (inv.0.inside before inside))
+    let before = clean_before c.move_blocks.ensures.does.keeps.stays clean in
+    if_err_then c.move_blocks.result (c.move_blocks.ensures.does.cause storable clean (inv.0.inside before inside))
     (λ fault failed. fails_then g.T.Statements.state old mid new inv.0.survives FailsByStatement fault (blocks_moved _ failed))

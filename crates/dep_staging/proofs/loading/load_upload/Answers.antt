@@ -14,10 +14,10 @@ pub returns-in_ok-segments_of-in-Live-clause-map : goal.returns-in_ok-segments_o
 returns-in_ok-segments_of-in-Live-clause-map g c clean ours s are =
     let old = g.T.Statements.state c.args.tx.now in
     let mid = g.T.Statements.state c.find_staged.new.tx in
-    let before = clean_before c.segments_of.ensures.keeps.stays clean in
+    let before = clean_before c.segments_of.ensures.does.keeps.stays clean in
     let same = c.in_ok-row.ensures.keeps.same before ours in
     found_live s c.args.upload (tables_of mid) (record { row = c.in-Live.row; received = c.in_ok-segments_of-in-Live.field-0 }) (subst (λ (t : Tables). TablesAre t s) (sym (same_tables old mid same)) are)
-    (sym c.in-Live.is ∙ c.in_ok-row.ensures.map before ours s are) (c.in_ok-segments_of-in-Live.ensures.ok clean (still_ours old mid same ours))
+    (sym c.in-Live.is ∙ c.in_ok-row.ensures.map before ours s are) (c.in_ok-segments_of-in-Live.ensures.does.ok clean (still_ours old mid same ours))
 
 pub returns-in-TimedOut-clause-map : goal.returns-in-TimedOut-clause-map
 returns-in-TimedOut-clause-map g c clean ours s are = sym (c.in_ok-row.ensures.map clean ours s are) ∙ c.in-TimedOut.is
@@ -26,10 +26,10 @@ pub returns-in-Unknown-clause-map : goal.returns-in-Unknown-clause-map
 returns-in-Unknown-clause-map g c clean ours s are = sym (c.in_ok-row.ensures.map clean ours s are) ∙ c.in-Unknown.is
 
 pub returns-in_ok-segments_of-in-Live-clause-keeps : goal.returns-in_ok-segments_of-in-Live-clause-keeps
-returns-in_ok-segments_of-in-Live-clause-keeps g c = reads_ok (reads_then c.in_ok-row.ensures.keeps c.in_ok-segments_of-in-Live.ensures.keeps)
+returns-in_ok-segments_of-in-Live-clause-keeps g c = reads_ok (reads_then c.in_ok-row.ensures.keeps c.in_ok-segments_of-in-Live.ensures.does.keeps)
 
 pub returns-in_err-segments_of-in-Live-clause-keeps : goal.returns-in_err-segments_of-in-Live-clause-keeps
-returns-in_err-segments_of-in-Live-clause-keeps g c = reads_err c.from_residual-in_err-segments_of-in-Live.ensures.0 (reads_then c.in_ok-row.ensures.keeps c.segments_of.ensures.keeps)
+returns-in_err-segments_of-in-Live-clause-keeps g c = reads_err c.from_residual-in_err-segments_of-in-Live.ensures.0 (reads_then c.in_ok-row.ensures.keeps c.segments_of.ensures.does.keeps)
 
 pub returns-in_err-row-clause-cause : goal.returns-in_err-row-clause-cause
 returns-in_err-row-clause-cause g c storable clean inside =
@@ -39,7 +39,7 @@ pub returns-in_err-segments_of-in-Live-clause-cause : goal.returns-in_err-segmen
 returns-in_err-segments_of-in-Live-clause-cause g c storable clean inside =
     if_err_is _ c.from_residual-in_err-segments_of-in-Live.result c.in_err-segments_of-in-Live.field-0.0 c.from_residual-in_err-segments_of-in-Live.ensures.1
     (fails_then g.T.Statements.state c.args.tx.now c.find_staged.new.tx c.segments_of.new.tx c.find_staged.ensures.keeps.stays.survives FailsByStatement _
-    (segments_read _ (c.in_err-segments_of-in-Live.ensures.cause storable clean)))
+    (segments_read _ (c.in_err-segments_of-in-Live.ensures.does.cause storable clean)))
 
 pub returns-in_ok-segments_of-in-Live-clause-numbers : goal.returns-in_ok-segments_of-in-Live-clause-numbers
 returns-in_ok-segments_of-in-Live-clause-numbers g c great = never_failed _ _ (c.in_ok-row.ensures.numbers great).0

@@ -25,9 +25,9 @@ returns-clause-map g c clean inside ours s are was it there none is its grown ke
     let bytes = g.C.Content.bytes c.args.content.now in
     let mid = received_into was c.args.segment.now.number bytes in
     let clean_two = clean_before c.rewrite_upload.ensures.keeps.stays clean in
-    let clean_one = clean_before c.insert_segment.ensures.keeps.stays clean_two in
+    let clean_one = clean_before c.insert_segment.ensures.does.keeps.stays clean_two in
     let first = c.in_ok-put_blocks.ensures.ok clean_one inside ours in
-    let second = c.in_ok-insert_segment.ensures.ok clean_two (c.in_ok-put_blocks.ensures.stays.inside clean_one inside) first.ours in
+    let second = c.in_ok-insert_segment.ensures.does.ok clean_two (c.in_ok-put_blocks.ensures.stays.inside clean_one inside) first.ours in
     let put = received (tables_of old) (tables_of one) (tables_of two) s c.args.segment.now u bytes was are ours.trees.ordered.1.1.1.1.1.1.0 ours.trees.ordered.1.1.1.1.1.1.1.1.0 there none its first.rows second.rows in
     subst (λ m. OnOk c.rewrite_upload.result (TablesAre (tables_of new) (record s { uploads = m }))) (insert_twice s.uploads u mid it)
     (c.rewrite_upload.ensures.map clean second.shows.mode second.ours (with_upload s u mid) put mid it (get_here s.uploads u mid) is grown kept)
@@ -36,17 +36,17 @@ pub returns-clause-free : goal.returns-clause-free
 returns-clause-free g c clean inside ours s are =
     let old = g.T.Statements.state c.args.tx.now in
     let clean_two = clean_before c.rewrite_upload.ensures.keeps.stays clean in
-    let clean_one = clean_before c.insert_segment.ensures.keeps.stays clean_two in
+    let clean_one = clean_before c.insert_segment.ensures.does.keeps.stays clean_two in
     let first = c.in_ok-put_blocks.ensures.ok clean_one inside ours in
     let free = c.in_ok-insert_segment.ensures.free clean_two (c.in_ok-put_blocks.ensures.stays.inside clean_one inside) first.ours in
     if_ok c.rewrite_upload.result (lacked (tables_of old) s c.args.segment.now are (ap (λ (t : Tables). list_any (has_segment_key c.args.segment.now) t.segments) (sym first.rows) ∙ free))
 
 pub returns-in_err-insert_segment-clause-keeps : goal.returns-in_err-insert_segment-clause-keeps
-returns-in_err-insert_segment-clause-keeps g c = changes_err c.from_residual-in_err-insert_segment.ensures.0 (stays_then c.in_ok-put_blocks.ensures.stays c.insert_segment.ensures.keeps.stays)
+returns-in_err-insert_segment-clause-keeps g c = changes_err c.from_residual-in_err-insert_segment.ensures.0 (stays_then c.in_ok-put_blocks.ensures.stays c.insert_segment.ensures.does.keeps.stays)
 
 pub returns-clause-keeps : goal.returns-clause-keeps
 returns-clause-keeps g c =
-    changes_then (changes_then (by_sees _ c.in_ok-put_blocks.ensures.stays c.in_ok-put_blocks.ensures.ok) (by_leads _ c.in_ok-insert_segment.ensures.keeps.stays c.in_ok-insert_segment.ensures.ok)) c.rewrite_upload.ensures.keeps
+    changes_then (changes_then (by_sees _ c.in_ok-put_blocks.ensures.stays c.in_ok-put_blocks.ensures.ok) (by_leads _ c.in_ok-insert_segment.ensures.does.keeps.stays c.in_ok-insert_segment.ensures.does.ok)) c.rewrite_upload.ensures.keeps
 
 pub returns-in_err-put_blocks-clause-cause : goal.returns-in_err-put_blocks-clause-cause
 returns-in_err-put_blocks-clause-cause g c storable clean inside =
@@ -57,16 +57,16 @@ returns-in_err-insert_segment-clause-cause g c storable clean inside =
     let old = c.args.tx.now in
     let one = c.put_blocks.new.tx in
     let new = c.insert_segment.new.tx in
-    let before = clean_before c.insert_segment.ensures.keeps.stays clean in
+    let before = clean_before c.insert_segment.ensures.does.keeps.stays clean in
     if_err_is _ c.from_residual-in_err-insert_segment.result c.in_err-insert_segment.field-0.0 c.from_residual-in_err-insert_segment.ensures.1 (fails_then g.T.Statements.state old one new c.put_blocks.ensures.stays.survives FailsByStatement _
-    (segment_added _ (c.in_err-insert_segment.ensures.cause storable.1 clean (c.in_ok-put_blocks.ensures.stays.inside before inside))))
+    (segment_added _ (c.in_err-insert_segment.ensures.does.cause storable.1 clean (c.in_ok-put_blocks.ensures.stays.inside before inside))))
 
 pub returns-clause-cause : goal.returns-clause-cause
 returns-clause-cause g c storable clean inside =
     let old = c.args.tx.now in
     let two = c.insert_segment.new.tx in
     let new = c.rewrite_upload.new.tx in
-    let stays = stays_then c.in_ok-put_blocks.ensures.stays c.in_ok-insert_segment.ensures.keeps.stays in
+    let stays = stays_then c.in_ok-put_blocks.ensures.stays c.in_ok-insert_segment.ensures.does.keeps.stays in
     let within = stays.inside (clean_before c.rewrite_upload.ensures.keeps.stays clean) inside in
     if_err_then c.rewrite_upload.result (c.rewrite_upload.ensures.cause storable.0 clean within)
     (λ fault failed. fails_then g.T.Statements.state old two new stays.survives FailsByStatement fault (upload_written _ failed))

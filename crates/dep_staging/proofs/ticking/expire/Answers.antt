@@ -15,9 +15,9 @@ use Rattle.dep_staging.proofs.ticking.expire.Goals as goal
 pub returns-clause-map : goal.returns-clause-map
 returns-clause-map g c clean inside ours s are =
     let mid = g.T.Statements.state c.drop_upload.new.tx in
-    let before = clean_before c.insert_timed_out.ensures.keeps.stays clean in
+    let before = clean_before c.insert_timed_out.ensures.does.keeps.stays clean in
     let gone = c.in_ok-drop_upload.ensures.map before inside ours s are in
-    ok_then c.insert_timed_out.result (c.insert_timed_out.ensures.ok clean (c.in_ok-drop_upload.ensures.keeps.stays.inside before inside) (c.in_ok-drop_upload.ensures.keeps.ours before inside ours))
+    ok_then c.insert_timed_out.result (c.insert_timed_out.ensures.does.ok clean (c.in_ok-drop_upload.ensures.keeps.stays.inside before inside) (c.in_ok-drop_upload.ensures.keeps.ours before inside ours))
     (λ leads. subst (λ (t : Tables). TablesAre t (timed_out c.args.upload s)) (sym leads.rows) (timed_out_put (tables_of mid) (record s { uploads = finmap.remove s.uploads c.args.upload }) gone c.args.upload))
 
 pub returns-in_err-drop_upload-clause-cause : goal.returns-in_err-drop_upload-clause-cause
@@ -32,9 +32,9 @@ returns-clause-cause g c storable clean inside =
     let old = c.args.tx.now in
     let mid = c.drop_upload.new.tx in
     let new = c.insert_timed_out.new.tx in
-    let before = clean_before c.insert_timed_out.ensures.keeps.stays clean in
-    if_err_then c.insert_timed_out.result (c.insert_timed_out.ensures.cause storable clean (c.in_ok-drop_upload.ensures.keeps.stays.inside before inside))
+    let before = clean_before c.insert_timed_out.ensures.does.keeps.stays clean in
+    if_err_then c.insert_timed_out.result (c.insert_timed_out.ensures.does.cause storable clean (c.in_ok-drop_upload.ensures.keeps.stays.inside before inside))
     (λ fault failed. fails_then g.T.Statements.state old mid new c.drop_upload.ensures.keeps.stays.survives (FailsToExpire c.args.upload) fault (number failed))
 
 pub returns-clause-keeps : goal.returns-clause-keeps
-returns-clause-keeps g c = changes_then c.in_ok-drop_upload.ensures.keeps (by_leads _ c.insert_timed_out.ensures.keeps.stays c.insert_timed_out.ensures.ok)
+returns-clause-keeps g c = changes_then c.in_ok-drop_upload.ensures.keeps (by_leads _ c.insert_timed_out.ensures.does.keeps.stays c.insert_timed_out.ensures.does.ok)

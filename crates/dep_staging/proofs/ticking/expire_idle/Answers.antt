@@ -27,20 +27,20 @@ uploads-preserved g c =
     let seen = g.T.Statements.state c.left_before.new.tx in
     let new = g.T.Statements.state c.expire.new.tx in
     let inv = c.uploads.invariant in
-    let saw = stays_then inv.0 c.in_ok-left.ensures.keeps.stays in
+    let saw = stays_then inv.0 c.in_ok-left.ensures.does.keeps.stays in
     let clean_seen = clean_before c.expire.ensures.keeps.stays in
-    let clean_mid = clean_before c.left_before.ensures.keeps.stays in (
+    let clean_mid = clean_before c.left_before.ensures.does.keeps.stays in (
       stays_ok (stays_then saw c.in_ok-expire.ensures.keeps.stays),
       λ clean inside ours.
           let before = clean_seen clean in
           let ours_mid = inv.1 (clean_mid before) inside ours in
-          c.in_ok-expire.ensures.keeps.ours clean (saw.inside before inside) (still_ours mid seen (c.in_ok-left.ensures.keeps.same before ours_mid) ours_mid),
+          c.in_ok-expire.ensures.keeps.ours clean (saw.inside before inside) (still_ours mid seen (c.in_ok-left.ensures.does.keeps.same before ours_mid) ours_mid),
       λ clean inside ours s are.
           let before = clean_seen clean in
           let ours_mid = inv.1 (clean_mid before) inside ours in
           let z = inv.2 (clean_mid before) inside ours s are in
-          let same = c.in_ok-left.ensures.keeps.same before ours_mid in
-          let read = subst (λ m. IsLeftBefore m (tables_of mid) c.in_ok-left.field-0) c.saturating_sub-moment.ensures (c.in_ok-left.ensures.ok before ours_mid) in
+          let same = c.in_ok-left.ensures.does.keeps.same before ours_mid in
+          let read = subst (λ m. IsLeftBefore m (tables_of mid) c.in_ok-left.field-0) c.saturating_sub-moment.ensures (c.in_ok-left.ensures.does.ok before ours_mid) in
           one_more config clock c.uploads.passed s (tables_of mid) z c.in_ok-left.field-0 read c.in-Some.left c.in-Some.is (tables_of new)
           (c.in_ok-expire.ensures.map clean (saw.inside before inside) (still_ours mid seen same ours_mid) z.left (subst (λ (t : Tables). TablesAre t z.left) (sym (same_tables mid seen same)) z.are)),
     )
@@ -50,11 +50,11 @@ returns-in_default-clause-map g c clean inside ours s are =
     let mid = g.T.Statements.state c.uploads.tx in
     let seen = g.T.Statements.state c.left_before.new.tx in
     let inv = c.uploads.invariant in
-    let before = clean_before c.left_before.ensures.keeps.stays clean in
+    let before = clean_before c.left_before.ensures.does.keeps.stays clean in
     let ours_mid = inv.1 before inside ours in
     let z = inv.2 before inside ours s are in
-    let same = c.in_ok-left.ensures.keeps.same clean ours_mid in
-    let read = subst (λ m. IsLeftBefore m (tables_of mid) c.in_ok-left.field-0) c.saturating_sub-moment.ensures (c.in_ok-left.ensures.ok clean ours_mid) in
+    let same = c.in_ok-left.ensures.does.keeps.same clean ours_mid in
+    let read = subst (λ m. IsLeftBefore m (tables_of mid) c.in_ok-left.field-0) c.saturating_sub-moment.ensures (c.in_ok-left.ensures.does.ok clean ours_mid) in
     subst (λ (t : Tables). TablesAre t (expired_all c.args.config.now c.args.clock s)) (sym (same_tables mid seen same))
     (all_expired c.args.config.now c.args.clock c.uploads.passed s (tables_of mid) z c.in_ok-left.field-0 read c.in_default.is)
 
@@ -67,7 +67,7 @@ returns-in_err-left-clause-cause g c clean inside ours s are below storable =
     let new = c.left_before.new.tx in
     let moment : c.saturating_sub-moment.result ≡ clock - config.staging_max_idle = c.saturating_sub-moment.ensures in
     if_err_is _ c.from_residual.result c.in_err-left.field-0.0 c.from_residual.ensures.1 (fails_then g.T.Statements.state old mid new c.uploads.invariant.0.survives (FailsToExpireAll config clock s.uploads) _
-    (looked (rw moment at (c.in_err-left.ensures.cause (omega (arith, below, moment)) clean))))
+    (looked (rw moment at (c.in_err-left.ensures.does.cause (omega (arith, below, moment)) clean))))
 
 pub returns-in_err-expire-clause-cause : goal.returns-in_err-expire-clause-cause
 returns-in_err-expire-clause-cause g c clean inside ours s are below storable =
@@ -79,11 +79,11 @@ returns-in_err-expire-clause-cause g c clean inside ours s are below storable =
     let new = c.expire.new.tx in
     let inv = c.uploads.invariant in
     let clean_seen = clean_before c.expire.ensures.keeps.stays clean in
-    let clean_mid = clean_before c.left_before.ensures.keeps.stays clean_seen in
-    let saw = stays_then inv.0 c.in_ok-left.ensures.keeps.stays in
+    let clean_mid = clean_before c.left_before.ensures.does.keeps.stays clean_seen in
+    let saw = stays_then inv.0 c.in_ok-left.ensures.does.keeps.stays in
     let ours_mid = inv.1 clean_mid inside ours in
     let z = inv.2 clean_mid inside ours s are in
-    let read = subst (λ m. IsLeftBefore m (tables_of (g.T.Statements.state mid)) c.in_ok-left.field-0) c.saturating_sub-moment.ensures (c.in_ok-left.ensures.ok clean_seen ours_mid) in
+    let read = subst (λ m. IsLeftBefore m (tables_of (g.T.Statements.state mid)) c.in_ok-left.field-0) c.saturating_sub-moment.ensures (c.in_ok-left.ensures.does.ok clean_seen ours_mid) in
     let u = c.in-Some.left.upload in
     let idle = z.idle u (found_idle config clock c.uploads.passed s (tables_of (g.T.Statements.state mid)) z c.in_ok-left.field-0 read c.in-Some.left c.in-Some.is) in
     if_err_is _ c.from_residual-in_err-expire.result c.in_err-expire.field-0.0 c.from_residual-in_err-expire.ensures.1 (fails_later g.T.Statements.state old seen new saw.survives (FailsToExpire u) (FailsToExpireAll config clock s.uploads)
@@ -96,19 +96,19 @@ returns-clause-cause g c clean inside ours s are below storable =
     absurd (omega (arith, z.count, few_uploads s.uploads storable, c.uploads-test.false))
 
 pub returns-in_err-left-clause-keeps : goal.returns-in_err-left-clause-keeps
-returns-in_err-left-clause-keeps g c = changes_err c.from_residual.ensures.0 (stays_then c.uploads.invariant.0 c.left_before.ensures.keeps.stays)
+returns-in_err-left-clause-keeps g c = changes_err c.from_residual.ensures.0 (stays_then c.uploads.invariant.0 c.left_before.ensures.does.keeps.stays)
 
 pub returns-in_default-clause-keeps : goal.returns-in_default-clause-keeps
 returns-in_default-clause-keeps g c =
     record {
-      stays = stays_ok (stays_then c.uploads.invariant.0 c.in_ok-left.ensures.keeps.stays);
+      stays = stays_ok (stays_then c.uploads.invariant.0 c.in_ok-left.ensures.does.keeps.stays);
       ours = λ clean inside ours.
-          let ours_mid = c.uploads.invariant.1 (clean_before c.left_before.ensures.keeps.stays clean) inside ours in
-          still_ours (g.T.Statements.state c.uploads.tx) (g.T.Statements.state c.left_before.new.tx) (c.in_ok-left.ensures.keeps.same clean ours_mid) ours_mid;
+          let ours_mid = c.uploads.invariant.1 (clean_before c.left_before.ensures.does.keeps.stays clean) inside ours in
+          still_ours (g.T.Statements.state c.uploads.tx) (g.T.Statements.state c.left_before.new.tx) (c.in_ok-left.ensures.does.keeps.same clean ours_mid) ours_mid;
     }
 
 pub returns-in_err-expire-clause-keeps : goal.returns-in_err-expire-clause-keeps
-returns-in_err-expire-clause-keeps g c = changes_err c.from_residual-in_err-expire.ensures.0 (stays_then (stays_then c.uploads.invariant.0 c.in_ok-left.ensures.keeps.stays) c.expire.ensures.keeps.stays)
+returns-in_err-expire-clause-keeps g c = changes_err c.from_residual-in_err-expire.ensures.0 (stays_then (stays_then c.uploads.invariant.0 c.in_ok-left.ensures.does.keeps.stays) c.expire.ensures.keeps.stays)
 
 pub returns-clause-keeps : goal.returns-clause-keeps
 returns-clause-keeps g c = changes_err refl c.uploads.invariant.0

@@ -15,6 +15,6 @@ pub returns-clause-map : goal.returns-clause-map
 returns-clause-map g c clean inside ours s are is =
     let old = g.T.Statements.state c.args.tx.now in
     let new = g.T.Statements.state c.write_state.new.tx in
-    ok_then c.write_state.result (c.write_state.ensures.ok clean inside ours)
+    ok_then c.write_state.result (c.write_state.ensures.does.ok clean inside ours)
     (λ wrote. subst (λ k. TablesAre (tables_of new) (with_counters s c.args.clock k)) (ap (λ (r : StateRow). r.next) is)
     (subst (λ (t : Tables). TablesAre t (with_counters s c.args.clock c.args.row.now.next)) (sym wrote.rows) (state_written (tables_of old) s are c.args.clock c.args.row.now.next)))

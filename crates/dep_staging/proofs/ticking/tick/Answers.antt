@@ -25,12 +25,12 @@ returns-clause-map g c clean inside ours s are zero_free =
     let new = g.T.Statements.state c.expire_idle.new.tx in
     let clean_two = clean_before c.expire_idle.ensures.keeps.stays clean in
     let clean_one = clean_before c.set_clock.ensures.keeps.stays clean_two in
-    let same = c.in_ok-row.ensures.keeps.same clean_one ours in
+    let same = c.in_ok-row.ensures.does.keeps.same clean_one ours in
     let row = c.in_ok-row.row in
     let clock = c.max-clock.result in
-    let is : row ≡ state_row s = state_read (tables_of old) s are row (c.in_ok-row.ensures.ok clean_one ours) in
+    let is : row ≡ state_row s = state_read (tables_of old) s are row (c.in_ok-row.ensures.does.ok clean_one ours) in
     let now = ticked_clock s c.args.moment row clock is (c.max-clock.ensures ∙ ap (max row.clock) c.min.ensures) in
-    let inside_one = c.in_ok-row.ensures.keeps.stays.inside clean_one inside in
+    let inside_one = c.in_ok-row.ensures.does.keeps.stays.inside clean_one inside in
     let ours_one = still_ours old one same ours in
     let are_one = subst (λ (t : Tables). TablesAre t s) (sym (same_tables old one same)) are in
     let set = c.in_ok-set_clock.ensures.map clean_two inside_one ours_one s are_one is in
@@ -42,7 +42,7 @@ pub returns-in_err-row-clause-cause : goal.returns-in_err-row-clause-cause
 returns-in_err-row-clause-cause g c clean inside ours s are sound =
     let old = c.args.tx.now in
     if_err_is _ c.from_residual.result c.in_err-row.field-0.0 c.from_residual.ensures.1 (fails_then g.T.Statements.state old old c.read_state.new.tx (survives_itself (g.T.Statements.state old)) (FailsToTick c.args.config.now s c.args.moment) _
-    (read (c.in_err-row.ensures.cause clean)))
+    (read (c.in_err-row.ensures.does.cause tt clean)))
 
 pub returns-in_err-set_clock-clause-cause : goal.returns-in_err-set_clock-clause-cause
 returns-in_err-set_clock-clause-cause g c clean inside ours s are sound =
@@ -51,12 +51,12 @@ returns-in_err-set_clock-clause-cause g c clean inside ours s are sound =
     let new = c.set_clock.new.tx in
     let before = clean_before c.set_clock.ensures.keeps.stays clean in
     let row = c.in_ok-row.row in
-    let is : row ≡ state_row s = state_read (tables_of (g.T.Statements.state old)) s are row (c.in_ok-row.ensures.ok before ours) in
+    let is : row ≡ state_row s = state_read (tables_of (g.T.Statements.state old)) s are row (c.in_ok-row.ensures.does.ok before ours) in
     let now = ticked_clock s c.args.moment row c.max-clock.result is (c.max-clock.ensures ∙ ap (max row.clock) c.min.ensures) in
     let told = ticked_row c.args.config.now s c.args.moment row c.max-clock.result is now in
-    if_err_is _ c.from_residual-in_err-set_clock.result c.in_err-set_clock.field-0.0 c.from_residual-in_err-set_clock.ensures.1 (fails_then g.T.Statements.state old one new c.read_state.ensures.keeps.stays.survives (FailsToTick c.args.config.now s c.args.moment) c.in_err-set_clock.field-0.0
+    if_err_is _ c.from_residual-in_err-set_clock.result c.in_err-set_clock.field-0.0 c.from_residual-in_err-set_clock.ensures.1 (fails_then g.T.Statements.state old one new c.read_state.ensures.does.keeps.stays.survives (FailsToTick c.args.config.now s c.args.moment) c.in_err-set_clock.field-0.0
     (written (subst (λ (r : StateRow). FailsToRun write_state_text (state_values r) (g.T.Statements.state one) (g.T.Statements.state new) c.in_err-set_clock.field-0.0) told
-    (c.in_err-set_clock.ensures.cause (subst IsStorableState (sym told) (storable_tick c.args.config.now s c.args.moment sound)) clean (c.in_ok-row.ensures.keeps.stays.inside before inside)))))
+    (c.in_err-set_clock.ensures.cause (subst IsStorableState (sym told) (storable_tick c.args.config.now s c.args.moment sound)) clean (c.in_ok-row.ensures.does.keeps.stays.inside before inside)))))
 
 pub returns-in_err-expire_idle-clause-cause : goal.returns-in_err-expire_idle-clause-cause
 returns-in_err-expire_idle-clause-cause g c clean inside ours s are sound =
@@ -67,30 +67,30 @@ returns-in_err-expire_idle-clause-cause g c clean inside ours s are sound =
     let new = c.expire_idle.new.tx in
     let clean_two = clean_before c.expire_idle.ensures.keeps.stays clean in
     let clean_one = clean_before c.set_clock.ensures.keeps.stays clean_two in
-    let same = c.in_ok-row.ensures.keeps.same clean_one ours in
+    let same = c.in_ok-row.ensures.does.keeps.same clean_one ours in
     let row = c.in_ok-row.row in
     let clock = c.max-clock.result in
-    let is : row ≡ state_row s = state_read (tables_of (g.T.Statements.state old)) s are row (c.in_ok-row.ensures.ok clean_one ours) in
+    let is : row ≡ state_row s = state_read (tables_of (g.T.Statements.state old)) s are row (c.in_ok-row.ensures.does.ok clean_one ours) in
     let now = ticked_clock s c.args.moment row clock is (c.max-clock.ensures ∙ ap (max row.clock) c.min.ensures) in
-    let inside_one = c.in_ok-row.ensures.keeps.stays.inside clean_one inside in
+    let inside_one = c.in_ok-row.ensures.does.keeps.stays.inside clean_one inside in
     let ours_one = still_ours (g.T.Statements.state old) (g.T.Statements.state one) same ours in
     let are_one = subst (λ (t : Tables). TablesAre t s) (sym (same_tables (g.T.Statements.state old) (g.T.Statements.state one) same)) are in
     let set = c.in_ok-set_clock.ensures.map clean_two inside_one ours_one s are_one is in
     let was : State = record s { clock = clock } in
-    let set_stays = stays_then c.in_ok-row.ensures.keeps.stays c.in_ok-set_clock.ensures.keeps.stays in
+    let set_stays = stays_then c.in_ok-row.ensures.does.keeps.stays c.in_ok-set_clock.ensures.keeps.stays in
     if_err_is _ c.from_residual-in_err-expire_idle.result c.in_err-expire_idle.field-0.0 c.from_residual-in_err-expire_idle.ensures.1 (fails_later g.T.Statements.state old two new set_stays.survives (FailsToExpireAll config clock s.uploads) (FailsToTick config s c.args.moment)
     (λ at later fault failed. expired (subst (λ k. FailsToExpireAll config k s.uploads at later fault) now failed)) _
     (c.in_err-expire_idle.ensures.cause clean (set_stays.inside clean_two inside) (c.in_ok-set_clock.ensures.keeps.ours clean_two inside_one ours_one) was set
     (subst (λ k. k < 2 ^ 63) (sym now) (storable_tick config s c.args.moment sound).clock) (storable_uploads s sound)))
 
 pub returns-in_err-set_clock-clause-keeps : goal.returns-in_err-set_clock-clause-keeps
-returns-in_err-set_clock-clause-keeps g c = changes_err c.from_residual-in_err-set_clock.ensures.0 (stays_then c.in_ok-row.ensures.keeps.stays c.set_clock.ensures.keeps.stays)
+returns-in_err-set_clock-clause-keeps g c = changes_err c.from_residual-in_err-set_clock.ensures.0 (stays_then c.in_ok-row.ensures.does.keeps.stays c.set_clock.ensures.keeps.stays)
 
 pub returns-in_err-expire_idle-clause-keeps : goal.returns-in_err-expire_idle-clause-keeps
-returns-in_err-expire_idle-clause-keeps g c = changes_err c.from_residual-in_err-expire_idle.ensures.0 (stays_then (stays_then c.in_ok-row.ensures.keeps.stays c.in_ok-set_clock.ensures.keeps.stays) c.expire_idle.ensures.keeps.stays)
+returns-in_err-expire_idle-clause-keeps g c = changes_err c.from_residual-in_err-expire_idle.ensures.0 (stays_then (stays_then c.in_ok-row.ensures.does.keeps.stays c.in_ok-set_clock.ensures.keeps.stays) c.expire_idle.ensures.keeps.stays)
 
 pub returns-in_err-row-clause-keeps : goal.returns-in_err-row-clause-keeps
-returns-in_err-row-clause-keeps g c = changes_err c.from_residual.ensures.0 c.in_err-row.ensures.keeps.stays
+returns-in_err-row-clause-keeps g c = changes_err c.from_residual.ensures.0 c.in_err-row.ensures.does.keeps.stays
 
 pub returns-clause-keeps : goal.returns-clause-keeps
-returns-clause-keeps g c = changes_ok (changes_then (changes_then (reads_change c.in_ok-row.ensures.keeps) c.in_ok-set_clock.ensures.keeps) c.in_ok-expire_idle.ensures.keeps)
+returns-clause-keeps g c = changes_ok (changes_then (changes_then (reads_change c.in_ok-row.ensures.does.keeps) c.in_ok-set_clock.ensures.keeps) c.in_ok-expire_idle.ensures.keeps)

@@ -17,13 +17,13 @@ returns-clause-map g c clean inside ours s are =
     let two = g.T.Statements.state c.delete_sha512.new.tx in
     let three = g.T.Statements.state c.delete_segments.new.tx in
     let new = g.T.Statements.state c.delete_upload.new.tx in
-    let clean_three = clean_before c.delete_upload.ensures.keeps.stays clean in
-    let clean_two = clean_before c.delete_segments.ensures.keeps.stays clean_three in
-    let clean_one = clean_before c.delete_sha512.ensures.keeps.stays clean_two in
+    let clean_three = clean_before c.delete_upload.ensures.does.keeps.stays clean in
+    let clean_two = clean_before c.delete_segments.ensures.does.keeps.stays clean_three in
+    let clean_one = clean_before c.delete_sha512.ensures.does.keeps.stays clean_two in
     let first = c.in_ok-delete_blocks.ensures.ok clean_one inside ours in
-    let second = c.in_ok-delete_sha512.ensures.ok clean_two (c.in_ok-delete_blocks.ensures.stays.inside clean_one inside) first.ours in
-    let third = c.in_ok-delete_segments.ensures.ok clean_three second.shows.mode second.ours in
-    ok_then c.delete_upload.result (c.delete_upload.ensures.ok clean third.shows.mode third.ours)
+    let second = c.in_ok-delete_sha512.ensures.does.ok clean_two (c.in_ok-delete_blocks.ensures.stays.inside clean_one inside) first.ours in
+    let third = c.in_ok-delete_segments.ensures.does.ok clean_three second.shows.mode second.ours in
+    ok_then c.delete_upload.result (c.delete_upload.ensures.does.ok clean third.shows.mode third.ours)
     (λ leads. dropped (tables_of old) (tables_of one) (tables_of two) (tables_of three) (tables_of new) s c.args.upload are first.rows second.rows third.rows leads.rows)
 
 pub returns-in_err-delete_blocks-clause-cause : goal.returns-in_err-delete_blocks-clause-cause
@@ -37,28 +37,28 @@ returns-in_err-delete_sha512-clause-cause g c storable clean inside =
     let one = c.delete_blocks.new.tx in
     let new = c.delete_sha512.new.tx in
     let stays = c.in_ok-delete_blocks.ensures.stays in
-    let within = stays.inside (clean_before c.delete_sha512.ensures.keeps.stays clean) inside in
+    let within = stays.inside (clean_before c.delete_sha512.ensures.does.keeps.stays clean) inside in
     if_err_is _ c.from_residual-in_err-delete_sha512.result c.in_err-delete_sha512.field-0.0 c.from_residual-in_err-delete_sha512.ensures.1 (fails_then g.T.Statements.state old one new stays.survives (FailsToDrop c.args.upload) _
-    (promise (c.in_err-delete_sha512.ensures.cause storable clean within)))
+    (promise (c.in_err-delete_sha512.ensures.does.cause storable clean within)))
 
 pub returns-in_err-delete_segments-clause-cause : goal.returns-in_err-delete_segments-clause-cause
 returns-in_err-delete_segments-clause-cause g c storable clean inside =
     let old = c.args.tx.now in
     let two = c.delete_sha512.new.tx in
     let new = c.delete_segments.new.tx in
-    let stays = stays_then c.in_ok-delete_blocks.ensures.stays c.in_ok-delete_sha512.ensures.keeps.stays in
-    let within = stays.inside (clean_before c.delete_segments.ensures.keeps.stays clean) inside in
+    let stays = stays_then c.in_ok-delete_blocks.ensures.stays c.in_ok-delete_sha512.ensures.does.keeps.stays in
+    let within = stays.inside (clean_before c.delete_segments.ensures.does.keeps.stays clean) inside in
     if_err_is _ c.from_residual-in_err-delete_segments.result c.in_err-delete_segments.field-0.0 c.from_residual-in_err-delete_segments.ensures.1 (fails_then g.T.Statements.state old two new stays.survives (FailsToDrop c.args.upload) _
-    (segments (c.in_err-delete_segments.ensures.cause storable clean within)))
+    (segments (c.in_err-delete_segments.ensures.does.cause storable clean within)))
 
 pub returns-clause-cause : goal.returns-clause-cause
 returns-clause-cause g c storable clean inside =
     let old = c.args.tx.now in
     let three = c.delete_segments.new.tx in
     let new = c.delete_upload.new.tx in
-    let stays = stays_then (stays_then c.in_ok-delete_blocks.ensures.stays c.in_ok-delete_sha512.ensures.keeps.stays) c.in_ok-delete_segments.ensures.keeps.stays in
-    let within = stays.inside (clean_before c.delete_upload.ensures.keeps.stays clean) inside in
-    if_err_then c.delete_upload.result (c.delete_upload.ensures.cause storable clean within)
+    let stays = stays_then (stays_then c.in_ok-delete_blocks.ensures.stays c.in_ok-delete_sha512.ensures.does.keeps.stays) c.in_ok-delete_segments.ensures.does.keeps.stays in
+    let within = stays.inside (clean_before c.delete_upload.ensures.does.keeps.stays clean) inside in
+    if_err_then c.delete_upload.result (c.delete_upload.ensures.does.cause storable clean within)
     (λ fault failed. fails_then g.T.Statements.state old three new stays.survives (FailsToDrop c.args.upload) fault (row failed))
 
 pub returns-in_err-delete_sha512-clause-numbers : goal.returns-in_err-delete_sha512-clause-numbers
@@ -71,11 +71,11 @@ pub returns-clause-numbers : goal.returns-clause-numbers
 returns-clause-numbers g c great = never_failed _ _ (c.in_ok-delete_blocks.ensures.numbers great).0
 
 pub returns-in_err-delete_sha512-clause-keeps : goal.returns-in_err-delete_sha512-clause-keeps
-returns-in_err-delete_sha512-clause-keeps g c = changes_err c.from_residual-in_err-delete_sha512.ensures.0 (stays_then c.in_ok-delete_blocks.ensures.stays c.delete_sha512.ensures.keeps.stays)
+returns-in_err-delete_sha512-clause-keeps g c = changes_err c.from_residual-in_err-delete_sha512.ensures.0 (stays_then c.in_ok-delete_blocks.ensures.stays c.delete_sha512.ensures.does.keeps.stays)
 
 pub returns-in_err-delete_segments-clause-keeps : goal.returns-in_err-delete_segments-clause-keeps
-returns-in_err-delete_segments-clause-keeps g c = changes_err c.from_residual-in_err-delete_segments.ensures.0 (stays_then (stays_then c.in_ok-delete_blocks.ensures.stays c.in_ok-delete_sha512.ensures.keeps.stays) c.delete_segments.ensures.keeps.stays)
+returns-in_err-delete_segments-clause-keeps g c = changes_err c.from_residual-in_err-delete_segments.ensures.0 (stays_then (stays_then c.in_ok-delete_blocks.ensures.stays c.in_ok-delete_sha512.ensures.does.keeps.stays) c.delete_segments.ensures.does.keeps.stays)
 
 pub returns-clause-keeps : goal.returns-clause-keeps
 returns-clause-keeps g c =
-    changes_then (changes_then (changes_then (by_sees _ c.in_ok-delete_blocks.ensures.stays c.in_ok-delete_blocks.ensures.ok) (by_leads _ c.in_ok-delete_sha512.ensures.keeps.stays c.in_ok-delete_sha512.ensures.ok)) (by_leads _ c.in_ok-delete_segments.ensures.keeps.stays c.in_ok-delete_segments.ensures.ok)) (by_leads _ c.delete_upload.ensures.keeps.stays c.delete_upload.ensures.ok)
+    changes_then (changes_then (changes_then (by_sees _ c.in_ok-delete_blocks.ensures.stays c.in_ok-delete_blocks.ensures.ok) (by_leads _ c.in_ok-delete_sha512.ensures.does.keeps.stays c.in_ok-delete_sha512.ensures.does.ok)) (by_leads _ c.in_ok-delete_segments.ensures.does.keeps.stays c.in_ok-delete_segments.ensures.does.ok)) (by_leads _ c.delete_upload.ensures.does.keeps.stays c.delete_upload.ensures.does.ok)

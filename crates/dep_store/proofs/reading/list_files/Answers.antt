@@ -12,7 +12,7 @@ returns-in_err-found g c =
     let left : c.sha256s_of.new.tx.tx.now ≡ c.tx-2-1.given.0 = search rules in
     let inside = c.tx-2-1.given.0.conn.now in
     let new = c.drop-tx.new.self.0 in
-    let work = works_within g.S.Store old new c.in_err-found.ensures.keeps.stays c.transaction-tx.ensures.begun left (λ is_open trees h. g.met.S.Store.settled old.store trees is_open h)
+    let work = works_within g.S.Store old new c.in_err-found.ensures.does.keeps.stays c.transaction-tx.ensures.begun left (λ is_open trees h. g.met.S.Store.settled old.store trees is_open h)
     (clean_if_open (g.S.Store.view new.store) (g.met.S.Store.shut_if_dirty new.store)) in
     let same : new ≡ c.connection-1.given.0 = search rules in
     record {
@@ -27,13 +27,14 @@ returns g c =
     let left : c.sha256s_of.new.tx.tx.now ≡ c.tx-2-1.given.0 = search rules in
     let inside = c.tx-2-1.given.0.conn.now in
     let new = c.commit.new.tx.0 in
-    let worked = rw (c.transaction-tx.ensures.begun, left) at c.in_ok-found.ensures in
-    let work = works_within g.S.Store old new c.in_ok-found.ensures.keeps.stays c.transaction-tx.ensures.begun left (λ is_open trees h. g.met.S.Store.settled old.store trees is_open h)
+    let asked = rw (c.transaction-tx.ensures.begun, left) at c.in_ok-found.ensures.does.ok in
+    let unchanged = rw (c.transaction-tx.ensures.begun, left) at c.in_ok-found.ensures.does.keeps.same in
+    let work = works_within g.S.Store old new c.in_ok-found.ensures.does.keeps.stays c.transaction-tx.ensures.begun left (λ is_open trees h. g.met.S.Store.settled old.store trees is_open h)
     (clean_if_open (g.S.Store.view new.store) (g.met.S.Store.shut_if_dirty new.store)) in
     let same : new ≡ c.connection-2-1.given.0 = search rules in
     record {
       transacts = committed g.S.Store old inside new _ _ work
-          (tells g.S.Store old inside (λ t rows. AreSha256sOf c.args.object t rows.items) c.in_ok-found.found worked.ok worked.keeps.same)
+          (tells g.S.Store old inside (λ t rows. AreSha256sOf c.args.object t rows.items) c.in_ok-found.found asked unchanged)
           c.in_ok-commit.ensures.ok c.commit.ensures.survives _ same;
       opened = began_open g.S.Store old inside new work
           c.in_ok-commit.ensures.ok c.commit.ensures.survives _ same;
@@ -45,14 +46,15 @@ returns-in_err-commit g c =
     let left : c.sha256s_of.new.tx.tx.now ≡ c.tx-2-1.given.0 = search rules in
     let inside = c.tx-2-1.given.0.conn.now in
     let new = c.commit.new.tx.0 in
-    let worked = rw (c.transaction-tx.ensures.begun, left) at c.in_ok-found.ensures in
-    let work = works_within g.S.Store old new c.in_ok-found.ensures.keeps.stays c.transaction-tx.ensures.begun left (λ is_open trees h. g.met.S.Store.settled old.store trees is_open h)
+    let asked = rw (c.transaction-tx.ensures.begun, left) at c.in_ok-found.ensures.does.ok in
+    let unchanged = rw (c.transaction-tx.ensures.begun, left) at c.in_ok-found.ensures.does.keeps.same in
+    let work = works_within g.S.Store old new c.in_ok-found.ensures.does.keeps.stays c.transaction-tx.ensures.begun left (λ is_open trees h. g.met.S.Store.settled old.store trees is_open h)
     (clean_if_open (g.S.Store.view new.store) (g.met.S.Store.shut_if_dirty new.store)) in
     let same : new ≡ c.connection-2-1.given.0 = search rules in
     let told = err_from_is_err_and c.from_residual-in_err-commit.result c.from_residual-in_err-commit.ensures.1 in
     rw (told.1, told.2) (record {
       transacts = uncommitted g.S.Store old inside new _ c.in_ok-found.found c.in_err-commit.field-0.0 work
-          (tells g.S.Store old inside (λ t rows. AreSha256sOf c.args.object t rows.items) c.in_ok-found.found worked.ok worked.keeps.same)
-          (still_inside g.S.Store old c.in_ok-found.ensures.keeps.stays c.transaction-tx.ensures.begun left) c.in_err-commit.ensures.err c.commit.ensures.survives _ same;
+          (tells g.S.Store old inside (λ t rows. AreSha256sOf c.args.object t rows.items) c.in_ok-found.found asked unchanged)
+          (still_inside g.S.Store old c.in_ok-found.ensures.does.keeps.stays c.transaction-tx.ensures.begun left) c.in_err-commit.ensures.err c.commit.ensures.survives _ same;
       opened = λ clean. tt;
     })

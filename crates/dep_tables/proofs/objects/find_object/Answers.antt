@@ -1,15 +1,10 @@
-use Rattle.dep_tables.specs.Texts.{find_object_text}
-use Rattle.dep_tables.proofs.Results.{if_then}
-use Rattle.dep_tables.proofs.Leading.{plain_here}
+use Rattle.std.proofs.Common.{arith}
+use Rattle.dep_tables.proofs.Done.{refuses_query, asks}
 use Rattle.dep_tables.proofs.ObjectsTable.{finds_object, find_is}
-use Rattle.dep_tables.proofs.Chains.{plain_reads}
 use Rattle.dep_tables.proofs.objects.find_object.Goals as goal
 
-pub returns-clause-ok : goal.returns-clause-ok
-returns-clause-ok g c clean ours = if_then c.ask_one.result (c.ask_one.ensures.shown clean) (λ found read. finds_object (g.T.Statements.state c.args.tx.now) (g.T.Statements.state c.ask_one.new.tx) c.args.object found ours (rw c.key_param.ensures at read))
+pub returns-then-object-ge-LIMIT : goal.returns-then-object-ge-LIMIT
+returns-then-object-ge-LIMIT g c = record { does = refuses_query _ (omega (arith, c.if-object-ge-LIMIT.true)) }
 
-pub returns-clause-keeps : goal.returns-clause-keeps
-returns-clause-keeps g c = plain_reads c.ask_one.ensures.keeps (λ ours. plain_here (g.T.Statements.state c.args.tx.now) find_object_text ours find_is.plain)
-
-pub returns-clause-cause : goal.returns-clause-cause
-returns-clause-cause g c storable clean = rw c.key_param.ensures at (c.ask_one.ensures.cause clean)
+pub returns : goal.returns
+returns g c = record { does = asks _ 6 (omega (arith, c.if-object-ge-LIMIT.false)) c.key_param.ensures find_is.plain c.ask_one.ensures.shown c.ask_one.ensures.cause c.ask_one.ensures.keeps (finds_object _ _ c.args.object) }

@@ -1,21 +1,10 @@
-use Rattle.dep_tables.proofs.Results.{ok_then, not_storable, is_storable}
+use Rattle.dep_tables.proofs.Results.{not_storable}
+use Rattle.dep_tables.proofs.Done.{refuses, runs}
 use Rattle.dep_tables.proofs.ObjectsTable.{writes_object}
 use Rattle.dep_tables.proofs.objects.write_object.Goals as goal
 
-pub returns-clause-ok : goal.returns-clause-ok
-returns-clause-ok g c clean inside ours = ok_then c.run.result (c.run.ensures.runs clean inside) (λ ran. writes_object (g.T.Statements.state c.args.tx.now) (g.T.Statements.state c.run.new.self) c.args.row.now ran.0 ours (rw c.object_params.ensures at ran.1))
+pub returns-then-not-is_storable_object : goal.returns-then-not-is_storable_object
+returns-then-not-is_storable_object g c = record { does = refuses _ (not_storable c.is_storable_object.result c.if-not-is_storable_object.true c.is_storable_object.ensures.1) }
 
-pub returns-clause-cause : goal.returns-clause-cause
-returns-clause-cause g c storable clean inside = rw c.object_params.ensures at (c.run.ensures.cause clean inside)
-
-pub returns-then-not-is_storable_object-clause-ok : goal.returns-then-not-is_storable_object-clause-ok
-returns-then-not-is_storable_object-clause-ok g c clean inside ours = tt
-
-pub returns-clause-numbers : goal.returns-clause-numbers
-returns-clause-numbers g c = is_storable c.is_storable_object.result c.if-not-is_storable_object.false c.is_storable_object.ensures.0
-
-pub returns-then-not-is_storable_object-clause-cause : goal.returns-then-not-is_storable_object-clause-cause
-returns-then-not-is_storable_object-clause-cause g c = not_storable c.is_storable_object.result c.if-not-is_storable_object.true c.is_storable_object.ensures.1
-
-pub returns-clause-keeps : goal.returns-clause-keeps
-returns-clause-keeps g c = c.run.ensures.keeps
+pub returns : goal.returns
+returns g c = record { does = runs _ (c.is_storable_object.ensures.0 c.if-not-is_storable_object.false) c.object_params.ensures c.run.ensures.runs c.run.ensures.cause c.run.ensures.keeps (writes_object _ _ c.args.row.now) }

@@ -1,27 +1,13 @@
-use Rattle.dep_tables.proofs.Results.{ok_then, not_storable, is_storable}
+use Rattle.dep_tables.proofs.Results.{ok_then, not_storable}
+use Rattle.dep_tables.proofs.Done.{refuses, runs}
 use Rattle.dep_tables.proofs.SegmentsTable.{inserts_segment}
 use Rattle.dep_tables.proofs.segments.insert_segment.Goals as goal
 
-pub returns-clause-ok : goal.returns-clause-ok
-returns-clause-ok g c clean inside ours = ok_then c.run.result (c.run.ensures.runs clean inside) (λ ran. (inserts_segment (g.T.Statements.state c.args.tx.now) (g.T.Statements.state c.run.new.self) c.args.row.now ran.0 ours (rw c.segment_params.ensures at ran.1)).0)
+pub returns-then-not-is_storable_segment : goal.returns-then-not-is_storable_segment
+returns-then-not-is_storable_segment g c = record { does = refuses _ (not_storable c.is_storable_segment.result c.if-not-is_storable_segment.true c.is_storable_segment.ensures.1); free = λ clean inside ours. tt }
 
-pub returns-clause-free : goal.returns-clause-free
-returns-clause-free g c clean inside ours = ok_then c.run.result (c.run.ensures.runs clean inside) (λ ran. (inserts_segment (g.T.Statements.state c.args.tx.now) (g.T.Statements.state c.run.new.self) c.args.row.now ran.0 ours (rw c.segment_params.ensures at ran.1)).1)
-
-pub returns-clause-cause : goal.returns-clause-cause
-returns-clause-cause g c storable clean inside = rw c.segment_params.ensures at (c.run.ensures.cause clean inside)
-
-pub returns-then-not-is_storable_segment-clause-ok : goal.returns-then-not-is_storable_segment-clause-ok
-returns-then-not-is_storable_segment-clause-ok g c clean inside ours = tt
-
-pub returns-then-not-is_storable_segment-clause-free : goal.returns-then-not-is_storable_segment-clause-free
-returns-then-not-is_storable_segment-clause-free g c clean inside ours = tt
-
-pub returns-clause-numbers : goal.returns-clause-numbers
-returns-clause-numbers g c = is_storable c.is_storable_segment.result c.if-not-is_storable_segment.false c.is_storable_segment.ensures.0
-
-pub returns-then-not-is_storable_segment-clause-cause : goal.returns-then-not-is_storable_segment-clause-cause
-returns-then-not-is_storable_segment-clause-cause g c = not_storable c.is_storable_segment.result c.if-not-is_storable_segment.true c.is_storable_segment.ensures.1
-
-pub returns-clause-keeps : goal.returns-clause-keeps
-returns-clause-keeps g c = c.run.ensures.keeps
+pub returns : goal.returns
+returns g c = record {
+  does = runs _ (c.is_storable_segment.ensures.0 c.if-not-is_storable_segment.false) c.segment_params.ensures c.run.ensures.runs c.run.ensures.cause c.run.ensures.keeps (λ count ours ran. (inserts_segment _ _ c.args.row.now count ours ran).0);
+  free = λ clean inside ours. ok_then c.run.result (c.run.ensures.runs clean inside) (λ ran. (inserts_segment _ _ c.args.row.now ran.0 ours (rw c.segment_params.ensures at ran.1)).1);
+}

@@ -1,15 +1,10 @@
-use Rattle.dep_tables.specs.Texts.{segments_of_text}
-use Rattle.dep_tables.proofs.Results.{if_then}
-use Rattle.dep_tables.proofs.Leading.{plain_here}
+use Rattle.std.proofs.Common.{arith}
+use Rattle.dep_tables.proofs.Done.{refuses_query, asks}
 use Rattle.dep_tables.proofs.SegmentsTable.{lists_segments, list_is}
-use Rattle.dep_tables.proofs.Chains.{plain_reads}
 use Rattle.dep_tables.proofs.segments.segments_of.Goals as goal
 
-pub returns-clause-ok : goal.returns-clause-ok
-returns-clause-ok g c clean ours = if_then c.ask_all.result (c.ask_all.ensures.shown clean) (λ found read. lists_segments (g.T.Statements.state c.args.tx.now) (g.T.Statements.state c.ask_all.new.tx) c.args.upload found.items ours (rw c.key_param.ensures at read))
+pub returns-then-upload-ge-LIMIT : goal.returns-then-upload-ge-LIMIT
+returns-then-upload-ge-LIMIT g c = record { does = refuses_query _ (omega (arith, c.if-upload-ge-LIMIT.true)) }
 
-pub returns-clause-keeps : goal.returns-clause-keeps
-returns-clause-keeps g c = plain_reads c.ask_all.ensures.keeps (λ ours. plain_here (g.T.Statements.state c.args.tx.now) segments_of_text ours list_is.plain)
-
-pub returns-clause-cause : goal.returns-clause-cause
-returns-clause-cause g c storable clean = rw c.key_param.ensures at (c.ask_all.ensures.cause clean)
+pub returns : goal.returns
+returns g c = record { does = asks _ 3 (omega (arith, c.if-upload-ge-LIMIT.false)) c.key_param.ensures list_is.plain c.ask_all.ensures.shown c.ask_all.ensures.cause c.ask_all.ensures.keeps (λ found. lists_segments _ _ c.args.upload found.items) }

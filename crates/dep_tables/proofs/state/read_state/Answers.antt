@@ -34,26 +34,30 @@ is_missing : (old new : State) (found : Option StateRow) → IsRead old new foun
 is_missing old new None (rows, shown, none) = inr (rows, shown, inl (λ ours. none_shown rows none ours.1, refl))
 is_missing old new (Some row) read = tt
 
-pub returns-clause-ok : goal.returns-clause-ok
-returns-clause-ok g c clean ours =
-    rw c.ok_or.ensures.value (is_there (g.T.Statements.state c.args.tx.now) (g.T.Statements.state c.ask_one.new.tx) c.in_ok-found.found ours (c.in_ok-found.ensures.shown clean))
-
-pub returns-clause-cause : goal.returns-clause-cause
-returns-clause-cause g c clean =
-    rw c.ok_or.ensures.value (is_missing (g.T.Statements.state c.args.tx.now) (g.T.Statements.state c.ask_one.new.tx) c.in_ok-found.found (c.in_ok-found.ensures.shown clean))
-
-pub returns-clause-keeps : goal.returns-clause-keeps
-returns-clause-keeps g c = reads_ok (plain_reads c.in_ok-found.ensures.keeps (λ ours. plain_here (g.T.Statements.state c.args.tx.now) read_state_text ours read_is.plain))
-
-pub returns-in_err-found-clause-ok : goal.returns-in_err-found-clause-ok
-returns-in_err-found-clause-ok g c clean ours = IfOk-from_err c.from_residual.result _ c.from_residual.ensures.0
-
-pub returns-in_err-found-clause-cause : goal.returns-in_err-found-clause-cause
-returns-in_err-found-clause-cause g c clean =
+pub returns : goal.returns
+returns g c =
     let old = g.T.Statements.state c.args.tx.now in
     let new = g.T.Statements.state c.ask_one.new.tx in
-    let failed = refused_one IsStateRow read_state_text [] old new c.in_err-found.field-0.0 (c.in_err-found.ensures.cause clean) in
-    err_then c.from_residual.result c.from_residual.ensures.1 (λ e is. let same : e ≡ c.in_err-found.field-0.0 = cc in subst (FailsToReadNumbers (JustOne IsStateRow) read_state_text [] old new) (sym same) failed)
+    record {
+      does = record {
+        ok = λ clean ours. rw c.ok_or.ensures.value (is_there old new c.in_ok-found.found ours (c.in_ok-found.ensures.shown clean));
+        numbers = λ refused. absurd (refused tt);
+        cause = λ _ clean. rw c.ok_or.ensures.value (is_missing old new c.in_ok-found.found (c.in_ok-found.ensures.shown clean));
+        keeps = reads_ok (plain_reads c.in_ok-found.ensures.keeps (λ ours. plain_here old read_state_text ours read_is.plain));
+      };
+    }
 
-pub returns-in_err-found-clause-keeps : goal.returns-in_err-found-clause-keeps
-returns-in_err-found-clause-keeps g c = reads_err c.from_residual.ensures.0 (plain_reads c.in_err-found.ensures.keeps (λ ours. plain_here (g.T.Statements.state c.args.tx.now) read_state_text ours read_is.plain))
+pub returns-in_err-found : goal.returns-in_err-found
+returns-in_err-found g c =
+    let old = g.T.Statements.state c.args.tx.now in
+    let new = g.T.Statements.state c.ask_one.new.tx in
+    record {
+      does = record {
+        ok = λ clean ours. IfOk-from_err c.from_residual.result _ c.from_residual.ensures.0;
+        numbers = λ refused. absurd (refused tt);
+        cause = λ _ clean.
+            let failed = refused_one IsStateRow read_state_text [] old new c.in_err-found.field-0.0 (c.in_err-found.ensures.cause clean) in
+            err_then c.from_residual.result c.from_residual.ensures.1 (λ e is. let same : e ≡ c.in_err-found.field-0.0 = cc in subst (FailsToReadNumbers (JustOne IsStateRow) read_state_text [] old new) (sym same) failed);
+        keeps = reads_err c.from_residual.ensures.0 (plain_reads c.in_err-found.ensures.keeps (λ ours. plain_here old read_state_text ours read_is.plain));
+      };
+    }

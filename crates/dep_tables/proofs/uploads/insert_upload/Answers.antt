@@ -1,27 +1,13 @@
-use Rattle.dep_tables.proofs.Results.{ok_then, not_storable, is_storable}
+use Rattle.dep_tables.proofs.Results.{ok_then, not_storable}
+use Rattle.dep_tables.proofs.Done.{refuses, runs}
 use Rattle.dep_tables.proofs.UploadsTable.{inserts_upload}
 use Rattle.dep_tables.proofs.uploads.insert_upload.Goals as goal
 
-pub returns-clause-ok : goal.returns-clause-ok
-returns-clause-ok g c clean inside ours = ok_then c.run.result (c.run.ensures.runs clean inside) (λ ran. (inserts_upload (g.T.Statements.state c.args.tx.now) (g.T.Statements.state c.run.new.self) c.args.row.now ran.0 ours (rw c.upload_params.ensures at ran.1)).0)
+pub returns-then-not-is_storable_upload : goal.returns-then-not-is_storable_upload
+returns-then-not-is_storable_upload g c = record { does = refuses _ (not_storable c.is_storable_upload.result c.if-not-is_storable_upload.true c.is_storable_upload.ensures.1); free = λ clean inside ours. tt }
 
-pub returns-clause-free : goal.returns-clause-free
-returns-clause-free g c clean inside ours = ok_then c.run.result (c.run.ensures.runs clean inside) (λ ran. (inserts_upload (g.T.Statements.state c.args.tx.now) (g.T.Statements.state c.run.new.self) c.args.row.now ran.0 ours (rw c.upload_params.ensures at ran.1)).1)
-
-pub returns-clause-cause : goal.returns-clause-cause
-returns-clause-cause g c storable clean inside = rw c.upload_params.ensures at (c.run.ensures.cause clean inside)
-
-pub returns-then-not-is_storable_upload-clause-ok : goal.returns-then-not-is_storable_upload-clause-ok
-returns-then-not-is_storable_upload-clause-ok g c clean inside ours = tt
-
-pub returns-then-not-is_storable_upload-clause-free : goal.returns-then-not-is_storable_upload-clause-free
-returns-then-not-is_storable_upload-clause-free g c clean inside ours = tt
-
-pub returns-clause-numbers : goal.returns-clause-numbers
-returns-clause-numbers g c = is_storable c.is_storable_upload.result c.if-not-is_storable_upload.false c.is_storable_upload.ensures.0
-
-pub returns-then-not-is_storable_upload-clause-cause : goal.returns-then-not-is_storable_upload-clause-cause
-returns-then-not-is_storable_upload-clause-cause g c = not_storable c.is_storable_upload.result c.if-not-is_storable_upload.true c.is_storable_upload.ensures.1
-
-pub returns-clause-keeps : goal.returns-clause-keeps
-returns-clause-keeps g c = c.run.ensures.keeps
+pub returns : goal.returns
+returns g c = record {
+  does = runs _ (c.is_storable_upload.ensures.0 c.if-not-is_storable_upload.false) c.upload_params.ensures c.run.ensures.runs c.run.ensures.cause c.run.ensures.keeps (λ count ours ran. (inserts_upload _ _ c.args.row.now count ours ran).0);
+  free = λ clean inside ours. ok_then c.run.result (c.run.ensures.runs clean inside) (λ ran. (inserts_upload _ _ c.args.row.now ran.0 ours (rw c.upload_params.ensures at ran.1)).1);
+}
