@@ -11,7 +11,7 @@ use Rattle.dep_types.specs.declared.target.Resource.TheVariants as resource
 use Rattle.dep_docs_out.specs.Segments.{are_segments}
 use Rattle.dep_docs_out.specs.Documents.{status_document, metadata_document, upload_document, object_url, upload_url}
 use Rattle.dep_bag.specs.Bag.{list_text}
-use Rattle.dep_bag.specs.Parts.{row_path}
+use Rattle.dep_manifest.specs.Told.{row_path}
 use Rattle.dep_decisions.specs.Rules.{tag_at}
 use Rattle.dep_answers.specs.Answers.{Document, PlainText, answer}
 use Rattle.dep_answers.specs.Replies.{status_answer, created_answer, opened_answer, shown_answer}

@@ -4,7 +4,8 @@ use Rattle.std.specs.FinMap as finmap
 use Rattle.dep_types.specs.BagPaths.{payload_path}
 use Rattle.dep_types.specs.State.{Object, File}
 use Rattle.dep_docs_out.specs.Documents.{bag_metadata_document}
-use Rattle.dep_bag.specs.Bag.{bagit_text, info_text, oxum, payload, listed_files}
+use Rattle.dep_manifest.specs.TagFiles.{bagit_text, info_text}
+use Rattle.dep_bag.specs.Bag.{oxum, payload, listed_files}
 use Rattle.dep_manifest.specs.Manifest.{sha256_digest, sha512_digest, manifest_of}
 use Rattle.dep_answers.specs.Answers.{ReplyContent, Document, PlainText, StoredContent}
 

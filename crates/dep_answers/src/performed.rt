@@ -3,7 +3,7 @@
 use dep_moment::Moment;
 
 /// Which file: the number of its object, and its own.
-#[derive(Clone, Copy, Debug, PartialEq, Eq)]
+#[derive(Clone, Copy)]
 pub struct FileId {
     /// The number of the object.
     pub object: u64,

@@ -15,7 +15,8 @@ use Rattle.dep_types.specs.Sinks.{Entry}
 use Rattle.dep_manifest.specs.Manifest.{encoded_path}
 use Rattle.dep_manifest.specs.declared.algorithm.Algorithm.{Algorithm}
 use Rattle.dep_manifest.specs.declared.algorithm.Algorithm.TheVariants.{Sha256, Sha512}
-use Rattle.dep_bag.specs.Bag.{payload, oxum, bagit_text, info_text, manifest_path, payload_manifest, listed_files, bag_files}
+use Rattle.dep_manifest.specs.TagFiles.{bagit_text, info_text, manifest_path}
+use Rattle.dep_bag.specs.Bag.{payload, oxum, payload_manifest, listed_files, bag_files}
 use Rattle.dep_bag.specs.Valid.{is_payload}
 use Rattle.dep_bag.proofs.Lines.{BeginsPlain}
 use Rattle.dep_bag.proofs.Keys.{Distinct, Distinct-sorted}

@@ -6,7 +6,8 @@ use Rattle.std.specs.Result.{IsErrAnd}
 use Rattle.std.proofs.lemmas.Grind.{flat_map-append}
 use Rattle.dep_types.specs.Sinks.{Entry, folder_made, file_given}
 use Rattle.dep_types.specs.declared.rows.ObjectView.{ObjectView}
-use Rattle.dep_bag.specs.Parts.{told_listed, told_tag_manifests}
+use Rattle.dep_manifest.specs.Told.{told_listed}
+use Rattle.dep_bag.specs.Parts.{told_tag_manifests}
 use Rattle.dep_bag.specs.Giving.{SinkState, IsGivenTo, listed_transcript, manifests_transcript, tag_transcript}
 use Rattle.dep_bag.specs.declared.export_fault.ExportFault.{ExportFault}
 use Rattle.dep_bag.proofs.GivenParts.{Leaves, leaves_all, leaves_less, part_given, part_fails, part_last}

@@ -1,6 +1,5 @@
 pub mod Lines
 pub mod Fronts
-pub mod FiveLines
 pub mod FoundFiles
 pub mod ToldBag
 pub mod GivenParts
@@ -16,3 +15,4 @@ pub mod Files
 pub mod Whole
 pub mod Tells
 pub mod Names
+pub mod TagFileParts

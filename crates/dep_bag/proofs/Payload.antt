@@ -9,7 +9,7 @@ use Rattle.dep_types.specs.Conditions.{Condition, StandsFor, HasCleanDisk, Leave
 use Rattle.dep_types.specs.Sinks.{Entry, IsFront, file_given}
 use Rattle.dep_types.specs.declared.rows.FileRow.{FileRow}
 use Rattle.dep_types.specs.Streams.{HasContent}
-use Rattle.dep_bag.specs.Parts.{row_path}
+use Rattle.dep_manifest.specs.Told.{row_path}
 use Rattle.std.specs.Result.{IsErrAnd}
 use Rattle.dep_bag.specs.Source.{StandsStill}
 use Rattle.dep_bag.proofs.Still.{unchanged, still_then}

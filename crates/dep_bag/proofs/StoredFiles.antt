@@ -12,7 +12,7 @@ use Rattle.dep_types.specs.Streams.{HasContent, HasNoFile, IsPartOfContent, IsSt
 use Rattle.dep_types.specs.declared.stream_fault.StreamFault.{StreamFault}
 use Rattle.dep_types.specs.declared.stream_fault.StreamFault.TheVariants.{Writer, Store, Memory, NoSuchFile}
 use Rattle.dep_types.specs.Writing.{HasRisen}
-use Rattle.dep_bag.specs.Parts.{row_path}
+use Rattle.dep_manifest.specs.Told.{row_path}
 use Rattle.dep_bag.specs.ExportFaults.{unsent_fault}
 use Rattle.dep_bag.specs.Giving.{IsCausedBy, SinkState, IsStreamedTo, IsContentGiven}
 use Rattle.dep_bag.specs.declared.export_fault.ExportFault.{ExportFault}

@@ -11,10 +11,12 @@ use Rattle.dep_types.specs.Rows.{file_row, object_view}
 use Rattle.dep_manifest.specs.Manifest.{checksum_of, digest_by, manifest, manifest_of}
 use Rattle.dep_manifest.specs.declared.algorithm.Algorithm.{Algorithm}
 use Rattle.dep_manifest.specs.declared.algorithm.Algorithm.TheVariants.{Sha256, Sha512}
-use Rattle.dep_bag.specs.Bag.{payload, oxum, oxum_text, listed_files, tag_files, bag_files, info_text, bagit_text, manifest_path, tag_manifest_path}
+use Rattle.dep_manifest.specs.TagFiles.{oxum_text, info_text, bagit_text, manifest_path, tag_manifest_path}
+use Rattle.dep_bag.specs.Bag.{payload, oxum, listed_files, tag_files, bag_files}
 use Rattle.dep_types.specs.Sinks.{Entry}
 use Rattle.dep_docs_out.specs.Documents.{bag_metadata_document}
-use Rattle.dep_bag.specs.Parts.{row_checksum, told_oxum, told_listed, told_tag_files, told_parts, text_part, stored_part, told_bytes, held_bytes}
+use Rattle.dep_manifest.specs.Told.{row_checksum, told_oxum, told_listed}
+use Rattle.dep_bag.specs.Parts.{told_tag_files, told_parts, text_part, stored_part, told_bytes, held_bytes}
 use Rattle.dep_bag.proofs.Files.{payload_entry}
 use Rattle.dep_bag.proofs.Keys.{entries-held}
 

@@ -19,7 +19,8 @@ use Rattle.dep_types.specs.Sinks.{Entry}
 use Rattle.dep_manifest.specs.Manifest.{Digest, IsDigest, digest_by, encoded_path}
 use Rattle.dep_manifest.specs.declared.algorithm.Algorithm.{Algorithm}
 use Rattle.dep_manifest.specs.declared.algorithm.Algorithm.TheVariants.{Sha256, Sha512}
-use Rattle.dep_bag.specs.Bag.{Bag, payload, payload_manifest, listed_files, tag_manifest, bag_files, bag_of, bag_at, oxum, info_text, manifest_path}
+use Rattle.dep_manifest.specs.TagFiles.{info_text, manifest_path}
+use Rattle.dep_bag.specs.Bag.{Bag, payload, payload_manifest, listed_files, tag_manifest, bag_files, bag_of, bag_at, oxum}
 use Rattle.dep_bag.specs.Valid.{IsValidBag, IsChecked, IsPayloadManifest, IsTagManifest, is_payload, payload_in, lines_of, manifest_read}
 use Rattle.dep_bag.proofs.Lines.{line_of, IsDigest-digest_by, manifest_read_back, digest_read_back, split_first, none-append}
 use Rattle.dep_bag.proofs.Keys.{entries-permuted, entries-held, found_each}

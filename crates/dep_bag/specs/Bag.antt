@@ -1,14 +1,13 @@
 -- The bag of an object: its folder, and its files by path (RFC 8493).
-use Rattle.std.specs.Prelude.{◌≡◌, ℕ, List, [], ◌∷◌, ◌++◌, length, map, min, sum_by, codes, decimal, flat_map, All, Option, Some, option_map}
+use Rattle.std.specs.Prelude.{◌≡◌, ℕ, List, [], ◌∷◌, ◌++◌, length, map, sum_by, codes, flat_map, All, Option, Some, option_map}
 use Rattle.std.specs.FinMap as finmap
 use Rattle.dep_types.specs.Maps.{Named}
 use Rattle.dep_types.specs.State.{State, Object}
-use Rattle.dep_types.specs.Limits.{greatest_moment}
 use Rattle.dep_types.specs.BagPaths.{payload_path}
-use Rattle.dep_moment.specs.Civil.{day_text}
 use Rattle.dep_docs_out.specs.Documents.{bag_metadata_document}
 use Rattle.dep_types.specs.Sinks.{Entry}
 use Rattle.dep_manifest.specs.Manifest.{digest_by, manifest_of}
+use Rattle.dep_manifest.specs.TagFiles.{bagit_text, oxum_text, info_text, manifest_path, tag_manifest_path}
 use Rattle.dep_manifest.specs.declared.algorithm.Algorithm.{Algorithm}
 use Rattle.dep_manifest.specs.declared.algorithm.Algorithm.TheVariants.{Sha256, Sha512}
 
@@ -17,36 +16,13 @@ pub record Bag : Type 0 where
   pub folders : List (List ℕ)
   pub files : Named (List ℕ)
 
--- the text of `bagit.txt`
-abbrev pub bagit_text : List ℕ
-bagit_text = codes "BagIt-Version: 1.0\nTag-File-Character-Encoding: UTF-8\n"
-
--- so many bytes, a dot, and so many files
-abbrev pub oxum_text : (octets count : ℕ) → List ℕ
-oxum_text octets count = decimal octets ++ codes "." ++ decimal count
-
 -- of these files
 abbrev pub oxum : List Entry → List ℕ
 oxum files = oxum_text (sum_by (λ f. length f.1) files) (length files)
 
--- the day of the last change, and what the payload has
-abbrev pub info_text : (changed : ℕ) → (payload_oxum : List ℕ) → List ℕ
-info_text changed payload_oxum =
-    codes "Bagging-Date: " ++ day_text (min changed greatest_moment) ++ codes "\nPayload-Oxum: "
-    ++ payload_oxum ++ codes "\n"
-
 -- the files of an object, by the paths of their bag
 abbrev pub payload : Object → List Entry
 payload o = map (λ e. (payload_path e.0 e.1.name, e.1.content)) (finmap.entries o.files)
-
--- where the manifests of an algorithm stand
-abbrev pub manifest_path : Algorithm → List ℕ
-manifest_path Sha256 = codes "manifest-sha256.txt"
-manifest_path Sha512 = codes "manifest-sha512.txt"
-
-abbrev pub tag_manifest_path : Algorithm → List ℕ
-tag_manifest_path Sha256 = codes "tagmanifest-sha256.txt"
-tag_manifest_path Sha512 = codes "tagmanifest-sha512.txt"
 
 abbrev pub payload_manifest : Algorithm → Object → Entry
 payload_manifest a o = (manifest_path a, manifest_of (digest_by a) (payload o))

@@ -8,7 +8,8 @@ use Rattle.dep_types.specs.Sinks.{Entry, folder_made, file_given, IsFront}
 use Rattle.dep_types.specs.declared.rows.FileRow.{FileRow}
 use Rattle.dep_types.specs.declared.rows.ObjectView.{ObjectView}
 use Rattle.dep_types.specs.Streams.{HasContent}
-use Rattle.dep_bag.specs.Parts.{row_path, told_listed, told_tag_files, told_tag_manifests}
+use Rattle.dep_manifest.specs.Told.{row_path, told_listed}
+use Rattle.dep_bag.specs.Parts.{told_tag_files, told_tag_manifests}
 use Rattle.dep_bag.specs.Source.{OfEachState, KeepsStanding, StandsStill}
 use Rattle.dep_bag.specs.declared.export_fault.ExportFault.{ExportFault}
 use Rattle.dep_bag.specs.declared.export_fault.ExportFault.TheVariants.{NoSuchObject, Sink, Store, Memory}

@@ -1,58 +1,23 @@
 -- What a view of an object tells of its bag: its paths, and what stands at each.
-use Rattle.std.specs.Prelude.{◌≡◌, ℕ, List, [], ◌∷◌, ◌++◌, length, map, sum_by, find, codes, bytes_eq, Option, Some, option_map}
+use Rattle.std.specs.Prelude.{ℕ, List, [], ◌∷◌, ◌++◌, map, find, codes, bytes_eq, Option, Some, None, option_map, if◌then◌else◌}
 use Rattle.std.specs.FinMap as finmap
 use Rattle.dep_types.specs.State.{Object}
-use Rattle.dep_types.specs.BagPaths.{tag_paths, payload_path}
+use Rattle.dep_types.specs.BagPaths.{tag_paths}
 use Rattle.dep_types.specs.declared.rows.FileRow.{FileRow}
 use Rattle.dep_types.specs.declared.rows.ObjectView.{ObjectView}
-use Rattle.dep_docs_out.specs.Documents.{bag_metadata_document}
 use Rattle.dep_types.specs.Sinks.{Entry}
-use Rattle.dep_fixity.specs.declared.hasher.Digests.{Digests}
-use Rattle.dep_manifest.specs.Manifest.{Checksum, checksum_in, checksum_of, digest_by, manifest, manifest_line, manifest_of}
-use Rattle.dep_manifest.specs.declared.algorithm.Algorithm.{Algorithm}
 use Rattle.dep_manifest.specs.declared.algorithm.Algorithm.TheVariants.{Sha256, Sha512}
-use Rattle.dep_bag.specs.Bag.{bagit_text, oxum_text, info_text, manifest_path, tag_manifest_path}
+use Rattle.dep_docs_out.specs.Documents.{bag_metadata_document}
+use Rattle.dep_manifest.specs.TagFiles.{bagit_text, tag_manifest_path}
+use Rattle.dep_manifest.specs.Told.{row_path, told_info, told_listed, told_manifest, told_tag_manifest}
 use Rattle.dep_bag.specs.declared.part.BagPart.{BagPart}
 use Rattle.dep_bag.specs.declared.part.BagPart.TheVariants.{Bytes, Stored}
-use Rattle.dep_bag.specs.declared.tag_manifests.TagManifests.{TagManifests}
+use Rattle.dep_bag.specs.declared.part.TagFile.{TagFile}
+use Rattle.dep_bag.specs.declared.part.TagFile.TheVariants.{Declaration, Information, Manifest, Metadata, TagManifest}
 
 -- a name in the folder of a number
 abbrev pub in_folder : (digits name : List ℕ) → List ℕ
 in_folder digits name = codes "data/" ++ digits ++ codes "/" ++ name
-
--- where a file stands
-abbrev pub row_path : FileRow → List ℕ
-row_path row = payload_path row.file row.name
-
--- the digests that a row keeps
-abbrev pub row_digests : FileRow → Digests
-row_digests row = record { sha256 = row.sha256; sha512 = row.sha512 }
-
--- what a manifest tells of the file of a row
-abbrev pub row_checksum : Algorithm → FileRow → Checksum
-row_checksum a row = checksum_in a (row_path row) (row_digests row)
-
-abbrev pub told_oxum : List FileRow → List ℕ
-told_oxum rows = oxum_text (sum_by (λ row. row.size) rows) (length rows)
-
-abbrev pub told_info : ObjectView → List ℕ
-told_info view = info_text view.object.changed (told_oxum view.files)
-
-abbrev pub told_manifest : Algorithm → ObjectView → List ℕ
-told_manifest a view = manifest (map (row_checksum a) view.files)
-
--- the files that a tag manifest names
-abbrev pub told_listed : ObjectView → List Entry
-told_listed view =
-    (codes "bagit.txt", bagit_text)
-    ∷ (codes "bag-info.txt", told_info view)
-    ∷ (manifest_path Sha256, told_manifest Sha256 view)
-    ∷ (manifest_path Sha512, told_manifest Sha512 view)
-    ∷ (codes "metadata/sword.json", bag_metadata_document view.metadata)
-    ∷ []
-
-abbrev pub told_tag_manifest : Algorithm → ObjectView → List ℕ
-told_tag_manifest a view = manifest_of (digest_by a) (told_listed view)
 
 abbrev pub told_tag_manifests : ObjectView → List Entry
 told_tag_manifests view =
@@ -63,20 +28,6 @@ told_tag_manifests view =
 -- the files that are not payload
 abbrev pub told_tag_files : ObjectView → List Entry
 told_tag_files view = told_listed view ++ told_tag_manifests view
-
--- the text of the tag manifest of an algorithm
-abbrev pub text_by : Algorithm → TagManifests → List ℕ
-text_by Sha256 manifests = manifests.sha256.items
-text_by Sha512 manifests = manifests.sha512.items
-
--- they are the tag manifests of the bag, by both algorithms
-abbrev pub AreTagManifests : ObjectView → TagManifests → Type 0
-AreTagManifests view manifests = (a : Algorithm) → text_by a manifests ≡ told_tag_manifest a view
-
--- the line of a file was added to each of them
-abbrev pub AddsLines : (old new : TagManifests) → Entry → Type 0
-AddsLines old new file = (a : Algorithm)
-    → text_by a new ≡ text_by a old ++ manifest_line (checksum_of (digest_by a) file)
 
 -- the paths of the bag, in order
 abbrev pub told_paths : ObjectView → List (List ℕ)
@@ -100,6 +51,26 @@ part_at path parts = option_map (λ part. part.1) (find (λ part. bytes_eq path 
 -- what stands at a path
 abbrev pub told_part : ObjectView → List ℕ → Option BagPart
 told_part view path = part_at path (told_parts view)
+
+-- the tag file that stands at a path
+abbrev pub tag_file_at : List ℕ → Option TagFile
+tag_file_at path =
+    if bytes_eq path (codes "bagit.txt") then Some Declaration
+    else if bytes_eq path (codes "bag-info.txt") then Some Information
+    else if bytes_eq path (codes "manifest-sha256.txt") then Some (Manifest Sha256)
+    else if bytes_eq path (codes "manifest-sha512.txt") then Some (Manifest Sha512)
+    else if bytes_eq path (codes "metadata/sword.json") then Some Metadata
+    else if bytes_eq path (codes "tagmanifest-sha256.txt") then Some (TagManifest Sha256)
+    else if bytes_eq path (codes "tagmanifest-sha512.txt") then Some (TagManifest Sha512)
+    else None
+
+-- its text
+abbrev pub tag_text : ObjectView → TagFile → List ℕ
+tag_text view Declaration = bagit_text
+tag_text view Information = told_info view
+tag_text view (Manifest a) = told_manifest a view
+tag_text view Metadata = bag_metadata_document view.metadata
+tag_text view (TagManifest a) = told_tag_manifest a view
 
 -- the bytes of a part of the object's bag, if it has them
 abbrev pub part_bytes : Object → BagPart → Option (List ℕ)

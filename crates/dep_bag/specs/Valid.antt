@@ -7,7 +7,8 @@ use Rattle.dep_types.specs.Maps.{◌>>=◌}
 use Rattle.dep_types.specs.Sinks.{Entry}
 use Rattle.dep_manifest.specs.Manifest.{Digest, digest_by, encoded_path}
 use Rattle.dep_manifest.specs.declared.algorithm.Algorithm.{Algorithm}
-use Rattle.dep_bag.specs.Bag.{Bag, bagit_text, oxum, manifest_path, tag_manifest_path}
+use Rattle.dep_manifest.specs.TagFiles.{bagit_text, manifest_path, tag_manifest_path}
+use Rattle.dep_bag.specs.Bag.{Bag, oxum}
 
 -- whether a path stands below the folder `data`
 abbrev pub is_payload : List ℕ → Bool

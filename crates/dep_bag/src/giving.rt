@@ -5,16 +5,13 @@ ghost use Rattle.dep_docs_out.specs.Made.{Makes};
 ghost use Rattle.dep_bag.specs.Giving.{Gives, Streams, IsContentGiven, AreContentsGiven, listed_transcript, manifests_transcript, tag_transcript};
 
 use crate::export_fault::ExportFault;
-use crate::manifest::payload_manifest;
-use crate::paths::{
-    BAG_INFO, BAGIT, MANIFEST_SHA256, MANIFEST_SHA512, METADATA, TAG_MANIFEST_SHA256,
-    TAG_MANIFEST_SHA512, payload_path,
-};
 use crate::source::BagSource;
-use crate::tag_files::{declaration, information};
-use crate::tag_manifests::{TagManifests, tag_manifests};
 use dep_docs_out::bag_metadata_doc;
-use dep_manifest::Algorithm;
+use dep_manifest::{
+    Algorithm, BAG_INFO, BAGIT, MANIFEST_SHA256, MANIFEST_SHA512, METADATA, TAG_MANIFEST_SHA256,
+    TAG_MANIFEST_SHA512, TagManifests, both_tag_manifests, declaration, information,
+    payload_manifest, payload_path,
+};
 use dep_types::{BagSink, FileRow, ObjectView};
 use std::alloc::{AllocError, Global};
 
@@ -63,7 +60,7 @@ fn give_tag_manifests<K: BagSink>(
     ensures { Gives K.taken K.failures sink.old sink.new
         (manifests_transcript view.now) result }
 {
-    let TagManifests { sha256, sha512 } = tag_manifests(alloc, view)?;
+    let TagManifests { sha256, sha512 } = both_tag_manifests(alloc, view)?;
     give_text(sink, TAG_MANIFEST_SHA256, Ok(sha256))?;
     give_text(sink, TAG_MANIFEST_SHA512, Ok(sha512))
 }

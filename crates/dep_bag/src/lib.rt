@@ -5,12 +5,9 @@ mod export_fault;
 mod exporting;
 mod giving;
 pub mod laws;
-mod manifest;
 mod part;
 mod paths;
 mod source;
-mod tag_files;
-mod tag_manifests;
 
 pub use export_fault::ExportFault;
 pub use exporting::export;

@@ -1,16 +1,14 @@
 //! What stands at a path of a bag.
-ghost use Rattle.std.specs.Prelude.{◌≡◌, IfOk, map};
-ghost use Rattle.dep_bag.specs.Parts.{part_at, stored_part, told_part};
+ghost use Rattle.std.specs.Prelude.{◌≡◌, IfOk, bytes_eq, map};
+ghost use Rattle.dep_docs_out.specs.Made.{Makes};
+ghost use Rattle.dep_bag.specs.Parts.{part_at, stored_part, tag_file_at, tag_text, told_part};
 
-use crate::manifest::payload_manifest;
-use crate::paths::{
-    BAG_INFO, BAGIT, MANIFEST_SHA256, MANIFEST_SHA512, METADATA, TAG_MANIFEST_SHA256,
-    TAG_MANIFEST_SHA512, is_payload_path,
-};
-use crate::tag_files::{declaration, information};
-use crate::tag_manifests::tag_manifest;
+use crate::paths::is_payload_path;
 use dep_docs_out::bag_metadata_doc;
-use dep_manifest::Algorithm;
+use dep_manifest::{
+    Algorithm, BAG_INFO, BAGIT, MANIFEST_SHA256, MANIFEST_SHA512, METADATA, TAG_MANIFEST_SHA256,
+    TAG_MANIFEST_SHA512, declaration, information, payload_manifest, tag_manifest,
+};
 use dep_types::{FileRow, ObjectView, Octets};
 use std::alloc::{AllocError, Global};
 
@@ -23,6 +21,16 @@ pub enum BagPart {
     Stored(u64),
 }
 
+/// A file of a bag that is no payload.
+#[derive(Clone, Copy)]
+enum TagFile {
+    Declaration,
+    Information,
+    Manifest(Algorithm),
+    Metadata,
+    TagManifest(Algorithm),
+}
+
 /// What stands at a path of an object's bag, if something does. Paths are compared byte by byte.
 /// No content is read.
 pub fn bag_file(
@@ -32,24 +40,60 @@ pub fn bag_file(
 ) -> Result<Option<BagPart>, AllocError>
     ensures { IfOk result (λ part. part ≡ told_part view.now path.now) }
 {
-    let text = if path == BAGIT.as_bytes() {
-        declaration(alloc)
-    } else if path == BAG_INFO.as_bytes() {
-        information(alloc, view)
-    } else if path == MANIFEST_SHA256.as_bytes() {
-        payload_manifest(alloc, view, Algorithm::Sha256)
-    } else if path == MANIFEST_SHA512.as_bytes() {
-        payload_manifest(alloc, view, Algorithm::Sha512)
-    } else if path == METADATA.as_bytes() {
-        bag_metadata_doc(alloc, &view.metadata)
-    } else if path == TAG_MANIFEST_SHA256.as_bytes() {
-        tag_manifest(alloc, view, Algorithm::Sha256)
-    } else if path == TAG_MANIFEST_SHA512.as_bytes() {
-        tag_manifest(alloc, view, Algorithm::Sha512)
-    } else {
-        return Ok(stored_file(view.files.as_slice(), path));
-    };
-    Ok(Some(BagPart::Bytes(Octets::from_vec(text?))))
+    match tag_file(path) {
+        Some(file) => {
+            let text = tag_text(alloc, view, file)?;
+            Ok(Some(BagPart::Bytes(Octets::from_vec(text))))
+        }
+        None => Ok(stored_file(view.files.as_slice(), path)),
+    }
+}
+
+// The tag file that stands at this path.
+fn tag_file(path: &[u8]) -> Option<TagFile>
+    ensures { result ≡ tag_file_at path.now }
+{
+    if is_at(path, BAGIT) {
+        return Some(TagFile::Declaration);
+    }
+    if is_at(path, BAG_INFO) {
+        return Some(TagFile::Information);
+    }
+    if is_at(path, MANIFEST_SHA256) {
+        return Some(TagFile::Manifest(Algorithm::Sha256));
+    }
+    if is_at(path, MANIFEST_SHA512) {
+        return Some(TagFile::Manifest(Algorithm::Sha512));
+    }
+    if is_at(path, METADATA) {
+        return Some(TagFile::Metadata);
+    }
+    if is_at(path, TAG_MANIFEST_SHA256) {
+        return Some(TagFile::TagManifest(Algorithm::Sha256));
+    }
+    if is_at(path, TAG_MANIFEST_SHA512) {
+        return Some(TagFile::TagManifest(Algorithm::Sha512));
+    }
+    None
+}
+
+fn is_at(path: &[u8], place: &str) -> bool
+    ensures { result ≡ bytes_eq path.now place.now }
+{
+    path == place.as_bytes()
+}
+
+// The text of a tag file.
+fn tag_text(alloc: Global, view: &ObjectView, file: TagFile) -> Result<Vec<u8>, AllocError>
+    ensures { Makes result (tag_text view.now file) }
+{
+    match file {
+        TagFile::Declaration => declaration(alloc),
+        TagFile::Information => information(alloc, view),
+        TagFile::Manifest(algorithm) => payload_manifest(alloc, view, algorithm),
+        TagFile::Metadata => bag_metadata_doc(alloc, &view.metadata),
+        TagFile::TagManifest(algorithm) => tag_manifest(alloc, view, algorithm),
+    }
 }
 
 // The payload file at this path.

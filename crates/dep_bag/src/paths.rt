@@ -7,9 +7,14 @@ ghost use Rattle.dep_types.specs.Limits.{IsStorable};
 ghost use Rattle.dep_docs_out.specs.Made.{Makes};
 ghost use Rattle.dep_manifest.specs.Growing.{Grows};
 ghost use Rattle.dep_bag.specs.Fronts.{IsBehind};
-ghost use Rattle.dep_bag.specs.Parts.{in_folder, row_path, told_paths};
+ghost use Rattle.dep_manifest.specs.Told.{row_path};
+ghost use Rattle.dep_bag.specs.Parts.{in_folder, told_paths};
 ghost use Rattle.dep_bag.specs.Numbered.{file_number, number_written};
 
+use dep_manifest::{
+    BAG_INFO, BAGIT, MANIFEST_SHA256, MANIFEST_SHA512, METADATA, TAG_MANIFEST_SHA256,
+    TAG_MANIFEST_SHA512, payload_path,
+};
 use dep_octets::{Number, decimal};
 use dep_types::{FileRow, ObjectView, Text, TextList};
 use itoa::Buffer;
@@ -17,20 +22,6 @@ use std::alloc::{AllocError, Global};
 
 /// The greatest number that a table can hold.
 const GREATEST_KEY: u64 = 9_223_372_036_854_775_807;
-
-pub(crate) const BAGIT: &str = "bagit.txt";
-
-pub(crate) const BAG_INFO: &str = "bag-info.txt";
-
-pub(crate) const MANIFEST_SHA256: &str = "manifest-sha256.txt";
-
-pub(crate) const MANIFEST_SHA512: &str = "manifest-sha512.txt";
-
-pub(crate) const METADATA: &str = "metadata/sword.json";
-
-pub(crate) const TAG_MANIFEST_SHA256: &str = "tagmanifest-sha256.txt";
-
-pub(crate) const TAG_MANIFEST_SHA512: &str = "tagmanifest-sha512.txt";
 
 /// The paths of an object's bag, in the order of its list: the tag files, then the payload by
 /// ascending file number (RFC 8493, section 2).
@@ -63,18 +54,6 @@ fn add_path(alloc: Global, paths: &mut Vec<Text>, path: &str) -> Result<(), Allo
 {
     paths.push(Text::copied(alloc, path)?)?;
     Ok(())
-}
-
-/// Where a file stands: `data/NUMBER/NAME`.
-pub(crate) fn payload_path(alloc: Global, row: &FileRow) -> Result<Text, AllocError>
-    ensures { IfOk result (λ path. path ≡ row_path row.now) }
-{
-    let mut digits = Buffer::new();
-    let mut path = String::from_str(alloc, "data/")?;
-    path.push_str(digits.format(row.file))?;
-    path.push_str("/")?;
-    path.push_str(row.name.as_str())?;
-    Ok(Text::new(path))
 }
 
 /// Whether the file of this row stands at the path in its object's bag. Paths are compared byte by byte.

@@ -6,7 +6,7 @@ use std::error::Error;
 use std::fmt;
 
 /// How many bytes of a stream are a request's body.
-#[derive(Clone, Copy, Debug, PartialEq, Eq)]
+#[derive(Clone, Copy)]
 pub enum Framing {
     /// There is no body.
     Empty,

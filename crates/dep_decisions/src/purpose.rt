@@ -9,7 +9,7 @@ use dep_fixity::HashedOctets;
 use dep_types::{Method, Resource, Target};
 
 /// What a content is for: its kind, without the name of a file.
-#[derive(Clone, Copy, Debug, PartialEq, Eq)]
+#[derive(Clone, Copy)]
 pub enum Purpose {
     /// It is a file.
     File,

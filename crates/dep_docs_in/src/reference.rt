@@ -9,7 +9,7 @@ use std::marker::Model;
 pub const DEFAULT_MEDIA: &str = "application/octet-stream";
 
 /// What a reference points at.
-#[derive(Clone, Copy, Debug, PartialEq, Eq)]
+#[derive(Clone, Copy)]
 pub enum Pointed {
     /// A staged upload of this server, by its number.
     Upload(u64),

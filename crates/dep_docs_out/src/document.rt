@@ -1,10 +1,10 @@
 //! A document of JSON that is being written.
-ghost use Rattle.std.specs.Prelude.{◌≡◌, ◌∷◌, ◌++◌, [], IfOk, OnOk, decimal};
+ghost use Rattle.std.specs.Prelude.{◌≡◌, ℕ, List, ◌∷◌, ◌++◌, [], IfOk, OnOk, decimal};
 ghost use Rattle.json.specs.Token.{begin_object, end_object, begin_array, end_array, key};
 ghost use Rattle.json.specs.Print.{print};
 ghost use Rattle.serde_json.specs.Data.{boolean};
 ghost use Rattle.dep_moment.specs.Civil.{rfc3339_text};
-ghost use Rattle.dep_docs_out.specs.Made.{Makes};
+ghost use Rattle.dep_docs_out.specs.Made.{Makes, MakesText};
 ghost use Rattle.dep_docs_out.specs.Json as spec;
 ghost use Rattle.dep_docs_out.specs.Json.{Adds, AddsItems, AddsMember};
 
@@ -103,6 +103,19 @@ impl Document {
     {
         self.name(name)?;
         self.text_item(text)
+    }
+
+    /// A member that is a text, where the text could be made.
+    pub fn made_text(
+        &mut self,
+        name: &str,
+        made: Result<String, AllocError>,
+    ) -> Result<(), AllocError>
+        ensures { (bytes : List ℕ) → MakesText made bytes
+            → OnOk result (AddsMember self.old self.new name.now (spec.text bytes)) }
+    {
+        let text = made?;
+        self.text(name, text.as_str())
     }
 
     /// A member that is a number, as the text of its decimal digits.

@@ -14,26 +14,25 @@ use std::alloc::{AllocError, Global};
 pub fn error_doc(alloc: Global, refusal: Refusal, clock: Moment) -> Result<Vec<u8>, AllocError>
     ensures { Makes result (error_document refusal clock) }
 {
-    let log = log_text(alloc, refusal)?;
     let mut document = Document::begun(alloc)?;
-    add_error(&mut document, refusal, log.as_str(), clock)?;
+    add_error(&mut document, alloc, refusal, clock)?;
     document.ended()
 }
 
 // Why the request was refused, and what the log tells of it.
 fn add_error(
     document: &mut Document,
+    alloc: Global,
     refusal: Refusal,
-    log: &str,
     clock: Moment,
 ) -> Result<(), AllocError>
     ensures { OnOk result
-        (AddsMembers document.old document.new (error_members refusal log.now clock)) }
+        (AddsMembers document.old document.new (error_members refusal (log_of refusal) clock)) }
 {
     document.text("@context", CONTEXT)?;
     document.text("@type", refusal.name())?;
     document.text("error", refusal.text())?;
-    document.text("log", log)?;
+    document.made_text("log", log_text(alloc, refusal))?;
     document.moment("timestamp", clock)
 }
 

@@ -1,7 +1,7 @@
 //! The metadata document.
 ghost use Rattle.std.specs.Prelude.{OnOk};
 ghost use Rattle.dep_docs_out.specs.Made.{Makes};
-ghost use Rattle.dep_docs_out.specs.Documents.{bag_metadata_document, metadata_document, placed_metadata, texts_data, texts_members, unplaced_metadata};
+ghost use Rattle.dep_docs_out.specs.Documents.{bag_metadata_document, metadata_document, metadata_url, placed_metadata, texts_data, texts_members, unplaced_metadata};
 ghost use Rattle.dep_docs_out.specs.Json.{AddsMember, AddsMembers, text_list};
 
 use crate::document::{CONTEXT, Document};
@@ -19,19 +19,24 @@ pub fn metadata_doc(
 ) -> Result<Vec<u8>, AllocError>
     ensures { Makes result (metadata_document config.now object metadata.now) }
 {
-    let place = metadata_url(alloc, config, object)?;
     let mut document = Document::begun(alloc)?;
-    add_placed(&mut document, place.as_str(), metadata)?;
+    add_placed(&mut document, alloc, config, object, metadata)?;
     document.ended()
 }
 
-// The metadata of the object whose Metadata-URL this is.
-fn add_placed(document: &mut Document, place: &str, metadata: &Metadata) -> Result<(), AllocError>
-    ensures { OnOk result
-        (AddsMembers document.old document.new (placed_metadata place.now metadata.now)) }
+// The metadata of the object with this number, under its Metadata-URL.
+fn add_placed(
+    document: &mut Document,
+    alloc: Global,
+    config: &Config,
+    object: u64,
+    metadata: &Metadata,
+) -> Result<(), AllocError>
+    ensures { OnOk result (AddsMembers document.old document.new
+        (placed_metadata (metadata_url config.now object) metadata.now)) }
 {
     document.text("@context", CONTEXT)?;
-    document.text("@id", place)?;
+    document.made_text("@id", metadata_url(alloc, config, object))?;
     document.text("@type", "Metadata")?;
     add_metadata(document, metadata)
 }

@@ -1,7 +1,7 @@
 //! The service document.
 ghost use Rattle.std.specs.Prelude.{OnOk, codes};
 ghost use Rattle.dep_docs_out.specs.Made.{Makes};
-ghost use Rattle.dep_docs_out.specs.Documents.{digests_data, service_document, service_limits, service_members, service_offers, service_places};
+ghost use Rattle.dep_docs_out.specs.Documents.{digests_data, service_document, service_limits, service_offers, service_places, url};
 ghost use Rattle.dep_docs_out.specs.Json.{AddsMember, AddsMembers};
 
 use crate::document::{CONTEXT, Document};
@@ -13,34 +13,21 @@ use std::alloc::{AllocError, Global};
 pub fn service_doc(alloc: Global, config: &Config) -> Result<Vec<u8>, AllocError>
     ensures { Makes result (service_document config.now) }
 {
-    let root = url(alloc, config, "/service")?;
-    let staging = url(alloc, config, "/staging")?;
     let mut document = Document::begun(alloc)?;
-    add_service(&mut document, config, root.as_str(), staging.as_str())?;
+    add_offers(&mut document, alloc, config)?;
+    add_limits(&mut document, config)?;
+    add_places(&mut document, alloc, config)?;
     document.ended()
-}
-
-fn add_service(
-    document: &mut Document,
-    config: &Config,
-    root: &str,
-    staging: &str,
-) -> Result<(), AllocError>
-    ensures { OnOk result (AddsMembers document.old document.new
-        (service_members config.now root.now staging.now)) }
-{
-    add_offers(document, root)?;
-    add_limits(document, config)?;
-    add_places(document, config, root, staging)
 }
 
 // What the server takes.
 #[tactic(auto, unfolding(crate::specs::Documents::service_offers))]
-fn add_offers(document: &mut Document, root: &str) -> Result<(), AllocError>
-    ensures { OnOk result (AddsMembers document.old document.new (service_offers root.now)) }
+fn add_offers(document: &mut Document, alloc: Global, config: &Config) -> Result<(), AllocError>
+    ensures { OnOk result (AddsMembers document.old document.new
+        (service_offers (url config.now (codes "/service")))) }
 {
     document.text("@context", CONTEXT)?;
-    document.text("@id", root)?;
+    document.made_text("@id", url(alloc, config, "/service"))?;
     document.text("@type", "ServiceDocument")?;
     document.only("accept", "*/*")?;
     document.flag("acceptDeposits", true)?;
@@ -76,18 +63,14 @@ fn add_digests(document: &mut Document) -> Result<(), AllocError>
 
 // Where it takes it.
 #[tactic(auto, unfolding(crate::specs::Documents::service_places))]
-fn add_places(
-    document: &mut Document,
-    config: &Config,
-    root: &str,
-    staging: &str,
-) -> Result<(), AllocError>
+fn add_places(document: &mut Document, alloc: Global, config: &Config) -> Result<(), AllocError>
     ensures { OnOk result (AddsMembers document.old document.new
-        (service_places config.now root.now staging.now)) }
+        (service_places config.now (url config.now (codes "/service"))
+        (url config.now (codes "/staging")))) }
 {
     document.flag("onBehalfOf", config.on_behalf_of)?;
-    document.text("root", root)?;
-    document.text("staging", staging)?;
+    document.made_text("root", url(alloc, config, "/service"))?;
+    document.made_text("staging", url(alloc, config, "/staging"))?;
     document.whole_number("stagingMaxIdle", config.staging_max_idle)?;
     document.text("version", "http://purl.org/net/sword/3.0")
 }

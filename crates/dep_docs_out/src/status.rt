@@ -1,6 +1,6 @@
 //! The status document.
-ghost use Rattle.std.specs.Prelude.{◌≡◌, [], ◌∷◌, OnOk, codes};
-ghost use Rattle.dep_docs_out.specs.Made.{Makes};
+ghost use Rattle.std.specs.Prelude.{◌≡◌, ℕ, List, [], ◌∷◌, OnOk, codes};
+ghost use Rattle.dep_docs_out.specs.Made.{Makes, MakesText};
 ghost use Rattle.dep_docs_out.specs.Documents.{actions_data, behalf_members, deposit_members, deposit_relation, kept_members, link_data, links_data, object_members, part_data, relations_data, state_id, state_members, states_data, status_document};
 ghost use Rattle.dep_docs_out.specs.Json.{AddsItems, AddsMember, AddsMembers};
 
@@ -33,14 +33,13 @@ fn add_object(
     ensures { OnOk result
         (AddsMembers document.old document.new (object_members config.now object.now)) }
 {
-    let place = object_url(alloc, config, object.object)?;
-    let files = files_url(alloc, config, object.object)?;
     document.text("@context", CONTEXT)?;
-    document.text("@id", place.as_str())?;
+    document.made_text("@id", object_url(alloc, config, object.object))?;
     document.text("@type", "Status")?;
     add_actions(document)?;
     document.decimal("eTag", object.object_tag)?;
-    add_part(document, "fileSet", files.as_str(), object.files_tag)
+    let files = files_url(alloc, config, object.object);
+    add_part(document, "fileSet", files, object.files_tag)
 }
 
 // What may be done with an object: everything.
@@ -63,13 +62,18 @@ fn add_actions(document: &mut Document) -> Result<(), AllocError>
 }
 
 // A part of an object: where it stands, and its entity tag.
-fn add_part(document: &mut Document, name: &str, place: &str, tag: u64) -> Result<(), AllocError>
-    ensures { OnOk result
-        (AddsMember document.old document.new name.now (part_data place.now tag)) }
+fn add_part(
+    document: &mut Document,
+    name: &str,
+    place: Result<String, AllocError>,
+    tag: u64,
+) -> Result<(), AllocError>
+    ensures { (bytes : List ℕ) → MakesText place bytes
+        → OnOk result (AddsMember document.old document.new name.now (part_data bytes tag)) }
 {
     document.name(name)?;
     document.begin_object()?;
-    document.text("@id", place)?;
+    document.made_text("@id", place)?;
     document.decimal("eTag", tag)?;
     document.end_object()
 }
@@ -101,9 +105,9 @@ fn add_link(
     ensures { OnOk result
         (AddsItems document.old document.new (link_data config.now object file.now ∷ [])) }
 {
-    let place = file_url(alloc, config, object, file.file)?;
     document.begin_object()?;
-    add_deposit(document, config, place.as_str(), file)?;
+    let place = file_url(alloc, config, object, file.file);
+    add_deposit(document, config, place, file)?;
     add_behalf(document, file)?;
     add_kept(document, file)?;
     document.end_object()
@@ -114,13 +118,14 @@ fn add_link(
 fn add_deposit(
     document: &mut Document,
     config: &Config,
-    place: &str,
+    place: Result<String, AllocError>,
     file: &FileRow,
 ) -> Result<(), AllocError>
-    ensures { OnOk result (AddsMembers document.old document.new
-        (deposit_members config.now place.now file.now)) }
+    ensures { (bytes : List ℕ) → MakesText place bytes
+        → OnOk result (AddsMembers document.old document.new
+        (deposit_members config.now bytes file.now)) }
 {
-    document.text("@id", place)?;
+    document.made_text("@id", place)?;
     document.text("contentType", file.media.as_str())?;
     document.text("depositedBy", config.depositor.as_str())?;
     document.moment("depositedOn", Moment::new(file.deposited))
@@ -181,10 +186,9 @@ fn add_state(
     ensures { OnOk result
         (AddsMembers document.old document.new (state_members config.now object.now)) }
 {
-    let metadata = metadata_url(alloc, config, object.object)?;
-    let service = url(alloc, config, "/service")?;
-    add_part(document, "metadata", metadata.as_str(), object.metadata_tag)?;
-    document.text("service", service.as_str())?;
+    let metadata = metadata_url(alloc, config, object.object);
+    add_part(document, "metadata", metadata, object.metadata_tag)?;
+    document.made_text("service", url(alloc, config, "/service"))?;
     add_states(document, object.ingested)
 }
 

@@ -1,6 +1,6 @@
 //! The document of an upload.
 ghost use Rattle.std.specs.Prelude.{◌≡◌, true, IfOk, OnOk, codes, option_map};
-ghost use Rattle.dep_docs_out.specs.Documents.{expecting, segments_data, upload_members};
+ghost use Rattle.dep_docs_out.specs.Documents.{expecting, segments_data, upload_members, upload_url};
 ghost use Rattle.dep_docs_out.specs.Segments.{are_segments, ordered_upload_document};
 ghost use Rattle.dep_docs_out.specs.Json.{AddsMember, AddsMembers, number_list};
 
@@ -24,9 +24,8 @@ pub fn upload_doc(
     if !are_segments(received) {
         return Ok(None);
     }
-    let place = upload_url(alloc, config, upload.upload)?;
     let mut document = Document::begun(alloc)?;
-    add_upload(&mut document, place.as_str(), upload, received)?;
+    add_upload(&mut document, alloc, config, upload, received)?;
     Ok(Some(document.ended()?))
 }
 
@@ -44,19 +43,20 @@ fn are_segments(numbers: &[u64]) -> bool
     true
 }
 
-// The upload whose Temporary-URL this is.
+// The upload, under its Temporary-URL.
 fn add_upload(
     document: &mut Document,
-    place: &str,
+    alloc: Global,
+    config: &Config,
     upload: &UploadRow,
     received: &[u64],
 ) -> Result<(), AllocError>
     requires { are_segments received.now ≡ true }
     ensures { OnOk result (AddsMembers document.old document.new
-        (upload_members place.now upload.now received.now)) }
+        (upload_members (upload_url config.now upload.now.upload) upload.now received.now)) }
 {
     document.text("@context", CONTEXT)?;
-    document.text("@id", place)?;
+    document.made_text("@id", upload_url(alloc, config, upload.upload))?;
     document.text("@type", "Temporary")?;
     add_segments(document, upload, received)
 }

@@ -13,7 +13,7 @@ use std::alloc::{AllocError, Global};
 
 /// What a staged upload is to be (SWORD 3.0, segmented upload). A number above 64 bits stands as the greatest of 64
 /// bits, which is above each limit.
-#[derive(Clone, Copy, Debug, PartialEq, Eq)]
+#[derive(Clone, Copy)]
 pub struct Opening {
     /// How many bytes the whole content has.
     pub size: u64,

@@ -1,2 +1,3 @@
 pub mod Encoding
 pub mod Written
+pub mod FiveLines

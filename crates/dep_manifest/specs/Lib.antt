@@ -2,3 +2,5 @@ pub mod Growing
 pub mod Damaged
 pub mod Manifest
 pub mod ExampleManifests
+pub mod TagFiles
+pub mod Told

@@ -1,11 +1,23 @@
-//! The lines of a bag's manifest (RFC 8493, section 2.1.3), and the files that its digests tell as damaged.
+//! The tag files of a bag: its declaration, what is told of it, and its manifests (RFC 8493, section 2); and the files that
+//! the digests of a manifest tell as damaged.
 #![tactic(auto)]
 
 mod algorithm;
 mod damaged;
 pub mod laws;
 mod lines;
+mod paths;
+mod payload;
+mod tag_files;
+mod tag_manifests;
 
 pub use algorithm::Algorithm;
 pub use damaged::{KeptDigests, note_damaged};
 pub use lines::add_line;
+pub use paths::{
+    BAG_INFO, BAGIT, MANIFEST_SHA256, MANIFEST_SHA512, METADATA, TAG_MANIFEST_SHA256,
+    TAG_MANIFEST_SHA512, payload_path,
+};
+pub use payload::payload_manifest;
+pub use tag_files::{declaration, information};
+pub use tag_manifests::{TagManifests, both_tag_manifests, tag_manifest};

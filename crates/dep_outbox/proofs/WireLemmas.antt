@@ -1,5 +1,5 @@
 -- What becomes of the bytes of a wire.
-use Rattle.std.proofs.Common.{◌≡◌, ℕ, suc, ◌+◌, List, [], ◌∷◌, ◌++◌, Option, None, Some, refl, sym, ap, ◌∙◌, append_assoc, length, take, drop, subst, ◌≢◌, arith}
+use Rattle.std.proofs.Common.{◌≡◌, ℕ, suc, ◌+◌, List, [], ◌∷◌, ◌++◌, Option, None, Some, refl, sym, ap, ◌∙◌, append_assoc, length, take, drop, subst, ◌≢◌, arith, Result, Ok, Err, OnErr}
 use Rattle.std.proofs.lemmas.List.{append-nil, take-append-drop, drop-drop, drop_all}
 use Rattle.std.specs.Io.KnownBytes.{Appends, Consumes, Keeps, IsAtEnd, prepend_known}
 use Rattle.dep_types.specs.Writing.{TakesPart}
@@ -68,6 +68,22 @@ pub none_taken : (a b : Option (List ℕ)) (bytes : List ℕ) → bytes ≢ [] �
 none_taken None b bytes some p = ([], record { rest = bytes; joined = refl; short = some }, tt)
 none_taken (Some x) None bytes some p = absurd p
 none_taken (Some x) (Some y) bytes some p = ([], record { rest = bytes; joined = refl; short = some }, p ∙ sym (append-nil x))
+
+-- what was sent before them changes nothing of what bytes are taken
+pub appends_after : (a b c : Option (List ℕ)) (bs : List ℕ) → Keeps a b → Appends b c bs → Appends a c bs
+appends_after None b c bs p q = tt
+appends_after (Some x) None c bs p q = absurd p
+appends_after (Some x) (Some y) None bs p q = absurd q
+appends_after (Some x) (Some y) (Some z) bs p q = q ∙ ap (λ l. l ++ bs) p
+
+-- the same of a part of them
+pub part_after : (t a h k : Option (List ℕ)) (bs : List ℕ) → Keeps t (joined a h) → TakesPart h k bs → TakesPart t (joined a k) bs
+part_after t a h k bs p (x, short, q) = (x, short, appends_after t (joined a h) (joined a k) x p (appends_behind a h k x q))
+
+-- what holds anyway holds at an error
+pub at_any_error : {A E P : Type 0} (r : Result A E) → P → OnErr r P
+at_any_error (Ok x) p = tt
+at_any_error (Err y) p = p
 
 -- without bytes in memory none wait but those in the spool
 pub none_waiting : (h : Option (List ℕ)) (f : List ℕ) (s : ℕ) → length f ≡ 0 → IsAtEnd h → IsAtEnd (prepend_known (drop s f) h)

@@ -4,7 +4,7 @@ ghost use Rattle.std.specs.Prelude.{◌≡◌, ℕ, List, Option, None};
 ghost use Rattle.dep_outbox.specs.Sockets.{Receives, Delivers};
 
 /// What a receive came to.
-#[derive(Clone, Copy, Debug, PartialEq, Eq)]
+#[derive(Clone, Copy)]
 pub enum Received {
     /// So many bytes, at least one.
     Bytes(usize),
@@ -17,7 +17,7 @@ pub enum Received {
 }
 
 /// What a send came to.
-#[derive(Clone, Copy, Debug, PartialEq, Eq)]
+#[derive(Clone, Copy)]
 pub enum Delivered {
     /// So many bytes were taken, at least one.
     Bytes(usize),

@@ -13,7 +13,7 @@ use std::alloc::Global;
 const MOST_SENDS: u32 = 16;
 
 /// What a flush came to.
-#[derive(Clone, Copy, Debug, PartialEq, Eq)]
+#[derive(Clone, Copy, PartialEq, Eq)]
 pub enum Flushed {
     /// Nothing is owed any more.
     All,
@@ -115,7 +115,6 @@ impl<K: Sink, S: Spool> Wire<K, S> {
     }
 
     /// Takes the bytes behind those that it took.
-    #[tactic(auto, using(crate::proofs::WireLemmas::none_taken))]
     fn take(&mut self, bytes: &[u8]) -> Result<(), WriteFailed>
         ensures ok { OnOk result
             (Appends (told K.taken S.held self.old) (told K.taken S.held self.new) bytes.now) }
@@ -126,10 +125,19 @@ impl<K: Sink, S: Spool> Wire<K, S> {
         if bytes.is_empty() {
             return Ok(());
         }
+        self.make_room(bytes)?;
+        Ok(self.backlog.push(bytes)?)
+    }
+
+    /// Sends what is owed, where the bytes would be the first in the spool.
+    fn make_room(&mut self, bytes: &[u8]) -> Result<(), WriteFailed>
+        ensures keeps { Keeps (told K.taken S.held self.old) (told K.taken S.held self.new) }
+        ensures failures { self.new.failures ≡ self.old.failures }
+    {
         if self.backlog.would_spill(bytes) && self.flush() == Flushed::Failed {
             return Err(WriteFailed);
         }
-        Ok(self.backlog.push(bytes)?)
+        Ok(())
     }
 
     /// Whether the socket hasn't taken all bytes yet.

@@ -4,7 +4,7 @@ use dep_moment::Moment;
 use std::marker::Model;
 
 /// What the head of a reply tells. The texts stand in the head as they are, so none may hold a line break.
-#[derive(Debug, Drop)]
+#[derive(Drop)]
 pub struct Reply<'a> {
     /// The status (RFC 9110, section 15).
     pub status: Status,

@@ -6,7 +6,7 @@ ghost use Rattle.dep_reply.specs.Statuses.{status_number};
 use dep_types::Refusal;
 
 /// The status of a reply (RFC 9110, section 15).
-#[derive(Clone, Copy, Debug, PartialEq, Eq)]
+#[derive(Clone, Copy)]
 pub enum Status {
     /// 200
     Ok,

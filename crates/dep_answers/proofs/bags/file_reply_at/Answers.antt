@@ -1,6 +1,6 @@
 use Rattle.std.proofs.Common.{◌∙◌, sym, ap, bytes_eq, None, Some}
 use Rattle.dep_types.specs.declared.rows.FileRow.{FileRow}
-use Rattle.dep_bag.specs.Parts.{row_path}
+use Rattle.dep_manifest.specs.Told.{row_path}
 use Rattle.dep_answers.specs.Answers.{StoredContent, answer}
 use Rattle.dep_answers.specs.Told.{bag_answer}
 use Rattle.dep_answers.proofs.NumberedReplies.{there_answer, elsewhere_answer}

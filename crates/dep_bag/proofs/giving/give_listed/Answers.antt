@@ -1,7 +1,7 @@
 use Rattle.dep_docs_out.specs.Documents.{bag_metadata_document}
 use Rattle.dep_manifest.specs.declared.algorithm.Algorithm.TheVariants.{Sha256, Sha512}
-use Rattle.dep_bag.specs.Bag.{bagit_text}
-use Rattle.dep_bag.specs.Parts.{told_info, told_manifest}
+use Rattle.dep_manifest.specs.TagFiles.{bagit_text}
+use Rattle.dep_manifest.specs.Told.{told_info, told_manifest}
 use Rattle.dep_bag.specs.Giving.{state_of, listed_transcript}
 use Rattle.dep_bag.specs.declared.export_fault.ExportFault.TheVariants.{Sink}
 use Rattle.dep_bag.proofs.GivenParts.{none_given}

@@ -4,7 +4,7 @@ use Rattle.std.proofs.KnownBytes.{Appends-nil, Appends-trans}
 use Rattle.dep_types.specs.Sinks.{file_begun, file_ended, file_given}
 use Rattle.dep_bag.specs.ExportFaults.{unsent_fault}
 use Rattle.dep_bag.specs.Giving.{state_of}
-use Rattle.dep_bag.specs.Parts.{row_path}
+use Rattle.dep_manifest.specs.Told.{row_path}
 use Rattle.dep_bag.specs.declared.export_fault.ExportFault.TheVariants.{Sink, Memory}
 use Rattle.dep_bag.proofs.GivenParts.{cause_passed, err_keeps, faulty, kept, nothing_given, ours_there}
 use Rattle.dep_bag.proofs.StoredFiles.{all_front, all_sent, none_streamed, unsent_cause, unsent_front, unsent_ours}

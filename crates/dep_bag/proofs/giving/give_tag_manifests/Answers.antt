@@ -1,5 +1,6 @@
 use Rattle.dep_manifest.specs.declared.algorithm.Algorithm.TheVariants.{Sha256, Sha512}
-use Rattle.dep_bag.specs.Parts.{told_tag_manifest, told_tag_manifests}
+use Rattle.dep_manifest.specs.Told.{told_tag_manifest}
+use Rattle.dep_bag.specs.Parts.{told_tag_manifests}
 use Rattle.dep_bag.specs.Giving.{state_of, manifests_transcript}
 use Rattle.dep_bag.proofs.GivenParts.{none_asked}
 use Rattle.dep_bag.proofs.GivenFiles.{all_left, next_given, next_fails, last_given}

@@ -7,5 +7,4 @@ use Rattle.dep_docs_out.proofs.error.error_doc.Goals as goal
 pub returns : goal.returns
 unfolding error_data
 returns c =
-    let told = rw (c.as_str.ensures.value, c.in_ok-log.ensures) at c.in_ok-add_error.ensures in
-    IfOk-weaker c.ended.result _ _ (λ text e. e ∙ whole_text c.in_ok-document.ensures told) c.ended.ensures
+    IfOk-weaker c.ended.result _ _ (λ text e. e ∙ whole_text c.in_ok-document.ensures c.in_ok-add_error.ensures) c.ended.ensures

@@ -6,6 +6,5 @@ use Rattle.dep_docs_out.proofs.upload.upload_doc.Goals as goal
 pub returns : goal.returns
 unfolding upload_data
 returns c =
-    let told = rw (c.as_str.ensures.value, c.in_ok-place.ensures) at c.in_ok-add_upload.ensures in
-    ap (λ (text : List ℕ). Some text) (c.in_ok-ended.ensures ∙ whole_text c.in_ok-document.ensures told)
+    ap (λ (text : List ℕ). Some text) (c.in_ok-ended.ensures ∙ whole_text c.in_ok-document.ensures c.in_ok-add_upload.ensures)
     ∙ ap (λ (b : Bool). if b then Some (upload_document c.args.config.now c.args.upload.now c.args.received.now) else None) c.if-not-are_segments.ensures

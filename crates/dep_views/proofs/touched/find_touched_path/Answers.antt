@@ -3,7 +3,7 @@ use Rattle.std.specs.List.{list_any}
 use Rattle.std.specs.Option.{option_copied, option_to_list}
 use Rattle.dep_types.specs.BagPaths.{tag_paths}
 use Rattle.dep_types.specs.declared.rows.FileRow.{FileRow}
-use Rattle.dep_bag.specs.Parts.{row_path}
+use Rattle.dep_manifest.specs.Told.{row_path}
 use Rattle.dep_views.specs.Seen.{file_at_path}
 use Rattle.dep_tables.proofs.Chains.{may_ok}
 use Rattle.dep_views.proofs.Paths.{path_told, payload_seen}

@@ -1,16 +1,17 @@
-//! The manifest of an object's files.
+//! The manifest of an object's files (RFC 8493, section 2.1.3).
 ghost use Rattle.std.specs.Prelude.{◌≡◌};
 ghost use Rattle.dep_docs_out.specs.Made.{Makes};
-ghost use Rattle.dep_bag.specs.Parts.{row_digests, told_manifest};
+ghost use Rattle.dep_manifest.specs.Told.{row_digests, told_manifest};
 
+use crate::algorithm::Algorithm;
+use crate::lines::add_line;
 use crate::paths::payload_path;
 use dep_fixity::Digests;
-use dep_manifest::{Algorithm, add_line};
 use dep_types::{FileRow, ObjectView};
 use std::alloc::{AllocError, Global};
 
 /// The manifest of an object's files, by the digests that their rows tell: no content is read.
-pub(crate) fn payload_manifest(
+pub fn payload_manifest(
     alloc: Global,
     view: &ObjectView,
     algorithm: Algorithm,

@@ -1,7 +1,7 @@
 use Rattle.std.proofs.Common.{◌≡◌, map, take}
 use Rattle.dep_manifest.specs.Manifest.{manifest}
-use Rattle.dep_bag.specs.Parts.{row_checksum}
-use Rattle.dep_bag.proofs.manifest.payload_manifest.Given as goal
+use Rattle.dep_manifest.specs.Told.{row_checksum}
+use Rattle.dep_manifest.proofs.payload.payload_manifest.Given as goal
 
 -- a line for each file so far
 abbrev pub invariant-loop-row : goal.invariant-loop-row

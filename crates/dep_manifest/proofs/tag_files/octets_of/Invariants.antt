@@ -1,6 +1,6 @@
 use Rattle.std.proofs.Common.{◌≡◌, ◌≤◌, ◌*◌, ◌^◌, take}
 use Rattle.std.specs.Prelude.{sum_by}
-use Rattle.dep_bag.proofs.tag_files.octets_of.Given as goal
+use Rattle.dep_manifest.proofs.tag_files.octets_of.Given as goal
 
 -- the sum so far
 abbrev pub invariant-loop-row : goal.invariant-loop-row

@@ -2,10 +2,10 @@ use Rattle.std.proofs.Common.{codes}
 use Rattle.dep_docs_out.specs.Documents.{bag_metadata_document}
 use Rattle.dep_manifest.specs.Manifest.{digest_by}
 use Rattle.dep_manifest.specs.declared.algorithm.Algorithm.TheVariants.{Sha256, Sha512}
-use Rattle.dep_bag.specs.Bag.{bagit_text, manifest_path}
-use Rattle.dep_bag.specs.Parts.{told_info, told_manifest, text_by}
-use Rattle.dep_bag.proofs.FiveLines.{five_lines, no_text}
-use Rattle.dep_bag.proofs.tag_manifests.tag_manifests.Goals as goal
+use Rattle.dep_manifest.specs.TagFiles.{bagit_text, manifest_path}
+use Rattle.dep_manifest.specs.Told.{told_info, told_manifest, text_by}
+use Rattle.dep_manifest.proofs.FiveLines.{five_lines, no_text}
+use Rattle.dep_manifest.proofs.tag_manifests.both_tag_manifests.Goals as goal
 
 pub returns : goal.returns
 returns c = λ a.

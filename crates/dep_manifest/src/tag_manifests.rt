@@ -1,30 +1,31 @@
 //! The tag manifests of a bag (RFC 8493, section 2.2.1).
 ghost use Rattle.std.specs.Prelude.{IfOk};
 ghost use Rattle.dep_docs_out.specs.Made.{Makes};
-ghost use Rattle.dep_bag.specs.Parts.{AreTagManifests, told_tag_manifest};
+ghost use Rattle.dep_manifest.specs.Told.{AreTagManifests, told_tag_manifest};
 
-use crate::manifest::payload_manifest;
+use crate::algorithm::Algorithm;
+use crate::lines::add_line;
 use crate::paths::{BAG_INFO, BAGIT, MANIFEST_SHA256, MANIFEST_SHA512, METADATA};
+use crate::payload::payload_manifest;
 use crate::tag_files::{declaration, information};
 use dep_docs_out::bag_metadata_doc;
 use dep_fixity::Hasher;
-use dep_manifest::{Algorithm, add_line};
 use dep_types::ObjectView;
 use std::alloc::{AllocError, Global};
 
 /// The texts of both tag manifests.
 #[derive(Drop)]
-pub(crate) struct TagManifests {
+pub struct TagManifests {
     /// `tagmanifest-sha256.txt`.
-    pub(crate) sha256: Vec<u8>,
+    pub sha256: Vec<u8>,
     /// `tagmanifest-sha512.txt`.
-    pub(crate) sha512: Vec<u8>,
+    pub sha512: Vec<u8>,
 }
 
 impl TagManifests {
     ghost use Rattle.std.specs.Prelude.{ℕ, List, OnOk};
     ghost use Rattle.dep_docs_out.specs.Made.{Makes};
-    ghost use Rattle.dep_bag.specs.Parts.{AddsLines};
+    ghost use Rattle.dep_manifest.specs.Told.{AddsLines};
 
     // Adds the lines of a file with these bytes, where they could be made.
     fn add_file(&mut self, path: &str, made: Result<Vec<u8>, AllocError>) -> Result<(), AllocError>
@@ -42,7 +43,7 @@ impl TagManifests {
 }
 
 /// Both tag manifests. Each file that they name is made once, hashed once for both, and dropped before the next is made.
-pub(crate) fn tag_manifests(alloc: Global, view: &ObjectView) -> Result<TagManifests, AllocError>
+pub fn both_tag_manifests(alloc: Global, view: &ObjectView) -> Result<TagManifests, AllocError>
     ensures { IfOk result (AreTagManifests view.now) }
 {
     let mut texts = TagManifests {
@@ -64,14 +65,14 @@ pub(crate) fn tag_manifests(alloc: Global, view: &ObjectView) -> Result<TagManif
 }
 
 /// The tag manifest of one algorithm.
-pub(crate) fn tag_manifest(
+pub fn tag_manifest(
     alloc: Global,
     view: &ObjectView,
     algorithm: Algorithm,
 ) -> Result<Vec<u8>, AllocError>
     ensures { Makes result (told_tag_manifest algorithm view.now) }
 {
-    let TagManifests { sha256, sha512 } = tag_manifests(alloc, view)?;
+    let TagManifests { sha256, sha512 } = both_tag_manifests(alloc, view)?;
     match algorithm {
         Algorithm::Sha256 => Ok(sha256),
         Algorithm::Sha512 => Ok(sha512),

@@ -2,8 +2,8 @@
 ghost use Rattle.std.specs.Prelude.{◌≡◌, OnOk, sum_by};
 ghost use Rattle.dep_docs_out.specs.Made.{Makes};
 ghost use Rattle.dep_manifest.specs.Growing.{Grows};
-ghost use Rattle.dep_bag.specs.Bag.{bagit_text};
-ghost use Rattle.dep_bag.specs.Parts.{told_oxum, told_info};
+ghost use Rattle.dep_manifest.specs.TagFiles.{bagit_text};
+ghost use Rattle.dep_manifest.specs.Told.{told_oxum, told_info};
 
 use dep_moment::Moment;
 use dep_types::{FileRow, ObjectView};
@@ -13,14 +13,14 @@ use std::alloc::{AllocError, Global};
 const DECLARATION: &[u8] = b"BagIt-Version: 1.0\nTag-File-Character-Encoding: UTF-8\n";
 
 /// `bagit.txt`.
-pub(crate) fn declaration(alloc: Global) -> Result<Vec<u8>, AllocError>
+pub fn declaration(alloc: Global) -> Result<Vec<u8>, AllocError>
     ensures { Makes result bagit_text }
 {
     DECLARATION.to_vec(alloc)
 }
 
 /// `bag-info.txt`: the day of the last change in UTC, and what the payload has.
-pub(crate) fn information(alloc: Global, view: &ObjectView) -> Result<Vec<u8>, AllocError>
+pub fn information(alloc: Global, view: &ObjectView) -> Result<Vec<u8>, AllocError>
     ensures { Makes result (told_info view.now) }
 {
     let mut text = b"Bagging-Date: ".to_vec(alloc)?;

@@ -1,0 +1,61 @@
+-- What a view of an object tells of the tag files of its bag.
+use Rattle.std.specs.Prelude.{◌≡◌, ℕ, List, [], ◌∷◌, ◌++◌, length, map, sum_by, codes}
+use Rattle.dep_types.specs.BagPaths.{payload_path}
+use Rattle.dep_types.specs.declared.rows.FileRow.{FileRow}
+use Rattle.dep_types.specs.declared.rows.ObjectView.{ObjectView}
+use Rattle.dep_types.specs.Sinks.{Entry}
+use Rattle.dep_fixity.specs.declared.hasher.Digests.{Digests}
+use Rattle.dep_docs_out.specs.Documents.{bag_metadata_document}
+use Rattle.dep_manifest.specs.Manifest.{Checksum, checksum_in, checksum_of, digest_by, manifest, manifest_line, manifest_of}
+use Rattle.dep_manifest.specs.TagFiles.{bagit_text, oxum_text, info_text, manifest_path}
+use Rattle.dep_manifest.specs.declared.algorithm.Algorithm.{Algorithm}
+use Rattle.dep_manifest.specs.declared.algorithm.Algorithm.TheVariants.{Sha256, Sha512}
+use Rattle.dep_manifest.specs.declared.tag_manifests.TagManifests.{TagManifests}
+
+-- where a file stands
+abbrev pub row_path : FileRow → List ℕ
+row_path row = payload_path row.file row.name
+
+-- the digests that a row keeps
+abbrev pub row_digests : FileRow → Digests
+row_digests row = record { sha256 = row.sha256; sha512 = row.sha512 }
+
+-- what a manifest tells of the file of a row
+abbrev pub row_checksum : Algorithm → FileRow → Checksum
+row_checksum a row = checksum_in a (row_path row) (row_digests row)
+
+abbrev pub told_oxum : List FileRow → List ℕ
+told_oxum rows = oxum_text (sum_by (λ row. row.size) rows) (length rows)
+
+abbrev pub told_info : ObjectView → List ℕ
+told_info view = info_text view.object.changed (told_oxum view.files)
+
+abbrev pub told_manifest : Algorithm → ObjectView → List ℕ
+told_manifest a view = manifest (map (row_checksum a) view.files)
+
+-- the files that a tag manifest names
+abbrev pub told_listed : ObjectView → List Entry
+told_listed view =
+    (codes "bagit.txt", bagit_text)
+    ∷ (codes "bag-info.txt", told_info view)
+    ∷ (manifest_path Sha256, told_manifest Sha256 view)
+    ∷ (manifest_path Sha512, told_manifest Sha512 view)
+    ∷ (codes "metadata/sword.json", bag_metadata_document view.metadata)
+    ∷ []
+
+abbrev pub told_tag_manifest : Algorithm → ObjectView → List ℕ
+told_tag_manifest a view = manifest_of (digest_by a) (told_listed view)
+
+-- the text of the tag manifest of an algorithm
+abbrev pub text_by : Algorithm → TagManifests → List ℕ
+text_by Sha256 manifests = manifests.sha256.items
+text_by Sha512 manifests = manifests.sha512.items
+
+-- they are the tag manifests of the bag, by both algorithms
+abbrev pub AreTagManifests : ObjectView → TagManifests → Type 0
+AreTagManifests view manifests = (a : Algorithm) → text_by a manifests ≡ told_tag_manifest a view
+
+-- the line of a file was added to each of them
+abbrev pub AddsLines : (old new : TagManifests) → Entry → Type 0
+AddsLines old new file = (a : Algorithm)
+    → text_by a new ≡ text_by a old ++ manifest_line (checksum_of (digest_by a) file)
