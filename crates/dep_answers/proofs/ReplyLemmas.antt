@@ -1,6 +1,6 @@
 -- Replies that are ready.
 use Rattle.std.proofs.Common.{◌≡◌, ◌≢◌, ℕ, ◌==◌, ◌&&◌, ◌||◌, not, Bool, true, false, is_some, List, [], ◌∷◌, ◌++◌, Option, Some, None, option_map, length, refl, sym, ap, subst, ◌∙◌, append-nil}
-use Rattle.std.specs.Prelude.{IsSome}
+use Rattle.std.specs.Prelude.{IsSome, IfSome}
 use Rattle.std.specs.Option.{option_map_or}
 use Rattle.dep_types.specs.State.{State, File, file_at}
 use Rattle.dep_types.specs.Rows.{file_row}
@@ -8,18 +8,18 @@ use Rattle.dep_types.specs.declared.rows.FileRow.{FileRow}
 use Rattle.dep_reply.specs.Head.{ReplyHead, head_text}
 use Rattle.dep_answers.specs.Answers.{Answer, ReplyContent, StoredContent, bytes_of, document_of, stored_of, answer, head_of, is_silent}
 use Rattle.dep_answers.specs.Replies.{unless_bare, front_text, stored_text}
-use Rattle.dep_answers.specs.Performing.{HasEnd, IsReply, stored_in, stored_behind}
+use Rattle.dep_answers.specs.Performing.{HasEnd, IsReply, stored_in, stored_behind, stored_file}
 use Rattle.dep_answers.specs.declared.performed.Delivery.{Delivery}
 use Rattle.dep_answers.specs.declared.performed.Performed.{Performed}
-use Rattle.dep_answers.specs.declared.performed.FileId.{FileId}
+use Rattle.dep_answers.specs.declared.performed.StoredFile.{StoredFile}
 
 nothing_either_way : (is_bare : Bool) → unless_bare is_bare [] ≡ []
 nothing_either_way true = refl
 nothing_either_way false = refl
 
-none_there : (o : Option FileId) → o ≡ None → IsSome o → ⊥
+none_there : (o : Option StoredFile) → o ≡ None → IsSome o → ⊥
 none_there None e h = cc
-none_there (Some id) e h = cc
+none_there (Some it) e h = cc
 
 -- a reply without the content of a file
 pub text_reply : (s : State) (a : Answer) (delivery : Delivery) (p : Performed)
@@ -30,6 +30,7 @@ text_reply s a delivery p front none nothing = record {
   front = front;
   stored = ap (stored_in s) nothing ∙ sym (ap (unless_bare delivery.is_bare) none ∙ nothing_either_way delivery.is_bare);
   not_empty = λ has. absurd (none_there p.stored nothing has);
+  size = subst (λ (o : Option StoredFile). IfSome o (λ it. it.size ≡ length (unless_bare delivery.is_bare (stored_of a.content)))) (sym nothing) tt;
 }
 
 -- ---- where a reply ends
@@ -66,35 +67,43 @@ head_by row tag delivery = record {
   closes = delivery.closes;
 }
 
-content_behind : (s : State) (is_bare : Bool) (content : List ℕ) (id : FileId)
-    → option_map_or (λ (x : File). x.content) (file_at s id.object id.file) [] ≡ content
-    → stored_in s (stored_behind is_bare content id) ≡ unless_bare is_bare content
-content_behind s true content id e = refl
-content_behind s false [] id e = refl
-content_behind s false (b ∷ content) id e = e
+content_behind : (s : State) (is_bare : Bool) (content : List ℕ) (it : StoredFile)
+    → option_map_or (λ (x : File). x.content) (file_at s it.object it.file) [] ≡ content
+    → stored_in s (stored_behind is_bare content it) ≡ unless_bare is_bare content
+content_behind s true content it e = refl
+content_behind s false [] it e = refl
+content_behind s false (b ∷ content) it e = e
 
-not_nothing : (is_bare : Bool) (content : List ℕ) (id : FileId) → IsSome (stored_behind is_bare content id)
+not_nothing : (is_bare : Bool) (content : List ℕ) (it : StoredFile) → IsSome (stored_behind is_bare content it)
     → unless_bare is_bare content ≢ []
-not_nothing true content id h = absurd (none_there None refl h)
-not_nothing false [] id h = absurd (none_there None refl h)
-not_nothing false (b ∷ content) id h = λ e. cc
+not_nothing true content it h = absurd (none_there None refl h)
+not_nothing false [] it h = absurd (none_there None refl h)
+not_nothing false (b ∷ content) it h = λ e. cc
+
+sized_behind : (is_bare : Bool) (content : List ℕ) (it : StoredFile) → it.size ≡ length content
+    → IfSome (stored_behind is_bare content it) (λ it. it.size ≡ length (unless_bare is_bare content))
+sized_behind true content it e = tt
+sized_behind false [] it e = tt
+sized_behind false (b ∷ content) it e = e
 
 -- the head, and the content behind it
 pub stored_ready : (s : State) (file : File) (row : FileRow) (tag : Option ℕ) (delivery : Delivery) (p : Performed)
     → file_at s row.object row.file ≡ Some file → row ≡ file_row row.object row.file file
     → p.front.items ≡ head_text (head_by row tag delivery)
-    → p.stored ≡ stored_behind delivery.is_bare file.content (record { object = row.object; file = row.file })
+    → p.stored ≡ stored_behind delivery.is_bare file.content (stored_file row)
     → IsReply s (answer 200 (Some (StoredContent file.media file.content)) tag None) delivery p
 unfolding front_text stored_text
 stored_ready s file row tag delivery p there is front stored =
-    let id : FileId = record { object = row.object; file = row.file } in
+    let it = stored_file row in
     record {
       front = front ∙ ap (λ (r : FileRow). head_text (head_by r tag delivery)) is
           ∙ sym (append-nil (head_text (head_by (file_row row.object row.file file) tag delivery)))
           ∙ ap (λ (l : List ℕ). head_text (head_by (file_row row.object row.file file) tag delivery) ++ l) (sym (nothing_either_way delivery.is_bare));
       stored = ap (stored_in s) stored
-          ∙ content_behind s delivery.is_bare file.content id (ap (λ (o : Option File). option_map_or (λ (x : File). x.content) o []) there);
-      not_empty = λ has. not_nothing delivery.is_bare file.content id (subst IsSome stored has);
+          ∙ content_behind s delivery.is_bare file.content it (ap (λ (o : Option File). option_map_or (λ (x : File). x.content) o []) there);
+      not_empty = λ has. not_nothing delivery.is_bare file.content it (subst IsSome stored has);
+      size = subst (λ (o : Option StoredFile). IfSome o (λ it. it.size ≡ length (unless_bare delivery.is_bare file.content))) (sym stored)
+          (sized_behind delivery.is_bare file.content it (ap (λ (r : FileRow). r.size) is));
     }
 
 pub stored_ends : (row : FileRow) (tag : Option ℕ) (delivery : Delivery) (p : Performed) → p.front.items ≡ head_text (head_by row tag delivery) → HasEnd p

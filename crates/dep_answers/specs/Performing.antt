@@ -1,5 +1,5 @@
 -- Replies that are ready to be sent.
-use Rattle.std.specs.Prelude.{◌≡◌, ◌≢◌, ℕ, ◌==◌, ◌||◌, Bool, true, false, List, [], ◌∷◌, ◌++◌, is_some, Option, Some, None, IsSome, IsTrue}
+use Rattle.std.specs.Prelude.{◌≡◌, ◌≢◌, ℕ, ◌==◌, ◌||◌, Bool, true, false, List, [], ◌∷◌, ◌++◌, is_some, Option, Some, None, IsSome, IfSome, IsTrue, length}
 use Rattle.std.specs.Option.{option_map_or}
 use Rattle.dep_types.specs.State.{State, file_at}
 use Rattle.dep_reply.specs.Head.{ReplyHead, head_text}
@@ -7,18 +7,20 @@ use Rattle.dep_answers.specs.Answers.{Answer, is_silent}
 use Rattle.dep_answers.specs.Steps.{Stepped, answered_step}
 use Rattle.dep_answers.specs.declared.performed.Delivery.{Delivery}
 use Rattle.dep_answers.specs.declared.performed.Performed.{Performed}
-use Rattle.dep_answers.specs.declared.performed.FileId.{FileId}
+use Rattle.dep_answers.specs.declared.performed.StoredFile.{StoredFile}
+use Rattle.dep_types.specs.declared.rows.FileRow.{FileRow}
 
 -- the content of a file that follows a head, if one does
-abbrev pub stored_in : State → Option FileId → List ℕ
+abbrev pub stored_in : State → Option StoredFile → List ℕ
 stored_in s None = []
-stored_in s (Some id) = option_map_or (λ file. file.content) (file_at s id.object id.file) []
+stored_in s (Some it) = option_map_or (λ file. file.content) (file_at s it.object it.file) []
 
 -- what is ready is the reply of the step
 pub record IsReady (stepped : Stepped) (p : Performed) : Type 0 where
   pub front : p.front.items ≡ stepped.front
   pub stored : stored_in stepped.state p.stored ≡ stepped.stored
   pub not_empty : IsSome p.stored → stepped.stored ≢ []
+  pub size : IfSome p.stored (λ it. it.size ≡ length stepped.stored)
 
 -- what is ready says this, at the state
 abbrev pub IsReply : State → Answer → Delivery → Performed → Type 0
@@ -43,7 +45,11 @@ pub record Performs (stepped : Stepped) (left : State) (p : Performed) : Type 0 
   pub ready : IsReady stepped p
 
 -- the file whose content stands behind a head, unless the reply is bare or the file is empty
-abbrev pub stored_behind : (is_bare : Bool) → (content : List ℕ) → FileId → Option FileId
-stored_behind true content id = None
-stored_behind false [] id = None
-stored_behind false (b ∷ content) id = Some id
+abbrev pub stored_behind : (is_bare : Bool) → (content : List ℕ) → StoredFile → Option StoredFile
+stored_behind true content it = None
+stored_behind false [] it = None
+stored_behind false (b ∷ content) it = Some it
+
+-- the file of a row
+abbrev pub stored_file : FileRow → StoredFile
+stored_file row = record { object = row.object; file = row.file; size = row.size }

@@ -14,7 +14,7 @@ mod subject;
 mod uploads;
 
 pub use accepting::accepted;
-pub use performed::{Delivery, FileId, Performed};
+pub use performed::{Delivery, FileId, Performed, StoredFile};
 pub use refusing::refused;
 pub use service::Service;
 pub use subject::{Shown, Subject};

@@ -11,13 +11,24 @@ pub struct FileId {
     pub file: u64,
 }
 
+/// A file whose content follows a reply.
+#[derive(Clone, Copy)]
+pub struct StoredFile {
+    /// The number of its object.
+    pub object: u64,
+    /// Its own number.
+    pub file: u64,
+    /// How many bytes it has.
+    pub size: u64,
+}
+
 /// A reply that is ready to be sent: no memory is needed any more, but to read a stored content.
 #[derive(Drop)]
 pub struct Performed {
     /// The bytes of its head, and of a document or text behind it.
     pub front: Vec<u8>,
     /// The file whose content follows, as the archive keeps it. It isn't empty.
-    pub stored: Option<FileId>,
+    pub stored: Option<StoredFile>,
 }
 
 /// How a reply goes out.

@@ -1,14 +1,14 @@
 //! Replies with the content of a stored file.
 ghost use Rattle.std.specs.Prelude.{◌≡◌, IfOk, IfSome, Some, None, ℕ, List, length};
 ghost use Rattle.dep_types.specs.State.{State};
-ghost use Rattle.dep_answers.specs.Performing.{HasEnd, Says, stored_behind};
+ghost use Rattle.dep_answers.specs.Performing.{HasEnd, Says, stored_behind, stored_file};
 ghost use Rattle.dep_answers.specs.Subjects.{shown_at};
 ghost use Rattle.dep_answers.specs.Told.{file_answer};
 ghost use Rattle.dep_answers.specs.Telling.{IsContentOf};
 ghost use Rattle.dep_answers.specs.declared.performed.FileId.{FileId as AFileId};
 ghost use Rattle.dep_answers.specs.declared.subject.Subject.TheVariants.{File};
 
-use crate::performed::{Delivery, FileId, Performed};
+use crate::performed::{Delivery, Performed, StoredFile};
 use crate::subject::Shown;
 use dep_reply::{Reply, Status, spell_head};
 use dep_types::FileRow;
@@ -58,16 +58,17 @@ pub(crate) fn stored_reply(
 }
 
 // The content of the file, unless the reply has no body or the file is empty.
-fn content_behind(row: &FileRow, is_bare: bool) -> Option<FileId>
-    ensures { (content : List ℕ) → length content ≡ row.now.size → result ≡
-        stored_behind is_bare content (record { object = row.now.object; file = row.now.file }) }
+fn content_behind(row: &FileRow, is_bare: bool) -> Option<StoredFile>
+    ensures { (content : List ℕ) → length content ≡ row.now.size
+        → result ≡ stored_behind is_bare content (stored_file row.now) }
 {
     if is_bare || row.size == 0 {
         None
     } else {
-        Some(FileId {
+        Some(StoredFile {
             object: row.object,
             file: row.file,
+            size: row.size,
         })
     }
 }

@@ -10,7 +10,7 @@ use Rattle.dep_types.specs.declared.stream_fault.StreamFault.TheVariants.{Writer
 use Rattle.dep_types.specs.Streams.{HasContent, IsPartOfContent, IsStreamed}
 use Rattle.dep_answers.specs.Steps.{Stepped, sent_by}
 use Rattle.dep_answers.specs.Performing.{stored_in}
-use Rattle.dep_answers.specs.declared.performed.FileId.{FileId}
+use Rattle.dep_answers.specs.declared.performed.StoredFile.{StoredFile}
 use Rattle.dep_answers.specs.declared.performed.Performed.{Performed}
 use Rattle.dep_types.specs.Conditions.{Condition, StandsFor, HasCleanDisk, Leaves}
 use Rattle.dep_hub.specs.Performing.{Performs}
@@ -75,7 +75,7 @@ there : (o : Option File) (stored : List ℕ) → option_map_or (λ (file : File
 there None stored e some = absurd (some (sym e))
 there (Some file) stored e some = (file, refl, e)
 
-module _ (d : Condition) (s : State) (stands : StandsFor d s) (id : FileId) (stored : List ℕ) (is : stored_in s (Some id) ≡ stored) (some : stored ≢ []) where
+module _ (d : Condition) (s : State) (stands : StandsFor d s) (id : StoredFile) (stored : List ℕ) (is : stored_in s (Some id) ≡ stored) (some : stored ≢ []) where
   whole_content : (bytes : List ℕ) → HasContent s id.file bytes → bytes ≡ stored
   whole_content bytes h =
       let t = there (file_at s id.object id.file) stored is some in
@@ -98,7 +98,7 @@ module _ (d : Condition) (s : State) (stands : StandsFor d s) (id : FileId) (sto
 
 -- ---- what is ready
 
-module _ (old mid new : Outside) (p : Performed) (id : FileId) (is : p.stored ≡ Some id) (bytes : List ℕ) (ready : bytes ≡ p.front.items)
+module _ (old mid new : Outside) (p : Performed) (id : StoredFile) (is : p.stored ≡ Some id) (bytes : List ℕ) (ready : bytes ≡ p.front.items)
     (first : SendsReply old.taken mid.taken bytes Sent) (kept : mid.failures ≡ old.failures) (same : mid.store ≡ old.store)
     (honest : HasCleanDisk new.store → HasCleanDisk old.store) (clean : IsTrue new.store.is_open → IsTrue old.store.is_open) where
   at_step : (stepped : Stepped) → Performs stepped old.store p → first.0 ≡ stepped.front
@@ -149,7 +149,7 @@ module _ (old mid new : Outside) (p : Performed) (id : FileId) (is : p.stored �
   }
 
 -- nothing is stored behind the front
-nothing_behind : (s : State) (o : Option FileId) (stored : List ℕ) → o ≡ None → stored_in s o ≡ stored → stored ≡ []
+nothing_behind : (s : State) (o : Option StoredFile) (stored : List ℕ) → o ≡ None → stored_in s o ≡ stored → stored ≡ []
 nothing_behind s o stored e is = sym is ∙ ap (stored_in s) e
 
 -- the front was sent, and is all

@@ -10,3 +10,4 @@ pub mod ReportLemmas
 pub mod LineLemmas
 pub mod ShutLemmas
 pub mod Tries
+pub mod KnownFiles

@@ -16,6 +16,7 @@ use Rattle.dep_schema.specs.Performing.{StepsOver, TellsChanges, IsBackUnchanged
 use Rattle.dep_schema.specs.Transactions.{IsBackAt, IsRestored, Transacts}
 use Rattle.dep_hub.specs.Shut.{TellsOpen}
 use Rattle.dep_store.specs.Archive.{shown_by}
+use Rattle.dep_store.specs.Remembering.{ShowsFile}
 
 -- where the store was shut, and the disk has told no lie that was taken as true, a crash leaves
 -- nothing that it might not have left before
@@ -34,13 +35,14 @@ pub record StaysOpen {A E : Type 0} (old new : db.State) (result : Result A E) :
   pub back : OnOk result (IsBackAt old new)
   pub opened : db.HasCleanDisk new → OnOk result (IsTrue new.is_open)
 
--- so a request fails, which is else one transaction, given back where nothing was changed
+-- so a request fails, which is else one transaction, given back where nothing was changed, and shows a file that is there
 pub record PerformsIfOpen (old new : db.State) (result : Result Done StoreFault) (config : Config)
     (op : Operation) (running : RunningHashes) : Type 0 where
   pub shut : FailsIfShut old new result
   pub transacts : Transacts old new result (StepsOver config op running)
   pub changes : TellsChanges old new result config op running
   pub back : IsBackUnchanged old new result
+  pub shows : ShowsFile old new result op
 
 -- Why it isn't told whether a store is open: a transaction is under way; or the store failed, as the fault tells, and not
 -- because it was shut before: memory was refused, or the disk failed once more.

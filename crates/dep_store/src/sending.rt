@@ -1,18 +1,21 @@
 //! The content of a file, sent over a store that is open.
 
-ghost use Rattle.std.specs.Prelude.{◌≡◌, false};
+ghost use Rattle.std.specs.Prelude.{◌≡◌, Some, false};
 ghost use Rattle.sqlite.specs.Held.{state};
 ghost use Rattle.dep_hub.specs.Archives.{Streams, KeepsState, CountsFailures};
 ghost use Rattle.dep_store.specs.Archive.{condition_of};
+ghost use Rattle.dep_store.specs.Remembering.{IsKnownFile};
 ghost use Rattle.dep_store.specs.Shut.{StaysOpen};
 
+use dep_answers::StoredFile;
 use dep_schema::check_open;
-use dep_streams::stream_content;
+use dep_streams::{stream_blocks, stream_content};
+use dep_tables::BlockOwner;
 use dep_types::{Outlet, StreamFault};
 use sqlite::{Alter, Connection};
 
 /// Sends the content of the file of this number, one block at a time. Over a store that was shut none is asked for.
-pub(crate) fn stream_if_open<S: Alter, O: Outlet>(
+fn stream_if_open<S: Alter, O: Outlet>(
     connection: &mut Connection<S>,
     file: u64,
     out: &mut O,
@@ -28,4 +31,46 @@ pub(crate) fn stream_if_open<S: Alter, O: Outlet>(
 {
     check_open(connection)?;
     stream_content(connection, file, out)
+}
+
+/// Sends the content of a file that is there, over a store that is open.
+fn stream_file<S: Alter, O: Outlet>(
+    connection: &mut Connection<S>,
+    known: StoredFile,
+    out: &mut O,
+) -> Result<(), StreamFault>
+    requires settled { (state S.Store connection.old).in_transaction ≡ false }
+    requires there { IsKnownFile (state S.Store connection.old) (Some known) }
+    ensures streams { Streams (condition_of S.Store connection.old)
+        (condition_of S.Store connection.new) (O.taken out.old) (O.taken out.new) known.file result }
+    ensures does { KeepsState (condition_of S.Store connection.old)
+        (condition_of S.Store connection.new) result }
+    ensures count { CountsFailures (O.failures out.old) (O.failures out.new) result }
+    ensures stays { StaysOpen (state S.Store connection.old) (state S.Store connection.new) result }
+{
+    stream_blocks(connection, BlockOwner::File(known.file), known.size, out)
+}
+
+/// Sends the content of the file of this number, whose size is asked for where another file is known, or none.
+pub(crate) fn stream_known<S: Alter, O: Outlet>(
+    connection: &mut Connection<S>,
+    known: Option<StoredFile>,
+    file: u64,
+    out: &mut O,
+) -> Result<(), StreamFault>
+    requires settled { (state S.Store connection.old).in_transaction ≡ false }
+    requires there { IsKnownFile (state S.Store connection.old) known }
+    ensures streams { Streams (condition_of S.Store connection.old)
+        (condition_of S.Store connection.new) (O.taken out.old) (O.taken out.new) file result }
+    ensures does { KeepsState (condition_of S.Store connection.old)
+        (condition_of S.Store connection.new) result }
+    ensures count { CountsFailures (O.failures out.old) (O.failures out.new) result }
+    ensures stays { StaysOpen (state S.Store connection.old) (state S.Store connection.new) result }
+{
+    if let Some(it) = known {
+        if it.file == file {
+            return stream_file(connection, it, out);
+        }
+    }
+    stream_if_open(connection, file, out)
 }

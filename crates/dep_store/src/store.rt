@@ -28,10 +28,10 @@ use crate::hashing::hash_running;
 use crate::opening::open_tables;
 use crate::reading::{find_next, list_files, view_object};
 use crate::remembering::{Remembered, look, still_known, tell_open};
-use crate::sending::stream_if_open;
-use crate::showing::{perform_if_open, recalled, show_service};
+use crate::sending::stream_known;
+use crate::showing::{file_shown, perform_if_open, recalled, show_service};
 use crate::ticking::{clock_still, move_clock};
-use dep_answers::{Performed, Service};
+use dep_answers::{Performed, Service, StoredFile};
 use dep_decisions::Operation;
 use dep_moment::Moment;
 use dep_schema::OpenFault;
@@ -49,11 +49,13 @@ pub struct Store<S: Alter> {
     alloc: Global,
     connection: Connection<S>,
     remembered: Option<Remembered>,
+    /// The file whose content the last reply has.
+    shown: Option<StoredFile>,
 }
 
 impl<S: Alter> Model for Store<S> {
     ghost use Rattle.sqlite.specs.Held.{Held, held_code, state};
-    ghost use Rattle.dep_store.specs.Remembering.{IsRecalled, IsOfOpen};
+    ghost use Rattle.dep_store.specs.Remembering.{IsRecalled, IsOfOpen, IsKnownFile};
 
     ghost Value = { Held S };
 
@@ -62,7 +64,8 @@ impl<S: Alter> Model for Store<S> {
     ghost view = { λ s. s.connection };
 
     ghost invariant = { λ s. IsRecalled (state S.Store s.connection) s.remembered
-        × IsOfOpen (state S.Store s.connection) s.remembered };
+        × IsOfOpen (state S.Store s.connection) s.remembered
+        × IsKnownFile (state S.Store s.connection) s.shown };
 }
 
 impl<S: Alter> Store<S> {
@@ -126,6 +129,7 @@ impl<S: Alter> Store<S> {
                 alloc,
                 connection,
                 remembered: None,
+                shown: None,
             }),
             Err(refused) => Err(refused),
         }
@@ -148,6 +152,7 @@ impl<S: Alter> Store<S> {
             return Ok(shown);
         }
         self.remembered = None;
+        self.shown = None;
         let found = look(&mut self.connection, config, secs)?;
         match found {
             Some(it) => {
@@ -184,6 +189,7 @@ impl<S: Alter> Store<S> {
             return show_service(self.alloc, service, operation, &it);
         }
         let remembered = mem::replace(&mut self.remembered, None);
+        self.shown = None;
         let done = perform_if_open(
             &mut self.connection,
             self.alloc,
@@ -192,6 +198,7 @@ impl<S: Alter> Store<S> {
             operation,
         )?;
         self.remembered = still_known(remembered, done.has_changes);
+        self.shown = file_shown(operation, &done);
         Ok(done.performed)
     }
 
@@ -204,6 +211,7 @@ impl<S: Alter> Store<S> {
             return Err(StoreFault::Store);
         }
         self.remembered = None;
+        self.shown = None;
         hash_running(&mut self.connection, running)
     }
 
@@ -221,7 +229,8 @@ impl<S: Alter> Store<S> {
             return Err(StreamFault::Store);
         }
         let remembered = mem::replace(&mut self.remembered, None);
-        stream_if_open(&mut self.connection, file, out)?;
+        let shown = mem::replace(&mut self.shown, None);
+        stream_known(&mut self.connection, shown, file, out)?;
         self.remembered = remembered;
         Ok(())
     }
@@ -236,6 +245,7 @@ impl<S: Alter> Store<S> {
             return Err(StoreFault::Store);
         }
         self.remembered = None;
+        self.shown = None;
         view_object(&mut self.connection, self.alloc, object)
     }
 
@@ -253,6 +263,7 @@ impl<S: Alter> Store<S> {
             return Err(StoreFault::Store);
         }
         self.remembered = None;
+        self.shown = None;
         find_next(&mut self.connection, after)
     }
 
@@ -267,6 +278,7 @@ impl<S: Alter> Store<S> {
             return Err(StoreFault::Store);
         }
         self.remembered = None;
+        self.shown = None;
         let files = list_files(&mut self.connection, self.alloc, object)?;
         audit_files(&mut self.connection, self.alloc, files.as_slice(), watch)
     }
@@ -287,6 +299,7 @@ impl<S: Alter> Store<S> {
                 if !self.connection.is_autocommit() {
                     return Err(StoreFault::Store);
                 }
+                self.shown = None;
                 tell_open(&mut self.connection)
             }
         }

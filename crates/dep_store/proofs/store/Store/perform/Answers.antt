@@ -8,7 +8,11 @@ use Rattle.dep_answers.specs.declared.performed.Performed.{Performed}
 use Rattle.dep_fields.specs.Fit.{AreFit}
 use Rattle.dep_tables.specs.Tables.{Tables}
 use Rattle.dep_tables.proofs.Results.{if_failed}
-use Rattle.std.proofs.Common.{◌≡◌, ◌∙◌, Some, rules, sym, subst}
+use Rattle.std.proofs.Common.{◌≡◌, ◌∙◌, Option, Some, rules, sym, subst}
+use Rattle.std.specs.Prelude.{IfSome}
+use Rattle.sqlite.proofs.StateLemmas.{clean_if_open}
+use Rattle.dep_answers.specs.declared.performed.StoredFile.{StoredFile}
+use Rattle.dep_store.specs.Remembering.{IsOfSize}
 use Rattle.std.proofs.lemmas.Result.{IfOk-from_err}
 use Rattle.dep_requests.specs.declared.performing.Done.{Done}
 use Rattle.dep_schema.specs.Transactions.{OverStates, Transacts, IsGivenBack}
@@ -78,4 +82,14 @@ invariant_of-self-2 g c =
           let was : c.self.inside.remembered ≡ c.replace-remembered.result = search rules in
           c.self.invariant.0 m (was ∙ (known m is).0) s (stood_before (state g.S.Store c.self.inside.connection) (state g.S.Store c.perform_if_open.new.connection) (c.in_ok-done.ensures.back (known m is).1).back (search rules) s stands),
       λ m is clean. (c.in_ok-done.ensures.back (known m is).1).opened clean,
+      λ it is.
+          let shown = c.file_shown-self-inside.ensures it is in
+          let given = c.in_ok-done.ensures.back shown.1 in
+          let store = c.perform_if_open.new.connection.store in (
+            λ s stands.
+                let clean = clean_if_open (g.S.Store.view store) (g.met.S.Store.shut_if_dirty store) stands.stands.is_open in
+                let was = stood_before (state g.S.Store c.self.inside.connection) (state g.S.Store c.perform_if_open.new.connection) given.back (search rules) s stands in
+                subst (λ (o : Option StoredFile). IfSome o (IsOfSize s)) shown.2 (c.in_ok-done.ensures.shows shown.0 clean s was),
+            λ clean. given.opened clean,
+          ),
     )

@@ -81,4 +81,4 @@ returns-in-None g c =
 
 -- what was read is remembered
 pub invariant_of-self-in-Some-found : goal.invariant_of-self-in-Some-found
-invariant_of-self-in-Some-found g c = (λ m is s stands. c.in_ok-found.ensures.recalls m (c.in-Some-found.is ∙ is) s stands, λ m is clean. c.in_ok-found.ensures.finds.opened clean)
+invariant_of-self-in-Some-found g c = (λ m is s stands. c.in_ok-found.ensures.recalls m (c.in-Some-found.is ∙ is) s stands, λ m is clean. c.in_ok-found.ensures.finds.opened clean, λ it is. absurd (cc))

@@ -1,0 +1,118 @@
+-- The file whose content a reply has: that it is there with its size, and what is sent of it then.
+use Rattle.std.proofs.Common.{◌≡◌, ◌≢◌, ◌∙◌, inl, inr, ℕ, List, [], length, Bool, true, false, not, ◌&&◌, if◌then◌else◌, Option, Some, None, Result, IfOk, IsTrue, refl, sym, ap, subst}
+use Rattle.std.specs.Prelude.{IsSome, IfSome}
+use Rattle.std.specs.Option.{option_map_or}
+use Rattle.std.proofs.lemmas.Result.{IfOk-weaker}
+use Rattle.sqlite.specs.State as db
+use Rattle.sqlite.specs.State.{HasCleanDisk}
+use Rattle.dep_types.specs.State.{State, File, file_at}
+use Rattle.dep_types.specs.declared.config.Config.{Config}
+use Rattle.dep_types.specs.declared.refusal.Refusal.{Refusal}
+use Rattle.dep_types.specs.declared.store_fault.StoreFault.{StoreFault}
+use Rattle.dep_fields.specs.Fit.{AreFit, IfValue}
+use Rattle.dep_fields.specs.declared.field.Field.{Field}
+use Rattle.dep_fields.specs.declared.field.Field.TheVariants.{Absent, Bad, Value}
+use Rattle.dep_decisions.specs.Laws.{is_read}
+use Rattle.dep_decisions.specs.Rules.{refusal}
+use Rattle.dep_decisions.specs.declared.operation.Operation.{Operation}
+use Rattle.dep_decisions.proofs.ReadAlone.{reads_keep}
+use Rattle.dep_answers.specs.Performing.{IsReady, stored_in}
+use Rattle.dep_answers.specs.Steps.{Stepped, operation_step, step_by}
+use Rattle.dep_answers.specs.declared.performed.Performed.{Performed}
+use Rattle.dep_answers.specs.declared.performed.StoredFile.{StoredFile}
+use Rattle.dep_requests.specs.declared.performing.Done.{Done}
+use Rattle.dep_staging.specs.HashedAhead.{AreRunning}
+use Rattle.dep_staging.specs.declared.running.RunningHashes.{RunningHashes}
+use Rattle.dep_tables.specs.Tables.{Tables}
+use Rattle.dep_schema.specs.Performing.{StepsOver}
+use Rattle.dep_schema.specs.States.{StandsFor}
+use Rattle.dep_schema.specs.Transactions.{Transacts}
+use Rattle.dep_streams.proofs.Streams.{IsSized}
+use Rattle.dep_store.specs.Remembering.{IsOfSize, has_value, is_plain_read}
+
+-- ---- a request that only reads, and tells of no content
+
+all_true : (a b c : Bool) → (a && b && c) ≡ true → (a ≡ true) × (b ≡ true) × (c ≡ true)
+all_true true true true h = (refl, refl, refl)
+all_true true true false h = cc h
+all_true true false c h = cc h
+all_true false b c h = cc h
+
+no_value : {X : Type 0} (P : X → Type 0) (field : Field X) → not (has_value field) ≡ true → IfValue field P
+no_value P (Value x) h = cc h
+no_value P Absent h = tt
+no_value P Bad h = tt
+
+pub plain_reads : (op : Operation) → IsTrue (is_plain_read op) → IsTrue (is_read op.target.method) × AreFit op.fields
+plain_reads op plain =
+    let all = all_true (is_read op.target.method) (not (has_value op.fields.disposition)) (not (has_value op.fields.content_type)) plain in
+    (all.0, record { kind = no_value _ op.fields.disposition all.1; media = no_value _ op.fields.content_type all.2 })
+
+by_rule : (config : Config) (s : State) (op : Operation) → IsTrue (is_read op.target.method) → (found : Option Refusal) → (step_by config s op found).state ≡ s
+by_rule config s op read None = reads_keep config s op read
+by_rule config s op read (Some r) = refl
+
+-- its step leaves the state
+step_stays : (config : Config) (s : State) (op : Operation) → IsTrue (is_read op.target.method) → (operation_step config s op).state ≡ s
+unfolding operation_step
+step_stays config s op read = by_rule config s op read (refusal config s op)
+
+-- ---- the file whose content the reply has
+
+there : (o : Option File) (stored : List ℕ) → option_map_or (λ (file : File). file.content) o [] ≡ stored → stored ≢ []
+    → (file : File) × (o ≡ Some file) × (file.content ≡ stored)
+there None stored e some = absurd (some (sym e))
+there (Some file) stored e some = (file, refl, e)
+
+ready_sized : (s : State) (stepped : Stepped) (p : Performed) → stepped.state ≡ s → IsReady stepped p → IfSome p.stored (IsOfSize s)
+ready_sized s stepped p same ready = go p.stored ready.stored ready.not_empty ready.size
+  where
+    go : (o : Option StoredFile) → stored_in stepped.state o ≡ stepped.stored → (IsSome o → stepped.stored ≢ []) → IfSome o (λ it. it.size ≡ length stepped.stored)
+        → IfSome o (IsOfSize s)
+    go None is some size = tt
+    go (Some it) is some size =
+        let found = there (file_at stepped.state it.object it.file) stepped.stored is (some refl) in
+        (found.0, ap (λ (z : State). file_at z it.object it.file) (sym same) ∙ found.1, size ∙ ap length (sym found.2))
+
+pub shows_file : (old new : db.State) (config : Config) (op : Operation) (running : RunningHashes) (result : Result Done StoreFault) → ((s : State) → AreRunning s running)
+    → IsTrue (is_plain_read op) → Transacts old new result (StepsOver config op running) → HasCleanDisk new → (s : State) → StandsFor old s
+    → IfOk result (λ done. IfSome done.performed.stored (IsOfSize s))
+shows_file old new config op running result any plain it clean s stands =
+    let reads = plain_reads op plain in
+    IfOk-weaker result _ _
+    (λ (done : Done) made. ready_sized s (operation_step config s op) done.performed (step_stays config s op reads.0) (made.2 reads.1 s stands.means (any s)).0)
+    (it.ok clean stands.tables stands.stands)
+
+-- ---- of what was hashed ahead, such a request needs nothing
+
+pub need_of : (plain : Bool) (none running needed : RunningHashes) → needed ≡ (if plain then none else running) → ((s : State) → AreRunning s none)
+    → (s : State) → AreRunning s running → AreRunning s needed
+need_of true none running needed is any s are = subst (λ (runs : RunningHashes). AreRunning s runs) (sym is) (any s)
+need_of false none running needed is any s are = subst (λ (runs : RunningHashes). AreRunning s runs) (sym is) are
+
+pub none_needed : (plain : Bool) (none running needed : RunningHashes) → needed ≡ (if plain then none else running) → ((s : State) → AreRunning s none)
+    → IsTrue plain → (s : State) → AreRunning s needed
+none_needed true none running needed is any h s = subst (λ (runs : RunningHashes). AreRunning s runs) (sym is) (any s)
+none_needed false none running needed is any h s = cc h
+
+-- where less is needed, it is done all the more
+pub transacts_with : (old new : db.State) (config : Config) (op : Operation) (needed running : RunningHashes) (result : Result Done StoreFault)
+    → ((s : State) → AreRunning s running → AreRunning s needed) → Transacts old new result (StepsOver config op needed) → Transacts old new result (StepsOver config op running)
+transacts_with old new config op needed running result need it = record {
+  ok = λ clean t stands. IfOk-weaker result _ _ (λ (done : Done) made. (made.0, made.1, wider t done made.0 made.2)) (it.ok clean t stands);
+  err = it.err;
+  honest = it.honest;
+  was_open = it.was_open;
+  stop = λ clean t stands trees h. elim (it.stop clean t stands trees h) [
+    | inl earlier ↦ inl earlier
+    | inr (done, after, holds, made) ↦ inr (done, after, holds, wider t done after made)
+  ];
+}
+  where
+    wider : (t : Tables) (done : Done) (after : Tables) → StepsOver config op needed t done after → StepsOver config op running t done after
+    wider t done after made = λ fit s means are. made fit s means (need s are)
+
+-- ---- what is sent of it
+
+pub sized_file : (s : State) (it : StoredFile) → IsOfSize s it → IsSized s it.file it.size
+sized_file s it known = record { object = it.object; file = known.0; held = known.1; sized = known.2 }
