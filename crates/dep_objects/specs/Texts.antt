@@ -1,5 +1,5 @@
 -- Texts that are put in behind others, and texts that are gathered.
-use Rattle.std.specs.Prelude.{◌≡◌, ◌≢◌, ◌⊎◌, ◌+◌, ◌≤◌, ◌^◌, ℕ, pos, All, List, [], ◌∷◌, length, Option, Some, None}
+use Rattle.std.specs.Prelude.{◌≡◌, ◌≢◌, ◌⊎◌, ◌+◌, ◌<◌, ◌≤◌, ◌^◌, ℕ, pos, All, List, [], ◌∷◌, length, map as map_each, Option, Some, None}
 use Rattle.std.specs.List.{flat_map}
 use Rattle.std.specs.FinMap as map
 use Rattle.sqlite.specs.State as db
@@ -8,7 +8,8 @@ use Rattle.sqlite_value.specs.Order.{Row}
 use Rattle.dep_types.specs.State.{State, Object, Texts}
 use Rattle.dep_types.specs.declared.store_fault.StoreFault.{StoreFault}
 use Rattle.dep_types.specs.declared.store_fault.StoreFault.TheVariants.{Memory}
-use Rattle.dep_types.specs.MetadataEntries.{joined}
+use Rattle.dep_types.specs.MetadataEntries.{joined, name_and_texts}
+use Rattle.dep_types.specs.declared.metadata.MetadataEntry.{MetadataEntry}
 use Rattle.dep_tables.specs.Clauses.{FailsToRead}
 use Rattle.dep_tables.specs.Rows.{IsMetadataRow}
 use Rattle.dep_tables.specs.Tables.{Tables}
@@ -26,6 +27,23 @@ rows_beside n have = flat_map (λ e. placed (text_values n e.0) (length (texts_i
 -- the tables with these rows of texts put in
 abbrev pub with_texts : List Row → Tables → Tables
 with_texts rows t = record t { metadata = put_each rows t.metadata }
+
+-- the same of the texts of one name, from this place on
+abbrev pub with_entry : (n start : ℕ) → MetadataEntry → Tables → Tables
+with_entry n start e = with_texts (placed (text_values n e.name) start e.texts)
+
+-- and of some names, each behind the texts that it has
+abbrev pub with_entries : ℕ → Texts → List MetadataEntry → Tables → Tables
+with_entries n have es = with_texts (rows_beside n have (map_each name_and_texts es))
+
+-- a table can hold the texts of the name, from this place on
+abbrev pub HasRoom : (n start : ℕ) → MetadataEntry → Type 0
+HasRoom n start e = (n < 2 ^ 63) × (start + length e.texts ≤ 2 ^ 63)
+
+-- and those of each name behind those that it has
+abbrev pub HaveRoom : ℕ → Texts → List MetadataEntry → Type 0
+HaveRoom n have es =
+    (n < 2 ^ 63) × All (λ e. length (texts_in have e.name) + length e.texts ≤ 2 ^ 63) es
 
 -- the place of each of these texts is one that a table can hold
 abbrev pub HavePlaces : Texts → List (List ℕ × List (List ℕ)) → Type 0

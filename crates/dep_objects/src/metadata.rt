@@ -1,13 +1,13 @@
 //! The metadata of an object.
 
-ghost use Rattle.std.specs.Prelude.{◌≡◌, ◌≢◌, ◌+◌, ◌<◌, ◌≤◌, ◌^◌, [], All, IfOk, IfErr, length, map as each};
+ghost use Rattle.std.specs.Prelude.{◌≡◌, ◌≢◌, ◌<◌, ◌^◌, [], IfOk, IfErr, length};
 ghost use Rattle.std.specs.FinMap as map;
 ghost use Rattle.dep_types.specs.MetadataEntries.{name_and_texts};
 ghost use Rattle.dep_row_maps.specs.Owned.{placed};
 ghost use Rattle.dep_row_maps.specs.Stored.{is_of, text_row, text_values, texts_in};
 ghost use Rattle.dep_row_maps.specs.Clauses.{FromMaps, ChangesMaps, ChangesTables, MakesMaps};
 ghost use Rattle.dep_row_maps.specs.Causes.{FailsHolding, FailsSince};
-ghost use Rattle.dep_objects.specs.Texts.{rows_beside, with_texts, AppendsMetadata, SetsMetadata, HavePlaces, HavePlacesIn, FailsToAppend};
+ghost use Rattle.dep_objects.specs.Texts.{with_entry, with_entries, AppendsMetadata, SetsMetadata, HasRoom, HaveRoom, HavePlaces, HavePlacesIn, FailsToAppend};
 
 use crate::gathering::load_metadata;
 use dep_tables::{LIMIT, MetadataRow, Statements, delete_metadata, insert_metadata};
@@ -40,9 +40,8 @@ fn put_texts<T: Statements>(
     start: u64,
 ) -> Result<(), StoreFault>
     ensures does { ChangesTables T.lenders T.state tx.old tx.new result
-        ((object < 2 ^ 63) × (start + length entry.now.texts ≤ 2 ^ 63))
-        (FailsHolding (entry.now.texts ≢ []))
-        (with_texts (placed (text_values object entry.now.name) start entry.now.texts)) }
+        (HasRoom object start entry.now) (FailsHolding (entry.now.texts ≢ []))
+        (with_entry object start entry.now) }
 {
     let mut place = start;
     'texts: for text in entry.texts.as_slice() {
@@ -73,10 +72,8 @@ fn put_entries<T: Statements>(
     entries: &[MetadataEntry],
 ) -> Result<(), StoreFault>
     ensures does { ChangesTables T.lenders T.state tx.old tx.new result
-        ((object < 2 ^ 63)
-        × All (λ e. length (texts_in have.now e.name) + length e.texts ≤ 2 ^ 63) entries.now)
-        (FailsHolding (entries.now ≢ []))
-        (with_texts (rows_beside object have.now (each name_and_texts entries.now))) }
+        (HaveRoom object have.now entries.now) (FailsHolding (entries.now ≢ []))
+        (with_entries object have.now entries.now) }
 {
     'entries: for entry in entries {
         put_texts(tx, alloc, object, entry, count_of(have, &entry.name))?;

@@ -1,9 +1,7 @@
 //! One block of a segment.
 
-ghost use Rattle.std.specs.Prelude.{◌≡◌, option_map, slice_get};
-ghost use Rattle.dep_row_maps.specs.Stored.{blocks_of};
 ghost use Rattle.dep_row_maps.specs.Clauses.{QueriesMaps};
-ghost use Rattle.dep_staging.specs.Comparing.{stored_bytes};
+ghost use Rattle.dep_staging.specs.Comparing.{IsStoredBlock};
 ghost use Rattle.dep_staging.specs.Causes.{query_of_segment_block};
 
 use dep_tables::{BlockKey, BlockOwner, BlockPlace, Statements, read_block};
@@ -19,8 +17,7 @@ pub(crate) fn stored_block<T: Statements>(
 ) -> Result<Option<Vec<u8>>, StoreFault>
     ensures does { QueriesMaps T.lenders T.state tx.old tx.new result
         (query_of_segment_block upload segment place)
-        (λ s found. option_map (λ bytes. bytes.items) found
-        ≡ slice_get (blocks_of (stored_bytes s upload segment)) place) }
+        (λ s. IsStoredBlock s upload segment place) }
 {
     let owner = BlockOwner::Upload(upload);
     let at = BlockPlace {
