@@ -1,5 +1,5 @@
 -- What a call on a store that a fault shut leaves, and why it isn't told whether one was.
-use Rattle.std.specs.Prelude.{◌≡◌, ◌≢◌, ◌⊎◌, Bool, IsTrue, Result, IfOk, IfErr, OnOk}
+use Rattle.std.specs.Prelude.{◌≡◌, ◌≢◌, ◌⊎◌, ℕ, Bool, List, Option, IsTrue, Result, IfOk, IfErr, OnOk}
 use Rattle.sqlite.specs.State as db
 use Rattle.sqlite.specs.Tree.{Trees}
 use Rattle.sqlite.specs.declared.error.Error.{Error}
@@ -7,6 +7,7 @@ use Rattle.sqlite.specs.declared.error.Error.TheVariants.{SqliteFailure}
 use Rattle.sqlite.specs.declared.error.ErrorCode.TheVariants.{Closed}
 use Rattle.dep_types.specs.declared.store_fault.StoreFault.{StoreFault}
 use Rattle.dep_types.specs.declared.store_fault.StoreFault.TheVariants.{Store}
+use Rattle.dep_types.specs.declared.stream_fault.StreamFault.{StreamFault}
 use Rattle.dep_types.specs.declared.config.Config.{Config}
 use Rattle.dep_tables.specs.Faults.{fault_for}
 use Rattle.dep_decisions.specs.declared.operation.Operation.{Operation}
@@ -14,6 +15,7 @@ use Rattle.dep_staging.specs.declared.running.RunningHashes.{RunningHashes}
 use Rattle.dep_requests.specs.declared.performing.Done.{Done}
 use Rattle.dep_schema.specs.Performing.{StepsOver, TellsChanges, IsBackUnchanged}
 use Rattle.dep_schema.specs.Transactions.{IsBackAt, IsRestored, Transacts}
+use Rattle.dep_hub.specs.Archives.{Streams, KeepsState, CountsFailures}
 use Rattle.dep_hub.specs.Shut.{TellsOpen}
 use Rattle.dep_store.specs.Archive.{shown_by}
 use Rattle.dep_store.specs.Remembering.{ShowsFile}
@@ -34,6 +36,14 @@ pub record StaysOpen {A E : Type 0} (old new : db.State) (result : Result A E) :
   pub shut : FailsIfShut old new result
   pub back : OnOk result (IsBackAt old new)
   pub opened : db.HasCleanDisk new → OnOk result (IsTrue new.is_open)
+
+-- what a call does that sends the content of a file, over an outlet that took these bytes and failed so often
+pub record SendsFile {A : Type 0} (old new : db.State) (taken takes : Option (List ℕ)) (failures failures_after : ℕ)
+    (file : ℕ) (result : Result A StreamFault) : Type 0 where
+  pub streams : Streams (shown_by old) (shown_by new) taken takes file result
+  pub does : KeepsState (shown_by old) (shown_by new) result
+  pub count : CountsFailures failures failures_after result
+  pub stays : StaysOpen old new result
 
 -- so a request fails, which is else one transaction, given back where nothing was changed, and shows a file that is there
 pub record PerformsIfOpen (old new : db.State) (result : Result Done StoreFault) (config : Config)

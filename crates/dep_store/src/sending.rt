@@ -2,10 +2,8 @@
 
 ghost use Rattle.std.specs.Prelude.{◌≡◌, Some, false};
 ghost use Rattle.sqlite.specs.Held.{state};
-ghost use Rattle.dep_hub.specs.Archives.{Streams, KeepsState, CountsFailures};
-ghost use Rattle.dep_store.specs.Archive.{condition_of};
 ghost use Rattle.dep_store.specs.Remembering.{IsKnownFile};
-ghost use Rattle.dep_store.specs.Shut.{StaysOpen};
+ghost use Rattle.dep_store.specs.Shut.{SendsFile};
 
 use dep_answers::StoredFile;
 use dep_schema::check_open;
@@ -21,13 +19,8 @@ fn stream_if_open<S: Alter, O: Outlet>(
     out: &mut O,
 ) -> Result<(), StreamFault>
     requires settled { (state S.Store connection.old).in_transaction ≡ false }
-    ensures streams { Streams (condition_of S.Store connection.old)
-        (condition_of S.Store connection.new) (O.taken out.old) (O.taken out.new) file result }
-    ensures does { KeepsState (condition_of S.Store connection.old)
-        (condition_of S.Store connection.new) result }
-    ensures count { CountsFailures (O.failures out.old) (O.failures out.new) result }
-    // All is as it was, whatever the tables are.
-    ensures stays { StaysOpen (state S.Store connection.old) (state S.Store connection.new) result }
+    ensures sends { SendsFile (state S.Store connection.old) (state S.Store connection.new)
+        (O.taken out.old) (O.taken out.new) (O.failures out.old) (O.failures out.new) file result }
 {
     check_open(connection)?;
     stream_content(connection, file, out)
@@ -41,12 +34,8 @@ fn stream_file<S: Alter, O: Outlet>(
 ) -> Result<(), StreamFault>
     requires settled { (state S.Store connection.old).in_transaction ≡ false }
     requires there { IsKnownFile (state S.Store connection.old) (Some known) }
-    ensures streams { Streams (condition_of S.Store connection.old)
-        (condition_of S.Store connection.new) (O.taken out.old) (O.taken out.new) known.file result }
-    ensures does { KeepsState (condition_of S.Store connection.old)
-        (condition_of S.Store connection.new) result }
-    ensures count { CountsFailures (O.failures out.old) (O.failures out.new) result }
-    ensures stays { StaysOpen (state S.Store connection.old) (state S.Store connection.new) result }
+    ensures sends { SendsFile (state S.Store connection.old) (state S.Store connection.new)
+        (O.taken out.old) (O.taken out.new) (O.failures out.old) (O.failures out.new) known.file result }
 {
     stream_blocks(connection, BlockOwner::File(known.file), known.size, out)
 }
@@ -60,12 +49,8 @@ pub(crate) fn stream_known<S: Alter, O: Outlet>(
 ) -> Result<(), StreamFault>
     requires settled { (state S.Store connection.old).in_transaction ≡ false }
     requires there { IsKnownFile (state S.Store connection.old) known }
-    ensures streams { Streams (condition_of S.Store connection.old)
-        (condition_of S.Store connection.new) (O.taken out.old) (O.taken out.new) file result }
-    ensures does { KeepsState (condition_of S.Store connection.old)
-        (condition_of S.Store connection.new) result }
-    ensures count { CountsFailures (O.failures out.old) (O.failures out.new) result }
-    ensures stays { StaysOpen (state S.Store connection.old) (state S.Store connection.new) result }
+    ensures sends { SendsFile (state S.Store connection.old) (state S.Store connection.new)
+        (O.taken out.old) (O.taken out.new) (O.failures out.old) (O.failures out.new) file result }
 {
     if let Some(it) = known {
         if it.file == file {

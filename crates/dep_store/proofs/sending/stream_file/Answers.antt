@@ -14,47 +14,39 @@ use Rattle.dep_store.proofs.ShutLemmas.{back_on_ok, open_still, was_open_then}
 use Rattle.dep_store.proofs.Tries.{keeps_state, counts}
 use Rattle.dep_store.proofs.sending.stream_file.Goals as goal
 
-pub returns-clause-streams : goal.returns-clause-streams
-returns-clause-streams g c =
-    let old = state g.S.Store c.args.connection.now in
-    let sent = c.stream_blocks.ensures.streams in (
-      sent.0,
-      sent.1,
-      λ clean s stands.
-          let known = (c.requires.there c.args.known refl).0 s stands in
-          streamed (tables_of old) s c.args.known.file c.args.known.size sent.0 c.stream_blocks.result (subst (λ (t : Tables). TablesAre t s) (sym stands.stands.rows) stands.means.are)
-          (sized_file s c.args.known known) (sent.2 clean stands.stands.ours),
-    )
-
-pub returns-clause-does : goal.returns-clause-does
-returns-clause-does g c =
+pub returns : goal.returns
+returns g c =
     let old = state g.S.Store c.args.connection.now in
     let new = state g.S.Store c.stream_blocks.new.connection in
-    let stays = c.stream_blocks.ensures.leaves.stays in
+    let leaves = c.stream_blocks.ensures.leaves in
     let store = c.stream_blocks.new.connection.store in
+    let sent = c.stream_blocks.ensures.streams in
+    let there = c.requires.there c.args.known refl in
     let clean_now = clean_if_open (g.S.Store.view store) (g.met.S.Store.shut_if_dirty store) in
-    let same = λ (clean : HasCleanDisk new) (is_open : IsTrue old.is_open). ok_then c.stream_blocks.result (c.stream_blocks.ensures.leaves.same clean)
+    let was = λ (clean : HasCleanDisk new). there.1 (leaves.stays.honest clean) in
+    let same = λ (clean : HasCleanDisk new) (is_open : IsTrue old.is_open). ok_then c.stream_blocks.result (leaves.same clean)
     (λ left. (still_left g.S.Store c.args.connection.now c.stream_blocks.new.connection left).unchanged is_open) in
-    keeps_state old new c.stream_blocks.result
-    (λ clean s at. ok_unchanged old new c.stream_blocks.result s at (same clean at.stands.is_open))
-    (λ is_open s at. err_kept old new c.stream_blocks.result s at is_open (stays.kept (clean_now is_open)))
-    stays.honest
-    (λ is_open. stays.was_open (clean_now is_open) is_open)
-    (λ clean s at. leaves_still old new s (λ trees h. g.met.S.Store.settled c.args.connection.now.store trees at.stands.is_open h) at stays.survives clean)
-
-pub returns-clause-count : goal.returns-clause-count
-returns-clause-count g c = counts _ _ c.stream_blocks.result c.stream_blocks.ensures.outlet
-
-pub returns-clause-stays : goal.returns-clause-stays
-returns-clause-stays g c =
-    let old = state g.S.Store c.args.connection.now in
-    let new = state g.S.Store c.stream_blocks.new.connection in
-    let store = c.stream_blocks.new.connection.store in
-    let was = λ (clean : HasCleanDisk new). (c.requires.there c.args.known refl).1 (c.stream_blocks.ensures.leaves.stays.honest clean) in
-    let same = λ (clean : HasCleanDisk new). ok_then c.stream_blocks.result (c.stream_blocks.ensures.leaves.same clean)
-    (λ left. (still_left g.S.Store c.args.connection.now c.stream_blocks.new.connection left).unchanged (was clean)) in
     record {
-      shut = was_open_then old new c.stream_blocks.result was;
-      back = back_on_ok old old new c.stream_blocks.result (clean_if_open (g.S.Store.view store) (g.met.S.Store.shut_if_dirty store)) (λ is_open. (is_open, refl, refl, c.requires.settled)) same;
-      opened = λ clean. open_still old new c.stream_blocks.result (same clean);
+      sends = record {
+        streams = (
+          sent.0,
+          sent.1,
+          λ clean s stands.
+              streamed (tables_of old) s c.args.known.file c.args.known.size sent.0 c.stream_blocks.result (subst (λ (t : Tables). TablesAre t s) (sym stands.stands.rows) stands.means.are)
+              (sized_file s c.args.known (there.0 s stands)) (sent.2 clean stands.stands.ours),
+        );
+        does =
+            keeps_state old new c.stream_blocks.result
+            (λ clean s at. ok_unchanged old new c.stream_blocks.result s at (same clean at.stands.is_open))
+            (λ is_open s at. err_kept old new c.stream_blocks.result s at is_open (leaves.stays.kept (clean_now is_open)))
+            leaves.stays.honest
+            (λ is_open. leaves.stays.was_open (clean_now is_open) is_open)
+            (λ clean s at. leaves_still old new s (λ trees h. g.met.S.Store.settled c.args.connection.now.store trees at.stands.is_open h) at leaves.stays.survives clean);
+        count = counts _ _ c.stream_blocks.result c.stream_blocks.ensures.outlet;
+        stays = record {
+          shut = was_open_then old new c.stream_blocks.result was;
+          back = back_on_ok old old new c.stream_blocks.result clean_now (λ is_open. (is_open, refl, refl, c.requires.settled)) (λ clean. same clean (was clean));
+          opened = λ clean. open_still old new c.stream_blocks.result (same clean (was clean));
+        };
+      };
     }
