@@ -98,3 +98,13 @@ pub record WentOn {A : Type 0} (condition : A → Condition) (old : Hub A) (stor
   pub behind : IsClean condition new → (first : State) (records : List Record)
       → StandsAfter condition old first records
       → StandsBehind condition new first records (λ n. []) deeds
+
+module _ {A R K S L : Type 0} (condition : A → Condition) (account : A → Account)
+    (unread : R → Option (List ℕ)) (taken : K → Option (List ℕ)) (held : S → Option (List ℕ))
+    (size : S → ℕ) (notes : L → Option (List Note)) where
+  -- what serving from a hub comes to, by some deeds, and where these led
+  abbrev pub ServesHub : (before after : Doorway R K S) → (l m : L) → Limits → Hub A → (store : A)
+      → Outcome → Type 0
+  ServesHub before after l m limits old store outcome = (deeds : List Deed)
+      × EndsHub condition account unread taken held size notes before after l m limits old store deeds outcome
+      × WentOn condition old store deeds

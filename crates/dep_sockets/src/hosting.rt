@@ -1,7 +1,6 @@
 //! A hub that is served by a door.
-ghost use Rattle.std.specs.Prelude.{◌≡◌, List};
-ghost use Rattle.dep_host.specs.Hosting.{Deed};
-ghost use Rattle.dep_sockets.specs.Doors.{EndsHub, WentOn, doorway};
+ghost use Rattle.std.specs.Prelude.{◌≡◌};
+ghost use Rattle.dep_sockets.specs.Doors.{ServesHub, doorway};
 ghost use Rattle.dep_sockets.specs.Outcomes.{outcome_at};
 
 use crate::door::Door;
@@ -30,10 +29,9 @@ pub fn serve_hub<
     E: Door<R, K, P>,
     L: DoorLog,
 >(alloc: Global, hub: Hub<A>, limits: Limits, door: &mut E, log: &mut L) -> (Outcome, A)
-    ensures ends { (deeds : List Deed) × EndsHub A.condition A.account R.unread K.taken P.held P.size L.notes
-        (doorway E.given E.is_open E.is_over E.is_cut door.old)
-        (doorway E.given E.is_open E.is_over E.is_cut door.new)
-        log.old log.new limits hub result.1 deeds result.0 × WentOn A.condition hub result.1 deeds }
+    ensures ends { let at = doorway E.given E.is_open E.is_over E.is_cut in
+        ServesHub A.condition A.account R.unread K.taken P.held P.size L.notes
+        (at door.old) (at door.new) log.old log.new limits hub result.1 result.0 }
 {
     nothing_held::<A>();
     hosts_make_a_run::<A, R, K, P>();

@@ -31,7 +31,8 @@ use Rattle.dep_program.specs.declared.outcome.Outcome.{Outcome}
 use Rattle.dep_host.specs.declared.limits.Limits.{Limits as Bounds}
 use Rattle.dep_sockets.specs.Doors.{Doorway, EndsHub, WentOn}
 use Rattle.swordd.specs.declared.host_log.StandardErrorLog.{StandardErrorLog}
-use Rattle.swordd.specs.Hosted.{LedBy, IsHosted, HostsDatabase, hosts, not_checked, not_made, not_opened, unshown}
+use Rattle.dep_configuration.specs.declared.configuration.Limits.{Limits}
+use Rattle.swordd.specs.Hosted.{LedBy, IsHosted, HostsDatabase, hosts, host_limits, not_checked, not_made, not_opened, unshown}
 
 module _ {S : Type 0} (g : Ghosts S) (clean : (h : Held S) → IsTrue (state g h).is_open → HasCleanDisk (state g h))
     (settled : (h : Held S) → IsTrue (state g h).is_open → IsSettled (state g h)) (given : Held S) (config : Config) (opened : Hub (HashingStore S))
@@ -67,8 +68,8 @@ module _ {S : Type 0} (g : Ghosts S) (clean : (h : Held S) → IsTrue (state g h
 
   module _ {R K P : Type 0} (unread : R → Option (List ℕ)) (taken : K → Option (List ℕ)) (held : P → Option (List ℕ)) (size : P → ℕ) where
     -- what was done over the hub is done over its database
-    pub over_hub : {before after : Doorway R K P} {limits bounds : Bounds} {log_before log_after : StandardErrorLog} (store : HashingStore S) (back : Held S) (deeds : List Deed) (outcome : Outcome) → back ≡ store.store
-        → bounds ≡ limits → EndsHub (condition_of g) (account_of g) unread taken held size unshown before after log_before log_after bounds opened store deeds outcome → WentOn (condition_of g) opened store deeds
+    pub over_hub : {before after : Doorway R K P} {limits : Limits} {bounds : Bounds} {log_before log_after : StandardErrorLog} (store : HashingStore S) (back : Held S) (deeds : List Deed) (outcome : Outcome) → back ≡ store.store
+        → bounds ≡ host_limits limits → EndsHub (condition_of g) (account_of g) unread taken held size unshown before after log_before log_after bounds opened store deeds outcome → WentOn (condition_of g) opened store deeds
         → HostsDatabase g unread taken held size before after limits config given back outcome
     over_hub {before = before} {after = after} {limits = limits} {log_before = log_before} {log_after = log_after} store back deeds outcome same bounded it went =
         hosts opened store deeds log_before log_after
@@ -108,7 +109,7 @@ module _ {S R K P : Type 0} (g : Ghosts S) (unread : R → Option (List ℕ)) (t
     again = λ is_open found left first records went. stays config (state g back) found first records (settled back is_open) ((kept (clean back is_open)).1 found left) went;
   }
 
-  without : {before after : Doorway R K P} {limits : Bounds} (why : StartFault) → ((f : OpenFault) → why ≡ fault.Open f → IsTrue (state g back).is_open → Keeps (state g given) (state g back))
+  without : {before after : Doorway R K P} {limits : Limits} (why : StartFault) → ((f : OpenFault) → why ≡ fault.Open f → IsTrue (state g back).is_open → Keeps (state g given) (state g back))
       → ((f : HubFault) → why ≡ fault.Hub f → KeptFor f) → (why ≡ fault.Hub refused_by.Config → ¬ IsChecked config) → OpeningLeaves config (state g given) (state g back) → after ≡ before
       → HostsDatabase g unread taken held size before after limits config given back (outcome_of_start why)
   without (fault.Open f) left kept checked stop alone = not_opened (left f refl) stop alone
@@ -116,7 +117,7 @@ module _ {S R K P : Type 0} (g : Ghosts S) (unread : R → Option (List ℕ)) (t
   without (fault.Hub refused_by.Memory) left kept checked stop alone = not_made (unserved refused_by.Memory (kept refused_by.Memory refl)) alone
 
   -- no hub was made
-  pub without_hub : {before after : Doorway R K P} {limits : Bounds} (why : StartFault) → ((f : OpenFault) → why ≡ fault.Open f → IsTrue (state g back).is_open → Keeps (state g given) (state g back))
+  pub without_hub : {before after : Doorway R K P} {limits : Limits} (why : StartFault) → ((f : OpenFault) → why ≡ fault.Open f → IsTrue (state g back).is_open → Keeps (state g given) (state g back))
       → ((f : HubFault) → why ≡ fault.Hub f → KeptFor f) → (why ≡ fault.Hub refused_by.Config → ¬ IsChecked config) → OpeningLeaves config (state g given) (state g back) → after ≡ before
       → (outcome : Outcome) → outcome ≡ outcome_of_start why → HostsDatabase g unread taken held size before after limits config given back outcome
   without_hub {before = before} {after = after} {limits = limits} why left kept checked stop alone outcome same =

@@ -60,13 +60,13 @@ host_limits limits = record {
 module _ {S R K P : Type 0} (g : Ghosts S) (unread : R → Option (List ℕ)) (taken : K → Option (List ℕ))
     (held : P → Option (List ℕ)) (size : P → ℕ) where
   -- what serving many clients from a database comes to, by a door
-  pub data HostsDatabase (before after : Doorway R K P) (limits : Bounds) (config : Config)
+  pub data HostsDatabase (before after : Doorway R K P) (limits : Limits) (config : Config)
       (given back : Held S) : Outcome → Type 0 where
     -- it was served from a hub over the store, and the machine went on with what was done
     hosts : {outcome : Outcome} (hub : Hub (HashingStore S)) (left : HashingStore S) (deeds : List Deed)
         (log_before log_after : StandardErrorLog)
         → EndsHub (condition_of g) (account_of g) unread taken held size unshown before after
-        log_before log_after limits hub left deeds outcome
+        log_before log_after (host_limits limits) hub left deeds outcome
         → back ≡ left.store
         → IsHosted config (state g given) (state g back) deeds
         → HostsDatabase before after limits config given back outcome

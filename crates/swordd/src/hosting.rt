@@ -84,10 +84,9 @@ fn host_database<S: Alter, R: Source + Drop, K: Sink + Drop, P: Spool + Drop, E:
     door: &mut E,
 ) -> (Outcome, Connection<S>)
     requires settled { (state S.Store connection).in_transaction ≡ false }
-    ensures hosts { HostsDatabase S.Store R.unread K.taken P.held P.size
-        (doorway E.given E.is_open E.is_over E.is_cut door.old)
-        (doorway E.given E.is_open E.is_over E.is_cut door.new)
-        (host_limits place.now.limits) config connection result.1 result.0 }
+    ensures hosts { let at = doorway E.given E.is_open E.is_over E.is_cut in
+        HostsDatabase S.Store R.unread K.taken P.held P.size
+        (at door.old) (at door.new) place.now.limits config connection result.1 result.0 }
 {
     match open_hub(rt.alloc(), config, connection, &mut Unwatched) {
         Ok(hub) => {
