@@ -10,7 +10,7 @@ ghost use Rattle.dep_answers.specs.Replies.{answer_to, shown_answer};
 ghost use Rattle.dep_answers.specs.Subjects.{shown_at, subject_at, subject_of};
 ghost use Rattle.dep_answers.specs.Telling.{SaysShown};
 
-use crate::answer::{Answer, Content};
+use crate::answer::{Answer, ReplyText};
 use crate::bags::{bag_list, bag_reply};
 use crate::objects::{changed, created, metadata, status};
 use crate::performed::{Delivery, Performed};
@@ -81,7 +81,7 @@ fn service_document(alloc: Global, service: &Service) -> Result<Answer, AllocErr
         a ≡ answer 200 (Some (Document (service_document service.now))) None None) }
 {
     let document = service.document().to_vec(alloc)?;
-    Ok(Answer::showing(Status::Ok, Content::document(document)))
+    Ok(Answer::showing(Status::Ok, ReplyText::document(document)))
 }
 
 // The answer to a POST.

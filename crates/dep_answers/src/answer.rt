@@ -25,12 +25,12 @@ pub(crate) enum Form {
 
 /// A text in a reply.
 #[derive(Drop)]
-pub(crate) struct Content {
+pub(crate) struct ReplyText {
     form: Form,
     bytes: Octets,
 }
 
-impl Model for Content {
+impl Model for ReplyText {
     ghost use Rattle.dep_answers.specs.Answers.{ReplyContent};
     ghost use Rattle.dep_answers.specs.Told.{content_of};
 
@@ -39,19 +39,19 @@ impl Model for Content {
     ghost view = { λ c. content_of c.form c.bytes };
 }
 
-impl Content {
+impl ReplyText {
     /// A text of this form.
-    pub(crate) fn new(form: Form, bytes: Octets) -> Content
+    pub(crate) fn new(form: Form, bytes: Octets) -> ReplyText
         ensures { result ≡ content_of form bytes }
     {
-        Content { form, bytes }
+        ReplyText { form, bytes }
     }
 
     /// JSON.
-    pub(crate) fn document(bytes: Vec<u8>) -> Content
+    pub(crate) fn document(bytes: Vec<u8>) -> ReplyText
         ensures { result ≡ Document bytes.items }
     {
-        Content::new(Form::Document, Octets::from_vec(bytes))
+        ReplyText::new(Form::Document, Octets::from_vec(bytes))
     }
 
     /// The text itself.
@@ -78,7 +78,7 @@ impl Content {
 #[derive(Drop)]
 pub(crate) struct Answer {
     pub(crate) status: Status,
-    pub(crate) content: Option<Content>,
+    pub(crate) content: Option<ReplyText>,
     pub(crate) tag: Option<u64>,
     pub(crate) location: Option<Text>,
     pub(crate) allow: Option<&'static str>,
@@ -115,7 +115,7 @@ impl Answer {
     }
 
     /// The answer that shows this.
-    pub(crate) fn showing(status: Status, content: Content) -> Answer
+    pub(crate) fn showing(status: Status, content: ReplyText) -> Answer
         ensures { result ≡ answer (status_number status) (Some content) None None }
     {
         Answer {

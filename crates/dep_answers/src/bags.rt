@@ -11,7 +11,7 @@ ghost use Rattle.dep_answers.specs.Subjects.{shown_at, subject_in_bag};
 ghost use Rattle.dep_answers.specs.Told.{told_list, form_at, bag_answer};
 ghost use Rattle.dep_answers.specs.Telling.{SaysPayload, SaysTagFile};
 
-use crate::answer::{Answer, Content, Form};
+use crate::answer::{Answer, ReplyText, Form};
 use crate::performed::{Delivery, Performed};
 use crate::stored::stored_reply;
 use crate::subject::Shown;
@@ -32,7 +32,7 @@ pub(crate) fn bag_list(alloc: Global, shown: &Shown) -> Result<Answer, AllocErro
     let text = list_text(alloc, bag_paths(alloc, view)?.as_slice())?;
     Ok(Answer::showing(
         Status::Ok,
-        Content::new(Form::PlainText, Octets::from_vec(text)),
+        ReplyText::new(Form::PlainText, Octets::from_vec(text)),
     ))
 }
 
@@ -96,7 +96,7 @@ fn tag_file_reply(
 {
     match bag_file(alloc, view, path)? {
         Some(BagPart::Bytes(text)) => {
-            Answer::showing(Status::Ok, Content::new(form_at(path), text)).say(alloc, delivery)
+            Answer::showing(Status::Ok, ReplyText::new(form_at(path), text)).say(alloc, delivery)
         }
         Some(BagPart::Stored(_)) => Ok(None),
         None => Ok(None),

@@ -3,7 +3,7 @@ ghost use Rattle.std.specs.Prelude.{◌≡◌, IfOk, None};
 ghost use Rattle.dep_answers.specs.Answers.{answer};
 ghost use Rattle.dep_answers.specs.Told.{told_status, told_created, told_metadata, told_tag};
 
-use crate::answer::{Answer, Content};
+use crate::answer::{Answer, ReplyText};
 use crate::subject::Shown;
 use dep_docs_out::{metadata_doc, object_url, status_doc};
 use dep_reply::Status;
@@ -19,7 +19,7 @@ pub(crate) fn status(alloc: Global, config: &Config, shown: &Shown) -> Result<An
     };
     Ok(Answer {
         status: Status::Ok,
-        content: Some(Content::document(status_doc(alloc, config, view)?)),
+        content: Some(ReplyText::document(status_doc(alloc, config, view)?)),
         tag: Some(view.object.object_tag),
         location: None,
         allow: None,
@@ -35,7 +35,7 @@ pub(crate) fn created(alloc: Global, config: &Config, shown: &Shown) -> Result<A
     };
     Ok(Answer {
         status: Status::Created,
-        content: Some(Content::document(status_doc(alloc, config, view)?)),
+        content: Some(ReplyText::document(status_doc(alloc, config, view)?)),
         tag: Some(view.object.object_tag),
         location: Some(Text::new(object_url(alloc, config, view.object.object)?)),
         allow: None,
@@ -52,7 +52,7 @@ pub(crate) fn metadata(alloc: Global, config: &Config, shown: &Shown) -> Result<
     let document = metadata_doc(alloc, config, object.object, metadata)?;
     Ok(Answer {
         status: Status::Ok,
-        content: Some(Content::document(document)),
+        content: Some(ReplyText::document(document)),
         tag: Some(object.metadata_tag),
         location: None,
         allow: None,

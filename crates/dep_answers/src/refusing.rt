@@ -5,7 +5,7 @@ ghost use Rattle.dep_types.specs.State.{State};
 ghost use Rattle.dep_answers.specs.Performing.{IsReply};
 ghost use Rattle.dep_answers.specs.Replies.{refused_answer};
 
-use crate::answer::{Answer, Content};
+use crate::answer::{Answer, ReplyText};
 use crate::performed::{Delivery, Performed};
 use dep_docs_out::error_doc;
 use dep_moment::Moment;
@@ -37,7 +37,7 @@ fn refusing(
 {
     Ok(Answer {
         status: Status::from(refusal),
-        content: Some(Content::document(error_doc(alloc, refusal, clock)?)),
+        content: Some(ReplyText::document(error_doc(alloc, refusal, clock)?)),
         tag: None,
         location: None,
         allow,

@@ -2,7 +2,7 @@
 ghost use Rattle.std.specs.Prelude.{◌≡◌, IfOk};
 ghost use Rattle.dep_answers.specs.Told.{told_upload, told_opened, ordered_upload};
 
-use crate::answer::{Answer, Content};
+use crate::answer::{Answer, ReplyText};
 use crate::subject::Shown;
 use dep_docs_out::{upload_doc, upload_url};
 use dep_operations::Numbers;
@@ -48,12 +48,12 @@ fn document(
     config: &Config,
     upload: &UploadRow,
     received: &Numbers,
-) -> Result<Option<Content>, AllocError>
+) -> Result<Option<ReplyText>, AllocError>
     ensures { IfOk result
         (λ content. content ≡ ordered_upload config.now upload.now received.now) }
 {
     match upload_doc(alloc, config, upload, received.as_slice())? {
-        Some(document) => Ok(Some(Content::document(document))),
+        Some(document) => Ok(Some(ReplyText::document(document))),
         None => Ok(None),
     }
 }

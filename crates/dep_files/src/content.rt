@@ -1,11 +1,9 @@
 //! Contents that come in blocks.
 
 ghost use Rattle.std.specs.Prelude.{◌≡◌, ◌<◌, ◌^◌, ℕ, List, length, slice_index_or, []};
-ghost use Rattle.sha2.specs.Sha256.{sha256};
 ghost use Rattle.dep_row_maps.specs.Stored.{blocks_of};
 
 use dep_fixity::HashedOctets;
-use sha2::{Digest, Sha256};
 
 /// How many bytes each block of a content has but the last.
 pub const BLOCK_SIZE: usize = 65_536;
@@ -39,15 +37,4 @@ impl Content for HashedOctets {
         let end = octets.len().min(start + BLOCK_SIZE);
         &octets[start..end]
     }
-}
-
-/// The SHA-256 of a content (FIPS 180-4), taken block by block.
-pub fn hash_content<C: Content>(content: &C) -> [u8; 32]
-    ensures { result ≡ sha256 (C.bytes content.now) }
-{
-    let mut hasher = Sha256::new();
-    for place in 0..content.count() {
-        hasher.update(content.block(place));
-    }
-    hasher.finalize()
 }

@@ -8,6 +8,6 @@ mod files;
 mod loading;
 
 pub use blocks::{delete_blocks, put_blocks};
-pub use content::{BLOCK_SIZE, Content, hash_content};
+pub use content::{BLOCK_SIZE, Content};
 pub use files::{delete_file, delete_files, put_file};
 pub use loading::{find_file, load_files};

@@ -1,5 +1,5 @@
 -- The bytes of contents, in blocks.
-use Rattle.std.proofs.Common.{◌≡◌, ℕ, ℤ, pos, List, [], ◌∷◌, map, filter, not, true, false, ◌&&◌, ◌||◌, if◌then◌else◌, ◌++◌, Option, Ok, codes, Bool, refl, sym, ap, ap₂, ◌∙◌}
+use Rattle.std.proofs.Common.{◌≡◌, ℕ, ℤ, pos, List, [], ◌∷◌, map, filter, not, true, false, ◌&&◌, if◌then◌else◌, ◌++◌, Option, Ok, codes, Bool, refl, sym, ap, ◌∙◌}
 use Rattle.std.specs.Option.{option_to_list, option_map}
 use Rattle.std.specs.List.{list_any}
 use Rattle.std.proofs.lemmas.Bool.{and_parts, and_from}
@@ -12,7 +12,7 @@ use Rattle.sqlite.specs.Rowids.TheVariants.{Chosen}
 use Rattle.sqlite.specs.Cast.{cast}
 use Rattle.sqlite.specs.Kind.TheVariants.{Integer}
 use Rattle.sqlite.specs.Order.{Row, column}
-use Rattle.sqlite.specs.Term.{Term, lit, col, op2, holds}
+use Rattle.sqlite.specs.Term.{Term, lit, col, holds}
 use Rattle.sqlite.specs.State.{State, ExecutesInside, Shown}
 use Rattle.sqlite.specs.declared.types.Value.TheVariants.{Null, Int, Blob}
 use Rattle.sqlite_value.specs.declared.keys.Key.{Key}
@@ -21,15 +21,15 @@ use Rattle.sqlite_value.specs.Order.{value_cmp}
 use Rattle.sqlite_value.proofs.OrderLemmas.{value_cmp_total, then-Equal}
 use Rattle.sqlite_value.specs.declared.keys.Collation.TheVariants.{Binary}
 use Rattle.sqlite_sql.specs.Ops.{binary, is_true}
-use Rattle.sqlite_sql.specs.declared.ops.BinaryOp.TheVariants.{And, Or, Compare}
+use Rattle.sqlite_sql.specs.declared.ops.BinaryOp.TheVariants.{Compare}
 use Rattle.sqlite_sql.specs.declared.ops.CompareOp.TheVariants.{Lt}
 use Rattle.sqlite_schema.specs.Rules.{agree}
 use Rattle.sqlite_rules.specs.Edit.{with_rowid}
 use Rattle.sqlite_rules.specs.Lists.{Has}
-use Rattle.dep_statements.specs.Query.{equals, exceeds, falls_below, no_limit, rising, passes}
+use Rattle.dep_statements.specs.Query.{equals, falls_below, no_limit, rising, passes}
 use Rattle.dep_statements.specs.Rows.{put_next, columns_from, is_below_number, IsFirst}
 use Rattle.dep_statements.proofs.Values.{cast_int, cast_null}
-use Rattle.dep_statements.proofs.Tests.{equals_int, holds_number, holds_above, holds_both, holds_either, passes_below, passes_two, passes_three, passes_four}
+use Rattle.dep_statements.proofs.Tests.{equals_int, holds_number, passes_below, passes_two, passes_four}
 use Rattle.dep_statements.proofs.Edits.{key_of, has_its_key}
 use Rattle.dep_statements.proofs.Typed.{kept_integer, stored_column}
 use Rattle.dep_statements.proofs.Unique.{IsKey}
@@ -37,11 +37,11 @@ use Rattle.dep_statements.proofs.Results.{changed_by}
 use Rattle.dep_statements.proofs.Written.{Inserts, Deletes, Updates, inserts_next, deletes_where, updates_where}
 use Rattle.dep_statements.proofs.Selected.{Asks, first_only, selects_all, selects_first}
 use Rattle.dep_tables.specs.Schema.{our_schema, blocks_table}
-use Rattle.dep_tables.specs.Texts.{insert_block_text, delete_blocks_text, delete_run_text, move_blocks_text, move_run_text, read_block_text, first_block_text, next_block_text}
+use Rattle.dep_tables.specs.Texts.{insert_block_text, delete_blocks_text, delete_run_text, move_blocks_text, move_run_text, read_block_text, first_block_text}
 use Rattle.dep_tables.specs.declared.owner.BlockOwner.{BlockOwner}
 use Rattle.dep_tables.specs.declared.owner.BlockKey.{BlockKey}
 use Rattle.dep_tables.specs.declared.owner.BlockPlace.{BlockPlace}
-use Rattle.dep_tables.specs.Rows.{kind_of, number_of, owner_values, key_values, block_values, move_values, move_run_values, place_values, bytes_in, shown_place, is_block, is_block_of, is_earlier_block, is_later_block, moved_to, by_part_and_place}
+use Rattle.dep_tables.specs.Rows.{kind_of, number_of, owner_values, key_values, block_values, move_values, move_run_values, place_values, bytes_in, shown_place, is_block, is_block_of, is_earlier_block, moved_to, by_part_and_place}
 use Rattle.dep_tables.specs.Tables.{tables_of, IsOurs, Leads}
 use Rattle.dep_tables.proofs.Leading.{leads, blocks_at}
 use Rattle.dep_tables.proofs.Answered.{read_few, read_first}
@@ -187,41 +187,13 @@ reads_block bytes old new k found ours read =
     read_few (λ b. Blob (bytes b)) bytes_in found (filter (is_block k) (tables_of old).blocks) read.0
     (selects_all our_schema read_block_text (key_values k) old ours.schema 10 blocks_at.own of_key _ (is_block k) (tests_key k) new [] read_is read.0 read.1) read.2
 
--- ---- the next block
-
-abbrev comes_after : Term
-comes_after = op2 Or (exceeds (col 1 3) (col 0 2)) (op2 And (equals (col 1 3) (col 0 2)) (exceeds (col 1 4) (col 0 3)))
-
-abbrev later : List Term
-later = equals (col 1 1) (col 0 0) ∷ equals (col 1 2) (col 0 1) ∷ comes_after ∷ []
-
-tests_later : (k : BlockKey) (row : Row) → passes (key_values k) later row ≡ is_later_block k row
-tests_later k row =
-    let params = key_values k in
-    let past = holds_either (params ∷ row ∷ []) (exceeds (col 1 3) (col 0 2)) (op2 And (equals (col 1 3) (col 0 2)) (exceeds (col 1 4) (col 0 3)))
-    ∙ ap₂ ◌||◌ (holds_above params 2 k.at.part 3 row refl)
-    (holds_both (params ∷ row ∷ []) (equals (col 1 3) (col 0 2)) (exceeds (col 1 4) (col 0 3)) ∙ ap₂ ◌&&◌ (holds_number params 2 k.at.part 3 row refl) (holds_above params 3 k.at.place 4 row refl)) in
-    passes_three params row (equals (col 1 1) (col 0 0)) (equals (col 1 2) (col 0 1)) comes_after _ _ _ (holds_number params 0 (kind_of k.owner) 1 row refl) (holds_number params 1 (number_of k.owner) 2 row refl) past
+-- ---- the first block
 
 abbrev pub order : List (Term × Key)
 order = (col 1 3, rising) ∷ (col 1 4, rising) ∷ []
 
 pub by_place_total : IsTotalOrder by_part_and_place
 by_place_total = then_total (on_total (λ r. column r 0) value_cmp_total) (on_total (λ r. column r 1) value_cmp_total)
-
-pub next_is : Asks our_schema next_block_text 10 later (col 1 3 ∷ col 1 4 ∷ []) order first_only
-unfolding understood everything
-next_is = record { names = _; is = refl; unlisted = refl; plain = (refl, refl) }
-
-pub nexts_block : (old new : State) (k : BlockKey) (found : Option BlockPlace) → IsOurs old
-    → (rows : List Row) × Shown next_block_text (key_values k) old new rows × (map place_values (option_to_list found) ≡ map (columns_from 0 2) rows)
-    → IsFirst by_part_and_place (map shown_place (filter (is_later_block k) (tables_of old).blocks)) (map place_values (option_to_list found))
-nexts_block old new k found ours read =
-    read_first place_values 2 shown_place (λ row. refl) by_part_and_place (filter (is_later_block k) (tables_of old).blocks) read.0 (option_to_list found)
-    (selects_first our_schema next_block_text (key_values k) old ours.schema 10 blocks_at.own later _ (is_later_block k) (tests_later k) order by_part_and_place by_place_total
-    (λ a b. ap (ordering_then (value_cmp (column a 3) (column b 3))) (then-Equal (value_cmp (column a 4) (column b 4)))) new next_is read.0 read.1) read.2
-
--- ---- the first block
 
 pub first_is : Asks our_schema first_block_text 10 of_owner (col 1 3 ∷ col 1 4 ∷ []) order first_only
 unfolding understood everything

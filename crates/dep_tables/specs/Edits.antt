@@ -18,7 +18,7 @@ use Rattle.dep_tables.specs.declared.uploads.UploadColumns.{UploadColumns}
 use Rattle.dep_tables.specs.declared.owner.BlockOwner.{BlockOwner}
 use Rattle.dep_tables.specs.declared.owner.BlockKey.{BlockKey}
 use Rattle.dep_tables.specs.declared.owner.BlockPlace.{BlockPlace}
-use Rattle.dep_tables.specs.Rows.{stored_format, sha512_values, is_sha512_of, is_sha512_of_row, value_in, stored_state, state_values, shown_state, stored_object, object_values, shown_object, metadata_values, shown_metadata, has_metadata_key, by_name_and_place, stored_file, file_values, shown_file, sha256_values, shown_sha256, by_file, stored_upload, upload_values, shown_upload, segment_values, shown_segment, has_segment_key, by_number, stored_number, block_values, bytes_in, shown_place, place_values, is_block, is_block_of, is_earlier_block, is_later_block, moved_to, by_part_and_place, left_values, shown_left, by_last_and_upload}
+use Rattle.dep_tables.specs.Rows.{stored_format, sha512_values, is_sha512_of, is_sha512_of_row, value_in, stored_state, state_values, shown_state, stored_object, object_values, shown_object, metadata_values, shown_metadata, has_metadata_key, by_name_and_place, stored_file, file_values, shown_file, sha256_values, shown_sha256, by_file, stored_upload, upload_values, shown_upload, segment_values, shown_segment, has_segment_key, by_number, stored_number, block_values, bytes_in, shown_place, place_values, is_block, is_block_of, is_earlier_block, moved_to, by_part_and_place, left_values, shown_left, by_last_and_upload}
 use Rattle.dep_tables.specs.Tables.{Tables}
 use Rattle.dep_tables.specs.Versions.{our_version}
 
@@ -226,12 +226,6 @@ AreBytesAt key t found = map bytes_in (filter (is_block key) t.blocks) ≡ found
 abbrev pub IsFirstBlock : BlockOwner → Tables → Option BlockPlace → Type 0
 IsFirstBlock owner t found =
     IsFirst by_part_and_place (map shown_place (filter (is_block_of owner) t.blocks))
-    (map place_values (option_to_list found))
-
--- the owner's first block behind this one was found, by part and place, if there is one
-abbrev pub IsBlockAfter : BlockKey → Tables → Option BlockPlace → Type 0
-IsBlockAfter key t found =
-    IsFirst by_part_and_place (map shown_place (filter (is_later_block key) t.blocks))
     (map place_values (option_to_list found))
 
 -- ---- sha512s

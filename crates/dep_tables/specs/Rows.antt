@@ -1,6 +1,6 @@
 -- Rows of the tables as they are stored, where the column of a key is NULL, and as they are given and shown.
 -- Is..Row says that a row, as a query shows it, has the columns of one that was given.
-use Rattle.std.specs.Prelude.{◌≡◌, ◌⊎◌, ℕ, ◌<◌, ◌^◌, pos, Bool, if◌then◌else◌, ◌&&◌, ◌||◌, List, [], ◌∷◌, ◌++◌, length, get_or, IsUtf8}
+use Rattle.std.specs.Prelude.{◌≡◌, ◌⊎◌, ℕ, ◌<◌, ◌^◌, pos, Bool, if◌then◌else◌, ◌&&◌, List, [], ◌∷◌, ◌++◌, length, get_or, IsUtf8}
 use Rattle.std.specs.declared.cmp.Ordering.{Ordering}
 use Rattle.std.specs.Ordering.{ordering_then, is_eq}
 use Rattle.sqlite.specs.declared.types.Value.{Value}
@@ -9,7 +9,7 @@ use Rattle.sqlite.specs.Order.{Row, column}
 use Rattle.sqlite.specs.Values.{or_null}
 use Rattle.sqlite_value.specs.Order.{value_cmp}
 use Rattle.sqlite_trees.specs.Tree.{rowid}
-use Rattle.dep_statements.specs.Rows.{has_number, exceeds_number, is_below_number, columns_from}
+use Rattle.dep_statements.specs.Rows.{has_number, is_below_number, columns_from}
 use Rattle.dep_types.specs.declared.rows.ObjectRow.{ObjectRow}
 use Rattle.dep_types.specs.declared.rows.FileRow.{FileRow}
 use Rattle.dep_types.specs.declared.rows.UploadRow.{UploadRow}
@@ -448,13 +448,6 @@ is_block k stored = is_part_of k.owner k.at.part stored && has_number 4 k.at.pla
 abbrev pub is_earlier_block : BlockKey → Row → Bool
 is_earlier_block k stored =
     is_part_of k.owner k.at.part stored && is_below_number 4 k.at.place stored
-
--- a block of the same owner that comes later
-abbrev pub is_later_block : BlockKey → Row → Bool
-is_later_block k stored =
-    is_block_of k.owner stored
-    && (exceeds_number 3 k.at.part stored
-    || has_number 3 k.at.part stored && exceeds_number 4 k.at.place stored)
 
 -- the block with another owner
 abbrev pub moved_to : BlockOwner → Row → Row

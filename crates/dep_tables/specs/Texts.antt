@@ -117,10 +117,6 @@ insert_block_text = codes "INSERT INTO blocks (kind, owner, part, place, bytes) 
 abbrev pub read_block_text : List ℕ
 read_block_text = codes "SELECT bytes FROM blocks WHERE kind = ?1 AND owner = ?2 AND part = ?3 AND place = ?4"
 
--- the text that asks for the place of the owner's first block behind a place
-abbrev pub next_block_text : List ℕ
-next_block_text = codes "SELECT part, place FROM blocks WHERE kind = ?1 AND owner = ?2 AND (part > ?3 OR (part = ?3 AND place > ?4)) ORDER BY part, place LIMIT 1"
-
 -- the text that asks for all blocks of an owner, by part and place
 abbrev pub blocks_of_text : List ℕ
 blocks_of_text = codes "SELECT part, place, bytes FROM blocks WHERE kind = ?1 AND owner = ?2 ORDER BY part, place"

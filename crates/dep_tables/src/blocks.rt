@@ -6,7 +6,7 @@ ghost use Rattle.sqlite.specs.Values.{bound};
 ghost use Rattle.dep_tables.specs.Rows.{IsStorableOwner, IsStorableKey, block_values, move_values, move_run_values, place_values};
 ghost use Rattle.dep_tables.specs.Edits.{LacksBlock};
 ghost use Rattle.dep_tables.specs.Clauses.{Shows, Writes, Queries};
-ghost use Rattle.dep_tables.specs.Statements.{insertion_of_block, deletion_of_blocks, deletion_of_run, move_of_blocks, move_of_run, query_of_block, query_of_first_block, query_of_next_block};
+ghost use Rattle.dep_tables.specs.Statements.{insertion_of_block, deletion_of_blocks, deletion_of_run, move_of_blocks, move_of_run, query_of_block, query_of_first_block};
 
 use crate::calls::Statements;
 use crate::columns::ColumnKind::{self, Bytes, Number};
@@ -194,22 +194,5 @@ pub fn first_block<T: Statements>(
         tx,
         "SELECT part, place FROM blocks WHERE kind = ?1 AND owner = ?2 ORDER BY part, place LIMIT 1",
         &owner_params(owner),
-    )
-}
-
-/// The next block of the same owner, by part and place, whether or not there is a block of the key itself. A number of 2^63 or more is a fault of the store.
-pub fn next_block<T: Statements>(
-    tx: &mut T,
-    after: &BlockKey,
-) -> Result<Option<BlockPlace>, StoreFault>
-    ensures does { Queries T.lenders T.state tx.old tx.new result (query_of_next_block after.now) }
-{
-    if !is_storable_key(after) {
-        return Err(StoreFault::Store);
-    }
-    ask_one(
-        tx,
-        "SELECT part, place FROM blocks WHERE kind = ?1 AND owner = ?2 AND (part > ?3 OR (part = ?3 AND place > ?4)) ORDER BY part, place LIMIT 1",
-        &key_params(after),
     )
 }
