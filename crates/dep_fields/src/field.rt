@@ -1,5 +1,5 @@
-//! What a field of a request tells.
-/// What a field of a request tells.
+//! What a field of a request says.
+/// What a field of a request says.
 #[derive(Drop)]
 pub enum Field<T: Drop> {
     /// No such field stands in the head.

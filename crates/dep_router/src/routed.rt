@@ -23,7 +23,7 @@ pub enum Routed {
     To(Target),
     /// There is no such resource.
     NotFound,
-    /// The resource hasn't this method, but those that are told.
+    /// The resource hasn't this method, but these.
     NotAllowed(Allow),
 }
 
