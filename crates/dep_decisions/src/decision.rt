@@ -95,7 +95,7 @@ pub enum Deposit {
     Metadata(Metadata),
 }
 
-/// What an accepted request asks for. It tells no number that is yet to be given.
+/// What an accepted request asks for. A number that is yet to be given doesn't stand in it.
 #[derive(Drop)]
 pub enum Decision {
     /// Nothing is changed.

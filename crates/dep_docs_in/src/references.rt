@@ -174,7 +174,7 @@ fn length_of(entry: &Value) -> Result<Option<u64>, DocFault>
     }
 }
 
-// The packaging that is told of an entry.
+// The packaging that an entry gives.
 #[tactic(auto, unfolding(crate::specs::Documents::packaging_of))]
 fn packaging_of(alloc: Global, entry: &Value) -> Result<Option<Text>, DocFault>
     ensures { Gives result (packaging_of (view entry.now)) }

@@ -63,9 +63,9 @@ pub struct Touched {
 /// An upload that is there.
 #[derive(Drop)]
 pub struct LiveUpload {
-    /// What was told at its opening, and the moment of its last segment.
+    /// What was said of it at its opening, and the moment of its last segment.
     pub row: UploadRow,
-    /// The digests of all segments joined: told for a deposit by reference, where none is missing.
+    /// The digests of all segments joined: there for a deposit by reference, where none is missing.
     pub digests: Option<Digests>,
 }
 

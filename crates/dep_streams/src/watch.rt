@@ -1,6 +1,6 @@
 //! How far a reading came.
 
-/// Is told how many bytes were read, while they are.
+/// What is notified of how many bytes were read, while they are.
 pub trait Watch {
     /// So many bytes more were read.
     fn advance(&mut self, octets: u64);
