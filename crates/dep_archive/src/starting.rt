@@ -42,7 +42,7 @@ impl fmt::Display for StartFault {
 impl Error for StartFault {}
 
 impl StartFault {
-    /// What a run of a program comes to, that needs the hub.
+    /// How a run of a program ends that needs the hub.
     pub fn outcome(self) -> Outcome
         ensures { result ≡ outcome_of_start self }
     {

@@ -30,7 +30,7 @@ pub struct Exchange<'a> {
     pub bytes_in: u64,
     /// The bytes that the reply took.
     pub bytes_out: u64,
-    /// The time that the answer took.
+    /// How long answering took, in microseconds.
     pub microseconds: u64,
 }
 
@@ -56,7 +56,7 @@ pub enum Reason {
 }
 
 impl Reason {
-    /// The reason as the log tells it.
+    /// The reason as it stands in the log.
     pub fn name(self) -> &'static str
         ensures { result.now ≡ reason_name self }
     {

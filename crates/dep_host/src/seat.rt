@@ -19,7 +19,7 @@ use std::net::IpAddr;
 /// When something happens.
 #[derive(Clone, Copy, Debug, PartialEq, Eq)]
 pub struct Time {
-    /// The moment that replies tell.
+    /// The moment in replies.
     pub moment: Moment,
     /// Seconds that never go back, by which silence is measured.
     pub second: u64,

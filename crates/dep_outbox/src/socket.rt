@@ -3,7 +3,7 @@
 ghost use Rattle.std.specs.Prelude.{◌≡◌, ℕ, List, Option, None};
 ghost use Rattle.dep_outbox.specs.Sockets.{Receives, Delivers};
 
-/// What a receive came to.
+/// What a receive gave.
 #[derive(Clone, Copy)]
 pub enum Received {
     /// So many bytes, at least one.
@@ -16,7 +16,7 @@ pub enum Received {
     Failed,
 }
 
-/// What a send came to.
+/// What a send took.
 #[derive(Clone, Copy)]
 pub enum Delivered {
     /// So many bytes were taken, at least one.
@@ -29,7 +29,7 @@ pub enum Delivered {
 
 /// The half of a socket that gives a client's bytes. Its calls never wait.
 pub trait Source {
-    /// The bytes that it will give from here on, where it tells them.
+    /// The bytes that it will give from here on, where it shows them.
     ghost unread: { Self → Option (List ℕ) } = { λ _. None };
 
     /// Receives what is there, into a front of the room.
@@ -39,7 +39,7 @@ pub trait Source {
 
 /// The half of a socket that takes the bytes for a client. Its calls never wait.
 pub trait Sink {
-    /// The bytes that it took, where it tells them.
+    /// The bytes that it took, where it shows them.
     ghost taken: { Self → Option (List ℕ) } = { λ _. None };
 
     /// Sends a front of the bytes.

@@ -12,7 +12,7 @@ use std::alloc::Global;
 /// How often a flush sends at most.
 const MOST_SENDS: u32 = 16;
 
-/// What a flush came to.
+/// What a flush left.
 #[derive(Clone, Copy, PartialEq, Eq)]
 pub enum Flushed {
     /// Nothing is owed any more.

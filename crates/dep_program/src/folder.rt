@@ -110,7 +110,7 @@ fn put_path(inside: &mut String, folder: &str, path: &str) -> io::Result<()>
     Ok(())
 }
 
-/// What an export comes to where its folder can't be made.
+/// How an export ends where its folder can't be made.
 pub fn without_folder(kind: ErrorKind) -> Outcome
     ensures { result ≡ without_folder kind }
 {

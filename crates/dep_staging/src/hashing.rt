@@ -90,7 +90,7 @@ pub fn hash_upload<T: Statements>(
     Ok(hasher.finish())
 }
 
-// Hashes one more block of an upload, and tells whether there was one that was not hashed.
+// Hashes one more block of an upload, and returns whether there was one that was not hashed.
 fn hash_block<T: Statements>(tx: &mut T, run: &mut RunningHash) -> Result<bool, StoreFault>
     ensures does { ReadsOver T.lenders T.state tx.old tx.new result
         (λ s. IsSound s → IsRunning s run.old → IsRunning s run.new) }
@@ -122,8 +122,8 @@ fn hash_blocks<T: Statements>(tx: &mut T, run: &mut RunningHash) -> Result<(), S
     Ok(())
 }
 
-/// Hashes up to four blocks (256 KiB) of an upload to which a segment came, and tells whether more may
-/// be left. A number of 2^63 or more is a fault of the store.
+/// Hashes up to four blocks (256 KiB) of an upload to which a segment came, and returns whether more may be
+/// left. A number of 2^63 or more is a fault of the store.
 pub fn hash_ahead<T: Statements>(
     tx: &mut T,
     running: &mut RunningHashes,

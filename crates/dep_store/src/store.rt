@@ -135,8 +135,8 @@ impl<S: Alter> Store<S> {
         }
     }
 
-    /// Moves the clock to the moment, and never back, and ends the uploads that were left idle. It
-    /// answers the clock.
+    /// Moves the clock to the moment, and never back, and ends the uploads that were left idle. It returns
+    /// the clock.
     pub fn tick(&mut self, config: &Config, moment: Moment) -> Result<Moment, StoreFault>
         ensures does { Ticks (condition_of S.Store self.old) (condition_of S.Store self.new)
             config.now moment result }
@@ -202,7 +202,7 @@ impl<S: Alter> Store<S> {
         Ok(done.performed)
     }
 
-    /// Hashes a few blocks of an upload to which a segment came, and tells whether more may be left. It
+    /// Hashes a few blocks of an upload to which a segment came, and returns whether more may be left. It
     /// changes nothing that is kept.
     pub fn hash_ahead(&mut self, running: &mut RunningHashes) -> Result<bool, StoreFault>
         ensures { HashesOn (state S.Store self.old) (state S.Store self.new) running.old running.new }
@@ -283,8 +283,8 @@ impl<S: Alter> Store<S> {
         audit_files(&mut self.connection, self.alloc, files.as_slice(), watch)
     }
 
-    /// Whether the store is open, as far as it can be told: `false` where a fault has shut it, for
-    /// good. Before that is known memory may run out, or the disk fail once more; ask again then.
+    /// Whether the store is open, as far as that can be known: `false` where a fault has shut it, for good.
+    /// Before that is known memory may run out, or the disk fail once more; ask again then.
     pub fn is_open(&mut self) -> Result<bool, StoreFault>
         ensures told { IfOk result (TellsOpen (condition_of S.Store self.new)) }
         // That it isn't told has a cause, of which want of memory can be seen by nobody.
