@@ -1,4 +1,4 @@
-//! A watch that tells how far a long command came.
+//! A watch that prints how far a long command came.
 
 use dep_program::Progress;
 use dep_store::Watch;
