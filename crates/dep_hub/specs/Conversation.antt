@@ -203,7 +203,7 @@ module _ {A : Type 0} (condition : A → Condition) where
     pub last : HasLastRead after.wire.last served
 
   -- what the machine makes of the turns, from whatever machine the hub kept: it answers them as
-  -- they were answered, and the hub keeps what it comes to, if its store is open; a stop then
+  -- they were answered, and the hub keeps the machine after that, if its store is open; a stop then
   -- leaves just that, and where the store is shut what it may leave after the last turn
   pub record IsAnswered (old new : Hub A) (number : ℕ) (turns : List Turn)
       (w : World) : Type 0 where

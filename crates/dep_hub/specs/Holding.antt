@@ -48,7 +48,7 @@ abbrev pub items_answered : {config : Config} {piece : List ℕ} {moment : ℕ} 
 items_answered (at_live serves) = items_served serves
 items_answered at_shut_line = 0
 
--- what the arrival of a part of the held bytes answers
+-- what the arrival of a part of the held bytes returns
 abbrev pub arrived_by : Next → Arrived
 arrived_by More = came.Open
 arrived_by Waiting = came.Open

@@ -135,8 +135,8 @@ module _ {A : Type 0} (condition : A → Condition) where
       → Leaves (store_of new) (λ found. Run old.config first
       (records ++ record { event = event; sent = sent } ∷ stopped ∷ []) (first_world found))
 
-  -- An arrival at a hub whose store was shut. The client is sent a fixed reply at most, behind what
-  -- tells it to go on, and a crash leaves what it could leave before. Whatever lines the hub kept, the
+  -- An arrival at a hub whose store was shut. The client is sent a fixed reply at most, behind a
+  -- `100 Continue`, and a crash leaves what it could leave before. Whatever lines the hub kept, the
   -- machine may answer so from any state, and stay at that state.
   pub record ArrivesShut (old new : Hub A) (number : ℕ) (piece : List ℕ) (moment : ℕ)
       (sent : List ℕ) (answer : Arrived) : Type 0 where

@@ -1,4 +1,4 @@
-//! A script, which tells a host what comes, and compares what its clients get.
+//! A script, which gives a host its events, and compares what its clients get.
 ghost use Rattle.std.specs.Prelude.{◌≡◌, IsOk, OnOk, true};
 
 use crate::client::Client;
