@@ -37,7 +37,7 @@ pub struct Host<A, R, K, S> {
 }
 
 impl<A: Archive, R: Source + Drop, K: Sink + Drop, S: Spool + Drop> Host<A, R, K, S> {
-    /// A host without connections, which are bounded by the limits.
+    /// A host without connections, which are bounded by the limits. Where memory is refused the hub is handed back.
     pub fn new(alloc: Global, hub: Hub<A>, limits: Limits) -> Result<Host<A, R, K, S>, Hub<A>>
         ensures hub { IfOk result (λ host. host.hub ≡ hub) }
         ensures limits { IfOk result (λ host. host.limits ≡ limits) }

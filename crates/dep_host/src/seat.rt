@@ -300,7 +300,7 @@ impl<R: Source, K: Sink, S: Spool> Seat<R, K, S> {
         }
     }
 
-    /// Tells the client that nothing more is sent.
+    /// Shuts down the half that sends, so that the client sees that nothing more comes.
     fn finish(&mut self)
         ensures keeps { told K.taken S.held self.new.wire ≡ told K.taken S.held self.old.wire }
         ensures same { self.new ≡ record self.old {

@@ -75,7 +75,7 @@ impl<A: Archive> Hub<A> {
         })
     }
 
-    /// Opens a connection.
+    /// Opens a connection, and returns its number. An `Err` changes nothing.
     pub fn connect(&mut self) -> Result<ConnId, ConnectFault>
         ensures adds { IfOk result
             (λ number. Adds A.condition self.old self.new (Connect number) []) }
@@ -224,7 +224,7 @@ impl<A: Archive> Hub<A> {
         self.store.work_ahead()
     }
 
-    /// Forgets a connection.
+    /// Forgets a connection, with what it holds. One that isn't there changes nothing.
     pub fn close(&mut self, connection: ConnId)
         ensures adds { Adds A.condition self.old self.new (Close connection) [] }
         ensures moves { Moves A.condition self.old self.new (Close connection) [] }

@@ -66,7 +66,7 @@ pub(crate) fn answer_message<A: Archive, O: Outlet, L: AccessLog>(
     }
 }
 
-/// Tells the client that it may send the body (RFC 9110, section 15.2.1). The clock stays.
+/// Sends `100 Continue`, so that the client sends the body (RFC 9110, section 15.2.1). The clock stays.
 pub(crate) fn answer_continue<A: Archive, O: Outlet, L: AccessLog>(
     store: &A,
     out: &mut O,

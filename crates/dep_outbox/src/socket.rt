@@ -46,7 +46,7 @@ pub trait Sink {
     fn send(&mut self, bytes: &[u8]) -> Delivered
         ensures bytes { Delivers (taken self.old) (taken self.new) bytes.now result };
 
-    /// Tells the client that nothing more is sent.
+    /// Shuts down the half that sends, so that the client sees that nothing more comes.
     fn finish(&mut self)
         ensures taken { taken self.new ≡ taken self.old };
 }

@@ -162,7 +162,7 @@ impl<K: Sink, S: Spool> Wire<K, S> {
         self.written
     }
 
-    /// Tells the client that nothing more is sent.
+    /// Shuts down the half that sends, so that the client sees that nothing more comes.
     pub fn finish(&mut self)
         ensures taken { told K.taken S.held self.new ≡ told K.taken S.held self.old }
     {

@@ -59,7 +59,7 @@ fn hash_segment<T: Statements>(
     Ok(())
 }
 
-/// The SHA-256 and the SHA-512 (FIPS 180-4) of the assembled bytes of an upload that was loaded, in
+/// Returns the SHA-256 and the SHA-512 (FIPS 180-4) of the assembled bytes of an upload that was loaded, in
 /// the order of its segments' numbers, over those that were received. What was hashed ahead isn't read
 /// again; each other block is read once for both, one at a time, and no row.
 pub fn hash_upload<T: Statements>(

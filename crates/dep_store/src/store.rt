@@ -249,7 +249,7 @@ impl<S: Alter> Store<S> {
         view_object(&mut self.connection, self.alloc, object)
     }
 
-    /// The least number of an object above this one.
+    /// Returns the least number of an object above this one, if there is one.
     pub fn next_object(&mut self, after: u64) -> Result<Option<u64>, StoreFault>
         ensures does { Tells (condition_of S.Store self.old) (condition_of S.Store self.new)
             (λ s found. found ≡ option_map (λ e. e.0) (next_entry s.objects after)) result }

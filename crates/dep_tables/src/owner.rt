@@ -56,7 +56,7 @@ fn owner_number(owner: BlockOwner) -> u64
     }
 }
 
-/// Whether SQL keeps its number.
+/// Whether SQL keeps its number: one below 2^63.
 pub fn is_storable_owner(owner: BlockOwner) -> bool
     ensures { IsTrue result ↔ IsStorableOwner owner }
 {

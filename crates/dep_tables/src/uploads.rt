@@ -34,7 +34,7 @@ pub struct UploadColumns {
 }
 
 impl UploadColumns {
-    /// The columns of this row.
+    /// The columns of this row: all of it but the SHA-512 that was promised.
     pub fn of_row(row: &UploadRow) -> UploadColumns
         ensures { result ≡ columns_of_upload row.now }
     {

@@ -78,7 +78,7 @@ impl Metadata {
     ghost use Rattle.std.specs.FinMap as map;
     ghost use Rattle.dep_types.specs.MetadataEntries.{name_and_texts};
 
-    /// No metadata.
+    /// Metadata without a name. It takes no memory.
     pub fn new(alloc: Global) -> Metadata
         ensures { result ≡ map.empty }
     {

@@ -100,7 +100,7 @@ fn with_folders(
     }
 }
 
-// Tells what is wrong with a file.
+// Prints what is wrong with a file.
 fn tell<F: Display>(rt: &HostRuntime, file: &str, fault: &F) {
     let _ = eprintln!(rt; "swordd_host: {file}: {fault}");
 }

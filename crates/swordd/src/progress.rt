@@ -3,7 +3,7 @@
 use dep_program::Progress;
 use dep_store::Watch;
 
-/// Tells on standard error how far a command came.
+/// Prints on standard error how far a command came.
 #[derive(Drop)]
 pub struct Told<'a>(pub Progress<'a>);
 
