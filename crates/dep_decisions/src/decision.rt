@@ -86,7 +86,7 @@ impl NewFiles {
     }
 }
 
-/// What is deposited.
+/// What is deposited: files, or metadata.
 #[derive(Drop)]
 pub enum Deposit {
     /// These files.

@@ -11,7 +11,7 @@ use std::alloc::{AllocError, Global};
 use std::marker::Model;
 use std::mem;
 
-/// What stands next on a stream.
+/// The next item of a stream, or why there is none.
 #[derive(Drop)]
 pub enum Step {
     /// The client of the next request waits for `100 Continue` (RFC 9110, section 10.1.1).

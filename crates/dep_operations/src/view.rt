@@ -60,7 +60,7 @@ pub struct Touched {
     pub references: Option<References>,
 }
 
-/// An upload that is there.
+/// An upload that is there: its row, and its digests where they are needed.
 #[derive(Drop)]
 pub struct LiveUpload {
     /// What was said of it at its opening, and the moment of its last segment.

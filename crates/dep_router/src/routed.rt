@@ -16,7 +16,7 @@ use matchit::{InsertError, Router};
 use std::alloc::{AllocError, Global};
 use std::marker::Model;
 
-/// What a method and a path name.
+/// The resource and the method that a request names, or why it names none.
 #[derive(Drop)]
 pub enum Routed {
     /// A resource, and a method that it has.

@@ -20,7 +20,7 @@ pub const GREATEST_MAX_SEGMENTS: u64 = 10_000;
 /// The longest time that an upload may be left alone, in seconds: a year of 365 days.
 pub const GREATEST_STAGING_MAX_IDLE: u64 = 31_536_000;
 
-/// What a server is set up with.
+/// What a server is set up with: its base, its texts, what it allows, and its limits.
 #[derive(Drop)]
 pub struct Config {
     /// The URL that all of the server's URLs begin with, without a slash at its end.
