@@ -16,7 +16,7 @@ pub enum Received {
     Failed,
 }
 
-/// What a send took.
+/// How much of a send the socket took.
 #[derive(Clone, Copy)]
 pub enum Delivered {
     /// So many bytes were taken, at least one.

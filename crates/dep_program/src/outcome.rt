@@ -53,7 +53,7 @@ impl Outcome {
     }
 }
 
-/// How a run ended that served one connection.
+/// Returns the outcome of a run that served one connection.
 pub fn outcome_of(served: Served) -> Outcome
     ensures { result ≡ outcome_of served }
 {
@@ -64,7 +64,7 @@ pub fn outcome_of(served: Served) -> Outcome
     }
 }
 
-/// How it ended, by whether the outlet gave up.
+/// Returns the outcome, but `TransferFault` in place of `Done` where the outlet gave up.
 pub fn outcome_sent(has_failed: bool, outcome: Outcome) -> Outcome
     ensures { result ≡ outcome_sent has_failed outcome }
 {
