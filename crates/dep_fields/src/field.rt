@@ -4,7 +4,7 @@
 pub enum Field<T: Drop> {
     /// No such field stands in the head.
     Absent,
-    /// Its text is none that may stand there, or the field stands twice where it may stand once.
+    /// Its text may not stand there, or the field stands twice where it may stand once.
     Bad,
     /// Its value.
     Value(T),

@@ -65,7 +65,7 @@ pub(crate) fn comes_from<R: Source, K: Sink, S: Spool>(
 /// What comes to a host.
 #[derive(Drop)]
 pub enum Event<R, K, S> {
-    /// The socket of the connection at a place may be ready. Where nobody sits there it is no matter.
+    /// The socket of the connection at a place may be ready. Where nobody sits there nothing happens.
     Ready {
         at: usize,
         is_readable: bool,

@@ -38,7 +38,7 @@ pub struct Bytes {
     pub sent: u64,
 }
 
-/// A log that is told of a host's connections. Nothing of what is sent or kept hangs on it. The calls of an
+/// A log that is told of a host's connections. What is sent and kept doesn't depend on it. The calls of an
 /// `AccessLog` come between `answering` and `answered`.
 pub trait HostLog: AccessLog {
     /// What it was told so far of the clients that came, where it shows that.

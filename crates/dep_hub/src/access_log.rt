@@ -1,6 +1,6 @@
 //! What is told of each request and its reply, for a log of them.
 
-/// A log that is told of each item that `Hub::answer` answers. Nothing of what is sent or kept hangs on it.
+/// A log that is told of each item that `Hub::answer` answers. What is sent and kept doesn't depend on it.
 pub trait AccessLog {
     /// A whole request is answered next: its method as it was sent, the path of its target without the query
     /// and not decoded, and how many bytes its content has. What a stream has in place of a request is

@@ -18,7 +18,7 @@ pub(crate) enum Place<'a> {
     InBag(u64, &'a str),
 }
 
-/// What a page names, by what its parameters took; `None` where a number is none.
+/// What a page names, by what its parameters took; `None` where the text of a number is no such number.
 pub(crate) fn place_of_page<'p>(page: Page, params: &Params<'_, 'p>) -> Option<Place<'p>>
     requires { AllText (parts_of params.now) }
     ensures named { resource_at result ≡ resource_by page (parts_of params.now) }
