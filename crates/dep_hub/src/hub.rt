@@ -224,7 +224,7 @@ impl<A: Archive> Hub<A> {
         self.store.work_ahead()
     }
 
-    /// Forgets a connection, with what it holds. One that isn't there changes nothing.
+    /// Forgets a connection. What it holds is dropped, and one that isn't there changes nothing.
     pub fn close(&mut self, connection: ConnId)
         ensures adds { Adds A.condition self.old self.new (Close connection) [] }
         ensures moves { Moves A.condition self.old self.new (Close connection) [] }
