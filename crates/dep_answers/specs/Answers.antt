@@ -59,6 +59,6 @@ abbrev pub answer : ℕ → Option ReplyContent → (tag : Option ℕ) → (loca
 answer status content tag location =
     record { status = status; content = content; tag = tag; location = location; allow = None }
 
--- it shows nothing, though replies of its status tell how long their content is (RFC 9110, section 15.3.5)
+-- it shows nothing, though replies of its status give the length of their content (RFC 9110, section 15.3.5)
 abbrev pub is_silent : Answer → Bool
 is_silent a = not (is_some a.content) && not (a.status == 204)

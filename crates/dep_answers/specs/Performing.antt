@@ -26,13 +26,14 @@ pub record IsReady (stepped : Stepped) (p : Performed) : Type 0 where
 abbrev pub IsReply : State → Answer → Delivery → Performed → Type 0
 IsReply s a delivery p = IsReady (answered_step s a delivery.clock delivery.is_bare delivery.closes) p
 
--- The same of what may be ready. What would show nothing, in a reply that has to tell how long its content is, isn't said.
+-- The same of what may be ready. What would show nothing, in a reply that has to give the length of its
+-- content, isn't said.
 abbrev pub Says : State → Answer → Delivery → Option Performed → Type 0
 Says s a delivery (Some p) = IsReply s a delivery p
 Says s a delivery None = IsTrue (is_silent a)
 
--- the reply tells where it ends: its head tells a length, or is of the status that has no content (RFC 9110, section
--- 15.3.5; RFC 9112, section 6.3)
+-- the reply says where it ends: its head gives a length, or is of the status that has no content (RFC 9110,
+-- section 15.3.5; RFC 9112, section 6.3)
 pub record HasEnd (p : Performed) : Type 0 where
   pub head : ReplyHead
   pub behind : List ℕ

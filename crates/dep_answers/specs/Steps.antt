@@ -1,4 +1,4 @@
--- What a request for a resource comes to: the state that it leaves, and the reply to it.
+-- What is made of a request for a resource: the state that it leaves, and the reply to it.
 use Rattle.std.specs.Prelude.{ℕ, Bool, true, false, List, ◌++◌, Option, Some, None}
 use Rattle.dep_types.specs.State.{State}
 use Rattle.dep_types.specs.declared.config.Config.{Config}

@@ -15,8 +15,8 @@ use Rattle.dep_answers.specs.declared.subject.Subject.TheVariants as subject
 use Rattle.dep_answers.specs.declared.subject.Shown.{Shown}
 use Rattle.dep_answers.specs.declared.subject.Shown.TheVariants as shown
 
--- what is read to show what stands at a path of a bag: the one file that can stand there, or else all that is told of
--- the object
+-- what is read to show what stands at a path of a bag: the one file that can stand there, or else all of the
+-- object
 abbrev pub subject_in_bag : ℕ → (file : Option ℕ) → Subject
 subject_in_bag n None = subject.Object n
 subject_in_bag n (Some f) = subject.File (record { object = n; file = f })

@@ -1,4 +1,4 @@
--- What a reply tells of a state that what it was made of was read from.
+-- What a reply shows of a state that what it was made of was read from.
 use Rattle.std.specs.Prelude.{◌≡◌, ℕ, List, Option, Some, None}
 use Rattle.std.specs.FinMap as map
 use Rattle.dep_types.specs.State.{State, Object, File, file_at}
@@ -31,7 +31,7 @@ SaysPayload path row delivery said = (s : State) (n : ℕ) (f : ℕ) (it : File)
     → file_number path ≡ Some f → file_at s n f ≡ Some it → row ≡ file_row n f it
     → Says s (bag_answer s n path) delivery said
 
--- where no file can stand at the path, and this is told of the object, its tag file there is said
+-- where no file can stand at the path, and this is shown of the object, its tag file there is said
 abbrev pub SaysTagFile : (path : List ℕ) → ObjectView → Delivery → Option Performed → Type 0
 SaysTagFile path view delivery said = (s : State) (n : ℕ) (o : Object) → IsSound s
     → file_number path ≡ None → map.get s.objects n ≡ Some o → view ≡ object_view n o

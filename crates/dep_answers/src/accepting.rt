@@ -22,11 +22,11 @@ use dep_reply::Status;
 use dep_types::{Config, Method, Resource, Target};
 use std::alloc::{AllocError, Global};
 
-/// The reply to a request that was accepted and carried out, by what the archive then shows at its
-/// [`Subject`](crate::Subject) (RFC 9110, section 15.3; SWORD 3.0). A reply to a HEAD is that to the
-/// GET, delivered bare. There is none where the reply would have nothing to show, though it had to tell a length: for a
-/// resource that has no GET, where nothing was read, and where a damaged table gave numbers of segments that don't
-/// rise from 1 on. An `Err` is want of memory.
+/// Returns the reply to a request that was accepted and carried out, by what the archive then shows at its
+/// [`Subject`](crate::Subject) (RFC 9110, section 15.3; SWORD 3.0). A reply to a HEAD is that to the GET,
+/// delivered bare. It is `None` where the reply would have nothing to show, though it had to give a length:
+/// for a resource that has no GET, where nothing was read, and where a damaged table gave numbers of segments
+/// that don't rise from 1 on. An `Err` is want of memory.
 pub fn accepted(
     alloc: Global,
     service: &Service,

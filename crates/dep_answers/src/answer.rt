@@ -54,7 +54,7 @@ impl ReplyText {
         ReplyText::new(Form::Document, Octets::from_vec(bytes))
     }
 
-    /// The text itself.
+    /// The bytes of the text.
     fn bytes(&self) -> &[u8]
         ensures text { result.now ≡ document_of (Some self.now) }
         ensures stored { stored_of (Some self.now) ≡ [] }
@@ -101,7 +101,7 @@ impl Model for Answer {
 }
 
 impl Answer {
-    /// The answer with nothing to show. It takes no memory.
+    /// An answer with no text to show. It takes no memory.
     pub(crate) fn without_content(status: Status) -> Answer
         ensures { result ≡ answer (status_number status) None None None }
     {
@@ -114,7 +114,7 @@ impl Answer {
         }
     }
 
-    /// The answer that shows this.
+    /// An answer that shows this text.
     pub(crate) fn showing(status: Status, content: ReplyText) -> Answer
         ensures { result ≡ answer (status_number status) (Some content) None None }
     {
@@ -127,14 +127,15 @@ impl Answer {
         }
     }
 
-    /// Whether it shows nothing, though replies of its status tell how long their content is.
+    /// Whether it shows nothing, though replies of its status say how long their content is.
     fn is_silent(&self) -> bool
         ensures { result ≡ is_silent self.now }
     {
         self.content.is_none() && self.status.number() != 204
     }
 
-    /// The reply that says this, if it isn't silent.
+    /// Returns the reply that says this, or `None` where the answer is silent (`is_silent`). An `Err` is want
+    /// of memory.
     pub(crate) fn say(
         self,
         alloc: Global,
@@ -149,7 +150,7 @@ impl Answer {
         Ok(Some(self.spell(alloc, delivery)?))
     }
 
-    /// The reply that says this.
+    /// Returns the reply that says this: its head, and behind it the text unless the reply is bare.
     pub(crate) fn spell(self, alloc: Global, delivery: Delivery) -> Result<Performed, AllocError>
         ensures says { IfOk result (λ p. (s : State) → IsReply s self delivery p) }
         ensures front { IfOk result (λ p. p.front.items

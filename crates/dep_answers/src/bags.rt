@@ -47,8 +47,8 @@ fn list_text(alloc: Global, paths: &[Text]) -> Result<Vec<u8>, AllocError>
     Ok(text)
 }
 
-/// The reply that shows what stands at a path of an object's bag, where something stands there: by the row of the one file
-/// that can, or else by all that is told of the object.
+/// Returns the reply that shows what stands at a path of an object's bag, where something stands there: by
+/// the row of the one file that can, or else by the whole object.
 pub(crate) fn bag_reply(
     alloc: Global,
     shown: &Shown,

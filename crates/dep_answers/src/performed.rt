@@ -31,7 +31,7 @@ pub struct Performed {
     pub stored: Option<StoredFile>,
 }
 
-/// How a reply goes out.
+/// How a reply goes out: its date, whether it is bare, and whether the connection is closed after it.
 #[derive(Clone, Copy)]
 pub struct Delivery {
     /// The clock of the server.

@@ -13,8 +13,8 @@ use dep_reply::Status;
 use dep_types::Refusal;
 use std::alloc::{AllocError, Global};
 
-/// The reply to a request that is refused, with the methods of the resource where one is not allowed
-/// (RFC 9110, section 10.2.1). It tells the clock, and nothing of the archive.
+/// Returns the reply to a request that is refused, with the methods of the resource where one is not allowed
+/// (RFC 9110, section 10.2.1). It shows the clock, and nothing of the archive. An `Err` is want of memory.
 pub fn refused(
     alloc: Global,
     refusal: Refusal,

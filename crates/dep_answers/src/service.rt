@@ -1,4 +1,4 @@
-//! What the server is set up with, and the document that tells it.
+//! What the server is set up with, and its service document.
 ghost use Rattle.std.specs.Prelude.{◌≡◌, IfOk};
 ghost use Rattle.dep_docs_out.specs.Documents.{service_document};
 
@@ -29,7 +29,7 @@ impl Model for Service {
 }
 
 impl Service {
-    /// Spells the service document.
+    /// Spells the service document, and keeps it. An `Err` is want of memory.
     pub fn new(alloc: Global, config: Config) -> Result<Service, AllocError>
         ensures { IfOk result (λ service. service ≡ config) }
     {
@@ -41,7 +41,7 @@ impl Service {
         })
     }
 
-    /// The allocator.
+    /// The allocator that replies grow in.
     pub fn alloc(&self) -> Global {
         self.alloc
     }

@@ -14,7 +14,7 @@ use dep_reply::{Reply, Status, spell_head};
 use dep_types::FileRow;
 use std::alloc::{AllocError, Global};
 
-/// The reply that shows a file, with its entity tag, where one was read.
+/// Returns the reply that shows a file, with its entity tag, where one was read.
 pub(crate) fn file_reply(
     alloc: Global,
     shown: &Shown,
@@ -30,7 +30,7 @@ pub(crate) fn file_reply(
     }
 }
 
-/// The reply that shows the content of the file with this row, under its own media type and perhaps
+/// Returns the reply that shows the content of the file with this row, under its own media type and perhaps
 /// with an entity tag. No byte of the content is read.
 pub(crate) fn stored_reply(
     alloc: Global,

@@ -16,7 +16,7 @@ use dep_types::{
 pub enum Subject {
     /// Nothing has to be read.
     Nothing,
-    /// All that is told of the object with this number.
+    /// The object with this number: its row, its metadata and its files.
     Object(u64),
     /// An object without its metadata and files.
     ObjectRow(u64),
@@ -59,8 +59,8 @@ impl Subject {
     ghost use Rattle.std.specs.Prelude.{◌≡◌};
     ghost use Rattle.dep_answers.specs.Subjects.{subject_of};
 
-    /// What has to be read for the reply to a request that was accepted and carried out, where the next
-    /// numbers are now these: an object or an upload that it made has the last number before them. It
+    /// Returns what has to be read for the reply to a request that was accepted and carried out, where the
+    /// next numbers are now these: an object or an upload that it made has the last number before them. It
     /// takes no memory.
     pub fn of(target: &Target, next: &Counters) -> Subject
         ensures { result ≡ subject_of next.now target.now.resource target.now.method }

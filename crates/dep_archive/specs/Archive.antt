@@ -34,7 +34,7 @@ shown_by d running = record {
 abbrev pub condition_of : {S : Type 0} → (g : Ghosts S) → HashingStore S → Condition
 condition_of g archive = shown_by (state g archive.store) archive.running
 
--- what its database tells of its answers: it shows nothing of what it is asked for
+-- what its database says of its answers: it shows nothing of what it is asked for
 abbrev pub told_by : db.State → Account
 told_by d = record { errands = None; is_busy = d.in_transaction; faults = d.faults }
 

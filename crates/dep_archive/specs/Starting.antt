@@ -1,4 +1,4 @@
--- What a stop leaves of a database that is opened for a hub, and what it comes to where no hub is made.
+-- What a stop leaves of a database that is opened for a hub, and how a run ends where no hub is made.
 use Rattle.std.specs.Prelude.{◌≡◌, ◌⊎◌, List, [], ◌∷◌, ◌++◌, IsTrue}
 use Rattle.sqlite.specs.State as db
 use Rattle.sqlite.specs.State.{HasCleanDisk}
@@ -44,7 +44,7 @@ abbrev pub IsStore : (old new : db.State) → Type 0
 IsStore old new = HasCleanDisk new → (HoldsNone old.now.trees → StandsFor new empty_state)
     × ((found : State) → IsLeftAs old.now.trees found → StandsFor new found)
 
--- what it comes to where no hub is made
+-- how a run ends where no hub is made
 abbrev pub outcome_of_start : StartFault → Outcome
 outcome_of_start (fault.Hub refused.Config) = Usage
 outcome_of_start (fault.Hub refused.Memory) = StoreFault

@@ -42,7 +42,7 @@ impl fmt::Display for StartFault {
 impl Error for StartFault {}
 
 impl StartFault {
-    /// What a run of a program comes to, that needs the hub.
+    /// How a run of a program ends that needs the hub.
     pub fn outcome(self) -> Outcome
         ensures { result ≡ outcome_of_start self }
     {
@@ -71,12 +71,12 @@ pub fn open_hub<S: Alter, W: Watch>(
     ensures config { IfOk result (λ hub. hub.config ≡ config) }
     ensures checked { IfOk result (λ _. IsChecked config) }
     ensures next { IfOk result (λ hub. hub.next ≡ 0) }
-    // A database that is not opened is handed back as it was, in the version that it had, unless version 1 is told of other
+    // A database that is not opened is handed back as it was, in the version that it had, unless version 1 is shown of other
     // tables than ours.
     ensures left { IfErr result (λ e. (fault : OpenFault) → e.0 ≡ StartFault.Open fault
         → IsTrue (state S.Store e.1).is_open
         → Keeps (state S.Store connection) (state S.Store e.1)) }
-    // What a store left is opened, and never told as of a version that is not known.
+    // What a store left is opened, and never refused as of a version that is not known.
     ensures known { IfErr result (λ e. HasCleanDisk (state S.Store e.1)
         → e.0 ≡ StartFault.Open OpenFault.UnknownVersion → IsOpenable (state S.Store connection)
         → ⊥) }

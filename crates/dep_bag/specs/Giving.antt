@@ -38,7 +38,7 @@ abbrev pub HasCause : {X : Type 0} → Result X ExportFault → (failures failur
 HasCause (Ok x) failures failures_after = failures_after ≡ failures
 HasCause (Err fault) failures failures_after = IsCausedBy fault failures failures_after
 
--- what is told of a sink: what it took, where it tells it, and how many of its writes failed
+-- what is known of a sink: what it took, where it shows it, and how many of its writes failed
 pub record SinkState : Type 0 where
   pub taken : Option (List ℕ)
   pub failures : ℕ
@@ -65,7 +65,7 @@ pub record IsStreamedTo {X : Type 0} (stood stands : Condition) (old new : SinkS
   pub there : result ≢ Err NoSuchObject
 
 module _ {K : Type 0} (taken : K → Option (List ℕ)) (failures : K → ℕ) where
-  -- what a sink tells of itself
+  -- what a sink shows of itself
   abbrev pub state_of : K → SinkState
   state_of sink = record { taken = taken sink; failures = failures sink }
 

@@ -1,4 +1,4 @@
--- What a view of an object tells of its bag: its paths, and what stands at each.
+-- The paths of an object's bag and what stands at each, by a view of the object.
 use Rattle.std.specs.Prelude.{ℕ, List, [], ◌∷◌, ◌++◌, map, find, codes, bytes_eq, Option, Some, None, option_map, if◌then◌else◌}
 use Rattle.std.specs.FinMap as finmap
 use Rattle.dep_types.specs.State.{Object}

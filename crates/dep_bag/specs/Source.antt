@@ -1,4 +1,4 @@
--- What a source of bags tells of a state.
+-- What a source of bags shows of a state.
 use Rattle.std.specs.Prelude.{◌≡◌, ℕ, List, Option, option_map, Result, OnOk, IfOk, IsTrue}
 use Rattle.std.specs.Io.KnownBytes.{Appends}
 use Rattle.std.specs.FinMap as map
@@ -7,11 +7,11 @@ use Rattle.dep_types.specs.Conditions.{Condition, StandsFor, HasCleanDisk, Leave
 use Rattle.dep_types.specs.Rows.{object_view}
 use Rattle.dep_types.specs.declared.rows.ObjectView.{ObjectView}
 
--- what is told of the object with this number
+-- the view of the object with this number
 abbrev pub view_at : State → ℕ → Option ObjectView
 view_at s n = option_map (object_view n) (map.get s.objects n)
 
--- an Ok tells just that
+-- an Ok is just that
 abbrev pub TellsView : {E : Type 0} → State → ℕ → Result (Option ObjectView) E → Type 0
 TellsView s n result = IfOk result (λ view. view ≡ view_at s n)
 

@@ -96,7 +96,7 @@ pub record IsTagManifest (a : Algorithm) (b : Bag) : Type 0 where
   pub names_no_tag_manifest
       : All (λ name. IsTrue (not (starts_with nat_eq name (codes "tagmanifest-")))) (paths_of lines)
 
--- one line tells how many bytes and files the payload has
+-- one line says how many bytes and files the payload has
 pub record TellsOxum (b : Bag) : Type 0 where
   pub info : List ℕ
   pub has : finmap.get b.files (codes "bag-info.txt") ≡ Some info

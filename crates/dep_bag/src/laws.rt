@@ -32,13 +32,13 @@ pub fn bag_has_its_paths()
     ensures { (o : Object) → each (λ f. f.0) (bag_files o) ≡ bag_paths o }
 {}
 
-/// The parts that a view of an object tells, with the contents of its files, are its bag's files.
+/// The parts of a bag that a view of an object has, with the contents of its files, are its bag's files.
 pub fn view_tells_bag()
     ensures { (n : ℕ) (o : Object)
         → each (told_bytes o) (told_parts (object_view n o)) ≡ each held_bytes (bag_files o) }
 {}
 
-/// A valid bag tells the digests of each of its payload files, by both algorithms.
+/// A valid bag has the digests of each of its payload files, by both algorithms.
 pub fn valid_bag_tells_each_file()
     ensures { (b : Bag) (valid : IsValidBag b) (a : Algorithm) (path bytes : List ℕ)
         → is_payload path ≡ true → map.get b.files path ≡ Some bytes
@@ -51,7 +51,7 @@ pub fn good_path_is_encoded()
         → encoded_path (payload_path n name) ≡ percent_encoded (payload_path n name) }
 {}
 
-/// The path of a payload file tells the number of its file.
+/// The number of a payload file is found by its path.
 pub fn payload_path_tells_its_number()
     ensures { (file : ℕ) (name : List ℕ) → IsStorable file
         → file_number (payload_path file name) ≡ Some file }

@@ -31,8 +31,8 @@ enum TagFile {
     TagManifest(Algorithm),
 }
 
-/// What stands at a path of an object's bag, if something does. Paths are compared byte by byte.
-/// No content is read.
+/// Returns what stands at a path of an object's bag, if something does. Paths are compared byte by byte. No
+/// content is read. An `Err` is want of memory.
 pub fn bag_file(
     alloc: Global,
     view: &ObjectView,

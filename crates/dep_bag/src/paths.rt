@@ -23,7 +23,7 @@ use std::alloc::{AllocError, Global};
 /// The greatest number that a table can hold.
 const GREATEST_KEY: u64 = 9_223_372_036_854_775_807;
 
-/// The paths of an object's bag, in the order of its list: the tag files, then the payload by
+/// Returns the paths of an object's bag, in the order of its list: the tag files, then the payload by
 /// ascending file number (RFC 8493, section 2).
 pub fn bag_paths(alloc: Global, view: &ObjectView) -> Result<TextList, AllocError>
     ensures { IfOk result (λ paths. paths ≡ told_paths view.now) }
@@ -93,8 +93,9 @@ fn has_payload_path(files: &[FileRow], path: &[u8]) -> bool
     files.iter().any(|row| is_payload_path(path, row))
 }
 
-/// The number of the one file that can stand at this path of a bag, if one can: that of a path `data/NUMBER/NAME`, where a
-/// table can hold it. It may begin with zeros, so whether the file stands there is still to be asked.
+/// Returns the number of the one file that can stand at this path of a bag, if one can: that of a path
+/// `data/NUMBER/NAME`, where a table can hold it. It may begin with zeros, so whether the file stands there
+/// is still to be asked.
 pub fn file_number(path: &[u8]) -> Option<u64>
     ensures told { result ≡ file_number path.now }
     ensures fits { IfSome result IsStorable }

@@ -8,13 +8,13 @@ ghost use Rattle.dep_bag.specs.Source.{OfEachState, TellsView, GivesFrom, KeepsS
 
 use dep_types::{ObjectView, Outlet, StoreFault, StreamFault};
 
-/// What bags are made from: it stands for a state of the archive, tells of its objects, and sends
-/// the contents of its files.
+/// What bags are made from: it stands for a state of the archive, shows its objects, and sends the contents
+/// of its files.
 pub trait BagSource {
     /// How it stands.
     ghost condition: { Self → Condition };
 
-    /// What is told of the object with this number, if it is there.
+    /// Returns the object with this number as it is shown, if it is there.
     fn view(&mut self, object: u64) -> Result<Option<ObjectView>, StoreFault>
         ensures ok { OfEachState (condition self.old) (condition self.new)
             (λ s. TellsView s object result) }

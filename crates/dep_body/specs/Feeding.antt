@@ -1,4 +1,4 @@
--- What a chunk reader was fed, and what it answers. Its state doesn't tell the bytes, so these are relations.
+-- What a chunk reader was fed, and what it returns. Its state doesn't show the bytes, so these are relations.
 use Rattle.std.specs.Prelude.{◌≡◌, ℕ, ◌-◌, false, List, [], ◌++◌, length}
 use Rattle.dep_body.specs.Body.{IsBodyText, IsChunkedPart, IsChunkedFault}
 use Rattle.dep_body.specs.Standing.{StandsAt, is_settled}
@@ -34,14 +34,14 @@ pub record ShowsFault (limit : ℕ) (content fed piece : List ℕ) (fault : Fram
   pub stream_is : fed ++ piece ≡ text ++ behind
   pub shown : IsChunkedFault limit text fault content
 
--- what the answer to a piece says of the stream: the bytes fed before and the piece
+-- what is returned for a piece says this of the stream: the bytes fed before and the piece
 abbrev pub TellsFed : ReaderValue → List ℕ → List ℕ → Fed → Type 0
 TellsFed reader fed piece A.More = IsChunkedPart reader.limit (fed ++ piece) reader.content
 TellsFed reader fed piece (A.Done used) = EndsBody reader.limit reader.content fed piece used
 TellsFed reader fed piece A.Bad = ShowsFault reader.limit reader.content fed piece F.Bad
 TellsFed reader fed piece A.TooLarge = ShowsFault reader.limit reader.content fed piece F.TooLarge
 
--- the answer that a stage gives
+-- what is returned at a stage
 abbrev pub answer_of : Stage → ℕ → Fed
 answer_of S.Done used = A.Done used
 answer_of S.Bad used = A.Bad
@@ -51,7 +51,7 @@ answer_of (S.Data left) used = A.More
 answer_of (S.ChunkEnd byte) used = A.More
 answer_of (S.Section state) used = A.More
 
--- how many bytes of the piece an answer counts
+-- how many bytes of the piece were used
 abbrev pub used_by : Fed → ℕ
 used_by (A.Done used) = used
 used_by A.More = 0

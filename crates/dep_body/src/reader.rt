@@ -42,8 +42,8 @@ impl Model for ChunkReader {
 }
 
 impl ChunkReader {
-    /// A reader of a content of at most `max_upload` bytes, which grows in `alloc`. It takes no memory. The content is
-    /// hashed while it comes if `is_hashed` says so, which changes no answer.
+    /// A reader of a content of at most `max_upload` bytes, which grows in `alloc`. It takes no memory. The
+    /// content is hashed while it comes if `is_hashed` says so, which changes no result.
     pub fn new(alloc: Global, max_upload: u64, is_hashed: bool) -> ChunkReader
         ensures fed { HasFed result [] }
         ensures limit { result.limit ≡ max_upload }
@@ -57,8 +57,9 @@ impl ChunkReader {
         }
     }
 
-    /// Reads a piece of the body's stream, and no byte of it twice. After `Bad` and `TooLarge` the answer
-    /// stays, and after `Done` it is `Done(0)`.
+    /// Reads the next piece of the body's stream, and no byte of it twice. After `Bad` and `TooLarge` it
+    /// returns the same again, and after `Done` it returns `Done(0)`. An `Err` is want of memory, and changes
+    /// nothing.
     pub fn feed(&mut self, piece: &[u8]) -> Result<Fed, AllocError>
         ensures fed { IfOk result (λ _. (fed : List ℕ) → HasFed self.old fed
             → HasFed self.new (fed ++ piece.now)) }
@@ -115,7 +116,8 @@ fn answer(stage: Stage, used: usize) -> Fed
     }
 }
 
-// Goes on from a stage until it is settled or the piece is used up; tells the stage and the bytes used.
+// Goes on from a stage until it is settled or the piece is used up. It returns the stage, and how many bytes
+// it used.
 fn advance(
     stage: Stage,
     limit: u64,

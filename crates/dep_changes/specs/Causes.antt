@@ -35,14 +35,14 @@ pub record HasStorableNumbers (view : View) : Type 0 where
   pub upload : IsStorable view.next.upload
   pub change : IsStorable view.next.change
 
--- so are those of the object that is told
+-- so are those of the object in the view
 pub record TellsStorableObject (view : View) : Type 0 where
   pub numbers : HasStorableNumbers view
   pub row : ObjectRow
   pub told : view.object ≡ Some row
   pub fits : IsStorableObject row
 
--- and those of the one upload that is told
+-- and those of the one upload in the view
 pub record TellsStorableUpload (view : View) : Type 0 where
   pub numbers : HasStorableNumbers view
   pub upload : ℕ
@@ -122,8 +122,8 @@ pub record IsStorableRequest (s : State) (view : View) (content : List ℕ) (d :
   pub sizes : AreStorableSizes s content
   pub places : HasPlacesFor s d
 
--- A table can hold what a decision writes, as it is told. Where rows are read for it, the state is
--- sound, or they are told.
+-- A table can hold what a decision writes, as the view has it. Where rows are read for it, the state is
+-- sound, or the view has them.
 abbrev pub IsStorableDecision : Change → State → Decision → Type 0
 IsStorableDecision change s Show = ⊤
 IsStorableDecision change s (Create d ingests) =

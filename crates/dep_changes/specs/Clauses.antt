@@ -19,7 +19,7 @@ use Rattle.dep_changes.specs.Changed.{made_file, put_in, with_deposit, with_maps
 use Rattle.dep_changes.specs.Causes.{CopiesBeside, IsStorableBeside, IsStorableDecision, TakesMemory}
 
 module _ {T A : Type 0} (state : T → db.State) (old new : T) (result : Result A StoreFault) where
-  -- inside a transaction over a state's tables, where this is told of it, an Ok turns it into this one
+  -- inside a transaction over a state's tables, where this holds of it, an Ok turns it into this one
   abbrev pub Turns : (told : State → Type 0) → (after : State → State) → Type 0
   Turns told after = FromMaps (state old) (state new)
       (λ s. told s → OnOk result (SeesState (state new) (after s)))
@@ -52,12 +52,12 @@ module _ {T L A : Type 0} (lenders : T → L) (state : T → db.State) (old new 
   abbrev pub Makes : (told : State → Type 0) → (after : State → State) → Type 0
   Makes told after = Does lenders state old new result (Turns state old new result told after)
 
-  -- the same where it is told of an object, whichever that is
+  -- the same where it holds of an object, whichever that is
   abbrev pub MakesOf : (told : Object → State → Type 0) → (after : Object → State → State) → Type 0
   MakesOf told after = Does lenders state old new result
       ((o : Object) → Turns state old new result (told o) (after o))
 
-  -- where what the decision relies on is told, an Ok has carried it out on the maps
+  -- where what the decision relies on is known, an Ok has carried it out on the maps
   abbrev pub CarriesOut : Change → Decision → Type 0
   CarriesOut change d =
       Makes (λ s. TellsDecision change s d) (λ s. with_maps s change.content.now d)

@@ -33,11 +33,11 @@ known_subject next d = None
 abbrev pub known_shown : State → (content : List ℕ) → Decision → Option Shown
 known_shown s content d = option_map (shown_at (effect_of s content d)) (known_subject s.next d)
 
--- a deposit with a number for each of its files is told
+-- a deposit with a number for each of its files is known
 abbrev pub TellsNumbered : NumberedDeposit → State → Type 0
 TellsNumbered d s = TellsDeposit d.change s d.deposit.now
 
--- what is told of an object that has this deposit alone
+-- an object that has this deposit alone, as it is shown
 abbrev pub IsFilledView : State → Change → Deposit → (n : ℕ) → (ingested : Bool) → ObjectView → Type 0
 IsFilledView s change d n ingested view = view ≡ object_view n (filled s change.content.now d ingested)
 

@@ -23,12 +23,12 @@ use dep_tables::{StateRow, Statements};
 use dep_types::StoreFault;
 use std::alloc::Global;
 
-/// Makes of the tables what an accepted request's decision makes of the state. The view tells the state where the
-/// request touches it, and the content is that of the request. Nothing is hashed: the digests of a posted content
-/// stand in the decision, and those of uploads in the view. A number of 2^63 or more is a fault of the store, and so is
-/// that something is not there which the rules have seen. In a sound state, with sizes that a table can hold, only a
-/// statement fails, or memory is wanting for the texts and files that are put in. Where nothing is changed, no
-/// statement is run.
+/// Makes of the tables what an accepted request's decision makes of the state. The view is true of the state
+/// where the request touches it, and the content is that of the request. Nothing is hashed: the digests of a
+/// posted content stand in the decision, and those of uploads in the view. A number of 2^63 or more is a
+/// fault of the store, and so is that something is not there which the rules have seen. In a sound state,
+/// with sizes that a table can hold, only a statement fails, or there is no memory for the texts and files
+/// that are put in. Where nothing is changed, no statement is run.
 pub fn carry_out<T: Statements>(
     tx: &mut T,
     alloc: Global,

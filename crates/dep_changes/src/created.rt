@@ -1,4 +1,5 @@
-//! What is told of objects and files that a deposit makes or replaces, which is known without a look at the tables.
+//! Objects and files that a deposit makes or replaces, as replies show them, known without a look at the
+//! tables.
 
 ghost use Rattle.std.specs.Prelude.{◌≡◌, ◌≢◌, ℕ, Bool, [], IfOk, IfErr, IsOkAnd};
 ghost use Rattle.dep_types.specs.Rows.{file_row, object_row, object_view};
@@ -76,7 +77,7 @@ fn new_rows(numbered: &NumberedFiles<'_>, object: u64) -> Result<FileRows, Store
     Ok(FileRows::new(rows))
 }
 
-/// What is told of the object of this row once it has this deposit alone.
+/// Returns the object of this row, as it is shown once it has this deposit alone.
 pub(crate) fn filled_view(
     numbered: &NumberedDeposit<'_>,
     row: ObjectRow,

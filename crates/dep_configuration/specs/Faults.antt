@@ -1,4 +1,4 @@
--- Why the fields of a configuration are refused, and which fault is told of several.
+-- Why the fields of a configuration are refused, and which fault is returned of several.
 use Rattle.std.specs.Prelude.{◌≡◌, ◌⊎◌, Bool, true, false, IsTrue, IsSome, IsSomeAnd, MatchOption, List, ◌∷◌, ◌++◌, All, Option, None}
 use Rattle.std.specs.Net.Grammar.{IsIpText}
 use Rattle.std.specs.declared.net.ip_addr.IpAddr.{IpAddr}

@@ -30,7 +30,7 @@ pub struct Exchange<'a> {
     pub bytes_in: u64,
     /// The bytes that the reply took.
     pub bytes_out: u64,
-    /// The time that the answer took.
+    /// How long answering took, in microseconds.
     pub microseconds: u64,
 }
 
@@ -56,7 +56,7 @@ pub enum Reason {
 }
 
 impl Reason {
-    /// The reason as the log tells it.
+    /// The reason as it stands in the log.
     pub fn name(self) -> &'static str
         ensures { result.now ≡ reason_name self }
     {
@@ -100,7 +100,7 @@ pub struct Start<'a> {
     pub open_microseconds: u64,
 }
 
-/// The line of a request that was answered.
+/// Returns the line of a request that was answered. An `Err` is want of memory.
 pub fn exchange_line(alloc: Global, exchange: &Exchange<'_>) -> Result<Vec<u8>, AllocError> {
     let mut line = Line::new(alloc, "exchange", exchange.moment)?;
     line.add_request(exchange);
@@ -108,7 +108,8 @@ pub fn exchange_line(alloc: Global, exchange: &Exchange<'_>) -> Result<Vec<u8>, 
     line.end()
 }
 
-/// The line of a connection that the server closed, or of a client that it turned away.
+/// Returns the line of a connection that the server closed, or of a client that it turned away. An `Err` is want of
+/// memory.
 pub fn closing_line(alloc: Global, closing: &Closing<'_>) -> Result<Vec<u8>, AllocError> {
     let event = match closing.connection {
         Some(_) => "closed",
@@ -121,7 +122,7 @@ pub fn closing_line(alloc: Global, closing: &Closing<'_>) -> Result<Vec<u8>, All
     line.end()
 }
 
-/// The line of a server that starts.
+/// Returns the line of a server that starts. An `Err` is want of memory.
 pub fn start_line(alloc: Global, start: &Start<'_>) -> Result<Vec<u8>, AllocError> {
     let mut line = Line::new(alloc, "started", start.moment)?;
     line.add_text("version", start.version);

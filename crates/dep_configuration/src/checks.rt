@@ -9,7 +9,8 @@ use crate::values::whole_number;
 use json::Value;
 use std::net::IpAddr;
 
-/// Whether each field can be read. Of several that can't be, the first is told.
+/// Returns `Ok` where each field can be read, else the fault of the first that can't, in the order of
+/// `FIELDS`.
 pub(crate) fn check_fields(value: &Value<'_>) -> Result<(), ConfigurationFault>
     ensures readable { OnOk result (AreReadable (value_view value.now)) }
     ensures refused { IfErr result (λ e. IsFirstOfFields e (value_view value.now)) }

@@ -56,11 +56,11 @@ pub struct Limits {
 }
 
 impl Configuration {
-    /// Reads a configuration: an object of JSON (RFC 8259) whose members are fields, each at most once. Unknown
-    /// fields are refused, and so is whatever isn't written as its field asks, as a number in quotes. A field that
-    /// isn't there has its default; `database`, `spool_folder` and `base` have none. Of several faults the first
-    /// is told: of the names, in their order; of the fields, in the order of the example; and last, that the text
-    /// of `base` isn't a base.
+    /// Reads a configuration: an object of JSON (RFC 8259) whose members are fields, each at most once.
+    /// Unknown fields are refused, and so is whatever isn't written as its field asks, as a number in quotes.
+    /// A field that isn't there has its default; `database`, `spool_folder` and `base` have none. Of several
+    /// faults the first is returned: of the names, in their order; of the fields, in the order of the
+    /// example; and last, that the text of `base` isn't a base.
     pub fn read(alloc: Global, text: &str) -> Result<Configuration, ConfigurationFault>
         ensures read { IfOk result (λ c. IsConfiguration c text.now) }
         ensures refused { IfErr result (λ e. IsRefused e (document text.now)) }

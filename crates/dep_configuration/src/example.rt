@@ -2,9 +2,9 @@
 use crate::field::{FIELDS, Field};
 use std::fmt;
 
-/// A configuration in which each field stands with its default, but for `connections`, which has none, and those
-/// that have to be given. `Configuration::read` takes it as it is. JSON has no comments, so what the fields are
-/// for is told apart, by `explain`: then the example can be kept as a file and edited.
+/// A configuration in which each field stands with its default, but for `connections`, which has none, and
+/// those that have to be given. `Configuration::read` takes it as it is. JSON has no comments, so what the
+/// fields are for is said apart, by `explain`: then the example can be kept as a file and edited.
 pub const EXAMPLE: &str = "{
   \"address\": \"127.0.0.1\",
   \"port\": 8080,

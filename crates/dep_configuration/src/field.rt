@@ -20,9 +20,9 @@ pub enum Field {
     SpoolFolder,
     /// The URL that all of the server's URLs begin with.
     Base,
-    /// The title that the service document tells.
+    /// The title in the service document.
     Title,
-    /// The abstract that the service document tells.
+    /// The abstract in the service document.
     Abstract,
     /// The name under which files are deposited.
     Depositor,

@@ -25,7 +25,7 @@ pub(crate) fn check_names(alloc: Global, value: &Value<'_>) -> Result<(), Config
     check_members(alloc, members)
 }
 
-// Of several names that are refused the first is told.
+// Of several names that are refused the first is returned.
 fn check_members(alloc: Global, members: &[(&str, Value<'_>)]) -> Result<(), ConfigurationFault>
     ensures taken { OnOk result (AreFieldNames (keys (members_view members.now))) }
     ensures refused { IfErr result (λ e. (e ≡ Memory)

@@ -1,4 +1,4 @@
-//! What the front of a reply tells to the log.
+//! What the log reads of the front of a reply.
 use dep_octets::{Number, decimal};
 
 /// What stands before a status (RFC 9112, section 4).
@@ -11,7 +11,7 @@ const CONTINUE: &[u8] = b"HTTP/1.1 100 Continue\r\n\r\n";
 const BEFORE_NAME: &[u8] =
     b"{\"@context\":\"https://swordapp.github.io/swordv3/swordv3.jsonld\",\"@type\":\"";
 
-/// The status that a reply of the server tells, by its front: a `100 Continue` before it is passed over. The
+/// Returns the status of a reply of the server, by its front: a `100 Continue` before it is passed over. The
 /// front has to hold the first 12 bytes of the reply.
 pub fn status_of_front(front: &[u8]) -> Option<u16> {
     let reply = front.strip_prefix(CONTINUE).unwrap_or(front);
@@ -22,8 +22,8 @@ pub fn status_of_front(front: &[u8]) -> Option<u16> {
     }
 }
 
-/// The name of the refusal that a reply of the server tells, by its front: `None` where its status is below 400,
-/// its content isn't an error document, or the name doesn't stand in the front's first 1,024 bytes.
+/// Returns the name of the refusal in a reply of the server, by its front: `None` where its status is below
+/// 400, its content isn't an error document, or the name doesn't stand in the front's first 1,024 bytes.
 pub fn refusal_of_front(front: &[u8]) -> Option<&str> {
     if status_of_front(front)? < 400 {
         return None;

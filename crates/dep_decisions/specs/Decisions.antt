@@ -79,7 +79,7 @@ referred_file op r = option_map (assembled_file op r) (upload_number r.target)
 abbrev pub referred_files : Operation → List Reference → List NewFile
 referred_files op refs = filter_map (referred_file op) refs
 
--- what the content deposits, with the references that it tells
+-- what the content deposits, with the references in it
 abbrev pub deposit_by : Option (List Reference) → Operation → Kind → Option Deposit
 deposit_by refs op (of.File name) = Some (deposit.Files (posted_file op name ∷ []))
 deposit_by refs op of.Metadata =
@@ -123,7 +123,7 @@ appended_or_completed refs op n =
     if is_completion op then Some (Complete n)
     else option_map (λ d. Append n d (ingests op)) (deposit_of refs op)
 
--- what this method of this resource asks for, with the references that the content tells
+-- what this method of this resource asks for, with the references in the content
 abbrev pub decision_at : Option (List Reference) → Operation → Resource → Method → Option Decision
 decision_at refs op Service Post = option_map (λ d. Create d (ingests op)) (deposit_of refs op)
 decision_at refs op (Object n) Post = appended_or_completed refs op n

@@ -134,9 +134,8 @@ deposited_object s (AnObject n) = n
 deposited_object s (AFileSet n) = n
 deposited_object s resource = s.next.object
 
--- the file is the upload that the entry points at, joined by number, with the size that was told,
--- each digest that was promised at its opening and each that the entry promises, and the
--- upload is gone
+-- the file is the upload that the entry points at, joined by number, with the size that it was opened with,
+-- each digest that was promised at its opening and each that the entry promises, and the upload is gone
 pub record IsDepositedFrom (s t : State) (r : Reference) (file : File) : Type 0 where
   pub upload : ℕ
   pub target : r.target ≡ Pointing upload

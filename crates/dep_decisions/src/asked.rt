@@ -32,8 +32,8 @@ pub struct ReadContent {
     pub digests: Option<Digests>,
 }
 
-/// What a request asks for, with the references that its content tells where that is what it is for.
-/// The content is hashed only where it is a file whose digests aren't known yet. An `Err` is want of memory.
+/// Returns what a request asks for, with the references of its content where it deposits by reference. The
+/// content is hashed only where it is a file whose digests aren't known yet. An `Err` is want of memory.
 pub fn decision_on(
     alloc: Global,
     operation: &Operation<'_>,

@@ -17,8 +17,8 @@ use dep_types::{
     BINARY_PACKAGING, METADATA_FORMAT, Method, Octets, Refusal, Resource, Target, Text,
 };
 
-/// The first of rules 8 to 11 that applies: what Content-Encoding, Content-Disposition, In-Progress, Packaging,
-/// Metadata-Format and Content-Type say of the content.
+/// Returns the first of rules 8 to 11 that applies: what Content-Encoding, Content-Disposition, In-Progress,
+/// Packaging, Metadata-Format and Content-Type say of the content.
 pub fn fields_rule(operation: &Operation<'_>) -> Option<Refusal>
     ensures { result ≡ fields_refusal operation.now }
 {
@@ -201,7 +201,7 @@ fn first_semicolon(text: &[u8]) -> Option<usize>
     text.iter().position(|b| *b == b';')
 }
 
-/// The digests of the content, where some digest is promised: else they aren't computed.
+/// Returns the digests of the content, where some digest is promised: else they aren't computed.
 pub fn digests_if_promised(operation: &Operation<'_>) -> Option<Digests>
     ensures { result ≡ digests_if_promised operation.now operation.now.fields.digest }
 {
@@ -211,7 +211,8 @@ pub fn digests_if_promised(operation: &Operation<'_>) -> Option<Digests>
     }
 }
 
-/// Rule 12: Digest.
+/// Returns the refusal of rule 12: `BadRequest` where Digest can't be read, `DigestMismatch` where a digest
+/// in it isn't that of the content.
 #[tactic(auto, unfolding(crate::specs::Rules::digest_rule))]
 pub fn digest_rule(operation: &Operation<'_>, digests: Option<Digests>) -> Option<Refusal>
     requires { digests ≡ digests_if_promised operation.now operation.now.fields.digest }

@@ -55,7 +55,7 @@ impl NewFiles {
         }
     }
 
-    /// One file.
+    /// One file. An `Err` is want of memory.
     pub fn one(alloc: Global, file: NewFile) -> Result<NewFiles, AllocError>
         ensures { IfOk result (λ files. files ≡ file ∷ []) }
     {
@@ -86,7 +86,7 @@ impl NewFiles {
     }
 }
 
-/// What is deposited.
+/// What is deposited: files, or metadata.
 #[derive(Drop)]
 pub enum Deposit {
     /// These files.
@@ -95,7 +95,7 @@ pub enum Deposit {
     Metadata(Metadata),
 }
 
-/// What an accepted request asks for. It tells no number that is yet to be given.
+/// What an accepted request asks for. A number that is yet to be given doesn't stand in it.
 #[derive(Drop)]
 pub enum Decision {
     /// Nothing is changed.

@@ -6,7 +6,7 @@ ghost use Rattle.dep_decisions.specs.Decisions.{count_of, numbers_for};
 use crate::decision::{Decision, Deposit};
 use dep_types::Counters;
 
-/// How many numbers of each kind a decision takes. It takes no memory.
+/// Returns how many numbers of each kind a decision takes. It takes no memory.
 pub fn numbers_for(decision: &Decision) -> Counters
     ensures { result ≡ numbers_for decision.now }
 {

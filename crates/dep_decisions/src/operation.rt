@@ -10,7 +10,7 @@ use dep_types::Target;
 pub struct Operation<'a> {
     /// What the path names, and the method.
     pub target: Target,
-    /// What the fields of SWORD 3.0 tell.
+    /// What the fields of SWORD 3.0 say.
     pub fields: SwordFields,
     /// The entity tags that the request asks for (RFC 9110, section 13.1.1).
     pub if_match: Option<IfMatch<'a>>,

@@ -23,7 +23,9 @@ pub enum Purpose {
     Segment(u64),
 }
 
-/// What the content is for, where the operation takes it so. It takes no memory.
+/// Returns what the content is for, by Content-Disposition, or for a PUT on the Metadata-URL without that field
+/// the metadata document. It is `None` where the field is bad, where the method of the resource takes no such
+/// content, and for an opening that has a content. It takes no memory.
 #[tactic(auto, unfolding(crate::specs::Kinds::kind_of))]
 pub fn content_purpose(operation: &Operation<'_>) -> Option<Purpose>
     ensures { result ≡ option_map purpose_of (kind_of operation.now) }

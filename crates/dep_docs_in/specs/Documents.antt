@@ -113,7 +113,7 @@ name_of d = text_under (codes "contentDisposition") d >>= disposition_of >>= att
 abbrev pub media_in : Data → Option (List ℕ)
 media_in d = as_str d >>= if_passes is_media
 
--- the media type where none is told
+-- the media type where none is given
 abbrev pub default_media : List ℕ
 default_media = codes "application/octet-stream"
 

@@ -1,4 +1,4 @@
--- How a reader's answer stands to what there is to be read, and what its faults are made of.
+-- How the result of a reader stands to what there is to be read, and what its faults are made of.
 use Rattle.std.specs.Prelude.{◌≡◌, ℕ, Option, Some, None, Result, Ok, Err}
 use Rattle.serde_json.specs.declared.error.Category.{Category}
 use Rattle.serde_json.specs.declared.error.Category.TheVariants as json
@@ -9,7 +9,7 @@ use Rattle.dep_params.specs.declared.disposition.ParamFault.TheVariants as param
 use Rattle.dep_docs_in.specs.declared.fault.DocFault.{DocFault}
 use Rattle.dep_docs_in.specs.declared.fault.DocFault.TheVariants.{Malformed, Memory}
 
--- how a failure to read a document is told, as a number from 1 to 2
+-- the number of each failure to read a document, 1 or 2
 abbrev pub fault_number : DocFault → ℕ
 fault_number Malformed = 1
 fault_number Memory = 2
@@ -19,7 +19,7 @@ abbrev pub fault_of_json : Category → DocFault
 fault_of_json json.Memory = Memory
 fault_of_json _ = Malformed
 
--- an error of a URL; one that comes to 4 GB is told as want of memory
+-- an error of a URL; one whose length would be 4 GB counts as want of memory
 abbrev pub fault_of_url : ParseError → DocFault
 fault_of_url url.OutOfMemory = Memory
 fault_of_url url.Overflow = Memory
@@ -40,6 +40,6 @@ abbrev pub GivesBy : {X Y : Type 0} → (X → Y) → Result X DocFault → Opti
 GivesBy view (Ok x) read = read ≡ Some (view x)
 GivesBy view (Err e) read = Fails e read
 
--- the same of an answer that is seen as it is
+-- the same of a result that is seen as it is
 abbrev pub Gives : {X : Type 0} → Result X DocFault → Option X → Type 0
 Gives result read = GivesBy (λ x. x) result read

@@ -14,7 +14,8 @@ use std::alloc::Global;
 
 /// Reads a metadata document (SWORD 3.0, metadata): an object of JSON whose `@type` is absent or `Metadata`. Each
 /// member whose name begins with `dc:` or `dcterms:` is a text or a list of texts; it is kept, unless the list is
-/// empty. Other members may be anything, and are not kept.
+/// empty. Other members may be anything, and are not kept. It fails with `Malformed` for any other content, and with
+/// `Memory` where memory was refused.
 pub fn read_metadata(alloc: Global, content: &[u8]) -> Result<Metadata, DocFault>
     ensures { Gives result (metadata_read content.now) }
 {

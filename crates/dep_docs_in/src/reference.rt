@@ -1,11 +1,11 @@
-//! What a document of references tells.
+//! What a document of references says.
 ghost use Rattle.std.specs.Prelude.{◌≡◌};
 
 use dep_fixity::DigestList;
 use dep_types::Text;
 use std::marker::Model;
 
-/// The media type of bytes of which none is told (RFC 9110, section 8.3).
+/// The media type of a file whose reference gives none (RFC 9110, section 8.3).
 pub const DEFAULT_MEDIA: &str = "application/octet-stream";
 
 /// What a reference points at.
@@ -24,11 +24,11 @@ pub struct Reference {
     pub target: Pointed,
     /// The name of the file.
     pub name: Text,
-    /// Its media type: `DEFAULT_MEDIA` where none is told.
+    /// Its media type: `DEFAULT_MEDIA` where the entry gives none.
     pub media: Text,
     /// How many bytes it is said to have.
     pub length: Option<u64>,
-    /// The packaging that is told of it.
+    /// Its packaging, where the entry gives one.
     pub packaging: Option<Text>,
     /// The digests that are promised of it.
     pub digest: DigestList,

@@ -22,7 +22,8 @@ use url::Url;
 /// `ByReference`, with entries under `byReferenceFiles`, at least one. Each entry has in `@id` a URL and in
 /// `contentDisposition` an attachment with a file name; where they are there, `contentType` is a media type,
 /// `contentLength` a number of at most 64 bits, `packaging` a text, and `digest` a Digest text. Other members, as `ttl`
-/// and `dereference`, may be anything.
+/// and `dereference`, may be anything. It fails with `Malformed` for any other content, and with `Memory` where memory
+/// was refused.
 pub fn read_references(
     alloc: Global,
     config: &Config,
@@ -174,7 +175,7 @@ fn length_of(entry: &Value) -> Result<Option<u64>, DocFault>
     }
 }
 
-// The packaging that is told of an entry.
+// The packaging that an entry gives.
 #[tactic(auto, unfolding(crate::specs::Documents::packaging_of))]
 fn packaging_of(alloc: Global, entry: &Value) -> Result<Option<Text>, DocFault>
     ensures { Gives result (packaging_of (view entry.now)) }

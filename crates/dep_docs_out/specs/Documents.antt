@@ -83,7 +83,7 @@ service_places config root staging =
     ∷ (codes "version", text (codes "http://purl.org/net/sword/3.0"))
     ∷ []
 
--- all that the service document tells
+-- the members of the service document
 abbrev pub service_members : Config → (root staging : List ℕ) → List (List ℕ × Data)
 service_members config root staging =
     service_offers root ++ service_limits config ++ service_places config root staging
@@ -93,11 +93,11 @@ unfoldable pub service_data : Config → Data
 service_data config =
     document (service_members config (url config (codes "/service")) (url config (codes "/staging")))
 
--- what the log tells of a refusal
+-- the text in the log of an error document
 abbrev pub log_of : Refusal → List ℕ
 log_of refusal = codes "refusal " ++ decimal (facts_of refusal).number
 
--- what an error document tells
+-- the members of an error document
 abbrev pub error_members : Refusal → (log : List ℕ) (clock : ℕ) → List (List ℕ × Data)
 error_members refusal log clock =
     context
@@ -138,7 +138,7 @@ deposit_members config place file =
     ∷ (codes "depositedOn", text (rfc3339_text (min file.deposited greatest_moment)))
     ∷ []
 
--- on whose behalf a file was deposited, where one was told
+-- the member that says on whose behalf a file was deposited, where it was on another's
 abbrev pub behalf_members : Option (List ℕ) → List (List ℕ × Data)
 behalf_members None = []
 behalf_members (Some name) = (codes "depositedOnBehalfOf", text name) ∷ []
@@ -192,7 +192,7 @@ object_members config row =
     ∷ (codes "fileSet", part_data (files_url config row.object) row.files_tag)
     ∷ []
 
--- the rest of what is told of it, behind its links
+-- the members of a status document behind its links
 unfoldable pub state_members : Config → ObjectRow → List (List ℕ × Data)
 state_members config row =
     (codes "metadata", part_data (metadata_url config row.object) row.metadata_tag)

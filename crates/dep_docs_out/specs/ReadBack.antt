@@ -26,7 +26,7 @@ pub record ReadsAs (text : List ℕ) (d : Data) : Type 0 where
 abbrev pub IsReadBack : Data → Type 0
 IsReadBack d = ReadsAs (compact_text d) d
 
--- what is told of a configuration is UTF-8
+-- the texts of a configuration are UTF-8
 pub record HasTexts (config : Config) : Type 0 where
   pub base : IsUtf8 config.base
   pub title : IsUtf8 config.title
@@ -51,14 +51,14 @@ pub record EntryHasTexts (e : List ℕ × List (List ℕ)) : Type 0 where
 abbrev pub MetadataHasTexts : Texts → Type 0
 MetadataHasTexts texts = AllByRecursion EntryHasTexts (finmap.entries texts)
 
--- what is told of an upload are numbers of 64 bits
+-- the numbers of an upload and of its segments have 64 bits
 pub record HasNumbers (row : UploadRow) (received : List ℕ) : Type 0 where
   pub size_fits : row.size < 2 ^ 64
   pub count_fits : row.count < 2 ^ 64
   pub segment_size_fits : row.segment_size < 2 ^ 64
   pub received_fit : AllByRecursion (λ k. k < 2 ^ 64) received
 
--- ---- what a value that is a status document tells
+-- ---- what a value that is a status document says
 
 -- the text of a member
 abbrev pub text_at : (name : List ℕ) → Data → Option (List ℕ)

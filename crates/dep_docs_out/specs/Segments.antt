@@ -1,4 +1,4 @@
--- The numbers of the segments of an upload, and the document that tells them.
+-- The numbers of the segments of an upload, and the document that lists them.
 use Rattle.std.specs.Prelude.{ℕ, nat_lt, ◌&&◌, Bool, true, List, [], ◌∷◌, Option, Some, None, if◌then◌else◌}
 use Rattle.dep_types.specs.declared.config.Config.{Config}
 use Rattle.dep_types.specs.declared.rows.UploadRow.{UploadRow}

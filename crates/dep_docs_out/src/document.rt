@@ -37,7 +37,7 @@ impl Model for Document {
 }
 
 impl Document {
-    /// The beginning of an object.
+    /// A document that begins with `{`.
     pub fn begun(alloc: Global) -> Result<Document, AllocError>
         ensures { IfOk result (λ document. document ≡ begin_object ∷ []) }
     {
@@ -76,28 +76,28 @@ impl Document {
         self.out.end_array()
     }
 
-    /// The name of a member.
+    /// Adds the name of a member, whose value is to follow.
     pub fn name(&mut self, name: &str) -> Result<(), AllocError>
         ensures { OnOk result (Adds self.old self.new (key name.now ∷ [])) }
     {
         self.out.key(name)
     }
 
-    /// A text that is an item of a list.
+    /// Adds a text, as an item of a list or as the value of a member.
     pub fn text_item(&mut self, text: &str) -> Result<(), AllocError>
         ensures { OnOk result (AddsItems self.old self.new (spec.text text.now ∷ [])) }
     {
         self.out.string(text)
     }
 
-    /// A whole number that is an item of a list.
+    /// Adds a whole number, as an item of a list or as the value of a member.
     pub fn whole_number_item(&mut self, number: u64) -> Result<(), AllocError>
         ensures { OnOk result (AddsItems self.old self.new (spec.whole_number number ∷ [])) }
     {
         self.out.u64(number)
     }
 
-    /// A member that is a text.
+    /// Adds a member that is a text.
     pub fn text(&mut self, name: &str, text: &str) -> Result<(), AllocError>
         ensures { OnOk result (AddsMember self.old self.new name.now (spec.text text.now)) }
     {
@@ -105,7 +105,7 @@ impl Document {
         self.text_item(text)
     }
 
-    /// A member that is a text, where the text could be made.
+    /// Adds a member that is a text. It fails where the text could not be made.
     pub fn made_text(
         &mut self,
         name: &str,
@@ -118,7 +118,7 @@ impl Document {
         self.text(name, text.as_str())
     }
 
-    /// A member that is a number, as the text of its decimal digits.
+    /// Adds a member that is a text: the decimal digits of a number.
     pub fn decimal(&mut self, name: &str, number: u64) -> Result<(), AllocError>
         ensures { OnOk result (AddsMember self.old self.new name.now (spec.text (decimal number))) }
     {
@@ -126,7 +126,7 @@ impl Document {
         self.text(name, digits.format(number))
     }
 
-    /// A member that is a moment, as the text of its day and its time of day in UTC (RFC 3339).
+    /// Adds a member that is a text: the day and the time of day of a moment in UTC (RFC 3339).
     pub fn moment(&mut self, name: &str, moment: Moment) -> Result<(), AllocError>
         ensures { OnOk result
             (AddsMember self.old self.new name.now (spec.text (rfc3339_text moment))) }
@@ -138,7 +138,7 @@ impl Document {
         self.text(name, text)
     }
 
-    /// A member that is a whole number.
+    /// Adds a member that is a whole number.
     pub fn whole_number(&mut self, name: &str, number: u64) -> Result<(), AllocError>
         ensures { OnOk result (AddsMember self.old self.new name.now (spec.whole_number number)) }
     {
@@ -146,7 +146,7 @@ impl Document {
         self.whole_number_item(number)
     }
 
-    /// A member that is a truth value.
+    /// Adds a member that is `true` or `false`.
     pub fn flag(&mut self, name: &str, flag: bool) -> Result<(), AllocError>
         ensures { OnOk result (AddsMember self.old self.new name.now (boolean flag)) }
     {
@@ -154,7 +154,7 @@ impl Document {
         self.out.boolean(flag)
     }
 
-    /// A member that is a list of one text.
+    /// Adds a member that is a list of one text.
     pub fn only(&mut self, name: &str, text: &str) -> Result<(), AllocError>
         ensures { OnOk result (AddsMember self.old self.new name.now (spec.only text.now)) }
     {
@@ -164,7 +164,7 @@ impl Document {
         self.end_list()
     }
 
-    /// The text of the document, once its object ends.
+    /// Ends the object that was begun first, and returns the bytes of the document.
     pub fn ended(mut self) -> Result<Vec<u8>, AllocError>
         ensures { Makes result (print (self ++ end_object ∷ [])) }
     {

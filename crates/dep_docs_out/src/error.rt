@@ -10,7 +10,7 @@ use dep_types::Refusal;
 use itoa::Buffer;
 use std::alloc::{AllocError, Global};
 
-/// The error document of SWORD 3.0: why a request was refused, at the moment of the server's clock.
+/// Returns the error document of SWORD 3.0: why a request was refused, at the moment of the server's clock.
 pub fn error_doc(alloc: Global, refusal: Refusal, clock: Moment) -> Result<Vec<u8>, AllocError>
     ensures { Makes result (error_document refusal clock) }
 {
@@ -19,7 +19,7 @@ pub fn error_doc(alloc: Global, refusal: Refusal, clock: Moment) -> Result<Vec<u
     document.ended()
 }
 
-// Why the request was refused, and what the log tells of it.
+// Why the request was refused, and its number in the log.
 fn add_error(
     document: &mut Document,
     alloc: Global,
@@ -36,7 +36,7 @@ fn add_error(
     document.moment("timestamp", clock)
 }
 
-// The number of the refusal, as the log tells it.
+// The log: the number of the refusal.
 fn log_text(alloc: Global, refusal: Refusal) -> Result<String, AllocError>
     ensures { MakesText result (log_of refusal) }
 {

@@ -9,8 +9,8 @@ use crate::urls::metadata_url;
 use dep_types::{Config, Metadata, MetadataEntry, Text};
 use std::alloc::{AllocError, Global};
 
-/// The metadata document of SWORD 3.0: the metadata of the object with this number. A name that has one text has it
-/// as the text, and not as a list.
+/// Returns the metadata document of SWORD 3.0: the metadata of the object with this number. A name that has
+/// one text has it as the text, and not as a list.
 pub fn metadata_doc(
     alloc: Global,
     config: &Config,
@@ -41,7 +41,7 @@ fn add_placed(
     add_metadata(document, metadata)
 }
 
-/// The metadata document of an object as it stands in the object's bag, where it has no URL.
+/// Returns the metadata document of an object as it stands in the object's bag, where it has no URL.
 pub fn bag_metadata_doc(alloc: Global, metadata: &Metadata) -> Result<Vec<u8>, AllocError>
     ensures { Makes result (bag_metadata_document metadata.now) }
 {

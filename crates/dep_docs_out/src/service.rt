@@ -9,7 +9,8 @@ use crate::urls::url;
 use dep_types::{BINARY_PACKAGING, Config, METADATA_FORMAT};
 use std::alloc::{AllocError, Global};
 
-/// The service document of SWORD 3.0: what the server offers, and its limits.
+/// Returns the service document of SWORD 3.0: what the server offers, its limits, and where it takes
+/// deposits.
 pub fn service_doc(alloc: Global, config: &Config) -> Result<Vec<u8>, AllocError>
     ensures { Makes result (service_document config.now) }
 {

@@ -10,8 +10,8 @@ use dep_moment::Moment;
 use dep_types::{BINARY_PACKAGING, Config, FileRow, ObjectRow, ObjectView};
 use std::alloc::{AllocError, Global};
 
-/// The status document of SWORD 3.0: an object, and a link for each of its files in their order. A file's moment
-/// after the end of the year 9999 is told as that year's last second.
+/// Returns the status document of SWORD 3.0: an object, and a link for each of its files in their order. A
+/// file's moment after the end of the year 9999 is written as that year's last second.
 pub fn status_doc(alloc: Global, config: &Config, view: &ObjectView) -> Result<Vec<u8>, AllocError>
     ensures { Makes result (status_document config.now view.now) }
 {
@@ -131,7 +131,7 @@ fn add_deposit(
     document.moment("depositedOn", Moment::new(file.deposited))
 }
 
-// On whose behalf a file was deposited, where one was told.
+// On whose behalf a file was deposited, where it was on another's.
 fn add_behalf(document: &mut Document, file: &FileRow) -> Result<(), AllocError>
     ensures { OnOk result
         (AddsMembers document.old document.new (behalf_members file.now.behalf)) }
@@ -175,7 +175,7 @@ fn deposit_relation(by_reference: bool) -> &'static str
     }
 }
 
-// The rest of what is told of an object, behind its links.
+// The members of an object behind its links.
 #[tactic(auto, unfolding(crate::specs::Documents::state_members))]
 fn add_state(
     document: &mut Document,

@@ -9,9 +9,9 @@ use crate::urls::upload_url;
 use dep_types::{Config, UploadRow};
 use std::alloc::{AllocError, Global};
 
-/// The document of a staged upload (SWORD 3.0, segmented upload): which of its segments were received, and which are
-/// still to come. It takes the numbers of those that were received, from 1 on and each above the one before it; for
-/// other numbers, which no upload has, there is no document.
+/// Returns the document of a staged upload (SWORD 3.0, segmented upload): which of its segments were
+/// received, and which are still to come. It takes the numbers of those that were received, from 1 on and
+/// each above the one before it. It is `None` for other numbers, which no upload has.
 pub fn upload_doc(
     alloc: Global,
     config: &Config,

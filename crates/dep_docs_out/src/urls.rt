@@ -7,7 +7,7 @@ use dep_types::Config;
 use itoa::Buffer;
 use std::alloc::{AllocError, Global};
 
-/// The URL with this path.
+/// Returns the URL with this path: the base with the path behind it.
 pub(crate) fn url(alloc: Global, config: &Config, path: &str) -> Result<String, AllocError>
     ensures { MakesText result (url config.now path.now) }
 {
@@ -16,7 +16,7 @@ pub(crate) fn url(alloc: Global, config: &Config, path: &str) -> Result<String, 
     Ok(text)
 }
 
-/// The Object-URL of the object with this number.
+/// Returns the Object-URL of the object with this number.
 pub fn object_url(alloc: Global, config: &Config, object: u64) -> Result<String, AllocError>
     ensures { MakesText result (object_url config.now object) }
 {
@@ -64,7 +64,7 @@ pub(crate) fn file_url(
     Ok(text)
 }
 
-/// The Temporary-URL of the upload with this number.
+/// Returns the Temporary-URL of the upload with this number.
 pub fn upload_url(alloc: Global, config: &Config, upload: u64) -> Result<String, AllocError>
     ensures { MakesText result (upload_url config.now upload) }
 {

@@ -21,7 +21,7 @@ as_it_stands text = Some text
 abbrev pub field_in : List (List ℕ × List ℕ) → (name : List ℕ) → Field (List ℕ)
 field_in fields name = single (values_of fields name)
 
--- what the fields of a head tell
+-- what the fields of a head say
 pub record AreFields (fields : List (List ℕ × List ℕ)) (told : SwordFields) : Type 0 where
   pub on_behalf_of : told.on_behalf_of
       ≡ read_from (if_passes is_behalf) (field_in fields (codes "On-Behalf-Of"))

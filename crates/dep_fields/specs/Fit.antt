@@ -1,4 +1,4 @@
--- Which of what a head tells may be kept.
+-- Which of what a head says may be kept.
 use Rattle.std.specs.Prelude.{◌≡◌, ◌≤◌, length, IsTrue, IfSome}
 use Rattle.dep_types.specs.Names.{is_good_name, is_media}
 use Rattle.dep_fields.specs.declared.field.Field.{Field}
@@ -24,7 +24,7 @@ IfValue (Value x) P = P x
 IfValue Absent P = Unit {0}
 IfValue Bad P = Unit {0}
 
--- what is told of a content may be kept
+-- what the head says of a content may be kept
 pub record AreFit (told : SwordFields) : Type 0 where
   pub kind : IfValue told.disposition IsFitKind
   pub media : IfValue told.content_type (λ text. IsTrue (is_media text))

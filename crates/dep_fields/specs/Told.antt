@@ -1,4 +1,4 @@
--- What the fields of a head tell, as a function.
+-- What the fields of a head say, as a function.
 use Rattle.std.specs.Prelude.{ℕ, Bool, true, false, List, Option, Some, None, option_map, option_and_then, codes, bytes_eq, if◌then◌else◌}
 use Rattle.dep_head.specs.Head.{values_of}
 use Rattle.dep_types.specs.Names.{if_passes, is_media}
@@ -40,7 +40,7 @@ kind_once reading = if is_each_once (names_of reading) then kind_of reading else
 unfoldable pub kind_read : List ℕ → Option Kind
 kind_read text = option_and_then kind_once (disposition_of text)
 
--- what the fields of a head tell
+-- what the fields of a head say
 abbrev pub fields_of : List (List ℕ × List ℕ) → SwordFields
 fields_of fields = record {
   on_behalf_of = read_from (if_passes is_behalf) (field_in fields (codes "On-Behalf-Of"));

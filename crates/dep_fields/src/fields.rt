@@ -16,7 +16,7 @@ use dep_head::Head;
 use dep_types::{Octets, Text, is_media};
 use std::alloc::{AllocError, Global};
 
-/// What each field of SWORD in a request's head tells. All but `digest` may stand once.
+/// What each field of SWORD in a request's head says. One that stands twice is `Bad`, but for `digest`.
 #[derive(Drop)]
 pub struct SwordFields {
     /// On-Behalf-Of (SWORD 3.0): a text of UTF-8 that is not empty.

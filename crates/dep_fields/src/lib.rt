@@ -1,4 +1,4 @@
-//! What the fields of SWORD 3.0 in a request's head tell: each is absent, bad, or its value.
+//! What the fields of SWORD 3.0 in a request's head say: each is absent, bad, or its value.
 #![tactic(auto)]
 
 mod field;

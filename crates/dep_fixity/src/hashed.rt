@@ -14,9 +14,8 @@ struct Hashed {
     count: usize,
 }
 
-/// Octets, of which the first may be hashed before the last have come, so that their digests take
-/// no more than the others then. Contracts see the octets alone: how many were hashed changes no
-/// answer.
+/// Octets, of which the first may be hashed before the last have come, so that their digests take no more
+/// than the others then. Contracts see the octets alone: how many were hashed changes no result.
 #[derive(Drop)]
 pub struct HashedOctets {
     octets: Vec<u8>,
@@ -49,15 +48,15 @@ impl HashedOctets {
         }
     }
 
-    /// The octets themselves.
+    /// Returns the octets, without a copy.
     pub fn as_slice(&self) -> &[u8]
         ensures { result.now ≡ self.now }
     {
         &self.octets
     }
 
-    /// Takes the next octets, of which none is hashed. The room grows to twice as much at most, and
-    /// up to `length` octets to no more than that.
+    /// Takes the next octets, of which none is hashed. The room grows to twice as much at most, and up to
+    /// `length` octets to no more than that. An `Err` is want of memory.
     pub fn append(&mut self, piece: &[u8], length: usize) -> Result<(), AllocError>
         ensures ok { OnOk result (self.new ≡ self.old ++ piece.now) }
         ensures err { OnErr result (self.new ≡ self.old) }
@@ -83,7 +82,7 @@ impl HashedOctets {
         drop(mem::replace(&mut self.hashed, Some(hashed)));
     }
 
-    /// The digests of all octets. Those that weren't hashed before are hashed for it.
+    /// Returns the digests of all octets. Those that weren't hashed before are hashed for it.
     pub fn digests(&self) -> Digests
         ensures { result ≡ digests_of self.now }
     {

@@ -1,4 +1,4 @@
--- The head of a request as a text, and what it tells (RFC 9112, sections 2, 3 and 5).
+-- The head of a request as a text, and its parts (RFC 9112, sections 2, 3 and 5).
 use Rattle.std.specs.Prelude.{◌≡◌, ℕ, suc, ◌≤◌, List, [], ◌∷◌, length, map, filter, codes, Option, None, Some, nat_eq, if◌then◌else◌, Bool}
 use Rattle.std.specs.List.{starts_with}
 use Rattle.std.specs.Option.{option_map}
@@ -30,7 +30,7 @@ head_end (b ∷ bytes) =
 abbrev pub EndsOnce : List ℕ → Type 0
 EndsOnce text = head_end text ≡ Some (length text)
 
--- what a head tells: each field is its name and its value without the white space around it
+-- the parts of a head: each field is its name and its value without the white space around it
 pub record HeadParts : Type 0 where
   pub method : List ℕ
   pub path : List ℕ
@@ -50,7 +50,7 @@ pub record IsHostCount (minor count : ℕ) : Type 0 where
   pub most : count ≤ 1
   pub wanted : minor ≡ 1 → count ≡ 1
 
--- the text is a request's head that tells these parts
+-- the text is a request's head that has these parts
 pub record IsHeadText (text : List ℕ) (parts : HeadParts) : Type 0 where
   pub ends : EndsOnce text
   pub small : length text ≤ head_limit

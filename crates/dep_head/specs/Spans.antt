@@ -13,7 +13,7 @@ fields_at text spans = map (header_bytes text) spans
 abbrev pub AreWithin : List ℕ → List HeaderSpan → Type 0
 AreWithin text spans = All (IsHeaderWithin (length text)) spans
 
--- what spans over a text, and the path of its target, tell
+-- the parts of a head, by its text, the spans in it, and the path of its target
 abbrev pub spanned_parts : List ℕ → Span → List ℕ → ℕ → List HeaderSpan → HeadParts
 spanned_parts text method path minor spans = record {
   method = span_bytes text method;

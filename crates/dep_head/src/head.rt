@@ -140,7 +140,8 @@ impl Head {
     }
 }
 
-/// Reads a text that is the whole head of a request, and nothing after it.
+/// Reads a text that is the whole head of a request, and nothing after it. It fails with `NotAHead` for any other
+/// text, and with `Memory` where memory was refused.
 pub fn read_head(alloc: Global, text: &[u8]) -> Result<Head, HeadFault>
     ensures read { IfOk result (IsHeadText text.now) }
     ensures refused { result ≡ Err HeadFault.NotAHead →

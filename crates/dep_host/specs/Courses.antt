@@ -38,7 +38,7 @@ is_held_back c is_full is_shut = is_shut || (is_full && nat_lt 0 c.unfinished)
 abbrev pub is_past : (since second : ℕ) → Limits → Bool
 is_past since second limits = nat_lt limits.idle_seconds (second - since)
 
--- an idle time has passed since it was told, if it was
+-- an idle time has passed since this second, if there is one
 abbrev pub is_overdue : (told : Option ℕ) → (second : ℕ) → Limits → Bool
 is_overdue None second limits = false
 is_overdue (Some since) second limits = is_past since second limits

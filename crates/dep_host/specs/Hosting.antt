@@ -27,7 +27,7 @@ pub record Position (A R K S : Type 0) : Type 0 where
   pub limits : Limits
   pub shut : Option ℕ
 
--- a host, as it can be told from its parts
+-- a host, by its parts
 abbrev pub position : {A R K S : Type 0} → Host A R K S → Position A R K S
 position host = record {
   hub = host.hub;
@@ -46,7 +46,7 @@ IsEmpty p = (at : ℕ) → slot at p.seats ≡ None
 
 -- what a host does for the connection of a number, which sits at a place
 pub data Deed : Type 0 where
-  -- it is opened, over a source that has these bytes to give, where it tells them
+  -- it is opened, over a source that has these bytes to give, where it shows them
   Opens : (at number : ℕ) → (given : Option (List ℕ)) → Deed
   -- a piece is read, and comes to the hub
   Takes : (at number : ℕ) → (piece : List ℕ) → Deed
@@ -69,7 +69,7 @@ sent_by number (Closes at n second) = []
 abbrev pub replies_to : ℕ → List Deed → List ℕ
 replies_to number deeds = flat_map (λ d. sent_by number d) deeds
 
--- the bytes are told
+-- the bytes are shown
 abbrev pub Tells : Option (List ℕ) → Type 0
 Tells None = ⊥
 Tells (Some bytes) = Unit {0}
@@ -180,7 +180,7 @@ module _ {A R K S : Type 0} (condition : A → Condition) (unread : R → Option
     pub same_limits : q.limits ≡ p.limits
     pub same_shut : q.shut ≡ p.shut
 
-  -- the hub is asked whether its store is open, and may tell for the first time that it isn't; or the
+  -- the hub is asked whether its store is open, and may say for the first time that it isn't; or the
   -- store works ahead
   pub record Asks (p q : Position A R K S) : Type 0 where
     pub sits : q.seats ≡ p.seats

@@ -59,7 +59,7 @@ all_given ended.Spent last calls = calls
 abbrev pub IsFull : {A : Type 0} → Hub A → Type 0
 IsFull hub = (most_connections ≤ length hub.connections.items) ⊎ (last_number ≤ hub.next)
 
--- why a client is turned away: of a want of memory nothing else is told
+-- why a client is turned away: of a want of memory nothing else is said
 abbrev pub MayRefuse : {A R K S : Type 0} → Host A R K S → Client R K S → Refusal → Type 0
 MayRefuse p client refusal.Address =
     p.limits.address_connections ≤ seated_from (origin client.address) p.seats.items
@@ -71,7 +71,7 @@ MayRefuse p client refusal.Shut = IsSome p.shut_since
 module _ {A R K S : Type 0} (condition : A → Condition) (account : A → Account)
     (unread : R → Option (List ℕ)) (taken : K → Option (List ℕ)) (held : S → Option (List ℕ)) where
   -- What it makes of the answer whether its store is open: it goes on, unless the store is shut, and
-  -- counts where this could not be told, for which there was a cause.
+  -- counts where this could not be known, for which there was a cause.
   abbrev pub GoesBy : (p q : Host A R K S) → (second : ℕ) → Result Bool StoreFault → Type 0
   GoesBy p q second (result.Ok true) = IsNone q.shut_since × (q.unanswered ≡ p.unanswered)
       × TellsOpen (condition q.hub.store) true
@@ -176,7 +176,7 @@ module _ {A R K S L : Type 0} (condition : A → Condition) (account : A → Acc
         → IsOffer q offer → Meets q n m o offer event more
         → MeetsAll p l (calls ++ record { offer = offer; event = event } ∷ []) (deeds ++ more) n o
 
-  -- What came in a call, where it is told, and what became of each, by these deeds and no others: it
+  -- What came in a call, where it is shown, and what became of each, by these deeds and no others: it
   -- was met, up to the end, and no round was too late, nor a shut store left too soon. No more is
   -- asked for once so many came.
   pub record Met (told_old told_new : Option (List (Call R K S))) (p q : Host A R K S) (l m : L)

@@ -1,4 +1,4 @@
--- What a log is told of the clients that come, and how what is told grows.
+-- What a log is told of the clients that come, and how that grows.
 use Rattle.std.specs.Prelude.{◌≡◌, ℕ, List, ◌++◌, Option, None, Some}
 use Rattle.std.specs.declared.net.ip_addr.IpAddr.{IpAddr}
 use Rattle.dep_host.specs.declared.log.Refusal.{Refusal}
@@ -8,7 +8,7 @@ pub data Note : Type 0 where
   LetIn : (connection : ℕ) → (address : IpAddr) → Note
   TurnedAway : (address : IpAddr) → (refusal : Refusal) → Note
 
--- what is told grows by these, where it is told
+-- what is shown grows by these, where it is shown
 abbrev pub Grows : {X : Type 0} → Option (List X) → Option (List X) → List X → Type 0
 Grows None new more = Unit {0}
 Grows (Some xs) None more = ⊥

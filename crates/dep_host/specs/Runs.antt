@@ -138,7 +138,7 @@ KeptToTheLast {A = A} {R = R} {K = K} {S = S} condition unread taken held p firs
     × ((seat : Seat R K S) × ((slot at m.seats ≡ Some seat) × (seat.connection ≡ number)))))
 
 -- The archive promise: from a host without connections over a store that stands for a state a host
--- comes to where it keeps its promise, while its store is open.
+-- gets where it keeps its promise, while its store is open.
 abbrev pub Promises : {A R K S : Type 0} → (A → Condition) → (R → Option (List ℕ))
     → (K → Option (List ℕ)) → (S → Option (List ℕ)) → Position A R K S → Position A R K S → Type 0
 Promises condition unread taken held p q = (first : State) → (before : List Record)

@@ -1,4 +1,4 @@
--- What a turn of a connection comes to: what of it comes to the hub, and what is sent for it.
+-- What a turn of a connection does: what of it comes to the hub, and what is sent for it.
 use Rattle.std.specs.Prelude.{◌≡◌, ◌⊎◌, ◌<◌, ◌≤◌, ◌+◌, ◌-◌, ◌^◌, min, nat_lt, ℕ, Bool, List, ◌++◌, length, Option, None, true, false}
 use Rattle.std.specs.Io.KnownBytes.{Keeps, Consumes, IsAtEnd}
 use Rattle.dep_types.specs.Conditions.{Condition}

@@ -30,7 +30,7 @@ pub enum Duty {
     Answer,
     /// A piece is read.
     Read,
-    /// The client is told that nothing more is sent.
+    /// The sending half of the socket is shut down, so that the client sees that nothing more is sent.
     Finish,
     /// A piece is read, and thrown away.
     Drain,

@@ -65,7 +65,7 @@ pub(crate) fn comes_from<R: Source, K: Sink, S: Spool>(
 /// What comes to a host.
 #[derive(Drop)]
 pub enum Event<R, K, S> {
-    /// The socket of the connection at a place may be ready. Where nobody sits there it is no matter.
+    /// The socket of the connection at a place may be ready. Where nobody sits there nothing happens.
     Ready {
         at: usize,
         is_readable: bool,
@@ -73,13 +73,13 @@ pub enum Event<R, K, S> {
     },
     /// A client connects. It sits at the place that was offered, and is turned away where none was.
     Client(Client<R, K, S>),
-    /// All that was ready has been told: each connection has its turn.
+    /// Each socket that was ready was among the events before it: each connection has its turn.
     Round(Time),
     /// No more is served.
     End,
 }
 
-/// What tells a host what comes. Before each `Round` it has told of all sockets that it knows to be
+/// What gives a host its events. Before each `Round` it has given one for each socket that it knows to be
 /// ready: only then are connections judged that were silent for too long.
 pub trait Events<R: Source, K: Sink, S: Spool> {
     ghost use Rattle.dep_host.specs.Coming.{Call};
@@ -87,7 +87,7 @@ pub trait Events<R: Source, K: Sink, S: Spool> {
     /// Whether no more comes.
     ghost is_over: { Self → Bool };
 
-    /// What came so far, each with the place that was given for it, where it tells.
+    /// What came so far, each with the place that was given for it, where it shows that.
     ghost given: { Self → Option (List (Call R K S)) } = { λ _. None };
 
     /// The next event. A client comes to the place, where one is given, and none where it isn't, so

@@ -32,12 +32,12 @@ pub struct Host<A, R, K, S> {
     limits: Limits,
     /// The second at which it was told that the store is shut.
     shut_since: Option<u64>,
-    /// How often it could not be told whether the store is open, up to 2^64 - 1. Clauses alone read it.
+    /// How often it could not be known whether the store is open, up to 2^64 - 1. Clauses alone read it.
     unanswered: u64,
 }
 
 impl<A: Archive, R: Source + Drop, K: Sink + Drop, S: Spool + Drop> Host<A, R, K, S> {
-    /// A host without connections, which are bounded by the limits.
+    /// A host without connections, which are bounded by the limits. Where memory is refused the hub is handed back.
     pub fn new(alloc: Global, hub: Hub<A>, limits: Limits) -> Result<Host<A, R, K, S>, Hub<A>>
         ensures hub { IfOk result (λ host. host.hub ≡ hub) }
         ensures limits { IfOk result (λ host. host.limits ≡ limits) }
@@ -71,8 +71,8 @@ impl<A: Archive, R: Source + Drop, K: Sink + Drop, S: Spool + Drop> Host<A, R, K
         hub
     }
 
-    /// Asks at a second whether the store is open, until it is told that it isn't. From then on no
-    /// client is let in, and no connection is read. It answers whether it was never told so.
+    /// Asks at a second whether the store is open, until it is told that it isn't. From then on no client is
+    /// let in, and no connection is read. It returns `false` once it was told so.
     pub fn is_open(&mut self, second: u64) -> bool
         ensures asks { IsAsked A.condition A.account R.unread K.taken S.held self.old self.new
             second }
@@ -95,8 +95,8 @@ impl<A: Archive, R: Source + Drop, K: Sink + Drop, S: Spool + Drop> Host<A, R, K
         }
     }
 
-    /// Does a part of the work that a later request would have to wait for, and tells whether more is
-    /// left (`Hub::work_ahead`). Where this shuts the store, `is_open` tells so later.
+    /// Does a part of the work that a later request would have to wait for, and returns whether more is left
+    /// (`Hub::work_ahead`). Where this shuts the store, `is_open` returns so later.
     pub fn work_ahead(&mut self) -> bool
         ensures goes { Steps A.condition R.unread K.taken S.held (position self.old) []
             (position self.new) }
@@ -117,8 +117,8 @@ impl<A: Archive, R: Source + Drop, K: Sink + Drop, S: Spool + Drop> Host<A, R, K
         }
     }
 
-    /// Where a further connection can be seated. There is no place once it was told that the store is
-    /// shut.
+    /// Returns the place at which a further connection can be seated, if there is one. There is none once it
+    /// was told that the store is shut.
     pub fn vacancy(&self) -> Option<usize>
         ensures { IsOffer self.now result }
     {
@@ -203,9 +203,9 @@ impl<A: Archive, R: Source + Drop, K: Sink + Drop, S: Spool + Drop> Host<A, R, K
         }
     }
 
-    /// Gives each connection its turn, and then closes it where it is over, was silent for too long or
-    /// is too slow. Where more bytes of unfinished requests are kept than may be, it reads no more of
-    /// these, and closes the one that has most. It answers whether one of them can go on at once.
+    /// Gives each connection its turn, and then closes it where it is over, was silent for too long or is too
+    /// slow. Where more bytes of unfinished requests are kept than may be, it reads no more of these, and
+    /// closes the one that has most. It returns whether one of them can go on at once.
     pub fn round<L: HostLog>(&mut self, buffer: &mut ReadBuffer, time: &Time, log: &mut L) -> bool
         ensures goes { GoesRound A.condition R.unread K.taken S.held S.size (position self.old)
             (position self.new) time.now }
@@ -230,8 +230,8 @@ impl<A: Archive, R: Source + Drop, K: Sink + Drop, S: Spool + Drop> Host<A, R, K
         is_busy
     }
 
-    /// Gives the connection there its turn, and then closes it where it is done. It answers whether it
-    /// can go on at once.
+    /// Gives the connection there its turn, and then closes it where it is done. It returns whether it can go
+    /// on at once.
     fn serve_at<L: HostLog>(
         &mut self,
         at: usize,

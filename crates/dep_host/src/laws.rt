@@ -14,8 +14,8 @@ pub fn hosts_make_a_run<A: Archive, R: Source, K: Sink, S: Spool>()
     connections_make_a_run::<A>();
 }
 
-/// Where sockets and spools tell their bytes: what the wire of each connection took since it came is what
-/// was sent to it, so that what its socket took is a front of that.
+/// Where sockets and spools show their bytes: what the wire of each connection took since it came is what was
+/// sent to it, so that what its socket took is a front of that.
 pub fn wires_take_what_is_sent<A: Archive, R: Source, K: Sink, S: Spool>()
     ensures { TakesWhatIsSent A.condition R.unread K.taken S.held }
 {}

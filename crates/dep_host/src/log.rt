@@ -38,10 +38,10 @@ pub struct Bytes {
     pub sent: u64,
 }
 
-/// What a host tells of its connections. Nothing of what is sent or kept hangs on it. Of what an
-/// `AccessLog` is told it is told between `answering` and `answered`.
+/// A log that is told of a host's connections. What is sent and kept doesn't depend on it. The calls of an
+/// `AccessLog` come between `answering` and `answered`.
 pub trait HostLog: AccessLog {
-    /// What it was told so far of the clients that came, where it tells.
+    /// What it was told so far of the clients that came, where it shows that.
     ghost notes: { Self → Option (List Note) } = { λ _. None };
 
     /// A client was let in.
@@ -54,12 +54,12 @@ pub trait HostLog: AccessLog {
         ensures noted { Grows (notes self.old) (notes self.new)
             (TurnedAway address refusal ∷ []) };
 
-    /// The next item of a connection is answered, where one is complete: what is told up to
-    /// `answered` is of it. None may be.
+    /// The next item of a connection is answered, where one is complete: the calls up to `answered` are of
+    /// it. None may be.
     fn answering(&mut self, connection: ConnId, address: IpAddr);
 
-    /// What that came to, how many bytes were read of the connection since the item before, and how
-    /// many the wire took for the reply.
+    /// How the connection stands then, how many bytes were read of it since the item before, and how many the
+    /// wire took for the reply.
     fn answered(&mut self, next: Next, bytes: Bytes);
 
     /// A connection was closed, of which so many bytes were read, and so many taken by its socket.

@@ -17,7 +17,7 @@ pub struct ReadBuffer {
 }
 
 impl ReadBuffer {
-    /// A buffer of so many bytes, up to `MOST_READ`.
+    /// A buffer of so many bytes, up to `MOST_READ`. An `Err` is want of memory.
     pub fn new(alloc: Global, size: usize) -> Result<ReadBuffer, AllocError>
         ensures { IfOk result (λ buffer. length buffer.bytes.items ≡ min size MOST_READ) }
     {

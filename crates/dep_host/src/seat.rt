@@ -19,7 +19,7 @@ use std::net::IpAddr;
 /// When something happens.
 #[derive(Clone, Copy, Debug, PartialEq, Eq)]
 pub struct Time {
-    /// The moment that replies tell.
+    /// The moment in replies.
     pub moment: Moment,
     /// Seconds that never go back, by which silence is measured.
     pub second: u64,
@@ -300,7 +300,7 @@ impl<R: Source, K: Sink, S: Spool> Seat<R, K, S> {
         }
     }
 
-    /// Tells the client that nothing more is sent.
+    /// Shuts down the half that sends, so that the client sees that nothing more comes.
     fn finish(&mut self)
         ensures keeps { told K.taken S.held self.new.wire ≡ told K.taken S.held self.old.wire }
         ensures same { self.new ≡ record self.old {

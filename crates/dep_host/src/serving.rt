@@ -26,7 +26,7 @@ pub enum Ended {
     Spent,
 }
 
-/// What is told to those who say what comes next.
+/// What the next event is asked for with: the place to offer, and whether the host can go on at once.
 #[derive(Clone, Copy)]
 struct Now {
     vacancy: Option<usize>,

@@ -1,4 +1,4 @@
--- What a call on an archive comes to, from how the archive stood before it to how it stands behind it.
+-- What a call on an archive does, from how the archive stood before it to how it stands behind it.
 use Rattle.std.specs.Prelude.{◌≡◌, ◌≢◌, ◌⊎◌, ℕ, List, Option, IsTrue, Result, Err, OnOk, IfOk, OnErr}
 use Rattle.std.specs.Io.KnownBytes.{Appends}
 use Rattle.dep_types.specs.State.{State, tick}
@@ -13,7 +13,7 @@ use Rattle.dep_answers.specs.Performing.{IsReady}
 use Rattle.dep_answers.specs.declared.performed.Performed.{Performed}
 use Rattle.dep_hub.specs.Shut.{LeavesNoMore, IfShut}
 
--- It goes on from the state to the next one, from each of which this holds, and tells this of it; or it
+-- It goes on from the state to the next one, from each of which this holds, and returns this of it; or it
 -- fails, and the state stays.
 pub record TriesTo {A E : Type 0} (old new : Condition) (holds : State → Type 0)
     (told : State → A → Type 0) (next : State → State) (result : Result A E) : Type 0 where
@@ -34,7 +34,7 @@ abbrev pub Always : State → Type 0
 Always s = Unit {0}
 
 -- the clock goes on to the moment, and never back, and the uploads that were left idle end; an Ok
--- tells the clock
+-- returns the clock
 abbrev pub Ticks : {E : Type 0} → (old new : Condition) → Config → (moment : ℕ) → Result ℕ E
     → Type 0
 Ticks old new config moment result =
@@ -47,12 +47,12 @@ abbrev pub MakesStep : {E : Type 0} → (old new : Condition) → (holds : State
 MakesStep old new holds stepped result =
     TriesTo old new holds (λ s p. IsReady (stepped s) p) (λ s. (stepped s).state) result
 
--- this is told of the state, which stays
+-- this is returned of the state, which stays
 abbrev pub Tells : {A E : Type 0} → (old new : Condition) → (told : State → A → Type 0)
     → Result A E → Type 0
 Tells old new told result = TriesTo old new Always told (λ s. s) result
 
--- the state stays, whatever is told
+-- the state stays, whatever is returned
 abbrev pub KeepsState : {A E : Type 0} → (old new : Condition) → Result A E → Type 0
 KeepsState old new result = Tells old new (λ s answer. Unit {0}) result
 
@@ -76,7 +76,7 @@ Streams old new taken takes file result =
     (sent : List ℕ) × Appends taken takes sent
     × (HasCleanDisk new → (s : State) → StandsFor old s → IsStreamed s file sent result)
 
--- the outlet failed where that is told, and nowhere else
+-- the outlet failed where that is returned, and nowhere else
 pub record CountsFailures {A : Type 0} (failures failures_after : ℕ) (result : Result A StreamFault)
     : Type 0 where
   pub kept : OnOk result (failures_after ≡ failures)

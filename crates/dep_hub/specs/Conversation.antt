@@ -69,7 +69,7 @@ next_after next ReadFault = next + 1
 next_after next WriteFault = next + 1
 next_after next Bound = next + 1
 
--- in each turn the client was sent a fixed reply at most, behind what tells it to go on
+-- in each turn the client was sent a fixed reply at most, behind a `100 Continue`
 abbrev pub AreFixed : List Turn → Type 0
 AreFixed [] = Unit {0}
 AreFixed (t ∷ turns) = SendsFixed t.sent t.answer × AreFixed turns
@@ -80,7 +80,7 @@ pub record Session (A C : Type 0) : Type 0 where
   pub wire : Wire
   pub clock : C
 
--- the same, told one by one
+-- the same, by its parts
 abbrev pub session : {A C : Type 0} → Hub A → Wire → C → Session A C
 session hub ends clock = record { hub = hub; wire = ends; clock = clock }
 
@@ -203,7 +203,7 @@ module _ {A : Type 0} (condition : A → Condition) where
     pub last : HasLastRead after.wire.last served
 
   -- what the machine makes of the turns, from whatever machine the hub kept: it answers them as
-  -- they were answered, and the hub keeps what it comes to, if its store is open; a stop then
+  -- they were answered, and the hub keeps the machine after that, if its store is open; a stop then
   -- leaves just that, and where the store is shut what it may leave after the last turn
   pub record IsAnswered (old new : Hub A) (number : ℕ) (turns : List Turn)
       (w : World) : Type 0 where
@@ -256,7 +256,7 @@ module _ {A : Type 0} (condition : A → Condition) where
     pub rests : Rests before.wire after.wire
     pub same_clock : after.clock ≡ before.clock
 
-  -- what serving a connection comes to, by its answer
+  -- what serving a connection makes, by what it returns
   abbrev pub ConversesOver : {C : Type 0} → (C → ℕ → C → Type 0) → (before after : Session A C)
       → Served → Type 0
   ConversesOver ticks before after Unserved = IsUnserved before after

@@ -1,4 +1,4 @@
--- What an archive is asked for beside the steps, and why it may not tell whether it is open.
+-- What an archive is asked for beside the steps, and why it may not be known whether it is open.
 use Rattle.std.specs.Prelude.{◌≡◌, ◌⊎◌, ◌≤◌, ℕ, Bool, List, [], ◌∷◌, ◌++◌, Option, None, Some, IsTrue, Result}
 use Rattle.dep_types.specs.Writing.{next_count}
 use Rattle.dep_types.specs.declared.store_fault.StoreFault.{StoreFault}
@@ -11,7 +11,7 @@ pub data Errand : Type 0 where
   -- to work ahead
   WorkedAhead : Errand
 
--- what an archive tells of these, and of what may keep it from answering
+-- what an archive shows of these, and of what may keep it from answering
 pub record Account : Type 0 where
   -- what it was asked for so far, where it shows that
   pub errands : Option (List Errand)
@@ -29,7 +29,7 @@ AddsErrand errand (Some errands) new = new ≡ Some (errands ++ errand ∷ [])
 abbrev pub Runs : Errand → (old new : Account) → Type 0
 Runs errand old new = AddsErrand errand old.errands new.errands
 
--- Why it isn't told whether an archive is open: memory was refused, which nothing shows; or a
+-- Why it isn't known whether an archive is open: memory was refused, which nothing shows; or a
 -- transaction is under way, or its disk has failed once more.
 abbrev pub FailsToTell : (old new : Account) → StoreFault → Type 0
 FailsToTell old new Memory = Unit {0}

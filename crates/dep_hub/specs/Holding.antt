@@ -48,7 +48,7 @@ abbrev pub items_answered : {config : Config} {piece : List ℕ} {moment : ℕ} 
 items_answered (at_live serves) = items_served serves
 items_answered at_shut_line = 0
 
--- what the arrival of a part of the held bytes answers
+-- what the arrival of a part of the held bytes returns
 abbrev pub arrived_by : Next → Arrived
 arrived_by More = came.Open
 arrived_by Waiting = came.Open
@@ -188,7 +188,7 @@ module _ {A : Type 0} (condition : A → Condition) where
     pub shut : IfShut (store_of condition old) (store_of condition new)
         (AnswersShut old new number offered moment sent answer outcome)
 
-  -- what answering the next item of a connection comes to
+  -- what answering the next item of a connection makes of it
   abbrev pub ComesToNext : (taken takes : Option (List ℕ)) → (failures failures_after : ℕ)
       → (old new : Hub A) → (number : ℕ) → (moment : ℕ) → Next → Type 0
   ComesToNext taken takes failures failures_after old new number moment NoSuch =
@@ -214,7 +214,7 @@ module _ {A : Type 0} (condition : A → Condition) where
     pub sends_nothing : Keeps taken takes
     pub same_failures : failures_after ≡ failures
 
-  -- What a piece that is offered comes to. Where memory runs out, all that is held arrives with the
+  -- What is made of a piece that is offered. Where memory runs out, all that is held arrives with the
   -- piece, at whatever moment, and the connection ends.
   abbrev pub OffersTo : (taken takes : Option (List ℕ)) → (failures failures_after : ℕ)
       → (old new : Hub A) → (number : ℕ) → (piece : List ℕ) → Arrived → Type 0

@@ -42,7 +42,7 @@ routed_step config s m (To t) = operation_step config s (operation_of m t)
 abbrev pub message_step : Config → State → Message → Stepped
 message_step config s m = routed_step config s m (target m.head.method m.head.path)
 
--- what tells a client to send the body (RFC 9110, section 15.2.1)
+-- the reply to a client that waits before it sends the body (RFC 9110, section 15.2.1)
 abbrev pub continue_line : List ℕ
 continue_line = codes "HTTP/1.1 100 Continue\r\n\r\n"
 
@@ -103,7 +103,7 @@ pub data Fails (config : Config) (s : State) (item : Item) (moment : ℕ)
       → (left ≡ (step config s item moment).state)
       → Fails config s item moment sent left Cut
 
--- what a connection answers where the reading stands
+-- how a connection stands, by where its reading stands
 abbrev pub answer_at_place : Place → Arrived
 answer_at_place (Open continued rest) = StaysOpen
 answer_at_place Shut = Closed

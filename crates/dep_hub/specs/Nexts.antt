@@ -93,7 +93,7 @@ pub record TakesNext (config : Config) (reading now : Reading) (moment : ℕ) (o
   pub keeps : KeepsIntake reading now
   pub less : answer ≡ More → left_to_read now.place < left_to_read reading.place
 
--- Memory ran out, by what an outlet tells before and after: the fixed reply for it was sent, or a part of
+-- Memory ran out, by what an outlet shows before and after: the fixed reply for it was sent, or a part of
 -- it, and nothing is read any more.
 pub record TellsWant (taken takes : Option (List ℕ)) (failures failures_after : ℕ)
     (reading now : Reading) (answer : Arrived) : Type 0 where
@@ -101,7 +101,7 @@ pub record TellsWant (taken takes : Option (List ℕ)) (failures failures_after 
   pub cause : answer ≡ came.Cut → HasRisen failures failures_after
   pub shut : now ≡ shut_reading reading
 
--- what the end of a connection comes to
+-- how the end of a connection is returned
 abbrev pub ended_as : Arrived → Next
 ended_as came.Cut = Cut
 ended_as came.Open = Closed

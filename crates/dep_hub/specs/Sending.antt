@@ -42,14 +42,14 @@ abbrev pub reply_to : StoreFault → List ℕ
 reply_to Store = store_fault
 reply_to Memory = want_of_memory
 
--- what lies outside the machine: the bytes that the outlet took, where it tells them, how often it
+-- what lies outside the machine: the bytes that the outlet took, where it shows them, how often it
 -- has failed, and the store
 pub record Outside : Type 1 where
   pub taken : Option (List ℕ)
   pub failures : ℕ
   pub store : Condition
 
--- the same, told one by one
+-- the same, by its parts
 abbrev pub outside : (taken : Option (List ℕ)) → (failures : ℕ) → (store : Condition) → Outside
 outside taken failures store = record { taken = taken; failures = failures; store = store }
 

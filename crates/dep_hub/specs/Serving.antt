@@ -17,7 +17,7 @@ use Rattle.dep_hub.specs.declared.serving.Piece.{Piece}
 use Rattle.dep_hub.specs.declared.sending.Answered.{Answered}
 use Rattle.dep_hub.specs.declared.sending.Answered.TheVariants.{Sent, GaveUp, CutShort}
 
--- what an arrival answers after a step that was its last
+-- what an arrival returns after a step that was its last
 abbrev pub answer_after : Answered → Arrived
 answer_after CutShort = Cut
 answer_after GaveUp = Closed
@@ -99,7 +99,7 @@ pub record Replied (config : Config) (a : Arrival) (s : State) (items : List Ite
   pub whole : sent ≡ replies config s items a.moment
   pub failures : now.failures ≡ old.failures
 
--- clients were told to go on, and that was all
+-- clients were sent `100 Continue`, and that was all
 abbrev pub OnlyContinues : List ℕ → Type 0
 OnlyContinues sent = (times : ℕ) × (sent ≡ continues times)
 

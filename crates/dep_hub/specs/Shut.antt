@@ -17,13 +17,13 @@ LeavesNoMore old new = (image : new.Image) → new.may_leave image
 abbrev pub IfShut : (old new : Condition) → Type 0 → Type 0
 IfShut old new P = HasCleanDisk new → ¬ IsTrue old.is_open → P
 
--- What is told of an archive: that it is open, unless its disk has told a lie that was taken as
+-- What is returned of an archive: that it is open, unless its disk has told a lie that was taken as
 -- true, or that it is shut.
 abbrev pub TellsOpen : Condition → Bool → Type 0
 TellsOpen c true = HasCleanDisk c → IsTrue c.is_open
 TellsOpen c false = ¬ IsTrue c.is_open
 
--- a client was told to go on, so often
+-- a client was sent `100 Continue`, so often
 abbrev pub continues : ℕ → List ℕ
 continues zero = []
 continues (suc n) = continues n ++ continue_line
@@ -31,7 +31,7 @@ continues (suc n) = continues n ++ continue_line
 abbrev pub IsFixed : List ℕ → Type 0
 IsFixed reply = (reply ≡ want_of_memory) ⊎ (reply ≡ store_fault)
 
--- what is sent behind that, by what the arrival answers
+-- what is sent behind that, by what the arrival returns
 pub data EndsFixed : List ℕ → Arrived → Type 0 where
   -- nothing, and the connection waits or has ended
   waits : EndsFixed [] StaysOpen
@@ -39,10 +39,10 @@ pub data EndsFixed : List ℕ → Arrived → Type 0 where
   -- a fixed reply, whole or cut
   gives_up : {fixed sent : List ℕ} {answer : Arrived} → IsFixed fixed → SendsUpTo fixed sent answer
       → EndsFixed sent answer
-  -- a part of what tells the client to go on
+  -- a part of a `100 Continue`
   cuts_continue : {part : List ℕ} → IsProperPrefix part continue_line → EndsFixed part Cut
 
--- A client is told to go on, maybe more than once, and then sent a fixed reply at most: nothing of
+-- A client is sent `100 Continue`, maybe more than once, and then a fixed reply at most: nothing of
 -- what an archive keeps.
 pub record SendsFixed (sent : List ℕ) (answer : Arrived) : Type 0 where
   pub times : ℕ

@@ -112,7 +112,7 @@ module _ {A : Type 0} (condition : A → Condition) where
   Moves old new event sent = (w : World) → StandsAt old w
       → (w' : World) × Happens old.config w event sent w' × StandsAt new w'
 
-  -- What an arrival comes to, from a world at which the hub stood. While the store is open the hub
+  -- What is made of an arrival, from a world at which the hub stood. While the store is open the hub
   -- stands at the next one, and a stop leaves just that; whether it is or not, a stop leaves what
   -- it may leave after the arrival. A connection that stays open has an open store, and a cut has a
   -- cause, on the bytes that were sent.
@@ -135,8 +135,8 @@ module _ {A : Type 0} (condition : A → Condition) where
       → Leaves (store_of new) (λ found. Run old.config first
       (records ++ record { event = event; sent = sent } ∷ stopped ∷ []) (first_world found))
 
-  -- An arrival at a hub whose store was shut. The client is sent a fixed reply at most, behind what
-  -- tells it to go on, and a crash leaves what it could leave before. Whatever lines the hub kept, the
+  -- An arrival at a hub whose store was shut. The client is sent a fixed reply at most, behind a
+  -- `100 Continue`, and a crash leaves what it could leave before. Whatever lines the hub kept, the
   -- machine may answer so from any state, and stay at that state.
   pub record ArrivesShut (old new : Hub A) (number : ℕ) (piece : List ℕ) (moment : ℕ)
       (sent : List ℕ) (answer : Arrived) : Type 0 where
@@ -159,7 +159,7 @@ module _ {A : Type 0} (condition : A → Condition) where
         → ArrivesTo old.config new number piece moment sent failures failures_after answer w
     pub shut : IfShut (store_of old) (store_of new) (ArrivesShut old new number piece moment sent answer)
 
-  -- what was sent over an outlet for an arrival, by what the outlet tells before and after; the
+  -- what was sent over an outlet for an arrival, by what the outlet shows before and after; the
   -- connection was there, and is there
   pub record ArrivesOver (held holds : Option (List ℕ)) (failures failures_after : ℕ)
       (old new : Hub A)
@@ -177,7 +177,7 @@ module _ {A : Type 0} (condition : A → Condition) where
     pub same : new ≡ old
     pub sends_nothing : Keeps held holds
 
-  -- what an arrival comes to, over an outlet
+  -- what is made of an arrival, over an outlet
   abbrev pub ComesTo : (held holds : Option (List ℕ)) → (failures failures_after : ℕ)
       → (old new : Hub A)
       → (number : ℕ) → (piece : List ℕ) → (moment : ℕ) → Arrived → Type 0

@@ -19,11 +19,11 @@ pub trait Archive {
     /// How it stands.
     ghost condition: { Self → Condition };
 
-    /// What it tells of what it is asked for beside the steps.
+    /// What it shows of what it is asked for beside the steps.
     ghost account: { Self → Account };
 
-    /// Moves the clock to the moment, and never back, and ends the uploads that were left idle. It
-    /// answers the clock.
+    /// Moves the clock to the moment, and never back, and ends the uploads that were left idle. It returns
+    /// the clock.
     fn tick(&mut self, config: &Config, moment: Moment) -> Result<Moment, StoreFault>
         ensures does { Ticks (condition self.old) (condition self.new) config.now moment result }
         ensures shut { FailsIfShut (condition self.old) (condition self.new) result };
@@ -48,8 +48,8 @@ pub trait Archive {
         ensures shut { FailsIfShut (condition self.old) (condition self.new) result }
         ensures count { CountsFailures (O.failures out.old) (O.failures out.new) result };
 
-    /// Whether it is open, as far as it can be told: `false` where a fault has shut it, for good.
-    /// Before that is known memory may run out, or the disk fail once more: ask again then.
+    /// Whether it is open, as far as that can be known: `false` where a fault has shut it, for good. Before
+    /// that is known memory may run out, or the disk fail once more: ask again then.
     fn is_open(&mut self) -> Result<bool, StoreFault>
         ensures told { IfOk result (TellsOpen (condition self.new)) }
         ensures cause { HasCleanDisk (condition self.new)
@@ -57,9 +57,9 @@ pub trait Archive {
         ensures asked { Runs (Asked result) (account self.old) (account self.new) }
         ensures rests { KeepsAll (condition self.old) (condition self.new) };
 
-    /// Does a bounded part of the work that a later request would have to wait for, and tells whether
-    /// more is left. It changes nothing that is kept, but a fault may shut it, which `is_open` tells.
-    /// Its answer is about time alone, so no clause speaks of it.
+    /// Does a bounded part of the work that a later request would have to wait for, and returns whether more
+    /// is left. It changes nothing that is kept, but a fault may shut it, which `is_open` returns. What it
+    /// returns is about time alone, so no clause speaks of it.
     fn work_ahead(&mut self) -> bool
         ensures asked { Runs WorkedAhead (account self.old) (account self.new) }
         ensures rests { KeepsAll (condition self.old) (condition self.new) };

@@ -75,7 +75,7 @@ impl<A: Archive> Hub<A> {
         })
     }
 
-    /// Opens a connection.
+    /// Opens a connection, and returns its number. An `Err` changes nothing.
     pub fn connect(&mut self) -> Result<ConnId, ConnectFault>
         ensures adds { IfOk result
             (λ number. Adds A.condition self.old self.new (Connect number) []) }
@@ -148,10 +148,10 @@ impl<A: Archive> Hub<A> {
         serve(&self.config, &mut self.store, &mut kept.intake, &piece, out)
     }
 
-    /// Takes a piece of a connection's stream, and answers nothing of it: `answer` does, one item at
-    /// a time. Where memory runs out the fixed reply for it is sent, and the connection is `Closed`,
-    /// or `Cut`. Otherwise it is `Open`, also where it has ended, which the next `answer` tells.
-    /// Nothing bounds what is held: offer no more before an `answer` was `Waiting`.
+    /// Takes a piece of a connection's stream, and answers nothing of it: `answer` does, one item at a time.
+    /// Where memory runs out the fixed reply for it is sent, and the connection is `Closed`, or `Cut`.
+    /// Otherwise it is `Open`, also where it has ended, which the next `answer` returns. Nothing bounds what
+    /// is held: offer no more before an `answer` was `Waiting`.
     pub fn offer<O: Outlet>(&mut self, connection: ConnId, piece: &[u8], out: &mut O) -> Arrived
         ensures kept { KeepsStore A.condition self.old self.new }
         ensures absent { intake_of self.old.connections.items connection ≡ None
@@ -202,8 +202,8 @@ impl<A: Archive> Hub<A> {
         answer_next(&context, &mut self.store, &mut kept.intake, out, log)
     }
 
-    /// Whether the store is open, as far as it can be told (`Archive::is_open`). No connection has a
-    /// part in it, so it is no event of a run.
+    /// Whether the store is open, as far as that can be known (`Archive::is_open`). No connection has a part
+    /// in it, so it is no event of a run.
     pub fn is_open(&mut self) -> Result<bool, StoreFault>
         ensures told { IfOk result (TellsOpen (store_of A.condition self.new)) }
         ensures cause { IsHonest A.condition self.new
@@ -215,8 +215,8 @@ impl<A: Archive> Hub<A> {
         self.store.is_open()
     }
 
-    /// Does a part of the work that a later request would have to wait for, and tells whether more is
-    /// left (`Archive::work_ahead`). No connection has a part in it, so it is no event of a run.
+    /// Does a part of the work that a later request would have to wait for, and returns whether more is left
+    /// (`Archive::work_ahead`). No connection has a part in it, so it is no event of a run.
     pub fn work_ahead(&mut self) -> bool
         ensures asked { Runs WorkedAhead (A.account self.old.store) (A.account self.new.store) }
         ensures rests { RestsOn A.condition self.old self.new }
@@ -224,7 +224,7 @@ impl<A: Archive> Hub<A> {
         self.store.work_ahead()
     }
 
-    /// Forgets a connection.
+    /// Forgets a connection. What it holds is dropped, and one that isn't there changes nothing.
     pub fn close(&mut self, connection: ConnId)
         ensures adds { Adds A.condition self.old self.new (Close connection) [] }
         ensures moves { Moves A.condition self.old self.new (Close connection) [] }

@@ -98,7 +98,7 @@ pub(crate) fn answer_next<A: Archive, O: Outlet, L: AccessLog>(
     }
 }
 
-// What the end of a connection comes to.
+// How the end of a connection is returned.
 fn last(ended: Arrived) -> Next
     ensures { result ≡ ended_as ended }
 {

@@ -66,7 +66,7 @@ pub(crate) fn answer_message<A: Archive, O: Outlet, L: AccessLog>(
     }
 }
 
-/// Tells the client that it may send the body (RFC 9110, section 15.2.1). The clock stays.
+/// Sends `100 Continue`, so that the client sends the body (RFC 9110, section 15.2.1). The clock stays.
 pub(crate) fn answer_continue<A: Archive, O: Outlet, L: AccessLog>(
     store: &A,
     out: &mut O,
@@ -113,7 +113,7 @@ pub(crate) fn answer_fault<A: Archive, O: Outlet, L: AccessLog>(
     }
 }
 
-// What a message comes to, once the clock has gone on and is this one.
+// What is replied to a message, once the clock has gone on and is this one.
 fn answer_routed<A: Archive>(
     site: &Site,
     store: &mut A,
@@ -159,7 +159,7 @@ fn refuse(
     Ok(refused(alloc, refusal, allow, delivery)?)
 }
 
-// What a request for a resource comes to.
+// What is replied to a request for a resource.
 fn perform_operation<A: Archive>(
     service: &Service,
     store: &mut A,

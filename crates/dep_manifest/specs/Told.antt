@@ -1,4 +1,4 @@
--- What a view of an object tells of the tag files of its bag.
+-- The tag files of an object's bag, by a view of the object.
 use Rattle.std.specs.Prelude.{◌≡◌, ℕ, List, [], ◌∷◌, ◌++◌, length, map, sum_by, codes}
 use Rattle.dep_types.specs.BagPaths.{payload_path}
 use Rattle.dep_types.specs.declared.rows.FileRow.{FileRow}
@@ -20,16 +20,19 @@ row_path row = payload_path row.file row.name
 abbrev pub row_digests : FileRow → Digests
 row_digests row = record { sha256 = row.sha256; sha512 = row.sha512 }
 
--- what a manifest tells of the file of a row
+-- the checksum of a row's file in a manifest
 abbrev pub row_checksum : Algorithm → FileRow → Checksum
 row_checksum a row = checksum_in a (row_path row) (row_digests row)
 
+-- how many bytes and files the payload has, as `bag-info.txt` says it
 abbrev pub told_oxum : List FileRow → List ℕ
 told_oxum rows = oxum_text (sum_by (λ row. row.size) rows) (length rows)
 
+-- the text of `bag-info.txt`
 abbrev pub told_info : ObjectView → List ℕ
 told_info view = info_text view.object.changed (told_oxum view.files)
 
+-- the text of the payload's manifest by an algorithm
 abbrev pub told_manifest : Algorithm → ObjectView → List ℕ
 told_manifest a view = manifest (map (row_checksum a) view.files)
 
@@ -43,6 +46,7 @@ told_listed view =
     ∷ (codes "metadata/sword.json", bag_metadata_document view.metadata)
     ∷ []
 
+-- the text of the tag manifest by an algorithm
 abbrev pub told_tag_manifest : Algorithm → ObjectView → List ℕ
 told_tag_manifest a view = manifest_of (digest_by a) (told_listed view)
 

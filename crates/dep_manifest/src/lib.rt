@@ -1,5 +1,5 @@
-//! The tag files of a bag: its declaration, what is told of it, and its manifests (RFC 8493, section 2); and the files that
-//! the digests of a manifest tell as damaged.
+//! The tag files of a bag: its declaration, `bag-info.txt`, and its manifests (RFC 8493, section 2); and the
+//! files that an audit finds damaged by their digests.
 #![tactic(auto)]
 
 mod algorithm;

@@ -8,7 +8,8 @@ use crate::algorithm::Algorithm;
 use dep_fixity::{Digests, to_hex, to_hex512};
 use std::alloc::AllocError;
 
-/// Adds the line of a file: its digest by an algorithm in hexadecimal digits, two blanks, and its path. It fails for want of memory alone.
+/// Adds the line of a file: its digest by an algorithm in hexadecimal digits, two blanks, and its path (RFC
+/// 8493, section 2.1.3). It fails for want of memory alone.
 pub fn add_line(
     text: &mut Vec<u8>,
     path: &[u8],

@@ -9,7 +9,7 @@ use std::alloc::{AllocError, Global};
 /// The declaration of the bag.
 pub const BAGIT: &str = "bagit.txt";
 
-/// What is told of the bag.
+/// What is said of the bag (RFC 8493, section 2.2.2).
 pub const BAG_INFO: &str = "bag-info.txt";
 
 /// The manifest of the payload by SHA-256.
@@ -27,7 +27,7 @@ pub const TAG_MANIFEST_SHA256: &str = "tagmanifest-sha256.txt";
 /// The manifest of the tag files by SHA-512.
 pub const TAG_MANIFEST_SHA512: &str = "tagmanifest-sha512.txt";
 
-/// Where a file stands: `data/NUMBER/NAME`.
+/// Returns the path of a payload file in its object's bag: `data/NUMBER/NAME`. An `Err` is want of memory.
 pub fn payload_path(alloc: Global, row: &FileRow) -> Result<Text, AllocError>
     ensures { IfOk result (λ path. path ≡ row_path row.now) }
 {

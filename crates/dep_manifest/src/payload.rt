@@ -10,7 +10,8 @@ use dep_fixity::Digests;
 use dep_types::{FileRow, ObjectView};
 use std::alloc::{AllocError, Global};
 
-/// The manifest of an object's files, by the digests that their rows tell: no content is read.
+/// Returns the manifest of an object's files, in their order. Their digests are those of the rows: no content
+/// is read.
 pub fn payload_manifest(
     alloc: Global,
     view: &ObjectView,

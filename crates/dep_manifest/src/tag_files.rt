@@ -12,14 +12,15 @@ use std::alloc::{AllocError, Global};
 
 const DECLARATION: &[u8] = b"BagIt-Version: 1.0\nTag-File-Character-Encoding: UTF-8\n";
 
-/// `bagit.txt`.
+/// Returns the text of `bagit.txt`: version 1.0 of BagIt, and UTF-8.
 pub fn declaration(alloc: Global) -> Result<Vec<u8>, AllocError>
     ensures { Makes result bagit_text }
 {
     DECLARATION.to_vec(alloc)
 }
 
-/// `bag-info.txt`: the day of the last change in UTC, and what the payload has.
+/// Returns the text of `bag-info.txt`: the day of the last change in UTC, and how many bytes and files the
+/// payload has.
 pub fn information(alloc: Global, view: &ObjectView) -> Result<Vec<u8>, AllocError>
     ensures { Makes result (told_info view.now) }
 {

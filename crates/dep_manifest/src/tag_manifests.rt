@@ -42,7 +42,8 @@ impl TagManifests {
     }
 }
 
-/// Both tag manifests. Each file that they name is made once, hashed once for both, and dropped before the next is made.
+/// Returns both tag manifests. Each file that they name is made once, hashed once for both, and dropped
+/// before the next is made.
 pub fn both_tag_manifests(alloc: Global, view: &ObjectView) -> Result<TagManifests, AllocError>
     ensures { IfOk result (AreTagManifests view.now) }
 {
@@ -64,7 +65,7 @@ pub fn both_tag_manifests(alloc: Global, view: &ObjectView) -> Result<TagManifes
     Ok(texts)
 }
 
-/// The tag manifest of one algorithm.
+/// Returns the tag manifest of one algorithm.
 pub fn tag_manifest(
     alloc: Global,
     view: &ObjectView,

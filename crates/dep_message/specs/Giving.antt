@@ -18,7 +18,7 @@ pub record Takes (old new : Reading) (item : Item) : Type 0 where
   pub dead : new.is_dead ≡ is_fault item
   pub less : left_to_read new.place < left_to_read old.place
 
--- the step tells the first item, which is taken, or why there is none, and then nothing is taken
+-- the step is the first item, which is taken, or why there is none, and then nothing is taken
 abbrev pub Gives : Reading → Reading → Step → Type 0
 Gives old new Continue100 = Takes old new Continue
 Gives old new (Message m) = Takes old new (Request m)

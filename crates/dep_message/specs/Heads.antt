@@ -39,11 +39,11 @@ has_body Empty = false
 has_body (Length n) = nat_lt 0 n
 has_body Chunked = true
 
--- the client waits to be told that it may send the body
+-- the client waits for `100 Continue` before it sends the body
 unfoldable pub awaits_continue : HeadParts → Framing → Bool
 awaits_continue head framing =
     expects_by head.minor (values_of head.fields (codes "Expect")) && has_body framing
 
--- and it wasn't told yet
+-- and it wasn't sent yet
 abbrev pub is_due : (continued : Bool) → HeadParts → Framing → Bool
 is_due continued head framing = not continued && awaits_continue head framing

@@ -1,6 +1,6 @@
--- What the bytes of a connection spell: requests, one after another, or a fault that ends them
--- (RFC 9112, sections 2, 6 and 9.3), and between a head and its body what tells the client to go on
--- (RFC 9110, section 10.1.1).
+-- What the bytes of a connection spell: requests, one after another, or a fault that ends them (RFC 9112,
+-- sections 2, 6 and 9.3), and between a head and its body a `100 Continue` that is due (RFC 9110, section
+-- 10.1.1).
 use Rattle.std.specs.Prelude.{◌≡◌, ◌⊎◌, ℕ, ◌<◌, ◌≤◌, Bool, true, false, List, [], ◌∷◌, ◌++◌, length, if◌then◌else◌, None, Ok, Err}
 use Rattle.dep_head.specs.Head.{HeadParts, IsHeadText, EndsOnce, head_end, head_limit}
 use Rattle.dep_types.specs.declared.refusal.Refusal.{Refusal}
@@ -38,7 +38,7 @@ IsNoHead front =
     (EndsOnce front × (length front ≤ head_limit) × ((head : HeadParts) → IsHeadText front head → ⊥))
     ⊎ ((head_end front ≡ None) × (length front ≡ head_limit))
 
--- a head whose framing is good, and the bytes behind it; what tells the client to go on is due, or is not
+-- a head whose framing is good, and the bytes behind it; a `100 Continue` is due, or is not
 pub record HasHead (limit : ℕ) (continued due : Bool) (text : List ℕ) (head : HeadParts)
     (frame : Framing) (body : List ℕ) : Type 0 where
   pub front : List ℕ
@@ -57,7 +57,7 @@ pub data IsFaultText (limit : ℕ) (continued : Bool) (text : List ℕ) : Refusa
       → HasHead limit continued false text head frame body → IsBodyFault limit frame body fault
       → IsFaultText limit continued text (refusal_of fault) (is_bare head)
 
--- the head of a request that waits to be told to go on
+-- the head of a request whose client waits for `100 Continue`
 pub record IsContinueText (limit : ℕ) (continued : Bool) (text : List ℕ) : Type 0 where
   pub head : HeadParts
   pub frame : Framing

@@ -24,7 +24,7 @@ pub(crate) struct FramedHead {
 pub(crate) enum FirstHead {
     /// The head of a request, whose body may come.
     Head(FramedHead),
-    /// The head of a request whose client waits to be told to go on.
+    /// The head of a request whose client waits for `100 Continue`.
     Continue,
     Fault(Refusal, bool),
     /// No head ends in the bytes.
@@ -40,7 +40,8 @@ pub(crate) struct SearchedBytes<'a> {
     ghost is_searched: { IsSearched searched bytes.now },
 }
 
-/// The head that stands first in the bytes. `continued` says that the client of the first request was told to go on.
+/// Returns the head that stands first in the bytes. `continued` says that the client of the first request was
+/// sent `100 Continue`.
 pub(crate) fn first_head(
     alloc: Global,
     limit: u64,
@@ -100,7 +101,7 @@ fn framed(limit: u64, continued: bool, head: Head, end: usize, bytes: &[u8]) -> 
     }
 }
 
-/// The refusal that a fault of a body is answered with.
+/// The refusal by which a fault of a body is answered: 413 for `TooLarge`, else 400.
 pub(crate) fn refusal_for(fault: FrameFault) -> Refusal
     ensures { result ≡ refusal_of fault }
 {

@@ -35,7 +35,7 @@ fn names_close(value: &[u8]) -> bool
     split_list(value).any(|member| member.eq_ignore_ascii_case(b"close"))
 }
 
-/// Whether the client waits to be told that it may send the body (RFC 9110, section 10.1.1).
+/// Whether the client waits for `100 Continue` before it sends the body (RFC 9110, section 10.1.1).
 #[tactic(auto, unfolding(crate::specs::Heads::awaits_continue))]
 pub(crate) fn awaits_continue(head: &Head, framing: Framing) -> bool
     ensures { result ≡ spec.awaits_continue head.now framing }
@@ -61,8 +61,8 @@ fn has_body(framing: Framing) -> bool
     }
 }
 
-/// Whether the octets of a content are hashed as they come: those of a segment only where its head promises a digest,
-/// since nothing asks for them else. It decides when they are hashed, and no answer.
+/// Whether the octets of a content are hashed as they come: those of a segment only where its head promises a
+/// digest, since nothing asks for them else. It decides when they are hashed, and no reply.
 pub(crate) fn is_hashed_early(head: &Head) -> bool {
     let is_segment = head
         .values("Content-Disposition")

@@ -11,7 +11,7 @@ use std::alloc::{AllocError, Global};
 use std::marker::Model;
 use std::mem;
 
-/// What stands next on a stream.
+/// The next item of a stream, or why there is none.
 #[derive(Drop)]
 pub enum Step {
     /// The client of the next request waits for `100 Continue` (RFC 9110, section 10.1.1).
@@ -22,7 +22,7 @@ pub enum Step {
     Refused(Refusal, bool),
     /// No item is complete. So it is for good behind a request that closes the connection.
     NeedMore,
-    /// A fault was told, or the intake was shut: nothing is read any more.
+    /// A fault was returned, or the intake was shut: nothing is read any more.
     Dead,
 }
 
@@ -32,7 +32,7 @@ pub(crate) enum Standing {
     Live,
     /// A request that closes the connection was given, and behind it nothing is read.
     Closed,
-    /// A fault was told, or the intake was shut.
+    /// A fault was returned, or the intake was shut.
     Dead,
 }
 
@@ -101,8 +101,9 @@ impl Intake {
         };
     }
 
-    /// Takes the first item, where one is complete. An `Err` changes nothing. Behind a fault the intake is `Dead`. Behind a
-    /// request that closes the connection (`closes`) no byte is read, and it answers `NeedMore`.
+    /// Takes the first item, where one is complete. An `Err` is want of memory, and changes nothing. Behind a
+    /// fault the intake is `Dead`. Behind a request that closes the connection (`closes`) no byte is read,
+    /// and it returns `NeedMore`.
     pub fn next(&mut self) -> Result<Step, AllocError>
         ensures { MatchResult result (Gives self.old self.new)
             (λ _. (self.new ≡ self.old) × HasBytes self.old.place) }

@@ -23,7 +23,7 @@ use std::mem;
 pub(crate) enum Found {
     /// A whole request, whose bytes are gone.
     Message(Message),
-    /// The head of a request whose client is to be told to go on.
+    /// The head of a request whose client is to be sent `100 Continue`.
     Continue,
     Fault(Refusal, bool),
     Nothing,
@@ -34,7 +34,7 @@ pub(crate) enum Found {
 pub(crate) struct Work {
     pub alloc: Global,
     pub limit: u64,
-    /// The client of the first request was told to go on.
+    /// The client of the first request was sent `100 Continue`.
     pub continued: bool,
     pub buffer: Buffer,
     pub progress: Progress,

@@ -8,7 +8,7 @@ use Rattle.dep_types.specs.declared.rows.ObjectRow.{ObjectRow}
 use Rattle.dep_row_maps.specs.TablesAre.{with_object}
 use Rattle.dep_objects.specs.declared.objects.DescribedObject.{DescribedObject}
 
--- what a row tells of an object, with these metadata and these files
+-- the object of a row, with these metadata and these files
 abbrev pub object_of : ObjectRow → Texts → Numbered File → Object
 object_of row texts files = record {
   ingested = row.ingested;
@@ -24,7 +24,7 @@ object_of row texts files = record {
 abbrev pub described_object : ℕ → Object → DescribedObject
 described_object n o = record { row = object_row n o; metadata = o.metadata }
 
--- the state with what a row tells of its object, which keeps its metadata and its files
+-- the state with the object of a row in place of this one, whose metadata and files it keeps
 abbrev pub with_row : State → ObjectRow → Object → State
 with_row s row o = with_object s row.object (object_of row o.metadata o.files)
 

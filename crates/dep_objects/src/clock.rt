@@ -9,7 +9,8 @@ ghost use Rattle.dep_row_maps.specs.Clauses.{QueriesMaps, WritesMaps};
 use dep_tables::{StateRow, Statements, read_state, write_state};
 use dep_types::StoreFault;
 
-/// The clock and the counters.
+/// Returns the clock and the counters. It is a fault of the store where their row isn't there, or isn't one that
+/// `set_counters` writes.
 pub fn counters<T: Statements>(tx: &mut T) -> Result<StateRow, StoreFault>
     ensures does { QueriesMaps T.lenders T.state tx.old tx.new result query_of_state
         (λ s row. row ≡ state_row s) }

@@ -56,7 +56,8 @@ pub fn find_object<T: Statements>(tx: &mut T, object: u64) -> Result<Option<Obje
     dep_tables::find_object(tx, object)
 }
 
-/// The least number of an object above this one. A number of 2^63 or more is a fault of the store.
+/// Returns the least number of an object above this one, if there is one. A number of 2^63 or more is a fault
+/// of the store.
 pub fn next_object<T: Statements>(tx: &mut T, after: u64) -> Result<Option<u64>, StoreFault>
     ensures does { QueriesMaps T.lenders T.state tx.old tx.new result (query_of_next_object after)
         (λ s found. found ≡ option_map (λ e. e.0) (next_entry s.objects after)) }

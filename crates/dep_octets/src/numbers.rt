@@ -34,8 +34,8 @@ pub fn decimal(text: &[u8], max: u64) -> Number
     }
 }
 
-/// Reads the whole text as a decimal number from 1 to `max` that is written without a leading zero, as it stands in
-/// the path of a URL.
+/// Returns the decimal number from 1 to `max` that the whole text is, without a leading zero, as in the path
+/// of a URL. It is `None` for any other text.
 pub fn positive_decimal(text: &[u8], max: u64) -> Option<u64>
     ensures { result ≡ positive_number text.now max }
 {

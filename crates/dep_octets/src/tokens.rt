@@ -17,7 +17,7 @@ fn has_token_octets_alone(text: &[u8]) -> bool
     text.iter().all(|octet| is_token_octet(*octet))
 }
 
-/// Whether the octet may stand in a token.
+/// Whether the octet is one of those that a token consists of (`tchar`, RFC 9110, section 5.6.2).
 pub fn is_token_octet(octet: u8) -> bool
     ensures { result ≡ is_token_octet octet }
 {

@@ -1,4 +1,4 @@
--- The rules by the purpose of a content and by what a view tells, in their order.
+-- The rules by the purpose of a content and by what a view shows, in their order.
 use Rattle.std.specs.Prelude.{◌≡◌, Bool, true, false, List, [], ◌∷◌, is_some, Option, Some, None, if◌then◌else◌}
 use Rattle.dep_types.specs.Maps.{first_of}
 use Rattle.dep_types.specs.Numbers.{room_for}
@@ -23,7 +23,7 @@ use Rattle.dep_operations.specs.declared.ruling.Ruling.{Ruling}
 use Rattle.dep_operations.specs.declared.ruling.Ruling.TheVariants.{Do, Refuse}
 use Rattle.dep_operations.specs.declared.view.View.{View}
 
--- the references that a content of this purpose tells
+-- the references in a content of this purpose
 unfoldable pub references_for : Config → Operation → Option Purpose → Option (List Reference)
 references_for config op (Some References) = references_read config op.content
 references_for config op _ = None
@@ -82,12 +82,12 @@ unfoldable pub room_refusal : View → Operation → Option Refusal
 room_refusal view op =
     unless (room_for view.next (numbers_for (decision_with view.references op))) StoreFull
 
--- the first rule that applies, by what the view tells
+-- the first rule that applies, by what the view shows
 unfoldable pub refusal_seen : Config → View → Operation → Option Refusal
 refusal_seen config view op = first_of
     (access_refusal config view op ∷ content_refusal config view op ∷ room_refusal view op ∷ [])
 
--- the ruling by what the view tells
+-- the ruling by what the view shows
 abbrev pub IsSeen : Config → View → Operation → Ruling → Type 0
 IsSeen config view op (Refuse r) = refusal_seen config view op ≡ Some r
 IsSeen config view op (Do d) =

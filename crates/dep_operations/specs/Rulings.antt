@@ -17,7 +17,7 @@ abbrev pub IsRuling : Config → State → Operation → Ruling → Type 0
 IsRuling config s op (Refuse r) = refusal config s op ≡ Some r
 IsRuling config s op (Do d) = (refusal config s op ≡ None) × (d ≡ decision config op)
 
--- it is the ruling in each state of which the view tells truly
+-- it is the ruling in each state that the view shows truly
 abbrev pub RulesBy : Config → View → Operation → Ruling → Type 0
 RulesBy config view op ruling =
     (s : State) → view ≡ true_view config s op → IsRuling config s op ruling

@@ -1,4 +1,4 @@
--- What is there, and what is received, as a view tells it.
+-- What is there, and what is received, as a view shows it.
 use Rattle.std.specs.Prelude.{ℕ, ◌-◌, ◌*◌, ◌==◌, ◌&&◌, nat_le, Bool, List, [], ◌∷◌, length, is_some, Option, Some, None, option_map, if◌then◌else◌}
 use Rattle.dep_types.specs.Maps.{first_of}
 use Rattle.dep_types.specs.declared.rows.UploadRow.{UploadRow}

@@ -1,4 +1,5 @@
--- What a view tells of a state: the clock, the counters, and what is there at the numbers that a request touches.
+-- What a view shows of a state: the clock, the counters, and what is there at the numbers that a request
+-- touches.
 use Rattle.std.specs.Prelude.{ℕ, Bool, false, List, [], ◌∷◌, map, is_some, Option, Some, None, option_map, if◌then◌else◌}
 use Rattle.std.specs.List.{filter_map}
 use Rattle.std.specs.Option.{option_map_or}
@@ -68,7 +69,7 @@ abbrev pub segment_in : Resource → Option Purpose → Option SegmentId
 segment_in (Upload u) (Some (Segment k)) = Some (record { upload = u; number = k })
 segment_in _ _ = None
 
--- with the purpose of the content, and the references that it tells
+-- with the purpose of the content, and the references in it
 abbrev pub touched_with : Resource → Option Purpose → Option (List Reference) → Touched
 touched_with resource purpose refs = record {
   object = object_in resource;
@@ -89,7 +90,7 @@ touched_by config op = touched_with op.target.resource (purpose_in op) (referenc
 abbrev pub assembled_digests : state.Upload → Option Digests
 assembled_digests u = if is_complete u then Some (digests_of (assembled u)) else None
 
--- for a deposit by reference an upload is told with its digests, and else by its row alone
+-- for a deposit by reference an upload is shown with its digests, and else by its row alone
 abbrev pub live_upload : (by_reference : Bool) → ℕ → state.Upload → LiveUpload
 live_upload by_reference n u = record {
   row = upload_row n u;
@@ -120,7 +121,7 @@ abbrev pub touched_repeat : State → (content : List ℕ) → Touched → Optio
 touched_repeat s content t =
     t.segment >>= (λ id. finmap.get s.uploads id.upload >>= (λ u. repeats u id.number content))
 
--- the view that tells the state, and the content of the request, truly at these numbers
+-- the view that shows the state, and the content of the request, truly at these numbers
 abbrev pub seen_at : State → (content : List ℕ) → Touched → View
 seen_at s content t = record {
   clock = s.clock;
@@ -133,6 +134,6 @@ seen_at s content t = record {
   references = t.references;
 }
 
--- the view that tells the state truly where the request touches it
+-- the view that shows the state truly where the request touches it
 abbrev pub true_view : Config → State → Operation → View
 true_view config s op = seen_at s op.content (touched_by config op)

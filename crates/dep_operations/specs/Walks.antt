@@ -1,4 +1,4 @@
--- The rules on references, by what a view tells of their uploads.
+-- The rules on references, by what a view shows of their uploads.
 use Rattle.std.specs.Prelude.{ℕ, ◌==◌, ◌&&◌, ◌||◌, not, Bool, true, false, List, [], ◌∷◌, map, is_some, Option, Some, None}
 use Rattle.std.specs.List.{list_any}
 use Rattle.std.specs.Option.{option_map_or}
@@ -39,14 +39,14 @@ abbrev pub if_live : (LiveUpload → Bool) → UploadState → Bool
 if_live test (Live l) = test l
 if_live test _ = true
 
--- what was promised of an upload at its opening, as its row tells it
+-- what was promised of an upload at its opening, as its row keeps it
 abbrev pub promised_in : UploadRow → DigestList
 promised_in row = record { sha256 = row.sha256; sha512 = row.sha512 }
 
 abbrev pub has_digests_seen : Reference → LiveUpload → Digests → Bool
 has_digests_seen r l digests = keeps (promised_in l.row) digests && keeps r.digest digests
 
--- the digests are told where no segment is missing
+-- the digests are there where no segment is missing
 abbrev pub whole_upload_rule : UploadState → Option Refusal
 whole_upload_rule state = unless (if_live (λ l. is_some l.digests) state) BadRequest
 

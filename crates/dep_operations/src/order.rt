@@ -21,9 +21,10 @@ use dep_docs_in::{DocFault, read_metadata};
 use dep_types::{Config, Metadata, Method, Refusal, Resource, Target};
 use std::alloc::{AllocError, Global};
 
-/// The ruling on a request, where the archive is seen so at the numbers that it touches: the first rule
-/// that applies, from rule 5 of the order of refusals in docs/PROFILE.md on, or what the request asks for. An
-/// `Err` is want of memory, which is asked for only where the content is held and no rule before it refuses.
+/// Returns the ruling on a request, where the archive is seen so at the numbers that it touches: the first
+/// rule that applies, from rule 5 of the order of refusals in docs/PROFILE.md on, or what the request asks
+/// for. An `Err` is want of memory, which is asked for only where the content is held and no rule before it
+/// refuses.
 pub fn decide(
     alloc: Global,
     config: &Config,
@@ -44,7 +45,7 @@ pub fn decide(
     }
 }
 
-/// What the rules on a content come to.
+/// What the rules on a content say.
 #[derive(Drop)]
 pub(crate) enum Checked {
     Refused(Refusal),

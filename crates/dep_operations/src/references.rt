@@ -22,7 +22,7 @@ pub(crate) enum UploadRule {
     IsThere,
     /// No segment is missing.
     IsWhole,
-    /// It has the length that the entry tells.
+    /// It has the length that the entry gives.
     HasLength,
     /// It has the digests that were promised at its opening, and those that the entry promises.
     HasDigests,

@@ -78,7 +78,7 @@ pub(crate) fn tag_rule(
     }
 }
 
-/// The tag that If-Match is held against, where the resource has one.
+/// The tag that If-Match is compared with, where the resource has one.
 pub(crate) fn seen_tag(view: &View, resource: &Resource) -> Option<u64>
     ensures { result ≡ tag_seen view.now resource.now }
 {

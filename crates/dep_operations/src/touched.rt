@@ -15,8 +15,8 @@ use dep_docs_in::{DocFault, Pointed, Reference, References, read_references};
 use dep_types::{Config, Octets, Resource};
 use std::alloc::{AllocError, Global};
 
-/// The numbers at which a request looks at the archive. A document of references is read here, and only
-/// here. An `Err` is want of memory.
+/// Returns the numbers at which a request looks at the archive. A document of references is read here, and
+/// only here. An `Err` is want of memory.
 pub fn touches(
     alloc: Global,
     config: &Config,

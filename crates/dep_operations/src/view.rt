@@ -60,12 +60,12 @@ pub struct Touched {
     pub references: Option<References>,
 }
 
-/// An upload that is there.
+/// An upload that is there: its row, and its digests where they are needed.
 #[derive(Drop)]
 pub struct LiveUpload {
-    /// What was told at its opening, and the moment of its last segment.
+    /// What was said of it at its opening, and the moment of its last segment.
     pub row: UploadRow,
-    /// The digests of all segments joined: told for a deposit by reference, where none is missing.
+    /// The digests of all segments joined: there for a deposit by reference, where none is missing.
     pub digests: Option<Digests>,
 }
 

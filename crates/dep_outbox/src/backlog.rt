@@ -22,7 +22,7 @@ pub(crate) struct Backlog<S> {
 impl<S: Spool> Backlog<S> {
     ghost use Rattle.dep_outbox.specs.Wires.{front_of, waiting, waiting_count};
 
-    /// Those that the spool holds.
+    /// The bytes that the spool holds. It takes no memory.
     pub fn new(alloc: Global, spool: S) -> Backlog<S>
         ensures spool { result.spool ≡ spool }
         ensures empty { IsAtEnd (S.held spool) → IsAtEnd (waiting S.held result) }
@@ -35,7 +35,7 @@ impl<S: Spool> Backlog<S> {
         }
     }
 
-    /// Whether none waits.
+    /// Whether no byte waits.
     pub fn is_empty(&self) -> bool
         ensures empty { result ≡ true → IsAtEnd (waiting S.held self.now) }
         ensures exact { result ≡ (waiting_count S.size self.now == 0) }
@@ -54,7 +54,7 @@ impl<S: Spool> Backlog<S> {
         Ok(())
     }
 
-    /// Those in memory.
+    /// The bytes in memory that wait.
     pub fn front(&self) -> &[u8]
         ensures { result.now ≡ front_of self.now }
     {

@@ -3,7 +3,7 @@
 ghost use Rattle.std.specs.Prelude.{◌≡◌, ℕ, List, Option, None};
 ghost use Rattle.dep_outbox.specs.Sockets.{Receives, Delivers};
 
-/// What a receive came to.
+/// What a receive gave.
 #[derive(Clone, Copy)]
 pub enum Received {
     /// So many bytes, at least one.
@@ -16,7 +16,7 @@ pub enum Received {
     Failed,
 }
 
-/// What a send came to.
+/// How much of a send the socket took.
 #[derive(Clone, Copy)]
 pub enum Delivered {
     /// So many bytes were taken, at least one.
@@ -29,7 +29,7 @@ pub enum Delivered {
 
 /// The half of a socket that gives a client's bytes. Its calls never wait.
 pub trait Source {
-    /// The bytes that it will give from here on, where it tells them.
+    /// The bytes that it will give from here on, where it shows them.
     ghost unread: { Self → Option (List ℕ) } = { λ _. None };
 
     /// Receives what is there, into a front of the room.
@@ -39,14 +39,14 @@ pub trait Source {
 
 /// The half of a socket that takes the bytes for a client. Its calls never wait.
 pub trait Sink {
-    /// The bytes that it took, where it tells them.
+    /// The bytes that it took, where it shows them.
     ghost taken: { Self → Option (List ℕ) } = { λ _. None };
 
     /// Sends a front of the bytes.
     fn send(&mut self, bytes: &[u8]) -> Delivered
         ensures bytes { Delivers (taken self.old) (taken self.new) bytes.now result };
 
-    /// Tells the client that nothing more is sent.
+    /// Shuts down the half that sends, so that the client sees that nothing more comes.
     fn finish(&mut self)
         ensures taken { taken self.new ≡ taken self.old };
 }

@@ -12,7 +12,7 @@ use std::alloc::Global;
 /// How often a flush sends at most.
 const MOST_SENDS: u32 = 16;
 
-/// What a flush came to.
+/// What a flush left.
 #[derive(Clone, Copy, PartialEq, Eq)]
 pub enum Flushed {
     /// Nothing is owed any more.
@@ -162,7 +162,7 @@ impl<K: Sink, S: Spool> Wire<K, S> {
         self.written
     }
 
-    /// Tells the client that nothing more is sent.
+    /// Shuts down the half that sends, so that the client sees that nothing more comes.
     pub fn finish(&mut self)
         ensures taken { told K.taken S.held self.new ≡ told K.taken S.held self.old }
     {

@@ -3,7 +3,7 @@ use Rattle.std.specs.Prelude.{ℕ}
 use Rattle.dep_params.specs.declared.disposition.ParamFault.{ParamFault}
 use Rattle.dep_params.specs.declared.disposition.ParamFault.TheVariants.{Malformed, Repeated, NoName, Memory}
 
--- how a Content-Disposition that is refused is told, as a number from 1 to 4
+-- the number of each reason why a Content-Disposition is refused, 1 to 4
 abbrev pub fault_number : ParamFault → ℕ
 fault_number Malformed = 1
 fault_number Repeated = 2

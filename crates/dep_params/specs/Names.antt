@@ -23,7 +23,7 @@ HasWholeEscapes text =
 abbrev pub has_no_apostrophe : List ℕ → Bool
 has_no_apostrophe text = list_all (λ b. not (b == 39)) text
 
--- the text tells the name, as `UTF-8'LANGUAGE'ESCAPED`
+-- the text gives the name, as `UTF-8'LANGUAGE'ESCAPED`
 pub record IsExtended (text name : List ℕ) : Type 0 where
   pub charset : List ℕ
   pub language : List ℕ
@@ -41,7 +41,7 @@ IsTold (Some text) plain name = IsExtended text name
 IsTold None (Some plain) name = name ≡ plain
 IsTold None None name = ⊥
 
--- its parameters tell this name, whether it may stand or not
+-- its parameters give this name, whether it may stand or not
 abbrev pub IsToldName : DispositionValue → List ℕ → Type 0
 IsToldName reading name =
     IsTold (value_of (codes "filename*") reading) (value_of (codes "filename") reading) name

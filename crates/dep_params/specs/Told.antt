@@ -60,7 +60,7 @@ is_whole_at text i = not (slice_index text i == 37) || has_two_digits_after text
 unfoldable pub has_whole_escapes : List ℕ → Bool
 has_whole_escapes text = list_all (is_whole_at text) (range_with_len 0 (length text))
 
--- the name that `UTF-8'LANGUAGE'ESCAPED` tells
+-- the name that `UTF-8'LANGUAGE'ESCAPED` gives
 abbrev pub name_escaped : (charset escaped : List ℕ) → Option (List ℕ)
 name_escaped charset escaped =
     if str_eq_ignore_ascii_case charset (codes "UTF-8") && has_whole_escapes escaped

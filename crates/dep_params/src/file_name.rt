@@ -29,7 +29,7 @@ impl Disposition {
         String::from_utf8(name).map_err(|_| ParamFault::NoName)
     }
 
-    // The name that the parameters tell, whether it may stand or not.
+    // The name that the parameters give, whether it may stand or not.
     fn told_name(&self, alloc: Global) -> Result<Vec<u8>, ParamFault>
         ensures told { IfOk result (λ name. IsToldName self.now name.items) }
         ensures untold { result ≡ Err ParamFault.NoName →
@@ -46,7 +46,7 @@ impl Disposition {
     }
 }
 
-// The name that an extended value tells.
+// The name that an extended value gives.
 fn decoded(alloc: Global, text: &[u8]) -> Result<Vec<u8>, ParamFault>
     ensures told { IfOk result (λ name. IsExtended text.now name.items) }
     ensures untold { result ≡ Err ParamFault.NoName →

@@ -17,7 +17,8 @@ use std::collections::BTreeSet;
 /// Reads the value of a Content-Disposition field (RFC 6266, section 4.1): a type, and parameters behind semicolons.
 /// White space may stand about a semicolon and at the end, not in front and not about a `=`. Nothing need stand behind a
 /// semicolon. A value is a quoted string (RFC 9110, section 5.6.4), in which a backslash stands before any octet that is
-/// no control, or one or more visible ASCII octets other than `;` and `"`.
+/// no control, or one or more visible ASCII octets other than `;` and `"`. It fails with `Malformed` for any other
+/// text, `Repeated` where two parameters have one name, and `Memory` where memory was refused.
 pub fn read_disposition(alloc: Global, text: &[u8]) -> Result<Disposition, ParamFault>
     ensures read { IfOk result (λ reading.
         IsDisposition text.now reading × HasDistinctNames reading) }

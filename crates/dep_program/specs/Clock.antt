@@ -1,4 +1,4 @@
--- What a reading of the clock tells.
+-- What a reading of the clock returns.
 use Rattle.std.specs.Prelude.{ℕ, ◌/◌, Result, Ok, Err}
 use Rattle.std.specs.Time.{system_time_nanos}
 use Rattle.std.specs.declared.time.SystemTime.{SystemTime}

@@ -80,7 +80,7 @@ abbrev pub asked_in : Command → Asked
 asked_in (command.Replay moment base) = replay moment base.now
 asked_in (command.WorkOn file its) = asked_over file.now its
 
--- what it comes to where the words can't be had: a word that isn't UTF-8 is a wrong one
+-- how the program ends where the words can't be had: a word that isn't UTF-8 is a wrong one
 abbrev pub unread_outcome : ErrorKind → Outcome
 unread_outcome OutOfMemory = StoreFault
 unread_outcome _ = Usage

@@ -1,4 +1,4 @@
--- Where the files of a folder stand, and what an export comes to without one.
+-- Where the files of a folder stand, and how an export ends without one.
 use Rattle.std.specs.Prelude.{ℕ, List, ◌++◌, codes}
 use Rattle.std.specs.declared.io.ErrorKind.{ErrorKind}
 use Rattle.std.specs.declared.io.ErrorKind.TheVariants.{OutOfMemory}
@@ -9,7 +9,7 @@ use Rattle.dep_program.specs.declared.outcome.Outcome.TheVariants.{StoreFault, T
 abbrev pub path_in : (folder path : List ℕ) → List ℕ
 path_in folder path = folder ++ codes "/" ++ path
 
--- what an export comes to where its folder can't be made
+-- how an export ends where its folder can't be made
 abbrev pub without_folder : ErrorKind → Outcome
 without_folder OutOfMemory = StoreFault
 without_folder _ = TransferFault

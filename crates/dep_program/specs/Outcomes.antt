@@ -1,4 +1,4 @@
--- What a run comes to; the exit status of each outcome, and its line on standard error.
+-- How a run ends; the exit status of each outcome, and its line on standard error.
 use Rattle.std.specs.Prelude.{ℕ, List, Option, Some, None, Bool, true, codes}
 use Rattle.dep_hub.specs.declared.connection.Served.{Served}
 use Rattle.dep_hub.specs.declared.connection.Served.TheVariants.{Ended, Closed, Unserved, ReadFault, WriteFault, Bound}

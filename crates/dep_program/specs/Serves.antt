@@ -34,7 +34,7 @@ AreServed talks count outcome =
     (AreAmong talks count × (outcome ≡ Done))
     ⊎ ((k : ℕ) × (k < count) × AreAmong talks k × (outcome ≡ TransferFault))
 
--- an accepted socket, over which nothing went yet: it tells neither what it will give nor what it took
+-- an accepted socket, over which nothing went yet: it shows neither what it will give nor what it took
 abbrev pub socket_wire : Wire
 socket_wire = wire None 0 NoneYet None 0
 

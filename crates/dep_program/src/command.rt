@@ -134,8 +134,8 @@ pub fn words(rt: &HostRuntime) -> io::Result<Vec<String>> {
     Ok(env::args(rt)?.skip(1).collect(rt.alloc())?)
 }
 
-/// What the program comes to where the words can't be had: without memory it is a fault of the store, and a word that
-/// isn't UTF-8 is a wrong word.
+/// Returns the outcome where the words can't be had: `StoreFault` for want of memory, else `Usage`, as at a word
+/// that isn't UTF-8.
 pub fn unread(kind: ErrorKind) -> Outcome
     ensures { result ≡ unread_outcome kind }
 {

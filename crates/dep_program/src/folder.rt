@@ -110,7 +110,8 @@ fn put_path(inside: &mut String, folder: &str, path: &str) -> io::Result<()>
     Ok(())
 }
 
-/// What an export comes to where its folder can't be made.
+/// Returns the outcome of an export whose folder can't be made: `StoreFault` for want of memory, else
+/// `TransferFault`.
 pub fn without_folder(kind: ErrorKind) -> Outcome
     ensures { result ≡ without_folder kind }
 {

@@ -26,7 +26,7 @@ pub struct Gathered<W: Write + Drop> {
 }
 
 impl<W: Write + Drop> Gathered<W> {
-    /// An outlet that holds nothing back so far.
+    /// An outlet that holds nothing back so far. An `Err` is want of memory.
     pub fn new(alloc: Global, writer: W) -> Result<Gathered<W>, AllocError>
         ensures writer { IfOk result (λ outlet. writer_inner outlet.writer ≡ writer) }
         ensures empty { IfOk result (λ outlet. held_in outlet ≡ []) }

@@ -7,7 +7,7 @@ ghost use Rattle.dep_program.specs.HostCommands as spec;
 pub enum HostCommand<'a> {
     /// The store that a configuration file names is served.
     Serve(&'a str),
-    /// It is told what would be served.
+    /// What would be served is printed.
     Check(&'a str),
     /// A configuration file is printed in which each field is explained.
     Example,

@@ -1,5 +1,5 @@
 //! What the programs are over any archive: their command lines, the configuration of `swordd`, the connections that it
-//! accepts at a port of 127.0.0.1, one after another, the folder of an export, the clock, and what a run comes to.
+//! accepts at a port of 127.0.0.1, one after another, the folder of an export, the clock, and how a run ended.
 #![tactic(auto)]
 
 mod clock;

@@ -1,11 +1,11 @@
-//! What a run of the program comes to.
+//! How a run of the program ended.
 ghost use Rattle.std.specs.Prelude.{◌≡◌};
 ghost use Rattle.std.specs.Option.{option_copied};
 ghost use Rattle.dep_program.specs.Outcomes.{status_of, line_of, outcome_of, outcome_sent};
 
 use dep_hub::Served;
 
-/// What a run of the program comes to.
+/// How a run of the program ended.
 #[derive(Clone, Copy, Debug, PartialEq, Eq)]
 pub enum Outcome {
     /// What was asked for was done.
@@ -53,7 +53,7 @@ impl Outcome {
     }
 }
 
-/// What a run comes to that served one connection.
+/// Returns the outcome of a run that served one connection.
 pub fn outcome_of(served: Served) -> Outcome
     ensures { result ≡ outcome_of served }
 {
@@ -64,7 +64,7 @@ pub fn outcome_of(served: Served) -> Outcome
     }
 }
 
-/// What it comes to, once the outlet was asked whether it gave up.
+/// Returns the outcome, but `TransferFault` in place of `Done` where the outlet gave up.
 pub fn outcome_sent(has_failed: bool, outcome: Outcome) -> Outcome
     ensures { result ≡ outcome_sent has_failed outcome }
 {

@@ -1,4 +1,4 @@
-//! How far a long command came, told on standard error.
+//! How far a long command came, printed on standard error.
 
 use std::io::IsTerminal;
 
@@ -7,7 +7,7 @@ const STEP: u64 = 268_435_456;
 
 const MEBIBYTE: u64 = 1_048_576;
 
-/// Counts bytes, and where standard error is a terminal tells each further 256 MiB there.
+/// Counts bytes, and where standard error is a terminal prints each further 256 MiB there.
 #[derive(Drop)]
 pub struct Progress<'a> {
     rt: &'a HostRuntime,

@@ -3,7 +3,7 @@ use Rattle.std.specs.Prelude.{◌≡◌, ℕ, ◌==◌, Bool, List, [], ◌++◌
 use Rattle.dep_types.specs.Numbers.{quoted_tag}
 use Rattle.dep_moment.specs.Civil.{http_text}
 
--- what a head tells, with the date in seconds since 1970
+-- what a head says, with the date in seconds since 1970
 pub record ReplyHead : Type 0 where
   pub status : ℕ
   pub date : ℕ

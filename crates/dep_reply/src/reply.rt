@@ -1,9 +1,9 @@
-//! What the head of a reply tells.
+//! What the head of a reply says.
 use crate::status::Status;
 use dep_moment::Moment;
 use std::marker::Model;
 
-/// What the head of a reply tells. The texts stand in the head as they are, so none may hold a line break.
+/// What the head of a reply says. The texts stand in the head as they are, so none may hold a line break.
 #[derive(Drop)]
 pub struct Reply<'a> {
     /// The status (RFC 9110, section 15).

@@ -33,7 +33,7 @@ pub enum Status {
 }
 
 impl Status {
-    /// The number of the status line.
+    /// The status code in the status line (RFC 9112, section 4).
     pub fn number(self) -> u16
         ensures { result ≡ status_number self }
     {

@@ -35,7 +35,7 @@ use Rattle.dep_changes.specs.Known.{known_shown}
 use Rattle.dep_requests.specs.declared.performing.Done.{Done}
 use Rattle.dep_requests.specs.declared.performing.Ruled.{Ruled}
 
--- the view tells the state truly, and so does the row of a payload file, and the ruling is right there
+-- the view shows the state truly, and so does the row of a payload file, and the ruling is right there
 pub record Rules (config : Config) (s : State) (op : Operation) (ruled : Ruled) : Type 0 where
   pub view : ruled.view ≡ true_view config s op
   pub payload : ruled.payload ≡ touched_payload s (touched_by config op)

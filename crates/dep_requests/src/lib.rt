@@ -1,4 +1,4 @@
-//! What a request comes to over the archive's tables, inside one transaction.
+//! What is done for a request over the archive's tables, inside one transaction.
 #![tactic(auto)]
 
 mod performing;

@@ -1,4 +1,4 @@
-//! What a page tells, by its parameters.
+//! What a page names, by its parameters.
 ghost use Rattle.std.specs.Prelude.{◌≡◌};
 ghost use Rattle.matchit.specs.Params.{AllText};
 ghost use Rattle.dep_router.specs.Pages.{parts_of, resource_by, object_resource_by, number_named as spec_number_named};
@@ -18,7 +18,7 @@ pub(crate) enum Place<'a> {
     InBag(u64, &'a str),
 }
 
-/// What a page tells, by what its parameters took; `None` where a number is none.
+/// What a page names, by what its parameters took; `None` where the text of a number is no such number.
 pub(crate) fn place_of_page<'p>(page: Page, params: &Params<'_, 'p>) -> Option<Place<'p>>
     requires { AllText (parts_of params.now) }
     ensures named { resource_at result ≡ resource_by page (parts_of params.now) }
@@ -35,7 +35,7 @@ pub(crate) fn place_of_page<'p>(page: Page, params: &Params<'_, 'p>) -> Option<P
     }
 }
 
-// What a page tells of an object: the object itself, or what stands behind it.
+// What a page names of an object: the object itself, or what stands behind it.
 fn place_of_object<'p>(object: u64, page: Page, params: &Params<'_, 'p>) -> Option<Place<'p>>
     requires { AllText (parts_of params.now) }
     ensures named { resource_at result ≡ object_resource_by page object (parts_of params.now) }

@@ -16,14 +16,14 @@ use matchit::{InsertError, Router};
 use std::alloc::{AllocError, Global};
 use std::marker::Model;
 
-/// What a method and a path name.
+/// The resource and the method that a request names, or why it names none.
 #[derive(Drop)]
 pub enum Routed {
     /// A resource, and a method that it has.
     To(Target),
     /// There is no such resource.
     NotFound,
-    /// The resource hasn't this method, but those that are told.
+    /// The resource hasn't this method, but these.
     NotAllowed(Allow),
 }
 

@@ -49,7 +49,7 @@ module _ {T L A E : Type 0} (lenders : T → L) (state : T → db.State) (old ne
     pub stays : StaysWithin lenders state old new result
     pub ours : KeepsOurs (state old) (state new) result
 
-  -- inside a transaction over a state's tables this is told of the state, and nothing is changed
+  -- inside a transaction over a state's tables this holds of the state, and nothing is changed
   pub record Finds (told : State → Type 0) : Type 0 where
     pub found : FromMaps (state old) (state new) told
     pub keeps : ReadsWithin lenders state old new result
@@ -71,7 +71,7 @@ module _ {T L A E : Type 0} (lenders : T → L) (state : T → db.State) (old ne
 
 module _ {T L A : Type 0} (lenders : T → L) (state : T → db.State) (old new : T)
     (result : Result A StoreFault) where
-  -- what a call does that asks this query, and tells this of a state
+  -- what a call does that asks this query, and returns this of a state
   pub record QueriesMaps {B : Type 0} (query : Query B) (told : State → A → Type 0) : Type 0 where
     pub map : OverMaps (state old) (state new) (λ s. IfOk result (told s))
     pub numbers : RefusesNumbers (state old) (state new) result query.storable
@@ -88,7 +88,7 @@ module _ {T L A : Type 0} (lenders : T → L) (state : T → db.State) (old new 
     pub cause : FailsByOne state old new result storable fails
     pub keeps : ReadsWithin lenders state old new result
 
-  -- inside a transaction over a state's tables, an Ok makes them those of the state that this tells
+  -- inside a transaction over a state's tables, an Ok makes them those of a state that is so
   abbrev pub Turns : (State → (State → Type 0) → Type 0) → Type 0
   Turns told = FromMaps (state old) (state new)
       (λ s. told s (λ next. OnOk result (SeesState (state new) next)))

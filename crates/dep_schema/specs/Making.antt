@@ -63,12 +63,12 @@ module _ (old new : State) (result : Result (Option ℕ) OpenFault) where
   FindsShown = HasCleanDisk new → MatchResult result
       (λ found. MatchOption found (ShowsNone old new) (ShowsVersion old new)) (FailsToFind old new)
 
--- the tables of one of our versions are left as they are, and their version is told
+-- the tables of one of our versions are left as they are, and their version is returned
 abbrev pub LeavesKnown : (old new : State) → Result ℕ OpenFault → Type 0
 LeavesKnown old new result = HasCleanDisk new → IsKnown old
     → IfOk result (λ version. HasVersion version (tables_of old) × (new.now ≡ old.now))
 
--- inside a transaction, why there are tables of the version that is told, or why there are none
+-- inside a transaction, why there are tables of the version that is returned, or why there are none
 abbrev pub FindsOrMakes : {S : Type 0} (g : Ghosts S) (old new : Held S) → Result ℕ OpenFault → Type 0
 FindsOrMakes g old new result = HasCleanDisk (state g new) → IsTrue (state g old).in_transaction
     → MatchResult result (ShowsOrMakes g old) (FailsToFindOrMake g old new)

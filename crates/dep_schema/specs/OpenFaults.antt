@@ -29,17 +29,17 @@ abbrev pub open_fault_for : StoreFault → OpenFault
 open_fault_for store.Store = open_fault.Store
 open_fault_for store.Memory = open_fault.Memory
 
--- the number by which a caller of another language tells the fault
+-- the number of each fault, 1 to 3
 abbrev pub open_fault_number : OpenFault → ℕ
 open_fault_number open_fault.UnknownVersion = 1
 open_fault_number open_fault.Store = 2
 open_fault_number open_fault.Memory = 3
 
--- the fault tells this error of SQLite
+-- the fault is the one for this error of SQLite
 abbrev pub TellsError : Error → OpenFault → Type 0
 TellsError e fault = fault ≡ open_fault_for (fault_for e)
 
--- what an error of the query for the version comes to: there is no `format`, or it has no such columns;
+-- what an error of the query for the version means: there is no `format`, or it has no such columns;
 -- and else SQLite failed
 abbrev pub told_by : Error → Result (Option ℕ) OpenFault
 told_by (SqlInputError NoSuchTable) = Ok None

@@ -44,7 +44,7 @@ module _ {S : Type 0} (g : Ghosts S) (old new : Held S) where
   abbrev pub OpensBy : ℕ → Type 0
   OpensBy version = HasCleanDisk (state g new) → ShowsOrMakes g (begun old) version
 
-  -- why it was not opened, which this fault tells
+  -- why it was not opened, by this fault
   abbrev pub RefusesBy : OpenFault → Type 0
   RefusesBy fault = HasCleanDisk (state g new) → FailsToOpen g old new fault
 

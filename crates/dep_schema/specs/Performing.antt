@@ -1,4 +1,4 @@
--- What a request comes to over the tables.
+-- What is made of a request over the tables.
 use Rattle.std.specs.Prelude.{◌≡◌, ◌↔◌, false, Result, IfOk, OnOk}
 use Rattle.sqlite.specs.State as db
 use Rattle.dep_types.specs.State.{State}
@@ -21,14 +21,14 @@ abbrev pub IsAnswered : Config → Operation → State → Done → Type 0
 IsAnswered config op s done = IsReady (operation_step config s op) done.performed
 
 -- what a request makes of the tables: those of the step's state, for each state that they stood for and of which what was
--- hashed ahead tells truly
+-- hashed ahead is true
 abbrev pub StepsOver : Config → Operation → RunningHashes → Tables → Done → Tables → Type 0
 StepsOver config op running before done after = AreFit op.fields
     → OverStatesWhere (λ s. AreRunning s running) (IsAnswered config op)
     (λ s. (operation_step config s op).state) before done after
 
 module _ (old new : db.State) (result : Result Done StoreFault) where
-  -- it tells that nothing was changed just where it is refused, or only asks to be shown
+  -- it returns that nothing was changed just where it is refused, or only asks to be shown
   abbrev pub TellsChanges : Config → Operation → RunningHashes → Type 0
   TellsChanges config op running = db.HasCleanDisk new → (s : State) → StandsFor old s
       → AreRunning s running

@@ -103,7 +103,7 @@ pub record StandsBeside (old new : State) : Type 0 where
   pub schema : new.now.schema ≡ with_ours old.now.schema
   pub trees : IsBeside old.now new.now.trees
 
--- the tables tell a version that is known
+-- the tables have a version that is known
 abbrev pub HasKnownVersion : Tables → Type 0
 HasKnownVersion tables = (version : ℕ) × IsKnownVersion version × HasVersion version tables
 
@@ -169,7 +169,7 @@ abbrev pub EndsTransaction : State → State → Type 0
 EndsTransaction inside new = Commits inside new
     ⊎ (((e : Error) × FailsToCommit inside new e) ⊎ IsRolledBack inside new)
 
--- a transaction from its beginning to its end, as the clauses of the statements and of its end tell it
+-- a transaction from its beginning to its end, as the clauses of the statements and of its end say it
 pub record WholeTransaction {S : Type 0} (g : Ghosts S) (old inside new : Held S) : Type 0 where
   pub kept : StaysInside (state g (record old { in_transaction = true })) (state g inside)
   pub survives : Survives (state g inside) (state g new) (λ trees. trees ≡ (state g inside).now.trees)

@@ -9,7 +9,7 @@ use dep_tables::fault_of;
 use dep_types::StoreFault;
 use sqlite::{Alter, Transaction};
 
-/// Commits the transaction. It ends, whatever comes of that.
+/// Commits the transaction, which ends whether or not that succeeds.
 pub fn commit<S: Alter>(tx: Transaction<'_, S>) -> Result<(), StoreFault>
     ensures ok { HasCleanDisk (state S.Store tx.exit.0.now)
         → OnOk result (Commits (state S.Store tx.entry.conn.now) (state S.Store tx.exit.0.now)) }

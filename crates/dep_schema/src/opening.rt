@@ -26,7 +26,7 @@ use std::fmt;
 /// Why a database was not opened.
 #[derive(Clone, Copy, Debug, PartialEq, Eq)]
 pub enum OpenFault {
-    /// The table `format` is there, and does not have the one row that tells a known version.
+    /// The table `format` is there, and does not have the one row of a known version.
     UnknownVersion,
     /// The database failed, or a name of the tables is taken.
     Store,
@@ -112,7 +112,7 @@ fn are_known(rows: &[Row], version: i64) -> bool
     }
 }
 
-/// What an error of the query for the version comes to: that no table `format` is there, or a fault.
+/// What an error of the query for the version means: that no table `format` is there, or a fault.
 fn told_by(error: Error) -> Result<Option<u64>, OpenFault>
     ensures { result ≡ told_by error }
 {
@@ -123,7 +123,7 @@ fn told_by(error: Error) -> Result<Option<u64>, OpenFault>
     }
 }
 
-/// The version that the table `format` tells, if there is one. It has to tell version 1 or 2.
+/// Returns the version in the table `format`, if there is that table. It has to be 1 or 2.
 fn find_format<S: Alter>(tx: &mut Transaction<'_, S>) -> Result<Option<u64>, OpenFault>
     ensures empty { FindsNone (state S.Store tx.old.conn.now) (state S.Store tx.new.conn.now) result
         (λ schema. schema ≡ no_schema) }
@@ -153,7 +153,7 @@ fn find_format<S: Alter>(tx: &mut Transaction<'_, S>) -> Result<Option<u64>, Ope
     }
 }
 
-/// Makes the tables where there are none. It answers the version.
+/// Makes the tables where there are none. It returns the version.
 fn find_or_make<S: Alter>(tx: &mut Transaction<'_, S>) -> Result<u64, OpenFault>
     ensures empty { MakesFirst (state S.Store tx.old.conn.now) (state S.Store tx.new.conn.now)
         result }

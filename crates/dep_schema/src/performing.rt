@@ -1,4 +1,4 @@
-//! What a request comes to, in a transaction of its own.
+//! What is done for a request, in a transaction of its own.
 
 ghost use Rattle.std.specs.Prelude.{◌≡◌, false};
 ghost use Rattle.sqlite.specs.Held.{state};

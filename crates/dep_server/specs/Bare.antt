@@ -13,7 +13,7 @@ request_by method m = record m { head = record m.head { method = method } }
 abbrev pub step_as : (method : List ℕ) → AnyRequest → Stepped
 step_as method q = made (step_of (record q { message = request_by method q.message }))
 
--- two steps that differ in the body of the reply alone: one sends it, and the other only tells its
+-- two steps that differ in the body of the reply alone: one sends it, and the other only gives its
 -- length
 pub record IsWithoutBody (whole bare : Stepped) : Type 0 where
   pub state : bare.state ≡ whole.state

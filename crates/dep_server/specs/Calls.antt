@@ -27,7 +27,7 @@ module _ {A : Type 0} (condition : A → Condition) where
     pub store : new.store ≡ old.store
     pub adds : Adds condition old new (Close number) []
 
-  -- a piece of the stream of this number came, and was answered over an outlet, by what the outlet tells
+  -- a piece of the stream of this number came, and was answered over an outlet, by what the outlet shows
   -- before and after (`Hub::arrive`)
   pub record Comes (old new : Hub A) (number : ℕ) (piece : List ℕ) (moment : ℕ) (answer : Arrived)
       : Type 0 where

@@ -47,7 +47,7 @@ abbrev pub FileStaysFrom : {r : AnyRun} → PointOf r → (object number : ℕ) 
 FileStaysFrom {r} p n f file =
     StaysUntilTaken r.config (state_at p) p.behind r.last.state n f file
 
--- it is accepted as a deposit by reference, and its document tells this entry at this place
+-- it is accepted as a deposit by reference, and its document has this entry at this place
 pub record IsDeposit (q : AnyRequest) (t : Target) (place : ℕ) (reference : Reference)
     : Type 0 where
   pub references : List Reference

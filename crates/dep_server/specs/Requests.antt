@@ -25,7 +25,7 @@ pub record AnyStep : Type 0 where
 abbrev pub ticked : AnyStep → State
 ticked x = tick x.config x.state x.moment
 
--- what it comes to
+-- the step that is made of it
 abbrev pub made : AnyStep → Stepped
 made x = step x.config x.state x.item x.moment
 

@@ -39,7 +39,7 @@ EventFailsAt (arrives {moment = at} arrival) item moment began =
 EventFailsAt (unknown absent) item moment began = ⊥
 
 -- the run ended in the step of this item, begun in this state at this moment: it failed, or a stop
--- broke its arrival, and nothing tells what is left of it
+-- broke its arrival, and nothing says what is left of it
 abbrev pub EndsInWork : {config : Config} {first : State} {records : List Record} {w : World}
     → Run config first records w → Item → (moment : ℕ) → State → Type 0
 EndsInWork begins item moment began = ⊥

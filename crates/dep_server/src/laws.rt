@@ -62,8 +62,8 @@ pub fn cuts_move_occasions()
         → HaveSameOccasions a b → EndAlike a b }
 {}
 
-/// A HEAD is stepped as the GET of the same path: its reply has the same head, which tells the
-/// length of the body, and no body.
+/// A HEAD is stepped as the GET of the same path: its reply has the same head, with the length of the body,
+/// and no body.
 pub fn heads_have_no_body()
     ensures { (request : AnyRequest)
         → IsWithoutBody (step_as (codes "GET") request) (step_as (codes "HEAD") request) }
@@ -177,9 +177,8 @@ pub fn turns_make_a_run()
         → GoesOn run (records_of number turns) (with_closed number talked) }
 {}
 
-/// A turn that does not leave its connection open is the last one, and tells why the connection is
-/// served no longer: where a reply was cut, because the outlet failed, and where it was closed,
-/// because of that.
+/// A turn that does not leave its connection open is the last one, and shows why the connection is served no
+/// longer: where a reply was cut, because the outlet failed, and where it was closed, because of that.
 pub fn last_turn_tells_the_end()
     ensures { (talk : EndedTalk) (before behind : List Turn) (t : Turn)
         → talk.turns ≡ before ++ t ∷ behind → IsEndedBy t.answer behind talk.end }

@@ -1,4 +1,4 @@
--- What serving from a hub comes to, whose clients come by a door.
+-- What serving from a hub does, whose clients come by a door.
 use Rattle.std.specs.Prelude.{◌≡◌, ℕ, Bool, true, false, List, [], Option, IsNone, IsTrue}
 use Rattle.dep_types.specs.State.{State}
 use Rattle.dep_types.specs.Conditions.{Condition}
@@ -26,7 +26,7 @@ pub record Doorway (R K S : Type 0) : Type 0 where
   pub is_open : Bool
   -- no more comes
   pub is_over : Bool
-  -- it was broken off: more may come, and isn't told
+  -- it was broken off: more may come, and isn't given
   pub is_cut : Bool
 
 -- a door, by what it shows
@@ -59,7 +59,7 @@ module _ {A R K S L : Type 0} (condition : A → Condition) (account : A → Acc
         log m deeds most_events end
     pub left : store ≡ last.hub.store
 
-  -- what serving from a hub comes to, by a door
+  -- what serving from a hub does, by a door
   pub data EndsHub (before after : Doorway R K S) (l m : L) (limits : Limits) (old : Hub A)
       (store : A) : List Deed → Outcome → Type 0 where
     -- no more came
@@ -102,7 +102,7 @@ pub record WentOn {A : Type 0} (condition : A → Condition) (old : Hub A) (stor
 module _ {A R K S L : Type 0} (condition : A → Condition) (account : A → Account)
     (unread : R → Option (List ℕ)) (taken : K → Option (List ℕ)) (held : S → Option (List ℕ))
     (size : S → ℕ) (notes : L → Option (List Note)) where
-  -- what serving from a hub comes to, by some deeds, and where these led
+  -- what serving from a hub does, by some deeds, and where these led
   abbrev pub ServesHub : (before after : Doorway R K S) → (l m : L) → Limits → Hub A → (store : A)
       → Outcome → Type 0
   ServesHub before after l m limits old store outcome = (deeds : List Deed)

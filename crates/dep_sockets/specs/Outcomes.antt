@@ -1,4 +1,4 @@
--- What a run comes to where no more is served.
+-- How a run ends where no more is served.
 use Rattle.std.specs.Prelude.{Bool, true, false}
 use Rattle.dep_host.specs.declared.serving.Ended.{Ended}
 use Rattle.dep_host.specs.declared.serving.Ended.TheVariants.{Events, Shut, Spent}

@@ -1,10 +1,10 @@
--- What the system tells of sockets, as a host is told of it.
+-- What the system says of sockets, as events of a host.
 use Rattle.std.specs.Prelude.{ℕ, ◌==◌, List, [], ◌∷◌, Bool, false, ◌||◌, if◌then◌else◌}
 use Rattle.mio.specs.declared.event.event.Event.{Event}
 use Rattle.mio.specs.Event.{event_token, is_readable, is_writable, is_error, is_read_closed, is_write_closed}
 use Rattle.dep_sockets.specs.declared.readiness.Ready.{Ready}
 
--- the socket failed, or was shut, which the next call at it tells
+-- the socket failed, or was shut, which the next call at it shows
 abbrev pub is_broken : Event → Bool
 is_broken e = is_error e || is_read_closed e || is_write_closed e
 

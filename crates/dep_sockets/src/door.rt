@@ -17,16 +17,16 @@ pub trait Door<R: Source, K: Sink, S: Spool>: Events<R, K, S> {
     /// Whether it lets clients in.
     ghost is_open: { Self → Bool };
 
-    /// Whether it was broken off: more may come, and isn't told.
+    /// Whether it was broken off: more may come, and isn't given.
     ghost is_cut: { Self → Bool };
 
-    /// Lets clients in from now on, and answers whether it can.
+    /// Lets clients in from now on, and returns whether it can.
     fn open(&mut self) -> bool
         ensures told { result ≡ is_open self.new }
         // None came meanwhile.
         ensures given { Self.given self.new ≡ Self.given self.old };
 
-    /// Whether it was broken off, once no more is told.
+    /// Whether it was broken off, once no more is given.
     fn was_cut(&self) -> bool
         ensures { result ≡ is_cut self.now };
 }

@@ -52,7 +52,7 @@ pub fn serve_hub<
     (outcome, host.into_hub().into_store())
 }
 
-/// What it comes to where no more is served.
+/// How it ended where no more is served.
 fn outcome_at(ended: Ended, is_cut: bool) -> Outcome
     ensures { result ≡ outcome_at ended is_cut }
 {

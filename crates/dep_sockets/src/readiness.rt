@@ -1,4 +1,4 @@
-//! What the system tells of sockets, as a host is told of it.
+//! What the system says of sockets, as events of a host.
 ghost use Rattle.std.specs.Prelude.{◌≡◌, ◌++◌, IfOk, OnOk};
 ghost use Rattle.mio.specs.Events.{items};
 ghost use Rattle.dep_sockets.specs.Readiness.{ready_of, readies_of, has_listener};
@@ -16,8 +16,8 @@ pub(crate) struct Ready {
     pub(crate) is_writable: bool,
 }
 
-/// Notes the connections that are told as ready behind those that were noted. It answers whether the listener is among
-/// them.
+/// Notes the connections that are ready behind those that were noted. It returns whether the listener is
+/// among them.
 pub(crate) fn note_all(
     polled: &Events,
     listener: Token,
@@ -38,7 +38,8 @@ pub(crate) fn note_all(
     Ok(is_waited_for)
 }
 
-/// What an event tells of a connection. One whose socket failed or was shut may be read and written, which tells how.
+/// What an event says of a connection. One whose socket failed or was shut may be read and written, which
+/// shows how.
 fn ready_of(event: &Event) -> Ready
     ensures { result ≡ ready_of event.now }
 {

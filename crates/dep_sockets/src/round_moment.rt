@@ -33,7 +33,7 @@ impl RoundMoment {
         }
     }
 
-    /// Notes how many milliseconds the last round took. Of further ones at the same moment it is no matter.
+    /// Notes how many milliseconds the last round took. Further ones at the same moment are ignored.
     pub fn note(&mut self, took: u128)
         ensures first { self.old.rounds ≡ 1
             → self.new ≡ record self.old { is_late = nat_lt 19 took } }

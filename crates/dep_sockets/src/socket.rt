@@ -17,20 +17,20 @@ struct Socket {
     _open: Rc<()>,
 }
 
-/// The half that gives a client's bytes. It tells nothing of them.
+/// The half that gives a client's bytes. Contracts see nothing of them.
 #[derive(Drop)]
 pub struct SocketSource {
     socket: Rc<Socket>,
 }
 
-/// The half that takes the bytes for a client. It tells nothing of them.
+/// The half that takes the bytes for a client. Contracts see nothing of them.
 #[derive(Drop)]
 pub struct SocketSink {
     socket: Rc<Socket>,
 }
 
-/// The halves of a socket whose calls never wait. It is closed once both are gone, and until then it owns what tells
-/// that it is open.
+/// The halves of a socket whose calls never wait. It is closed once both are gone, and until then it owns
+/// `open`, whose owners are counted.
 pub(crate) fn halves(
     alloc: Global,
     stream: TcpStream,

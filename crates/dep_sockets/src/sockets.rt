@@ -21,7 +21,7 @@ use std::time::{Clock, Duration, Instant, SystemTime};
 /// The token of the listener; those of connections are their places, which are smaller.
 const LISTENER: Token = Token(MOST_SEATS);
 
-/// How many sockets are told of at once at most: those of all connections and the listener.
+/// How many sockets can be ready at once: those of all connections and the listener.
 const MOST_READY: usize = MOST_SEATS + 1;
 
 /// How many seconds it sleeps at most, so that connections that are silent for too long are closed.
@@ -32,12 +32,12 @@ const MOST_TRIES: u32 = 64;
 
 type SocketClient<'a, R> = Client<SocketSource, SocketSink, FileSpool<'a, R>>;
 
-/// Why no more is told.
+/// Why no more events come.
 #[derive(Clone, Copy, Debug, PartialEq, Eq)]
 pub enum SocketFault {
     /// There was no memory.
     Memory,
-    /// The system doesn't tell what is ready.
+    /// The system doesn't say what is ready.
     Poll,
 }
 
@@ -52,7 +52,7 @@ impl From<AllocError> for SocketFault {
     }
 }
 
-/// What is told next.
+/// Which kind of event is next.
 #[derive(Clone, Copy)]
 enum Stage {
     /// Which sockets are ready, and then that a round is due.
@@ -129,7 +129,7 @@ impl<'a, R: Files + Net + Clock> Sockets<'a, R> {
         self.remaining == 0 && Rc::strong_count(&self.open) == 1
     }
 
-    /// Waits, unless it is over. It answers whether it could.
+    /// Waits, unless it is over. It returns whether it could.
     fn go_on(&mut self, is_busy: bool) -> bool {
         if self.is_over() {
             return false;
@@ -230,7 +230,7 @@ impl<'a, R: Files + Net + Clock> Events<SocketSource, SocketSink, FileSpool<'a, 
     for Sockets<'a, R> {
     ghost is_over = { λ s. s.has_ended };
 
-    // Which sockets are ready, as the system tells it, then a round, then the clients that are let in, and so on.
+    // Which sockets are ready, by the system, then a round, then the clients that are let in, and so on.
     fn next(
         &mut self,
         vacancy: Option<usize>,

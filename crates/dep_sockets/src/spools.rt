@@ -79,8 +79,8 @@ impl<'a, R: Files> Spools<'a, R> {
         Ok(file)
     }
 
-    /// Counts so many bytes that a spool is to hold. It answers whether there is room for them; where
-    /// there is none, they aren't counted.
+    /// Counts so many bytes that a spool is to hold. It returns whether there is room for them; where there
+    /// is none, they aren't counted.
     pub(crate) fn charge(&self, count: u64) -> bool {
         match total_with(self.held.get(), count, self.most) {
             Some(held) => {

@@ -1,4 +1,4 @@
--- What the calls that change an upload make of a state, where their rows tell of it.
+-- What the calls that change an upload make of a state, where their rows are true of it.
 use Rattle.std.specs.Prelude.{◌≡◌, ℕ, List, length, Some, None}
 use Rattle.std.specs.FinMap as map
 use Rattle.sqlite.specs.State as db

@@ -59,7 +59,7 @@ fn hash_segment<T: Statements>(
     Ok(())
 }
 
-/// The SHA-256 and the SHA-512 (FIPS 180-4) of the assembled bytes of an upload that was loaded, in
+/// Returns the SHA-256 and the SHA-512 (FIPS 180-4) of the assembled bytes of an upload that was loaded, in
 /// the order of its segments' numbers, over those that were received. What was hashed ahead isn't read
 /// again; each other block is read once for both, one at a time, and no row.
 pub fn hash_upload<T: Statements>(
@@ -90,7 +90,7 @@ pub fn hash_upload<T: Statements>(
     Ok(hasher.finish())
 }
 
-// Hashes one more block of an upload, and tells whether there was one that was not hashed.
+// Hashes one more block of an upload, and returns whether there was one that was not hashed.
 fn hash_block<T: Statements>(tx: &mut T, run: &mut RunningHash) -> Result<bool, StoreFault>
     ensures does { ReadsOver T.lenders T.state tx.old tx.new result
         (λ s. IsSound s → IsRunning s run.old → IsRunning s run.new) }
@@ -122,8 +122,8 @@ fn hash_blocks<T: Statements>(tx: &mut T, run: &mut RunningHash) -> Result<(), S
     Ok(())
 }
 
-/// Hashes up to four blocks (256 KiB) of an upload to which a segment came, and tells whether more may
-/// be left. A number of 2^63 or more is a fault of the store.
+/// Hashes up to four blocks (256 KiB) of an upload to which a segment came, and returns whether more may be
+/// left. A number of 2^63 or more is a fault of the store.
 pub fn hash_ahead<T: Statements>(
     tx: &mut T,
     running: &mut RunningHashes,

@@ -92,7 +92,7 @@ pub struct RunningHashes {
 }
 
 impl RunningHashes {
-    /// None.
+    /// Running hashes of no upload. It takes no memory.
     pub fn new(alloc: Global) -> RunningHashes
         ensures { (s : State) → AreRunning s result }
     {

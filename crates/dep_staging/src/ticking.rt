@@ -66,9 +66,9 @@ fn set_clock<T: Statements>(tx: &mut T, row: &StateRow, clock: u64) -> Result<()
     )
 }
 
-/// Moves the clock to the moment, in seconds of Unix time, and never back, and ends each upload that
-/// was left idle: its row, its segments and their bytes go, and its number is remembered. It answers
-/// the clock. No upload has the number 0. A number of 2^63 or more is a fault of the store.
+/// Moves the clock to the moment, in seconds of Unix time, and never back, and ends each upload that was left
+/// idle: its row, its segments and their bytes go, and its number is remembered. It returns the clock. No
+/// upload has the number 0. A number of 2^63 or more is a fault of the store.
 pub fn tick<T: Statements>(tx: &mut T, config: &Config, moment: u64) -> Result<u64, StoreFault>
     ensures does { Does T.lenders T.state tx.old tx.new result
         (FromMaps (T.state tx.old) (T.state tx.new) (λ s. finmap.get s.uploads 0 ≡ None

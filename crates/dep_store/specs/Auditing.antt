@@ -1,4 +1,4 @@
--- What an audit of an object tells of the tables.
+-- What an audit of an object returns of the tables.
 use Rattle.std.specs.Prelude.{ℕ, List}
 use Rattle.dep_tables.specs.declared.sha256s.FileSha256.{FileSha256}
 use Rattle.dep_tables.specs.Tables.{Tables}

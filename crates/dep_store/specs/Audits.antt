@@ -70,7 +70,7 @@ pub record IsBegun (t : Tables) (written : List ℕ) : Type 0 where
   pub are : AreAudits t rows found
   pub front : IsFront written (lines_of found) ⊎ ((others ≡ []) × IsFront written (audit_text found))
 
--- what an audit writes of these tables, by what it comes to
+-- what an audit writes of these tables, by how it ends
 abbrev pub Audits : Tables → (written : List ℕ) → Outcome → Type 0
 Audits t written Done = IsWhole t written Done
 Audits t written Damaged = IsWhole t written Damaged

@@ -23,7 +23,7 @@ module _ {S : Type 0} (g : Ghosts S) (old : Held S) where
       × (IsKnown (state g old) → (state g hashed).now ≡ (state g old).now)
       × AreNewNamesFree (state g hashed).now.schema
 
-  -- why there are tables of version 2: it is shown, or there is no `format` and they are made; or version 1 is told, and
+  -- why there are tables of version 2: it is shown, or there is no `format` and they are made; or version 1 is shown, and
   -- the names were free
   abbrev pub FindsOrUpgrades : Type 0
   FindsOrUpgrades =
@@ -41,7 +41,7 @@ module _ {S : Type 0} (g : Ghosts S) (old new : Held S) where
       × FailsToUpgrade g hashed new values fault)
 
 module _ {S : Type 0} (g : Ghosts S) (old new : Held S) where
-  -- why an open fails: no tables are found or made; or version 1 is told, and tables of ours were not migrated
+  -- why an open fails: no tables are found or made; or version 1 is shown, and tables of ours were not migrated
   abbrev pub FailsToOpenTables : OpenFault → Type 0
   FailsToOpenTables fault =
       FailsToOpen g old new fault

@@ -37,15 +37,15 @@ pub record Migrates {A E : Type 0} (old new : db.State) (result : Result A E) : 
 abbrev pub Stood : db.State → State → Type 0
 Stood d s = StandsFor d s ⊎ OlderStandsFor d s
 
--- What tables of version 1 are once they were opened, by the version that their row tells: those of version 2, or, where
--- the row tells that already, what they were.
+-- What tables of version 1 are once they were opened, by the version in their row: those of version 2, or, where
+-- the row has that already, what they were.
 abbrev pub OpensOlder : Tables → db.State → Type 0
 OpensOlder t new =
     (HasVersion older_version t × ((after : Tables) × Stands new after × IsUpgraded t after))
     ⊎ (HasVersion our_version t × StandsOlder new t)
 
 -- What an open that failed leaves as it was committed: a database with the schema of one of our versions, and each one
--- of which version 1 is not told, such as one without a table `format`.
+-- of which version 1 is not shown, such as one without a table `format`.
 pub record Keeps (old new : db.State) : Type 0 where
   pub known : IsKnown old → IsBack old new
   pub other : (TellsVersion old older_version → ⊥) → IsBack old new
@@ -66,7 +66,7 @@ FallsBack old new result = IsTrue new.is_open → old.now ≡ old.committed → 
 abbrev pub OfEither : {C E : Type 0} → Result C (E × C) → (C → Type 0) → Type 0
 OfEither result told = MatchResult result told (λ refused. told refused.1)
 
--- ---- what is told of an open, by the connection before it and the one behind it
+-- ---- what is known of an open, by the connection before it and the one behind it
 
 module _ {S : Type 0} (g : Ghosts S) (old : Held S) where
   -- a database with no table is the empty archive's
@@ -89,7 +89,7 @@ module _ {S : Type 0} (g : Ghosts S) (old : Held S) where
   FindsOlder new = HasCleanDisk (state g new) → (t : Tables) → HoldsOlder (state g old).now.trees t
       → OpensOlder t (state g new)
 
-  -- of a database that can be opened, no version is told that is not known
+  -- of a database that can be opened, no version is found that is not known
   abbrev pub RefusesNone : OpenFault × Held S → Type 0
   RefusesNone refused = HasCleanDisk (state g refused.1) → refused.0 ≡ UnknownVersion
       → IsOpenable (state g old) → ⊥

@@ -1,4 +1,4 @@
--- What was told so far, and how far it was written.
+-- What is to be written so far, and how far it was written.
 use Rattle.std.specs.Prelude.{◌≡◌, ◌≢◌, ◌⊎◌, ℕ, List, [], ◌++◌, length, filter, Option, Result, Ok, Err, OnOk}
 use Rattle.std.specs.Io.KnownBytes.{Appends}
 use Rattle.sqlite.specs.State as db
@@ -27,7 +27,7 @@ abbrev pub outcome_of_fault : AuditFault → Outcome
 outcome_of_fault Store = StoreFault
 outcome_of_fault Writer = TransferFault
 
--- a text was written so far as the answer tells
+-- a text was written so far as the result says
 abbrev pub Writes : {X : Type 0} → (taken takes : Option (List ℕ)) → (whole : List ℕ)
     → Result X AuditFault → Type 0
 Writes taken takes whole result =
@@ -47,14 +47,14 @@ HasCause result failures failures_after = result ≡ Err Writer → HasRisen fai
 abbrev pub IsQuiet : {X : Type 0} → Result X AuditFault → (failures failures_after : ℕ) → Type 0
 IsQuiet result failures failures_after = result ≡ Err Store → failures_after ≡ failures
 
--- the writer failed where that is told, and nowhere else
+-- the writer failed where that is returned, and nowhere else
 pub record BlamesWriter {X : Type 0} (failures failures_after : ℕ) (result : Result X AuditFault)
     : Type 0 where
   pub count : OnOk result (failures_after ≡ failures)
   pub quiet : IsQuiet result failures failures_after
   pub cause : HasCause result failures failures_after
 
--- a text was written so far as the answer tells, and the writer failed where that is told, and nowhere else
+-- a text was written so far as the result says, and the writer failed where that is returned, and nowhere else
 pub record WritesTo {W X : Type 0} (taken : W → Option (List ℕ)) (failures : W → ℕ) (before after : W)
     (whole : List ℕ) (result : Result X AuditFault) : Type 0 where
   pub writes : Writes (taken before) (taken after) whole result

@@ -1,4 +1,4 @@
--- What a call on a store that a fault shut leaves, and why it isn't told whether one was.
+-- What a call on a store that a fault shut leaves, and why it isn't known whether one was.
 use Rattle.std.specs.Prelude.{◌≡◌, ◌≢◌, ◌⊎◌, ℕ, Bool, List, Option, IsTrue, Result, IfOk, IfErr, OnOk}
 use Rattle.sqlite.specs.State as db
 use Rattle.sqlite.specs.Tree.{Trees}
@@ -54,14 +54,14 @@ pub record PerformsIfOpen (old new : db.State) (result : Result Done StoreFault)
   pub back : IsBackUnchanged old new result
   pub shows : ShowsFile old new result op
 
--- Why it isn't told whether a store is open: a transaction is under way; or the store failed, as the fault tells, and not
+-- Why it isn't known whether a store is open: a transaction is under way; or the store failed, by this fault, and not
 -- because it was shut before: memory was refused, or the disk failed once more.
 abbrev pub FailsToTell : (old new : db.State) → StoreFault → Type 0
 FailsToTell old new fault =
     (IsTrue old.in_transaction × (fault ≡ Store))
     ⊎ ((e : Error) × db.Fails old new ⊥ e × (e ≢ SqliteFailure Closed) × (fault ≡ fault_for e))
 
--- nothing changes, and it is told, or there is a cause why it isn't
+-- nothing changes, and it is returned, or there is a cause why it isn't
 pub record AsksIfOpen (old new : db.State) (result : Result Bool StoreFault) : Type 0 where
   pub told : IfOk result (TellsOpen (shown_by new))
   pub cause : db.HasCleanDisk new → IfErr result (FailsToTell old new)

@@ -38,7 +38,7 @@ pub record HashesOn (old new : db.State) (before after : RunningHashes) : Type 0
   pub rests : KeepsAll (shown_by old) (shown_by new)
   pub left : LeavesOnly old new
 
--- an Ok tells this of its tables, which stay, whether they stand for a state or not
+-- an Ok says this of its tables, which stay, whether they stand for a state or not
 pub record TellsTables {A E : Type 0} (old new : db.State) (told : Tables → A → Type 0)
     (result : Result A E) : Type 0 where
   pub ok : db.HasCleanDisk new → (t : Tables) → Stands old t
@@ -49,7 +49,7 @@ pub record TellsTables {A E : Type 0} (old new : db.State) (told : Tables → A 
   pub stop : db.HasCleanDisk new → (t : Tables) → Stands old t → (trees : Trees)
       → new.may_leave trees → Holds trees t
 
--- A transaction that only tells this of the tables. On a store that was shut it fails.
+-- A transaction that only returns this of the tables. On a store that was shut it fails.
 pub record TellsIfOpen {A E : Type 0} (old new : db.State) (told : Tables → A → Type 0)
     (result : Result A E) : Type 0 where
   pub transacts : Transacts old new result (OnlyTells told)

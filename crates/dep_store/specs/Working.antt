@@ -1,4 +1,4 @@
--- What work on a database in a file comes to.
+-- How work on a database in a file ends.
 use Rattle.std.specs.Prelude.{Bool, false}
 use Rattle.dep_program.specs.declared.outcome.Outcome.{Outcome}
 use Rattle.dep_program.specs.declared.outcome.Outcome.TheVariants.{Done, StoreFault}

@@ -43,7 +43,7 @@ pub(crate) fn open_tables<S: Alter, W: Watch>(
     requires settled { (state S.Store connection).in_transaction ≡ false }
     ensures fresh { IfOk result (StartsEmpty S.Store connection) }
     ensures found { IfOk result (FindsState S.Store connection) }
-    // So it is of tables that stand for no state, whatever version their row tells.
+    // So it is of tables that stand for no state, whatever version their row has.
     ensures tables { IfOk result (FindsTables S.Store connection) }
     ensures older { IfOk result (FindsOlder S.Store connection) }
     // An Ok has a cause, and so has a fault.

@@ -69,7 +69,7 @@ fn read_still<T: Statements>(
     }))
 }
 
-/// What the error of a statement tells: that the store was shut, or why it tells nothing.
+/// What the error of a statement means: that the store was shut, or why that isn't known.
 fn told_by(error: Error) -> Result<bool, StoreFault>
     ensures shut { IfOk result
         (λ is_open. (is_open ≡ false) × (error ≡ Error.SqliteFailure ErrorCode.Closed)) }

@@ -87,7 +87,7 @@ impl<S: Alter> Store<S> {
             → StandsFor (state S.Store store) s) }
         ensures refused { IfErr result (λ e. HasCleanDisk (state S.Store e.1)
             → e.0 ≡ OpenFault.UnknownVersion → IsOpenable (state S.Store connection) → ⊥) }
-        // So it is of tables that stand for no state, whatever version their row tells: those of version 2 stay, and those
+        // So it is of tables that stand for no state, whatever version their row has: those of version 2 stay, and those
         // of version 1 get the SHA-512 of each file's bytes as they stand.
         ensures tables { IfOk result (λ store. HasCleanDisk (state S.Store store)
             → (t : Tables) → Holds (state S.Store connection).now.trees t
@@ -105,7 +105,7 @@ impl<S: Alter> Store<S> {
             → (s : State) → IsLeftAs (state S.Store connection).now.trees s
             → e.0 ≡ OpenFault.UnknownVersion → ⊥) }
         // A fault that leaves the store open leaves tables of ours as they were, in the version that they had, and any others
-        // of which version 1 is not told.
+        // of which version 1 is not shown.
         ensures left { IfErr result (λ e. IsTrue (state S.Store e.1).is_open
             → Keeps (state S.Store connection) (state S.Store e.1)) }
         ensures stood { IfErr result (λ e. IsTrue (state S.Store e.1).is_open
@@ -135,8 +135,8 @@ impl<S: Alter> Store<S> {
         }
     }
 
-    /// Moves the clock to the moment, and never back, and ends the uploads that were left idle. It
-    /// answers the clock.
+    /// Moves the clock to the moment, and never back, and ends the uploads that were left idle. It returns
+    /// the clock.
     pub fn tick(&mut self, config: &Config, moment: Moment) -> Result<Moment, StoreFault>
         ensures does { Ticks (condition_of S.Store self.old) (condition_of S.Store self.new)
             config.now moment result }
@@ -202,7 +202,7 @@ impl<S: Alter> Store<S> {
         Ok(done.performed)
     }
 
-    /// Hashes a few blocks of an upload to which a segment came, and tells whether more may be left. It
+    /// Hashes a few blocks of an upload to which a segment came, and returns whether more may be left. It
     /// changes nothing that is kept.
     pub fn hash_ahead(&mut self, running: &mut RunningHashes) -> Result<bool, StoreFault>
         ensures { HashesOn (state S.Store self.old) (state S.Store self.new) running.old running.new }
@@ -249,11 +249,11 @@ impl<S: Alter> Store<S> {
         view_object(&mut self.connection, self.alloc, object)
     }
 
-    /// The least number of an object above this one.
+    /// Returns the least number of an object above this one, if there is one.
     pub fn next_object(&mut self, after: u64) -> Result<Option<u64>, StoreFault>
         ensures does { Tells (condition_of S.Store self.old) (condition_of S.Store self.new)
             (λ s found. found ≡ option_map (λ e. e.0) (next_entry s.objects after)) result }
-        // So it is of tables that stand for no state: the least row above this number is told.
+        // So it is of tables that stand for no state: the least row above this number is returned.
         ensures rows { TellsTables (state S.Store self.old) (state S.Store self.new)
             (IsObjectAfter after) result }
         ensures opened { HasCleanDisk (state S.Store self.new)
@@ -283,11 +283,11 @@ impl<S: Alter> Store<S> {
         audit_files(&mut self.connection, self.alloc, files.as_slice(), watch)
     }
 
-    /// Whether the store is open, as far as it can be told: `false` where a fault has shut it, for
-    /// good. Before that is known memory may run out, or the disk fail once more; ask again then.
+    /// Whether the store is open, as far as that can be known: `false` where a fault has shut it, for good.
+    /// Before that is known memory may run out, or the disk fail once more; ask again then.
     pub fn is_open(&mut self) -> Result<bool, StoreFault>
         ensures told { IfOk result (TellsOpen (condition_of S.Store self.new)) }
-        // That it isn't told has a cause, of which want of memory can be seen by nobody.
+        // A failure has a cause, of which want of memory can be seen by nobody.
         ensures cause { HasCleanDisk (state S.Store self.new)
             → IfErr result (FailsToTell (state S.Store self.old) (state S.Store self.new)) }
         ensures rests { KeepsAll (condition_of S.Store self.old) (condition_of S.Store self.new) }

@@ -11,7 +11,7 @@ pub(crate) struct Tally {
 }
 
 impl Tally {
-    /// Both together.
+    /// The sums of both. It is a fault of the store where one passes 64 bits.
     pub fn plus(self, other: Tally) -> Result<Tally, AuditFault>
         ensures checked { IfOk result (λ sum. sum.checked ≡ self.checked + other.checked) }
         ensures damaged { IfOk result (λ sum. sum.damaged ≡ self.damaged + other.damaged) }

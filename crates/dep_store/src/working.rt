@@ -33,7 +33,7 @@ fn work_over<D: Disk + Drop, W: Work>(connection: Connection<FileStore<D>>, work
     outcome_closed(outcome, is_closed)
 }
 
-/// What it comes to once the database is handed back, and was closed or not.
+/// How it ended once the database is handed back, and was closed or not.
 fn outcome_closed(outcome: Outcome, is_closed: bool) -> Outcome
     ensures { result ≡ outcome_closed outcome is_closed }
 {

@@ -60,7 +60,7 @@ pub data FailsToGiveBlocks (o : BlockOwner) (size : Option ℕ) (old new : State
 abbrev pub FailsToSendBlocks : BlockOwner → ℕ → State → State → StreamFault → Type 0
 FailsToSendBlocks o size old new = IsStoppedBy (FailsToGiveBlocks o (Some size) old new)
 
--- why the size of a file was not told
+-- why the size of a file was not found
 pub data FailsToFindSize (file : ℕ) (old new : State) (fault : StoreFault) : Type 0 where
   no_number : ¬ (file < 2 ^ 63) → fault ≡ Store → FailsToFindSize file old new fault
   not_told : FailsToReadNumbers (AtMostOne IsSizeRow) find_size_text (Int (pos file) ∷ []) old new
@@ -85,13 +85,13 @@ pub data FailsToLoad (file : ℕ) (old new : State) (fault : StoreFault) : Type 
       → (sent : List ℕ) × IsPartOfContent s file sent) → fault ≡ Memory
       → FailsToLoad file old new fault
 
--- why the SHA-512 that is kept of an owner was not told
+-- why the SHA-512 that is kept of an owner was not found
 pub data FailsToFindSha512 (o : BlockOwner) (old new : State) (fault : StoreFault) : Type 0 where
   no_owner : ¬ (IsStorableOwner o) → fault ≡ Store → FailsToFindSha512 o old new fault
   not_told : FailsToReadNumbers (AtMostOne IsSha512Row) find_sha512_text (owner_values o) old new fault
       → FailsToFindSha512 o old new fault
 
--- why the digests of a file were not told
+-- why the digests of a file were not found
 pub data FailsToFindFixity (file : ℕ) (old new : State) (fault : StoreFault) : Type 0 where
   no_sha512 : FailsToFindSha512 (owner.File file) old new fault → FailsToFindFixity file old new fault
   no_blocks : (kept : Option (List ℕ)) → IsKeptSha512 (tables_of old) (owner.File file) kept
@@ -109,7 +109,7 @@ FailsToAudit {T} state files old new fault =
     (file : FileSha256) × Contains files file × (at : T) × ((state at).now ≡ old.now)
     × FailsToCheck file (state at) new fault
 
--- why the next file behind a number was not told
+-- why the next file behind a number was not found
 pub data FailsToFindFile (after : ℕ) (old new : State) (fault : StoreFault) : Type 0 where
   no_number : ¬ (after < 2 ^ 63) → fault ≡ Store → FailsToFindFile after old new fault
   not_told : FailsToReadNumbers (AtMostOne IsNumberRow) next_file_text (Int (pos after) ∷ []) old new

@@ -26,7 +26,7 @@ abbrev pub OnlyReads : List ℕ → Type 0
 OnlyReads sql = (schema : Schema) → ShowsNoWrite (understood schema sql)
 
 module _ {S : Type 0} (g : Ghosts S) (old new : Held S) where
-  -- what every call keeps that only reads, whatever the tables are, and whatever it answers
+  -- what every call keeps that only reads, whatever the tables are, and whatever it returns
   pub record StaysOver : Type 0 where
     -- no fault of the disk is forgotten
     pub honest : HasCleanDisk (state g new) → HasCleanDisk (state g old)
@@ -53,7 +53,7 @@ module _ {S A E : Type 0} (g : Ghosts S) (old new : Held S) (result : Result A E
 
 module _ {S A E : Type 0} (are_ours : State → Type 0) (g : Ghosts S) (old new : Held S)
     (result : Result A E) where
-  -- where the tables are ours, an Ok tells this of what the connection sees
+  -- where the tables are ours, an Ok says this of what the connection sees
   abbrev pub TellsSeen : (State → A → Type 0) → Type 0
   TellsSeen told = HasCleanDisk (state g new) → are_ours (state g old)
       → IfOk result (told (state g old))

@@ -18,7 +18,7 @@ abbrev pub IsStreamStoppedBy : (StoreFault → Type 0) → StreamFault → Type 
 IsStreamStoppedBy causes NoSuchFile = ⊤
 IsStreamStoppedBy causes fault = IsStoppedBy causes fault
 
--- the outlet failed once more where this fault is told, and else not
+-- the outlet failed once more where this fault is returned, and else not
 pub record BlamesOutlet {A E : Type 0} (blame : E) (were are : ℕ) (result : Result A E) : Type 0 where
   pub kept : OnOk result (are ≡ were)
   pub cause : result ≡ Err blame → HasRisen were are

@@ -45,7 +45,7 @@ abbrev pub number_if_damaged : FileSha256 → FileFixity → List ℕ
 number_if_damaged row found =
     number_unless_kept row.file (record { sha256 = row.value; sha512 = found.kept_sha512 }) found.digests
 
--- All files were checked, each by the digests of its blocks, and those that differ are told in their order.
+-- All files were checked, each by the digests of its blocks, and those that differ are noted in their order.
 pub record IsAudited (t : Tables) (rows : List FileSha256) (audit : Audit) : Type 0 where
   pub checked : audit.checked ≡ length rows
   pub found : List FileFixity

@@ -1,4 +1,4 @@
--- What a call that only reads tells and leaves.
+-- What a call that only reads returns and leaves.
 use Rattle.std.specs.Prelude.{◌⊎◌, ℕ, List, Option, Some, None, IsTrue}
 use Rattle.sqlite.specs.State as db
 use Rattle.dep_types.specs.State.{State}

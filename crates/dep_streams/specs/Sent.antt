@@ -30,13 +30,13 @@ abbrev pub joined : List Row → List ℕ
 joined [] = []
 joined (row ∷ rows) = blob_of row ++ joined rows
 
--- these are the first rows of an answer, all of whose bytes were sent
+-- these are the first rows that the query shows, all of whose bytes were sent
 pub record StopsBetween (sql : List ℕ) (params : Row) (old : State) (sent : List ℕ) : Type 0 where
   pub given : List Row
   pub begins : (given ≡ []) ⊎ Begins sql params old given
   pub sends : sent ≡ joined given
 
--- these are the first rows of an answer; of the last of them a proper prefix was sent
+-- these are the first rows that the query shows; of the last of them a proper prefix was sent
 pub record StopsWithin (sql : List ℕ) (params : Row) (old : State) (sent : List ℕ) : Type 0 where
   pub given : List Row
   pub row : Row
@@ -53,7 +53,7 @@ GivesSized old new bytes (Err Store) = new ≡ old
 GivesSized old new bytes (Err Memory) = ⊥
 GivesSized old new bytes (Err NoSuchFile) = ⊥
 
--- the first rows of an answer, up to so many bytes
+-- the first rows that the query shows, up to so many bytes
 abbrev pub SendsSized : List ℕ → Row → State → ℕ → List ℕ → Result (Unit {0}) StreamFault → Type 0
 SendsSized sql params old size sent (Ok done) = StopsBetween sql params old sent
     × (length sent ≡ size)

@@ -1,4 +1,4 @@
--- What is told of a file before its content is sent.
+-- What has to be known of a file before its content is sent.
 use Rattle.std.specs.Prelude.{◌≡◌, ℕ, pos, List, [], ◌∷◌, codes, Option, option_map}
 use Rattle.sqlite.specs.declared.types.Value.TheVariants.{Int}
 use Rattle.sqlite_value.specs.Order.{Row, column}

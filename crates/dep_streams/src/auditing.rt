@@ -76,12 +76,12 @@ fn keep_damaged<S: Alter, W: Watch>(
     Ok(())
 }
 
-/// Checks files by the SHA-256 and the SHA-512 of the bytes that stand in the tables: those of all blocks that name the
-/// file, by part and place, whatever they are. The SHA-256 is held against the row's, and the SHA-512 against the one
-/// that the table of them keeps: a file of which it keeps none is damaged. The rows are those that the tables keep of the
-/// files. Each block is read once, for both digests, and one is held at a time: the watch is told of it. A number of
-/// 2^63 or more is a fault of the store, and so is a block that has no bytes, or a SHA-512 that is kept as anything but
-/// 64 bytes.
+/// Checks files by the SHA-256 and the SHA-512 of the bytes that stand in the tables: those of all blocks
+/// that name the file, by part and place, whatever they are. The SHA-256 is compared with the row's, and the
+/// SHA-512 with the one that the table of them keeps: a file of which it keeps none is damaged. The rows are
+/// those that the tables keep of the files. Each block is read once, for both digests, and one is held at a
+/// time; its length is passed to `watch`. A number of 2^63 or more is a fault of the store, and so is a block
+/// that has no bytes, or a SHA-512 that is kept as anything but 64 bytes.
 pub fn audit_files<S: Alter, W: Watch>(
     connection: &mut Connection<S>,
     alloc: Global,

@@ -65,9 +65,9 @@ fn hash_rows<S: Alter, W: Watch>(
     Err(StoreFault::Store)
 }
 
-/// The digests of the blocks of an owner, joined by part and place, over the tables of any version. Each block is
-/// read once, and one is held at a time: the watch is told of it. A number of 2^63 or more is a fault of the
-/// store, and so is a block that has no bytes.
+/// Returns the digests of the blocks of an owner, joined by part and place, over the tables of any version.
+/// Each block is read once, and one is held at a time; its length is passed to `watch`. A number of 2^63 or
+/// more is a fault of the store, and so is a block that has no bytes.
 pub(crate) fn hash_blocks<S: Alter, W: Watch>(
     connection: &mut Connection<S>,
     owner: BlockOwner,

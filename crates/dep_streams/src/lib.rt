@@ -1,5 +1,6 @@
-//! Contents read block by block over a connection, outside a transaction: sent as they stand in the tables, or hashed
-//! again: held against the digests that are kept of the file, or for the SHA-512 that tables of version 1 lack.
+//! Contents read block by block over a connection, outside a transaction: sent as they stand in the tables,
+//! or hashed again, to be compared with the digests that are kept of the file, or for the SHA-512 that tables
+//! of version 1 lack.
 #![tactic(auto)]
 
 mod auditing;

@@ -10,9 +10,9 @@ use dep_types::{Octets, StoreFault, StreamFault, Through};
 use sqlite::{Alter, Connection};
 use std::alloc::Global;
 
-/// The content of a file as a whole, if there is a file of this number. It takes memory for all of
-/// it, so the server never calls it: `stream_content` holds one block at a time. A number of 2^63
-/// or more is a fault of the store.
+/// Returns the content of a file as a whole, if there is a file of this number. It takes memory for all of
+/// it, so the server never calls it: `stream_content` holds one block at a time. A number of 2^63 or more is
+/// a fault of the store.
 pub fn load_content<S: Alter>(
     connection: &mut Connection<S>,
     alloc: Global,

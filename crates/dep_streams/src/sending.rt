@@ -14,7 +14,7 @@ use dep_types::{Outlet, StreamFault};
 use sqlite::types::ValueRef;
 use sqlite::{Alter, Connection, Row};
 
-/// Sends the bytes of a block, if it has no more than so many bytes, and answers how many it has.
+/// Sends the bytes of a block, if it has no more than so many bytes, and returns how many it has.
 fn give_sized<O: Outlet>(row: &Row, most: u64, out: &mut O) -> Result<u64, StreamFault>
     ensures gives { GivesSized (O.taken out.old) (O.taken out.new) (blob_of row.now) result }
     ensures fits { IfOk result (λ n. n ≤ most) }

@@ -16,7 +16,7 @@ use dep_types::StoreFault;
 use sqlite::types::ValueRef;
 use sqlite::{Alter, Connection, Error, Row};
 
-/// What is told of a file before its content is sent.
+/// What has to be known of a file before its content is sent.
 #[derive(Clone, Copy, Debug, PartialEq, Eq)]
 pub(crate) struct FileSize {
     /// The number of the object that it belongs to.
@@ -54,8 +54,8 @@ fn only(rows: &[Row]) -> Result<Option<FileSize>, StoreFault>
     }
 }
 
-/// The object and the size of the file of this number, if there is one. A number of 2^63 or more is
-/// a fault of the store.
+/// Returns the object and the size of the file of this number, if there is one. A number of 2^63 or more is a
+/// fault of the store.
 pub(crate) fn find_size<S: Alter>(
     connection: &mut Connection<S>,
     file: u64,

@@ -34,9 +34,10 @@ fn next_value<S: Alter, W: Watch>(
     Ok(Some(FileSha512 { file, value }))
 }
 
-/// The SHA-512 of each file whose number is above 0, by ascending number: of the bytes of all blocks that name the file,
-/// by part and place, as they stand. The tables may be of any version. Each block is read once, and one is held at a
-/// time, beside the values: the watch is told of it. A block that has no bytes is a fault of the store.
+/// Returns the SHA-512 of each file whose number is above 0, by ascending number: of the bytes of all blocks
+/// that name the file, by part and place, as they stand. The tables may be of any version. Each block is read
+/// once, and one is held at a time, beside the values; its length is passed to `watch`. A block that has no
+/// bytes is a fault of the store.
 pub fn hash_files<S: Alter, W: Watch>(
     connection: &mut Connection<S>,
     alloc: Global,

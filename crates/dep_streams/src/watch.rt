@@ -1,8 +1,8 @@
 //! How far a reading came.
 
-/// Is told how many bytes were read, while they are.
+/// A watch that is told how many bytes were read, while they are.
 pub trait Watch {
-    /// So many bytes more were read.
+    /// So many octets more were read.
     fn advance(&mut self, octets: u64);
 }
 

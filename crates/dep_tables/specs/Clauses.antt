@@ -17,7 +17,7 @@ module _ {A E : Type 0} (old new : State) (result : Result A E) where
   Changes change = HasCleanDisk new → IsTrue old.in_transaction → IsOurs old
       → OnOk result (Leads old new (change (tables_of old)))
 
-  -- there an Ok tells this of what they were
+  -- there an Ok says this of what they were
   abbrev pub Shows : (Tables → Type 0) → Type 0
   Shows told = HasCleanDisk new → IsTrue old.in_transaction → IsOurs old
       → OnOk result (told (tables_of old))
@@ -61,7 +61,7 @@ module _ (old new : State) where
   CommitsNothing = Survives old new (λ _. ⊥)
 
 module _ {T L A E : Type 0} (lenders : T → L) (state : T → State) (old new : T) (result : Result A E) where
-  -- what every call on a transaction keeps, whatever it answers
+  -- what every call on a transaction keeps, whatever it returns
   pub record StaysWithin : Type 0 where
     -- it is the same transaction, over the same connection
     pub same_reference : lenders new ≡ lenders old
@@ -87,12 +87,12 @@ module _ {T L A E : Type 0} (lenders : T → L) (state : T → State) (old new :
     pub same : IsTrue (state old).is_open → ReadsOnly (state old) (state new) result
     pub err : FailsReading (state old) (state new) result
 
--- the statement of this text was run, and its error is told by this fault
+-- the statement of this text was run, and failed with an error for which this fault is returned
 abbrev pub FailsToRun : List ℕ → Row → State → State → StoreFault → Type 0
 FailsToRun sql params old new fault =
     (e : Error) × ExecutesInside 0 sql params old new (Err e) × (fault ≡ fault_for e)
 
--- the query of this text was asked, and its error is told by this fault
+-- the query of this text was asked, and failed with an error for which this fault is returned
 abbrev pub FailsToAsk : List ℕ → Row → State → State → StoreFault → Type 0
 FailsToAsk sql params old new fault =
     (e : Error) × (FailsToQuery sql params old new e ⊎ IsTooLate sql params old new e)
@@ -191,7 +191,7 @@ pub record Query (A : Type 0) : Type 1 where
   pub are_ours : List Row → Type 0
   -- whether what is read of them is copied, which takes memory
   pub copies : Type 0
-  -- what the value tells of our tables
+  -- what the value says of our tables
   pub told : Tables → A → Type 0
 
 module _ {T L A : Type 0} (lenders : T → L) (state : T → State) (old new : T)

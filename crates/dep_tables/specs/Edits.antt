@@ -1,4 +1,4 @@
--- What each statement makes of the tables, and what it tells of them.
+-- What each statement makes of the tables, and what each query returns of them.
 use Rattle.std.specs.Prelude.{◌≡◌, ℕ, pos, false, Bool, if◌then◌else◌, None, Some, Option, is_some, find, option_map, List, filter, map, not}
 use Rattle.std.specs.List.{list_any}
 use Rattle.std.specs.Option.{option_to_list}
@@ -24,7 +24,7 @@ use Rattle.dep_tables.specs.Versions.{our_version}
 
 -- ---- format
 
--- the row of `format` tells our version
+-- the row of `format` has our version
 abbrev pub with_our_version : Tables → Tables
 with_our_version t = record t { format = replaced (stored_format our_version) t.format }
 

@@ -6,7 +6,7 @@ use Rattle.sqlite.specs.declared.error.ErrorCode.TheVariants.{OutOfMemory}
 use Rattle.dep_types.specs.declared.store_fault.StoreFault.{StoreFault}
 use Rattle.dep_types.specs.declared.store_fault.StoreFault.TheVariants.{Store, Memory}
 
--- want of memory is told as such, and each other error of SQLite is one of the store
+-- the fault for an error of SQLite: want of memory, or one of the store for every other error
 abbrev pub fault_for : Error → StoreFault
 fault_for (SqliteFailure OutOfMemory) = Memory
 fault_for _ = Store

@@ -42,7 +42,7 @@ IsTextValue v = (t : List ℕ) × (v ≡ Text t) × IsUtf8 t
 abbrev pub IsDigestValue : ℕ → Value → Type 0
 IsDigestValue width v = (b : List ℕ) × (v ≡ Blob b) × (length b ≡ width)
 
--- NULL where there is nothing to be told
+-- NULL where there is no value
 abbrev pub IsNullOr : (Value → Type 0) → Value → Type 0
 IsNullOr is_ours v = (v ≡ Null) ⊎ is_ours v
 

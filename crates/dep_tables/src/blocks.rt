@@ -81,7 +81,8 @@ fn move_params(owner: BlockOwner, to: BlockOwner) -> [ValueRef<'static>; 4]
     [kind, number, new_kind, new_number]
 }
 
-/// Gives the blocks of an owner to another. It is a fault of the store where that has a block of the same part and place, and where a number is 2^63 or more.
+/// Gives the blocks of an owner to another. It is a fault of the store where that has a block of the same
+/// part and place, and where a number is 2^63 or more.
 pub fn move_blocks<T: Statements>(
     tx: &mut T,
     owner: BlockOwner,
@@ -108,7 +109,8 @@ fn move_run_params(end: &BlockKey, to: BlockOwner) -> [ValueRef<'static>; 6]
     [kind, number, part, place, new_kind, new_number]
 }
 
-/// Gives the blocks of a part that stand before a place to another owner. It is a fault of the store where that has a block of the same part and place, and where a number is 2^63 or more.
+/// Gives the blocks of a part that stand before a place to another owner. It is a fault of the store where
+/// that has a block of the same part and place, and where a number is 2^63 or more.
 pub fn move_run<T: Statements>(tx: &mut T, end: &BlockKey, to: BlockOwner) -> Result<(), StoreFault>
     ensures does { Writes T.lenders T.state tx.old tx.new result (move_of_run end.now to) }
 {
@@ -166,7 +168,8 @@ impl FromRow for Vec<u8> {
     }
 }
 
-/// The bytes of the block of this key, if there is one. A number of 2^63 or more is a fault of the store.
+/// Returns the bytes of the block of this key, if there is one. A number of 2^63 or more is a fault of the
+/// store.
 pub fn read_block<T: Statements>(tx: &mut T, key: &BlockKey) -> Result<Option<Vec<u8>>, StoreFault>
     ensures does { Queries T.lenders T.state tx.old tx.new result (query_of_block key.now) }
 {
@@ -180,7 +183,8 @@ pub fn read_block<T: Statements>(tx: &mut T, key: &BlockKey) -> Result<Option<Ve
     )
 }
 
-/// The first block of an owner, by part and place. A number of 2^63 or more is a fault of the store.
+/// Returns the place of the first block of an owner, by part and place, if it has one. A number of 2^63 or
+/// more is a fault of the store.
 pub fn first_block<T: Statements>(
     tx: &mut T,
     owner: BlockOwner,

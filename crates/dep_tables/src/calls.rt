@@ -29,7 +29,7 @@ pub trait Statements {
             → IfErr result (FailsToRun sql.now (bound params.now) (state self.old) (state self.new)) }
         ensures keeps { RunsWithin lenders state self.old self.new result };
 
-    /// Runs a query, and answers its rows.
+    /// Runs a query, and returns its rows.
     fn ask(&mut self, sql: &str, params: &[ValueRef<'_>]) -> Result<Vec<Row>, StoreFault>
         ensures shown { HasCleanDisk (state self.new)
             → IfOk result (λ rows. Shown sql.now (bound params.now)

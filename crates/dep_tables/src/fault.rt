@@ -6,7 +6,7 @@ ghost use Rattle.dep_tables.specs.Faults.{fault_for};
 use dep_types::StoreFault;
 use sqlite::{Error, ErrorCode};
 
-/// Memory where memory was refused, else a fault of the store.
+/// Returns `Memory` where memory was refused, and `Store` for every other error of SQLite.
 pub fn fault_of(error: Error) -> StoreFault
     ensures { result ≡ fault_for error }
 {

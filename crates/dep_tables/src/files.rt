@@ -45,7 +45,8 @@ fn file_params(row: &FileRow) -> [ValueRef<'_>; 10]
     ]
 }
 
-/// Adds a row; the SHA-512 has a table of its own. It is a fault of the store where there is a row of this key, and where a number is 2^63 or more.
+/// Adds a row; the SHA-512 has a table of its own. It is a fault of the store where there is a row of this
+/// key, and where a number is 2^63 or more.
 pub fn insert_file<T: Statements>(tx: &mut T, row: &FileRow) -> Result<(), StoreFault>
     ensures does { Writes T.lenders T.state tx.old tx.new result (insertion_of_file row.now) }
     ensures free { Shows (T.state tx.old) (T.state tx.new) result (LacksFileRow row.now.file) }
@@ -115,7 +116,9 @@ impl FromRow for FileRow {
     }
 }
 
-/// The row of this key, with the SHA-512 of the file. It is a fault of the store where the row is not one that `insert_file` writes, where the file has no SHA-512, and for a number of 2^63 or more.
+/// Returns the row of this key, if there is one, with the SHA-512 of the file. It is a fault of the store
+/// where the row is not one that `insert_file` writes, where the file has no SHA-512, and for a number of
+/// 2^63 or more.
 pub fn find_file<T: Statements>(tx: &mut T, file: u64) -> Result<Option<FileRow>, StoreFault>
     ensures does { Queries T.lenders T.state tx.old tx.new result (query_of_file file) }
 {
@@ -129,7 +132,9 @@ pub fn find_file<T: Statements>(tx: &mut T, file: u64) -> Result<Option<FileRow>
     )
 }
 
-/// The rows of an object, by ascending key, each with the SHA-512 of its file. It is a fault of the store where one is not one that `insert_file` writes, where a file has no SHA-512, and for a number of 2^63 or more.
+/// Returns the rows of an object, by ascending key, each with the SHA-512 of its file. It is a fault of the
+/// store where one is not one that `insert_file` writes, where a file has no SHA-512, and for a number of
+/// 2^63 or more.
 pub fn files_of<T: Statements>(
     tx: &mut T,
     alloc: Global,

@@ -1,4 +1,6 @@
-//! The tables of the deposit store in SQLite, and one function for each statement on them.
+//! The tables of the deposit store in SQLite, and one function for each statement on them. A fault of the
+//! store is `StoreFault::Store`, which is also returned where SQLite fails; want of memory is
+//! `StoreFault::Memory`.
 #![tactic(auto)]
 
 mod blocks;

@@ -48,7 +48,8 @@ fn metadata_params(row: &MetadataRow) -> [ValueRef<'_>; 4]
     ]
 }
 
-/// Adds a row. It is a fault of the store where there is a row of this object, name and place, and where a number is 2^63 or more.
+/// Adds a row. It is a fault of the store where there is a row of this object, name and place, and where a
+/// number is 2^63 or more.
 pub fn insert_metadata<T: Statements>(tx: &mut T, row: &MetadataRow) -> Result<(), StoreFault>
     ensures does { Writes T.lenders T.state tx.old tx.new result (insertion_of_metadata row.now) }
     ensures free { Shows (T.state tx.old) (T.state tx.new) result (LacksMetadataRow row.now) }
@@ -98,7 +99,8 @@ impl FromRow for MetadataRow {
     }
 }
 
-/// The rows of an object, by name and place. It is a fault of the store where one is not one that `insert_metadata` writes, and for a number of 2^63 or more.
+/// Returns the rows of an object, by name and place. It is a fault of the store where one is not one that
+/// `insert_metadata` writes, and for a number of 2^63 or more.
 pub fn metadata_of<T: Statements>(
     tx: &mut T,
     alloc: Global,

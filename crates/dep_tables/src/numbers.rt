@@ -28,7 +28,8 @@ pub(crate) fn key_param(key: u64) -> [ValueRef<'static>; 1]
     [ValueRef::Int(number(key))]
 }
 
-/// A number that `number` wrote. It takes no memory.
+/// Returns the number in this column of a row, from 0 on. It is an `Err` where the column holds anything
+/// else. It takes no memory.
 pub fn number_at(row: &Row, at: usize) -> Result<u64, Error>
     ensures told { IfOk result (λ n. column row.now at ≡ Int (pos n)) }
     ensures refused { IfErr result (λ _. ¬ (HasAt IsNumberValue row.now at)) }
@@ -46,7 +47,8 @@ pub(crate) fn flag_number(b: bool) -> i64
     if b { 1 } else { 0 }
 }
 
-/// A flag that `flag_number` wrote. It takes no memory.
+/// Returns the flag in this column of a row: 0 is `false`, 1 is `true`, and anything else is an `Err`. It
+/// takes no memory.
 pub(crate) fn flag_at(row: &Row, at: usize) -> Result<bool, Error>
     ensures told { IfOk result (λ b. column row.now at ≡ flag b) }
     ensures refused { IfErr result (λ _. ¬ (HasAt IsFlagValue row.now at)) }

@@ -103,7 +103,8 @@ impl FromRow for ObjectRow {
     }
 }
 
-/// The row of this key. It is a fault of the store where the row is not one that `insert_object` writes, and for a number of 2^63 or more.
+/// Returns the row of this key, if there is one. It is a fault of the store where the row is not one that
+/// `insert_object` writes, and for a number of 2^63 or more.
 pub fn find_object<T: Statements>(tx: &mut T, object: u64) -> Result<Option<ObjectRow>, StoreFault>
     ensures does { Queries T.lenders T.state tx.old tx.new result (query_of_object object) }
 {
@@ -117,7 +118,8 @@ pub fn find_object<T: Statements>(tx: &mut T, object: u64) -> Result<Option<Obje
     )
 }
 
-/// The least object above this one. A number of 2^63 or more is a fault of the store.
+/// Returns the least number of an object above this one, if there is one. A number of 2^63 or more is a fault
+/// of the store.
 pub fn next_object<T: Statements>(tx: &mut T, after: u64) -> Result<Option<u64>, StoreFault>
     ensures does { Queries T.lenders T.state tx.old tx.new result (query_of_next_object after) }
 {

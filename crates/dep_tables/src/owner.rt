@@ -28,7 +28,7 @@ pub struct BlockPlace {
 /// How many places one statement on a run of blocks goes over, so that it holds few rows.
 pub const RUN_LENGTH: u64 = 8;
 
-/// The key of a block.
+/// The key of a block: whose it is, and its place there.
 #[derive(Clone, Copy, Debug, PartialEq, Eq)]
 pub struct BlockKey {
     /// Whose block it is.
@@ -56,7 +56,7 @@ fn owner_number(owner: BlockOwner) -> u64
     }
 }
 
-/// Whether SQL keeps its number.
+/// Whether SQL keeps its number: one below 2^63.
 pub fn is_storable_owner(owner: BlockOwner) -> bool
     ensures { IsTrue result ↔ IsStorableOwner owner }
 {

@@ -66,7 +66,8 @@ impl FromRow for u64 {
     }
 }
 
-/// What at most one row stands for. It is a fault of the store where there are more, and where a column is of another kind.
+/// Returns what the row stands for, if there is one. It is a fault of the store where there are more, and
+/// where a column is of another kind.
 fn at_most_one<R: FromRow>(rows: &[Row]) -> Result<Option<R>, StoreFault>
     ensures told { IfOk result
         (λ found. map R.values (option_to_list found) ≡ map (columns_from 0 R.width) rows.now) }
@@ -80,7 +81,8 @@ fn at_most_one<R: FromRow>(rows: &[Row]) -> Result<Option<R>, StoreFault>
     }
 }
 
-/// What each row stands for. It is a fault of the store where a column of any of them is of another kind.
+/// Returns what each row stands for. It is a fault of the store where a column of any of them is of another
+/// kind.
 fn all<R: FromRow + Drop>(alloc: Global, rows: &[Row]) -> Result<Vec<R>, StoreFault>
     ensures told { IfOk result
         (λ found. map R.values found.items ≡ map (columns_from 0 R.width) rows.now) }
@@ -97,7 +99,7 @@ fn all<R: FromRow + Drop>(alloc: Global, rows: &[Row]) -> Result<Vec<R>, StoreFa
     Ok(found)
 }
 
-/// Runs a query, and answers what its one row stands for, if it shows one.
+/// Runs a query, and returns what its one row stands for, if it shows one.
 pub(crate) fn ask_one<T: Statements, R: FromRow>(
     tx: &mut T,
     sql: &str,
@@ -115,7 +117,7 @@ pub(crate) fn ask_one<T: Statements, R: FromRow>(
     at_most_one(rows.as_slice())
 }
 
-/// Runs a query, and answers what each of its rows stands for.
+/// Runs a query, and returns what each of its rows stands for.
 pub(crate) fn ask_all<T: Statements, R: FromRow + Drop>(
     tx: &mut T,
     alloc: Global,

@@ -44,7 +44,8 @@ fn segment_params(row: &SegmentRow) -> [ValueRef<'static>; 3]
     ]
 }
 
-/// Adds a row. It is a fault of the store where there is a row of this upload and number, and where a number is 2^63 or more.
+/// Adds a row. It is a fault of the store where there is a row of this upload and number, and where a number
+/// is 2^63 or more.
 pub fn insert_segment<T: Statements>(tx: &mut T, row: &SegmentRow) -> Result<(), StoreFault>
     ensures does { Writes T.lenders T.state tx.old tx.new result (insertion_of_segment row.now) }
     ensures free { Shows (T.state tx.old) (T.state tx.new) result (LacksSegmentRow row.now) }
@@ -92,7 +93,8 @@ impl FromRow for SegmentRow {
     }
 }
 
-/// The rows of an upload, by number. It is a fault of the store where one is not one that `insert_segment` writes, and for a number of 2^63 or more.
+/// Returns the rows of an upload, by number. It is a fault of the store where one is not one that
+/// `insert_segment` writes, and for a number of 2^63 or more.
 pub fn segments_of<T: Statements>(
     tx: &mut T,
     alloc: Global,

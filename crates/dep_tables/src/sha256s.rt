@@ -44,7 +44,9 @@ impl FromRow for FileSha256 {
     }
 }
 
-/// The SHA-256 of each file of an object, by ascending number of the file. No row of `sha512s` is asked for, so a file that has none there is told too. It is a fault of the store where a SHA-256 is not one of 32 bytes, and for a number of 2^63 or more.
+/// Returns the SHA-256 of each file of an object, by ascending number of the file. The table `sha512s` isn't
+/// read, so a file that has no row there is among them. It is a fault of the store where a SHA-256 is not one
+/// of 32 bytes, and for a number of 2^63 or more.
 pub fn sha256s_of<T: Statements>(
     tx: &mut T,
     alloc: Global,

@@ -34,7 +34,8 @@ fn sha512_params(owner: BlockOwner, value: &[u8; 64]) -> [ValueRef<'_>; 3]
     [kind, number, ValueRef::Blob(value)]
 }
 
-/// Adds the SHA-512 of a file's content, or the one that an upload promised. It is a fault of the store where the owner has one, and where its number is 2^63 or more.
+/// Adds the SHA-512 of a file's content, or the one that an upload promised. It is a fault of the store where
+/// the owner has one, and where its number is 2^63 or more.
 pub fn insert_sha512<T: Statements>(
     tx: &mut T,
     owner: BlockOwner,
@@ -87,7 +88,8 @@ impl FromRow for [u8; 64] {
     }
 }
 
-/// The SHA-512 of an owner, if it has one. It is a fault of the store where the value is not one of 64 bytes, and for a number of 2^63 or more.
+/// Returns the SHA-512 of an owner, if it has one. It is a fault of the store where the value is not one of
+/// 64 bytes, and for a number of 2^63 or more.
 pub fn find_sha512<T: Statements>(
     tx: &mut T,
     owner: BlockOwner,

@@ -87,7 +87,8 @@ impl FromRow for StateRow {
     }
 }
 
-/// Reads the row. It is a fault of the store where there is none, or where it is not one that `write_state` writes.
+/// Returns the row. It is a fault of the store where there is none, or where it is not one that `write_state`
+/// writes.
 pub fn read_state<T: Statements>(tx: &mut T) -> Result<StateRow, StoreFault>
     ensures does { Queries T.lenders T.state tx.old tx.new result query_of_state }
 {

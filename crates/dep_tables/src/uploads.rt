@@ -34,7 +34,7 @@ pub struct UploadColumns {
 }
 
 impl UploadColumns {
-    /// The columns of this row.
+    /// The columns of this row: all of it but the SHA-512 that was promised.
     pub fn of_row(row: &UploadRow) -> UploadColumns
         ensures { result ≡ columns_of_upload row.now }
     {
@@ -146,7 +146,8 @@ impl FromRow for UploadColumns {
     }
 }
 
-/// The row of this key. It is a fault of the store where the row is not one that `insert_upload` writes, and for a number of 2^63 or more.
+/// Returns the row of this key, if there is one. It is a fault of the store where the row is not one that
+/// `insert_upload` writes, and for a number of 2^63 or more.
 pub fn find_upload<T: Statements>(
     tx: &mut T,
     upload: u64,
@@ -186,7 +187,9 @@ impl FromRow for LeftUpload {
     }
 }
 
-/// Of the uploads that were last written to before this moment (in seconds of Unix time), the one that was left the longest, and the least number of several; none where there is none. It is a fault of the store where the row is not one of two numbers, and for a moment of 2^63 or more.
+/// Returns, of the uploads that were last written to before this moment (in seconds of Unix time), the one
+/// that was left the longest, with the least number of several, or `None` where there is none. It is a fault
+/// of the store where the row is not one of two numbers, and for a moment of 2^63 or more.
 pub fn left_before<T: Statements>(tx: &mut T, moment: u64) -> Result<Option<LeftUpload>, StoreFault>
     ensures does { Queries T.lenders T.state tx.old tx.new result (query_of_left_upload moment) }
 {

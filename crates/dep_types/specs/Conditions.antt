@@ -1,4 +1,4 @@
--- How an archive stands, as far as it can be told without knowing how it keeps what it was told.
+-- How an archive stands, as far as that can be said without knowing how it keeps what it was given.
 use Rattle.std.specs.Prelude.{Bool, IsTrue}
 use Rattle.dep_types.specs.State.{State}
 use Rattle.dep_types.specs.Sound.{IsSound}

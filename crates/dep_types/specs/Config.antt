@@ -18,7 +18,7 @@ pub record IsChecked (config : Config) : Type 0 where
   pub base : IsBase config.base
   pub limits : HasLimits config
 
--- how a refused configuration is told, as a number from 1 to 3
+-- the number of each reason why a configuration is refused, 1 to 3
 abbrev pub fault_number : ConfigFault → ℕ
 fault_number Base = 1
 fault_number Limit = 2

@@ -1,4 +1,4 @@
--- What rows and views tell of an object.
+-- What rows and views show of an object.
 use Rattle.std.specs.Prelude.{ℕ, length, map}
 use Rattle.std.specs.FinMap as finmap
 use Rattle.sha2.specs.Sha256.{sha256}

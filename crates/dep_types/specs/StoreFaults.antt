@@ -10,7 +10,7 @@ abbrev pub fault_number : StoreFault → ℕ
 fault_number Store = 20
 fault_number Memory = 21
 
--- how a failure to send a content is told, as a number from 1 to 4
+-- the number of each failure to send a content, 1 to 4
 abbrev pub stream_fault_number : StreamFault → ℕ
 stream_fault_number stream.Writer = 1
 stream_fault_number stream.Store = 2

@@ -6,7 +6,8 @@ use crate::config::ConfigFault;
 use std::alloc::Global;
 use url::{ParseError, Url};
 
-/// Whether a text may be the base.
+/// Whether a text may be the base. It fails with `Base` where it may not, and with `Memory` where memory was
+/// refused.
 pub(crate) fn check_base(alloc: Global, base: &str) -> Result<(), ConfigFault>
     ensures kept { OnOk result (IsBase base.now) }
     ensures refused { result ≡ Err ConfigFault.Base → ¬ IsBase base.now }

@@ -20,14 +20,14 @@ pub const GREATEST_MAX_SEGMENTS: u64 = 10_000;
 /// The longest time that an upload may be left alone, in seconds: a year of 365 days.
 pub const GREATEST_STAGING_MAX_IDLE: u64 = 31_536_000;
 
-/// What a server is set up with.
+/// What a server is set up with: its base, its texts, what it allows, and its limits.
 #[derive(Drop)]
 pub struct Config {
     /// The URL that all of the server's URLs begin with, without a slash at its end.
     pub base: Text,
-    /// The title that the service document tells.
+    /// The title in the service document.
     pub title: Text,
-    /// The abstract that the service document tells.
+    /// The abstract in the service document.
     pub abstract_text: Text,
     /// The name under which files are deposited.
     pub depositor: Text,
@@ -89,7 +89,8 @@ impl Config {
     ghost use Rattle.dep_types.specs.Base.{IsBase};
     ghost use Rattle.dep_types.specs.Config.{IsChecked, HasLimits};
 
-    /// Whether a server can be set up so: first the base is looked at, then the limits.
+    /// Returns `Ok` where a server can be set up so. Else it returns the first fault: `Base` or `Memory` for
+    /// the base, then `Limit`.
     pub fn check(&self, alloc: Global) -> Result<(), ConfigFault>
         ensures checked { OnOk result (IsChecked self.now) }
         ensures base { result ≡ Err ConfigFault.Base → ¬ IsBase self.now.base }

@@ -34,9 +34,9 @@ pub enum LastRead {
     Failed,
 }
 
-/// Where the bytes of requests come from. It counts its reads, and tells how the last one ended.
+/// Where the bytes of requests come from. It counts its reads, and keeps how the last one ended.
 pub trait Inlet {
-    /// The bytes that are left, where it tells them.
+    /// The bytes that are left, where it shows them.
     ghost unread: { Self → Option (List ℕ) } = { λ _. None };
 
     /// How many reads were made, those that failed too.
@@ -45,8 +45,8 @@ pub trait Inlet {
     /// How the last of them ended.
     ghost last: { Self → LastRead };
 
-    /// Reads once, to the front of the buffer, and tells how many bytes it gave. It gives none only
-    /// where there are no more, or where the buffer has no room.
+    /// Reads once, to the front of the buffer, and returns how many bytes it gave. It gives none only where
+    /// there are no more, or where the buffer has no room.
     fn read(&mut self, buffer: &mut [u8]) -> Result<usize, ReadFailed>
         ensures bound { ReadsAtMost result buffer.new }
         ensures bytes { ReadConsumes (unread self.old) (unread self.new) result buffer.new }

@@ -78,7 +78,7 @@ impl Metadata {
     ghost use Rattle.std.specs.FinMap as map;
     ghost use Rattle.dep_types.specs.MetadataEntries.{name_and_texts};
 
-    /// No metadata.
+    /// Metadata without a name. It takes no memory.
     pub fn new(alloc: Global) -> Metadata
         ensures { result ≡ map.empty }
     {
@@ -94,7 +94,7 @@ impl Metadata {
         self.entries.as_slice()
     }
 
-    /// The texts under a name.
+    /// Returns the texts under a name, or `None` where the name has none.
     pub fn get(&self, name: &str) -> Option<&TextList>
         ensures { option_copied result ≡ map.get self.now name.now }
     {
@@ -104,8 +104,8 @@ impl Metadata {
         }
     }
 
-    /// Puts texts under a name, in place of those that were there. No name is moved where this one is
-    /// behind all others. An `Err` changes nothing.
+    /// Puts texts under a name, in place of those that were there. No name is moved where this one is behind
+    /// all others. An `Err` is want of memory, and changes nothing.
     pub fn insert(&mut self, name: Text, texts: TextList) -> Result<(), AllocError>
         ensures ok { OnOk result (self.new ≡ map.insert self.old name texts) }
         ensures err { OnErr result (self.new ≡ self.old) }

@@ -20,7 +20,7 @@ impl Error for WriteFailed {}
 
 /// Where reply bytes go. It holds the bytes that it took and counts its failures.
 pub trait Outlet {
-    /// The bytes that it took, where it tells them.
+    /// The bytes that it took, where it shows them.
     ghost taken: { Self → Option (List ℕ) } = { λ _. None };
 
     /// How many of its writes failed.

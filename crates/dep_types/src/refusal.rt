@@ -2,13 +2,13 @@
 ghost use Rattle.std.specs.Prelude.{◌≡◌};
 ghost use Rattle.dep_types.specs.Refusals.{facts_of};
 
-/// Why a request is refused: each has a number, a status of HTTP, a name and a text, which its
-/// error document tells (SWORD 3.0, error documents).
+/// Why a request is refused: each refusal has a number, a status of HTTP, a name and a text, which its error
+/// document shows (SWORD 3.0, error documents).
 #[derive(Clone, Copy, Debug, PartialEq, Eq)]
 pub enum Refusal {
     /// The request is malformed, or a field or a reference of it doesn't fit the operation.
     BadRequest,
-    /// The content is no document of the kind that the request tells.
+    /// The content is no document of the kind that the request names.
     ContentMalformed,
     /// The sizes of an upload don't agree or pass `max_upload`, or a segment has another length.
     InvalidSegmentSize,
@@ -47,7 +47,7 @@ pub enum Refusal {
 }
 
 impl Refusal {
-    /// The number that the error document's log tells, 1 to 19.
+    /// The number in the log of the error document, 1 to 19.
     pub fn number(self) -> u8
         ensures { result ≡ (facts_of self).number }
     {

@@ -99,10 +99,10 @@ impl FileRows {
     }
 }
 
-/// What is told of an object: its row, its metadata, and its files by ascending number.
+/// An object as it is shown: its row, its metadata, and its files by ascending number.
 #[derive(Drop)]
 pub struct ObjectView {
-    /// The object itself.
+    /// Its row.
     pub object: ObjectRow,
     /// Its metadata.
     pub metadata: Metadata,

@@ -24,7 +24,7 @@ impl Text {
         Text { text }
     }
 
-    /// A copy of the text.
+    /// Returns a copy of the text. An `Err` is want of memory.
     pub fn copied(alloc: Global, text: &str) -> Result<Text, AllocError>
         ensures { IfOk result (λ copied. copied ≡ text.now) }
     {
@@ -33,7 +33,7 @@ impl Text {
         })
     }
 
-    /// The text itself.
+    /// Returns the text, without a copy.
     pub fn as_str(&self) -> &str
         ensures { result.now ≡ self.now }
     {

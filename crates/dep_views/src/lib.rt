@@ -1,5 +1,5 @@
-//! What the tables tell, read inside a transaction: the view that a ruling looks at, and what a
-//! reply shows. Nothing here changes a table; after an `Err` the owner of the transaction gives it back.
+//! What the tables show, read inside a transaction: the view that a ruling looks at, and what a reply shows.
+//! Nothing here changes a table; after an `Err` the owner of the transaction gives it back.
 #![tactic(auto)]
 
 mod objects;

@@ -1,4 +1,4 @@
-//! Objects, as they are told.
+//! Objects, as they are shown.
 
 ghost use Rattle.std.specs.Prelude.{◌≡◌, ◌≢◌, IfOk, IfErr, option_map};
 ghost use Rattle.std.specs.FinMap as finmap;
@@ -16,8 +16,8 @@ use dep_tables::Statements;
 use dep_types::{ObjectView, StoreFault};
 use std::alloc::Global;
 
-/// What is told of an object, if there is one: its row, its metadata, and its files by ascending number.
-/// No content is read. A number of 2^63 or more is a fault of the store.
+/// Returns an object as it is shown, if there is one: its row, its metadata, and its files by ascending
+/// number. No content is read. A number of 2^63 or more is a fault of the store.
 pub fn load_object_view<T: Statements>(
     tx: &mut T,
     alloc: Global,

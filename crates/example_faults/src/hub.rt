@@ -35,7 +35,7 @@ pub fn connected<A: Archive + Drop>(hub: &mut Hub<A>) -> Result<ConnId, Trouble>
     }
 }
 
-/// The pieces arrive, one after another. It tells what the last one came to.
+/// The pieces arrive, one after another. It returns how the connection stands after the last one.
 pub fn arrives<A: Archive + Drop>(
     hub: &mut Hub<A>,
     connection: ConnId,
@@ -51,7 +51,7 @@ pub fn arrives<A: Archive + Drop>(
     came
 }
 
-/// What a piece came to, in the word of the files.
+/// How a connection stands after a piece, in the word of the files.
 pub fn word_of(came: Arrived) -> &'static str {
     match came {
         Arrived::Open => "open",

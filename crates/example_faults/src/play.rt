@@ -131,7 +131,7 @@ impl<'a> FaultPlay<'a> {
         mem::replace(&mut self.end, End::Unopened)
     }
 
-    // It tells whether each request was answered as it is written.
+    // It returns whether each request was answered as it is written.
     fn plays_on<A: Archive + Drop>(&mut self, hub: &mut Hub<A>) -> Result<bool, Trouble> {
         match self.part {
             Part::Record => self.records(hub),
@@ -194,8 +194,8 @@ impl<'a> FaultPlay<'a> {
         }
     }
 
-    // The requests that are not done yet, up to the first that isn't answered as it is written. It tells whether there
-    // is none.
+    // The requests that are not done yet, up to the first that isn't answered as it is written. It returns
+    // whether there is none.
     fn goes_on<A: Archive + Drop>(&mut self, hub: &mut Hub<A>) -> Result<bool, Trouble> {
         let script = self.script;
         for request in script.left(self.done) {

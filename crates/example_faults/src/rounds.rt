@@ -102,7 +102,7 @@ fn at_each_call<F: FaultyFiles>(
     Ok(())
 }
 
-// It tells whether all calls before the fault were made.
+// It returns whether all calls before the fault were made.
 fn round<F: FaultyFiles>(
     files: &F,
     play: &mut FaultPlay<'_>,
@@ -118,8 +118,8 @@ fn round<F: FaultyFiles>(
     }
 }
 
-// Plays over a copy of the files up to the fault, and on from what it left. It tells whether all calls before the fault
-// were made.
+// Plays over a copy of the files up to the fault, and on from what it left. It returns whether all calls
+// before the fault were made.
 fn plays_round<F: FaultyFiles>(
     files: &F,
     play: &mut FaultPlay<'_>,

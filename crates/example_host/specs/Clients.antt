@@ -16,7 +16,7 @@ unsent c = drop c.received c.given.items
 abbrev pub coming : Client → List ℕ → ℕ
 coming c room = min (min (length (unsent c)) c.at_once) (length room)
 
--- what a receive comes to where nothing is left to send
+-- what a receive returns where nothing is left to send
 abbrev pub end_of : Silence → Received
 end_of silent.Later = comes.Later
 end_of silent.Ended = comes.Ended

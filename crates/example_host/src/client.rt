@@ -105,7 +105,7 @@ impl Client {
         self.taken.clear();
     }
 
-    /// The place at which it sits, where its socket may be ready and this is told for the first time.
+    /// The place at which it sits, where its socket may be ready and this is returned for the first time.
     pub fn is_told(&mut self) -> Option<usize> {
         if !self.is_ready {
             return None;

@@ -74,7 +74,7 @@ impl Player<'_> {
     }
 }
 
-// Prints what is wrong in an example, whose title stands in this line, and tells what came of it.
+// Prints what is wrong in an example, whose title stands in this line, and returns what came of it.
 fn came_of(
     rt: &impl Print,
     name: &str,

@@ -1,4 +1,4 @@
-//! Plays examples of many connections at once: a host over clients, spools and clocks that a script tells what to do.
+//! Plays examples of many connections at once: a host over clients, spools and clocks that do what a script says.
 //! docs/EXAMPLES.md explains the files.
 #![tactic(auto)]
 

@@ -1,4 +1,4 @@
-//! What a host tells of the clients of a script.
+//! A log of a host, which keeps what became of each client of a script.
 
 use crate::fate::Fate;
 use dep_host::{Bytes, Closing, HostLog, Refusal};

@@ -1,4 +1,4 @@
-//! A script, which tells a host what comes, and compares what its clients get.
+//! A script, which gives a host its events, and compares what its clients get.
 ghost use Rattle.std.specs.Prelude.{◌≡◌, IsOk, OnOk, true};
 
 use crate::client::Client;
@@ -174,7 +174,7 @@ impl<'a> Script<'a> {
         Ok(self.goes_round())
     }
 
-    // Tells of the sockets that may be ready, one after another, and then that it was told of all.
+    // Gives the sockets that may be ready, one after another, and then the round.
     fn goes_round(&mut self) -> Coming {
         for i in self.told..self.clients.len() {
             if let Some(place) = self.clients[i].is_told() {

@@ -68,7 +68,7 @@ fn seated<A: ExampleArchive>(
     }
 }
 
-// The configuration that the lines tell, which tell the limits too.
+// The configuration in the lines, which have the limits too.
 fn configured(alloc: Global, lines: &str, limits: &mut Limits) -> Result<Config, Trouble> {
     let mut settings = Settings::new(alloc)?;
     let config = set_all(alloc, lines, &mut settings, limits);

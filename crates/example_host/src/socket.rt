@@ -7,7 +7,7 @@ use std::alloc::{AllocError, Global};
 use std::cell::RefCell;
 use std::rc::Rc;
 
-/// What is told where a client is in use already.
+/// What is wrong where a client is in use already.
 const IN_USE: Trouble = Trouble::Line("the client is in use");
 
 /// A client as its script and the two halves of its socket share it.
@@ -80,7 +80,7 @@ impl Shared {
         }
     }
 
-    /// The place at which it sits, where its socket may be ready and this is told for the first time.
+    /// The place at which it sits, where its socket may be ready and this is returned for the first time.
     pub fn is_told(&self) -> Option<usize> {
         match self.client.try_borrow_mut() {
             Ok(mut client) => client.is_told(),

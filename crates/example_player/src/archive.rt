@@ -25,13 +25,13 @@ pub trait ExampleArchive: Archive + Drop {
     /// The archive on these tables.
     fn opened(alloc: Global, tables: Self::Tables) -> Result<Self, Trouble>;
 
-    /// The tables, on which no archive opens: that comes to the fault of this name.
+    /// The tables, on which no archive opens: opening fails by the fault of this name.
     fn unopened(alloc: Global, tables: Self::Tables, fault: &str) -> Result<Self::Tables, Trouble>;
 
     /// These statements of SQL change the tables.
     fn change(tables: &mut Self::Tables, statements: &str) -> Result<(), Trouble>;
 
-    /// Makes a call of it, and tells in a word what that came to.
+    /// Makes a call of it, and returns a word for its result.
     fn answers(
         &mut self,
         alloc: Global,

@@ -22,7 +22,7 @@ pub struct Example<'a> {
     line: usize,
 }
 
-// It tells where the play stands: in which line, in which row, and how the bytes are cut.
+// It shows where the play stands: in which line, in which row, and how the bytes are cut.
 impl fmt::Display for Example<'_> {
     fn fmt<W: fmt::Write>(&self, f: &mut fmt::Formatter<W>) -> fmt::Result {
         let line = self.number.saturating_add(self.line);
@@ -105,7 +105,8 @@ impl<'a> Example<'a> {
         Ok(())
     }
 
-    // Plays it on an archive of its own. It tells the longest stream of an exchange. Its texts end with it.
+    // Plays it on an archive of its own. It returns the length of the longest stream of an exchange. Its
+    // texts end with it.
     fn played<A: ExampleArchive>(&mut self) -> Result<usize, Trouble> {
         let kept = self.words.count();
         let played = self.each_line::<A>(1);

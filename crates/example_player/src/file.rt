@@ -40,7 +40,7 @@ fn count_lines(text: &str) -> usize {
     text.split('\n').count()
 }
 
-// Prints what is wrong in an example, and tells what came of it.
+// Prints what is wrong in an example, and returns what came of it.
 fn came_of(
     rt: &impl Print,
     name: &str,

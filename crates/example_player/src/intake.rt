@@ -1,4 +1,4 @@
-//! An intake by itself, whose steps are told as lines.
+//! An intake by itself, whose steps are written as lines.
 
 use dep_hub::Arrived;
 use dep_message::{Intake, Message, Step, closes, is_without_body};
@@ -86,7 +86,7 @@ fn step(intake: &mut Intake, page: &mut Page) -> Result<Option<Arrived>, AllocEr
     Ok(came)
 }
 
-// Tells a step, or what the pieces came to where it is the last one.
+// Writes a step, or returns how the connection stands where it is the last one.
 fn tell_step(step: &Step, page: &mut Page) -> Option<Arrived> {
     match step {
         Step::NeedMore => return Some(Arrived::Open),

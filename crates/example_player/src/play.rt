@@ -9,7 +9,7 @@ use example_text::{
 };
 use std::alloc::Global;
 
-/// The words that say what an exchange comes to.
+/// The words for the results of an exchange.
 const ANSWERS: [&str; 15] = [
     "open",
     "closed",
@@ -79,7 +79,8 @@ impl<A: ExampleArchive> Play<A> {
         done
     }
 
-    /// No exchange may be left. The faults that are written happen now. It tells the longest stream of an exchange.
+    /// No exchange may be left. The faults that are written happen now. It returns the length of the longest
+    /// stream of an exchange.
     pub fn finish(&self) -> Result<usize, Trouble> {
         self.exchange.is_answered()?;
         if self.script.has_faults() {
@@ -123,8 +124,8 @@ impl<A: ExampleArchive> Play<A> {
         }
     }
 
-    // A request that was given up for want of memory has changed nothing. It comes once more, and has to come to what is
-    // written.
+    // A request that was given up for want of memory has changed nothing. It comes once more, and its result
+    // has to be the one that is written.
     fn again(&mut self, answer: &str) -> Trouble {
         if self.side.turn_to_new().is_err() {
             return Trouble::Memory;

@@ -136,7 +136,7 @@ impl<A: Archive + Drop> Server<A> {
     }
 }
 
-// What serving a connection came to, in the word of the files.
+// How serving a connection ended, in the word of the files.
 fn served_word(served: Served) -> &'static str {
     match served {
         Served::Ended => "ended",

@@ -22,7 +22,7 @@ pub enum Side<A: ExampleArchive> {
 }
 
 impl<A: ExampleArchive> Side<A> {
-    /// Plays an exchange, and tells in a word what it came to.
+    /// Plays an exchange, and returns a word for its result.
     pub fn plays(
         &mut self,
         alloc: Global,
@@ -118,7 +118,7 @@ impl<A: ExampleArchive> Side<A> {
         Ok(())
     }
 
-    /// The archive doesn't open: that comes to the fault of this name.
+    /// The archive doesn't open, by the fault of this name.
     pub fn fail_to_open(&mut self, alloc: Global, fault: &str) -> Result<(), Trouble> {
         let tables = self.take_tables(alloc)?;
         self.change_to(Side::Closed(A::unopened(alloc, tables, fault)?));

@@ -135,7 +135,7 @@ impl Exchange {
         }
     }
 
-    /// Just the bytes that are wanted have to be sent, and it has to come to this.
+    /// Just the bytes that are wanted have to be sent, and the result has to be the answer that is written.
     pub fn has_come(
         &self,
         alloc: Global,
@@ -184,7 +184,7 @@ impl Exchange {
     }
 }
 
-// It comes to something else than it should.
+// The result is another than the answer that is written.
 fn other_end(alloc: Global, came: &str, answer: &str) -> Trouble {
     Trouble::told(format!(in alloc; "it is written to end as \"{answer}\", and came to \"{came}\""))
 }

@@ -15,7 +15,7 @@ pub enum Trouble {
 }
 
 impl Trouble {
-    /// What a text tells, or the want of memory for it.
+    /// What a text says, or the want of memory for it.
     pub fn told(text: Result<String, AllocError>) -> Trouble {
         text.map_or(Trouble::Memory, Trouble::Other)
     }
@@ -43,7 +43,7 @@ impl fmt::Display for Trouble {
     }
 }
 
-/// What is written and what was sent differ. It tells both from the first byte where they part.
+/// What is written and what was sent differ. It shows both from the first byte where they part.
 pub fn differing(alloc: Global, want: &[u8], sent: &[u8]) -> Trouble {
     let place = parting(want, sent);
     let (want, sent) = (Shown { bytes: want, place }, Shown { bytes: sent, place });

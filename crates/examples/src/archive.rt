@@ -139,7 +139,7 @@ fn open(
     }
 }
 
-// What an opening came to has to be the fault of this name.
+// The opening has to have failed by the fault of this name.
 fn is_fault(alloc: Global, came: OpenFault, fault: &str) -> Result<(), Trouble> {
     let came = match came {
         OpenFault::UnknownVersion => "unknown-version",

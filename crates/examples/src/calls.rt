@@ -8,7 +8,7 @@ use example_text::{ArchiveCall, Page, Trouble};
 use sqlite::MemStore;
 use std::alloc::Global;
 
-/// Makes the call, and tells in a word what it came to.
+/// Makes the call, and returns a word for its result.
 pub fn answered(
     alloc: Global,
     store: &mut Store<MemStore>,
@@ -47,7 +47,7 @@ fn audited(
     Ok("done")
 }
 
-// What a command came to, in the word of the files.
+// How a command ended, in the word of the files.
 fn word_of(outcome: Outcome) -> &'static str {
     match outcome {
         Outcome::Done => "done",

@@ -1,5 +1,5 @@
-//! Plays the examples of the files that its arguments name, and tells of each file whether all is as it is written.
-//! docs/EXAMPLES.md explains the files.
+//! Plays the examples of the files that its arguments name, and prints for each file whether all is as it is
+//! written. docs/EXAMPLES.md explains the files.
 #![tactic(auto)]
 
 mod archive;
@@ -39,7 +39,7 @@ fn main(rt: HostRuntime) -> io::Result<ExitCode> {
     Ok(verdict.status())
 }
 
-// Plays a file, and tells what came of it.
+// Plays a file, and returns what came of it.
 fn played(rt: &HostRuntime, words: &mut Words, name: &str) -> io::Result<Verdict> {
     match fs::read_to_string(rt, name) {
         Ok(text) if is_of_a_host(text.as_str()) => {

@@ -41,7 +41,7 @@ pub record GoesOn (config : Config) (old new : db.State) (more : List Record) : 
       → (first : State) (records : List Record) → Run config first records (first_world found)
       → LedTo config new first (records ++ more)
 
--- what serving so many connections comes to
+-- how serving so many connections ends, and what it does
 pub data ServesDatabase (config : Config) (count : ℕ) (old new : db.State) : Outcome → Type 0 where
   serves : (talks : List Conversation) (outcome : Outcome) → AreServed talks count outcome
       → All (λ t. ArePieces t.turns) talks → GoesOn config old new (all_records_of talks)

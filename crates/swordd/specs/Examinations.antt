@@ -1,4 +1,4 @@
--- What is told of the database of a store that is looked through, which stays.
+-- What is known of the database of a store that is looked through, which stays.
 use Rattle.std.specs.Prelude.{◌≡◌, ◌⊎◌, ℕ, List, [], IsTrue}
 use Rattle.sqlite.specs.State as db
 use Rattle.sqlite.specs.State.{HasCleanDisk}

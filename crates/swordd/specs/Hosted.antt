@@ -59,7 +59,7 @@ host_limits limits = record {
 
 module _ {S R K P : Type 0} (g : Ghosts S) (unread : R → Option (List ℕ)) (taken : K → Option (List ℕ))
     (held : P → Option (List ℕ)) (size : P → ℕ) where
-  -- what serving many clients from a database comes to, by a door
+  -- how serving many clients from a database ends, by a door, and what it does
   pub data HostsDatabase (before after : Doorway R K P) (limits : Limits) (config : Config)
       (given back : Held S) : Outcome → Type 0 where
     -- it was served from a hub over the store, and the machine went on with what was done

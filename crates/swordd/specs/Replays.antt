@@ -56,12 +56,12 @@ pub record IsReplayed (base : List ℕ) (moment : ℕ) (before after : Wire) (se
   pub few_reads : after.reads ≤ before.reads + most_reads
   pub last : HasLastRead after.last served
 
--- what it comes to where a replay is not begun: its base is refused, or memory ran out
+-- how it ends where a replay is not begun: its base is refused, or memory ran out
 abbrev pub IsNotBegun : (base : List ℕ) → Outcome → Type 0
 IsNotBegun base outcome =
     ((outcome ≡ Usage) × (IsChecked (program_config base) → ⊥)) ⊎ (outcome ≡ StoreFault)
 
--- what a replay comes to
+-- how a replay ends, and what it does
 pub data Replays (base : List ℕ) (moment : ℕ) (before after : Wire) : Outcome → Type 0 where
   replayed : (served : Served) → IsReplayed base moment before after served
       → Replays base moment before after (outcome_of served)

@@ -6,7 +6,7 @@ use dep_moment::Moment;
 use dep_program::{Command, Gathered, Outcome, unread, words};
 use dep_types::ReaderInlet;
 
-/// Does what the words ask for. What it comes to has a line on standard error, unless it was done.
+/// Does what the words ask for. How it ended has a line on standard error, unless it was done.
 pub fn run_command(rt: &HostRuntime) -> Outcome {
     let outcome = do_command(rt);
     if let Some(line) = outcome.line() {

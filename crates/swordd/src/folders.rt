@@ -26,7 +26,8 @@ impl fmt::Display for FolderFault {
 
 impl Error for FolderFault {}
 
-/// Looks whether the folders are there.
+/// Returns `Ok` where the folder of the database and that of the spools are there, else the fault of the first that
+/// isn't.
 pub fn check_folders<R: Files>(
     files: &R,
     configuration: &Configuration,

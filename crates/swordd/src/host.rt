@@ -9,7 +9,7 @@ use std::fs;
 
 const USAGE: &str = "usage: swordd_host CONFIGURATION | --example | --check CONFIGURATION";
 
-/// Does what the words ask for, and tells on standard error why it wasn't done.
+/// Does what the words ask for, and prints on standard error why it wasn't done.
 pub fn run_host(rt: &HostRuntime) -> Outcome {
     let Ok(words) = words(rt) else {
         return usage(rt);
@@ -67,7 +67,7 @@ fn serve_file(rt: &HostRuntime, file: &str) -> Outcome {
     }
 }
 
-// The configuration in a file, whose folders are there. A fault is told, by the field that it is of.
+// The configuration in a file, whose folders are there. A fault is printed, by the field that it is of.
 fn configuration_in(rt: &HostRuntime, file: &str) -> Result<Configuration, Outcome> {
     let Ok(text) = fs::read_to_string(rt, file) else {
         tell(rt, file, &"the file can't be read");
@@ -100,12 +100,12 @@ fn with_folders(
     }
 }
 
-// Tells what is wrong with a file.
+// Prints what is wrong with a file.
 fn tell<F: Display>(rt: &HostRuntime, file: &str, fault: &F) {
     let _ = eprintln!(rt; "swordd_host: {file}: {fault}");
 }
 
-// What it comes to where a configuration is refused.
+// How it ends where a configuration is refused.
 fn outcome_of(fault: &ConfigurationFault) -> Outcome {
     match fault {
         ConfigurationFault::Memory => Outcome::StoreFault,

@@ -1,4 +1,4 @@
-//! What a host tells, in lines of JSON on standard error.
+//! The log of a host: lines of JSON on standard error.
 
 use crate::hosting::Place;
 use crate::start::write_start;
@@ -15,7 +15,7 @@ use std::io::Write;
 use std::net::IpAddr;
 use std::time::{Instant, SystemTime};
 
-/// How many bytes of a method are told.
+/// How many bytes of a method stand in the log at most.
 const MOST_METHOD: usize = 32;
 
 /// The log of a host on standard error. A line that can't be written is left out.
@@ -163,7 +163,7 @@ impl HostLog for StandardErrorLog<'_> {
             .begin(connection, address, Instant::now(self.rt).ok());
     }
 
-    // What tells a client to go on has no line.
+    // A `100 Continue` has no line.
     fn answered(&mut self, next: Next, bytes: Bytes) {
         let Some(address) = self.item.address else {
             return;

@@ -1,9 +1,9 @@
-//! A watch that tells how far a long command came.
+//! A watch that prints how far a long command came.
 
 use dep_program::Progress;
 use dep_store::Watch;
 
-/// Tells on standard error how far a command came.
+/// Prints on standard error how far a command came.
 #[derive(Drop)]
 pub struct Told<'a>(pub Progress<'a>);
 

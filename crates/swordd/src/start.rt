@@ -1,4 +1,4 @@
-//! The line that tells the start of a server.
+//! The line at the start of a server.
 
 use dep_configuration::{Limits, Start, start_line};
 use dep_program::moment_of;
