@@ -39,18 +39,18 @@ promised_are op Absent = tt
 promised_are op Bad = tt
 promised_are op (Value list) = of_content op (promises list)
 
-read_for_is : (config : Config) (op : Operation) (o : Option Kind) → references_for config op (option_map purpose_of o) ≡ references_by config op o
+references_for_is : (config : Config) (op : Operation) (o : Option Kind) → references_for config op (option_map purpose_of o) ≡ references_by config op o
 unfolding references_for
-read_for_is config op None = refl
-read_for_is config op (Some (of.File name)) = refl
-read_for_is config op (Some of.Metadata) = refl
-read_for_is config op (Some of.References) = refl
-read_for_is config op (Some (of.Opening o)) = refl
-read_for_is config op (Some (of.Segment k)) = refl
+references_for_is config op None = refl
+references_for_is config op (Some (of.File name)) = refl
+references_for_is config op (Some of.Metadata) = refl
+references_for_is config op (Some of.References) = refl
+references_for_is config op (Some (of.Opening o)) = refl
+references_for_is config op (Some (of.Segment k)) = refl
 
-pub references_read_for : (config : Config) (op : Operation) → references_for config op (purpose_in op) ≡ references_in config op
+pub references_for_purpose : (config : Config) (op : Operation) → references_for config op (purpose_in op) ≡ references_in config op
 unfolding references_in
-references_read_for config op = read_for_is config op (kind_of op)
+references_for_purpose config op = references_for_is config op (kind_of op)
 
 -- the rules on a content, by what each comes to at its purpose
 pub content_told : (config : Config) (view : View) (op : Operation) (purpose : Option Purpose) (fields digest document size : Option Refusal) → purpose ≡ purpose_in op

@@ -47,11 +47,12 @@ fn references_in(
     ensures ok { IfOk result (λ references. references ≡ references_in config.now operation.now) }
     ensures err { OnErr result (purpose_in operation.now ≡ Some of.References) }
 {
-    read_for(alloc, config, operation, content_purpose(operation))
+    references_for(alloc, config, operation, content_purpose(operation))
 }
 
+// The references in a content of this purpose, where it is a document of them that can be read.
 #[tactic(auto, unfolding(crate::specs::Rules::references_for))]
-fn read_for(
+fn references_for(
     alloc: Global,
     config: &Config,
     operation: &Operation<'_>,
