@@ -1,5 +1,5 @@
 -- What was hashed of uploads is what was received of them, as the state goes on.
-use Rattle.std.proofs.Common.{◌≢◌, inl, inr, Result, Ok, Err, IsErr, IsTrue, arith, get_or, refl, sym, subst}
+use Rattle.std.proofs.Common.{◌≢◌, inl, inr, Result, Ok, Err, IsErr, IfOk, OnErr, IsTrue, arith, get_or, refl, sym, subst}
 use Rattle.std.proofs.lemmas.Result.{IfOk-weaker, on_err_weaker}
 use Rattle.sqlite.specs.State as db
 use Rattle.sqlite.specs.declared.error.ErrorCode.TheVariants as code
@@ -17,8 +17,9 @@ use Rattle.dep_staging.specs.declared.running.RunningHash.{RunningHash}
 use Rattle.dep_staging.specs.declared.running.RunningHashes.{RunningHashes}
 use Rattle.dep_staging.proofs.AheadLemmas.{still_hashed}
 use Rattle.dep_schema.specs.States.{StandsFor}
-use Rattle.dep_types.specs.Conditions.{Condition}
-use Rattle.dep_hub.specs.Archives.{TriesTo, KeepsAll, FailsIfShut}
+use Rattle.dep_types.specs.Conditions.{Condition, StandsFor as StandsAs, HasCleanDisk}
+use Rattle.dep_hub.specs.Archives.{TriesTo, KeepsState, KeepsAll, KeepsEachState, FailsIfShut}
+use Rattle.dep_hub.proofs.Leaving.{Settles, leaves_before, leaves_once}
 use Rattle.dep_store.specs.Archive as store
 use Rattle.dep_store.specs.Shut as db_shut
 use Rattle.dep_archive.specs.Archive.{Keeps, shown_by, told_by}
@@ -75,6 +76,41 @@ tries_failed old new holds told next fault (Err e) failed it =
 pub fails_failed : {A E F : Type 0} (old new : Condition) (fault : F) (r : Result A E) → IsErr r → FailsIfShut {A = A} old new (Err fault) → FailsIfShut old new r
 fails_failed old new fault (Ok answer) failed it = cc failed
 fails_failed old new fault (Err e) failed it = record { opened = λ clean. tt; left = it.left }
+
+-- ---- what work ahead keeps
+
+-- a call that asks for nothing that is kept
+pub keeps_each : (old new : Condition) → Settles old → KeepsAll old new → KeepsEachState old new
+keeps_each old new settles it = record {
+  kept = it.kept;
+  honest = it.honest;
+  was_open = it.was_open;
+  stop = λ clean s at. leaves_before old new _ (it.left clean) (settles s at);
+  left = λ clean shut. it.left clean;
+}
+
+-- where nothing was asked
+pub keeps_itself : (c : Condition) → Settles c → KeepsEachState c c
+keeps_itself c settles = keeps_each c c settles (record {
+  kept = λ is_open s at. at;
+  honest = λ clean. clean;
+  was_open = λ is_open. is_open;
+  left = λ clean image h. (image, h, λ s. (λ x. x, λ x. x));
+})
+
+-- and one that keeps the state, whatever it returns
+pub keeps_either : {A E : Type 0} (old new : Condition) (r : Result A E) → (IsTrue new.is_open → HasCleanDisk new) → KeepsState old new r → FailsIfShut old new r → KeepsEachState old new
+keeps_either {A} {E} old new r clean it shut = record {
+  kept = λ is_open s at. each r s (it.ok (clean is_open) s at tt) (it.err is_open s at);
+  honest = it.honest;
+  was_open = it.was_open;
+  stop = λ disk s at. leaves_once new s (it.stop disk s at tt);
+  left = shut.left;
+}
+  where
+    each : (r : Result A E) (s : State) → IfOk r (λ answer. Unit {0} × StandsAs new s) → OnErr r (StandsAs new s) → StandsAs new s
+    each (Ok answer) s h none = h.1
+    each (Err e) s none h = h
 
 -- ---- why it isn't told whether it is open
 

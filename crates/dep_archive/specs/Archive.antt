@@ -1,5 +1,5 @@
 -- How a store that hashes segments ahead stands, as those who serve it see it.
-use Rattle.std.specs.Prelude.{None}
+use Rattle.std.specs.Prelude.{◌≡◌, None}
 use Rattle.sqlite.specs.State as db
 use Rattle.sqlite.specs.Held.{state}
 use Rattle.sqlite.specs.Tree.{Trees}
@@ -33,6 +33,11 @@ shown_by d running = record {
 -- how the store stands, with what was hashed
 abbrev pub condition_of : {S : Type 0} → (g : Ghosts S) → HashingStore S → Condition
 condition_of g archive = shown_by (state g archive.store) archive.running
+
+-- what was hashed is what was received, as it was before, and the store stays
+pub record NotesUpload {S : Type 0} (old new : HashingStore S) : Type 0 where
+  pub running : (s : State) → AreRunning s old.running → AreRunning s new.running
+  pub store : new.store ≡ old.store
 
 -- what its database says of its answers: it shows nothing of what it is asked for
 abbrev pub told_by : db.State → Account

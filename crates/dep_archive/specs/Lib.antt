@@ -1,2 +1,3 @@
 pub mod Archive
 pub mod Starting
+pub mod LogCopies

@@ -1,12 +1,14 @@
-//! A store as an archive, which hashes the segments of uploads before a deposit names them.
+//! A store as an archive, which hashes the segments of uploads before a deposit names them, and has a long log copied
+//! before the next commit.
 
 ghost use Rattle.std.specs.Prelude.{◌≡◌};
 ghost use Rattle.sqlite.proofs.StateLemmas.{clean_if_open};
 ghost use Rattle.dep_types.specs.State.{State};
 ghost use Rattle.dep_staging.specs.HashedAhead.{AreRunning};
 ghost use Rattle.dep_schema.proofs.Transacting.{leaves_as_was};
-ghost use Rattle.dep_archive.specs.Archive.{account_of, condition_of};
+ghost use Rattle.dep_archive.specs.Archive.{NotesUpload, account_of, condition_of};
 
+use crate::log_copy::LogCopy;
 use dep_answers::{Performed, Service};
 use dep_decisions::Operation;
 use dep_hub::Archive;
@@ -28,6 +30,7 @@ pub struct HashingStore<S: Alter> {
     running: RunningHashes,
     /// Whether a block may be left that can be hashed.
     is_due: bool,
+    log_copy: LogCopy,
 }
 
 impl<S: Alter> HashingStore<S> {
@@ -40,6 +43,7 @@ impl<S: Alter> HashingStore<S> {
             store,
             running: RunningHashes::new(alloc),
             is_due: false,
+            log_copy: LogCopy::NotDue,
         }
     }
 
@@ -57,9 +61,7 @@ impl<S: Alter> HashingStore<S> {
 
     /// Notes the upload to which the request sent a segment, if it sent one that is large enough.
     fn note(&mut self, operation: &Operation<'_>)
-        ensures running { (s : State) → AreRunning s self.old.running
-            → AreRunning s self.new.running }
-        ensures store { self.new.store ≡ self.old.store }
+        ensures { NotesUpload self.old self.new }
     {
         if operation.content.as_slice().len() < LEAST_SEGMENT {
             return;
@@ -90,6 +92,7 @@ impl<S: Alter> Archive for HashingStore<S> {
     ) -> Result<Performed, StoreFault> {
         let performed = self.store.perform(&self.running, service, operation)?;
         self.note(operation);
+        self.log_copy.note(operation);
         Ok(performed)
     }
 
@@ -102,10 +105,16 @@ impl<S: Alter> Archive for HashingStore<S> {
     }
 
     fn work_ahead(&mut self) -> bool {
-        if self.is_due {
-            self.is_due = matches!(self.store.hash_ahead(&mut self.running), Ok(true));
+        if self.log_copy.count() {
+            // Where it fails, the next commit has the log copied.
+            let _copied = self.store.copy_log();
+            return self.is_due;
         }
-        self.is_due
+        if !self.is_due {
+            return self.log_copy.is_left();
+        }
+        self.is_due = matches!(self.store.hash_ahead(&mut self.running), Ok(true));
+        self.is_due | self.log_copy.is_left()
     }
 
     ghost honest_if_open = { λ archive is_open.

@@ -3,6 +3,7 @@
 #![tactic(auto)]
 
 mod archive;
+mod log_copy;
 mod starting;
 
 pub use archive::HashingStore;

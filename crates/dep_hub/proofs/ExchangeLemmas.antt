@@ -69,6 +69,10 @@ own_left : {config : Config} {piece : List ℕ} {moment : ℕ} {line after : Lin
 own_left (at_live serves) = serving_left serves
 own_left at_shut_line = refl
 
+end_left : {config : Config} {n : ℕ} {first w : World} {turns : List Turn} (e : Exchanges config n first turns w) → LeftByExchanges e w.state
+end_left none_yet = refl
+end_left (one_more t e stays a) = own_left a
+
 -- an arrival carried over to the same configuration leaves the same by a stop, and so do turns
 left_along : {piece : List ℕ} {moment : ℕ} {line after : Line} {s left : State} {sent : List ℕ} {answer : Arrived} (given config : Config) (same : given ≡ config)
     (a : Arrives given piece moment line s sent left after answer) (found : State) → LeftByArrival a found
@@ -158,16 +162,20 @@ module _ {A : Type 0} (condition : A → Condition) where
       ]
   talks_exchange n old new failures failures_after turns settles (ahead {mid = mid} talks stays a) honest w at =
       let h = talks_exchange n old mid failures failures_after turns settles talks (a.store.honest honest) w at in
+      let left : Leaves (store_of condition new) (λ found. found ≡ h.talked.state) = elim (cases_Bool (store_of condition mid).is_open) [
+        | inl is_open ↦ a.store.stop honest h.talked.state (h.at is_open).state
+        | inr shut ↦ leaves_before (store_of condition mid) (store_of condition new) _ (a.store.left honest (both_ways (store_of condition mid).is_open shut)) (h.stays stays)
+      ] in
       record {
         talked = h.talked;
         exchanges = h.exchanges;
         kept = λ e. keeps_ahead mid new h.talked.line a (h.kept e);
-        stays = λ e. leaves_before (store_of condition mid) (store_of condition new) _ (a.store.left honest) (h.stays e);
+        stays = λ e. left;
         at = λ clean.
             let stood = h.at (a.store.was_open clean) in
             record { state = a.store.kept clean h.talked.state stood.state; kept = keeps_ahead mid new h.talked.line a stood.kept };
-        rests = λ clean. leaves_before (store_of condition mid) (store_of condition new) _ (a.store.left honest) (h.rests (a.store.was_open clean));
-        stop = leaves_before (store_of condition mid) (store_of condition new) _ (a.store.left honest) h.stop;
+        rests = λ clean. left;
+        stop = leaves_wider (store_of condition new) _ _ (λ found e. subst (LeftByExchanges h.exchanges) (sym e) (end_left h.exchanges)) left;
       }
 
   -- what a stop now leaves goes on from the turns

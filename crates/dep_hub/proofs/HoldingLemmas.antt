@@ -11,8 +11,8 @@ use Rattle.dep_hub.specs.Sending.{Outside, outside}
 use Rattle.dep_hub.specs.Serving.{IsDeadIfShut}
 use Rattle.dep_hub.specs.Nexts.{RunsOut, AnswersNext}
 use Rattle.dep_hub.specs.Standing.{intake_of, IsKeptAs, StandsAt, store_of, IsClean}
-use Rattle.dep_hub.specs.Archives.{KeepsAll}
-use Rattle.dep_hub.specs.Holding.{RestsOn, with_held, fed, IsHeldAs, Outcome, arrived_by, IsNext, IsRefused, KeepsHolding, StandsHolding, StandsHoldingAfter, MovesLine, PartArrives, AnswersOver, ComesToNext, OffersTo}
+use Rattle.dep_hub.specs.Archives.{KeepsAll, KeepsEachState}
+use Rattle.dep_hub.specs.Holding.{RestsOn, StandsOn, with_held, fed, IsHeldAs, Outcome, arrived_by, IsNext, IsRefused, KeepsHolding, StandsHolding, StandsHoldingAfter, MovesLine, PartArrives, AnswersOver, ComesToNext, OffersTo}
 use Rattle.dep_hub.specs.Numbers.{index_of, Ascends}
 use Rattle.dep_hub.specs.declared.arrived.Arrived.{Arrived}
 use Rattle.dep_hub.specs.declared.arrived.Arrived.TheVariants as came
@@ -298,23 +298,40 @@ rests_holding condition hub settles first records held h =
     leaves_wider (store_of condition hub) _ _ (λ found e. subst (λ s. Run hub.config first (records ++ stopped ∷ []) (first_world s)) (sym e) (stops h.run))
     (stays_as (store_of condition hub) h.world.state settles h.at.state)
 
--- between two calls the store was asked for nothing that it keeps
-pub rests_on : {A : Type 0} (condition : A → Condition) (old new : Hub A) → new.config ≡ old.config → new.connections ≡ old.connections → new.next ≡ old.next
-    → Settles (store_of condition old) → KeepsAll (store_of condition old) (store_of condition new) → RestsOn condition old new
-rests_on {A} condition old new config connections next settles store = record {
-  stands = λ clean first records held h. record {
+-- between two calls, where the store keeps what it kept
+module _ {A : Type 0} (condition : A → Condition) (old new : Hub A) (config : new.config ≡ old.config) (connections : new.connections ≡ old.connections) (next : new.next ≡ old.next) where
+  stands_still : (IsClean condition new → (s : State) → StandsFor (store_of condition old) s → StandsFor (store_of condition new) s) → StandsOn condition old new
+  stands_still kept clean first records held h = record {
     world = h.world;
     run = subst (λ (x : Config). Run x first records h.world) (sym config) h.run;
     at = record {
-      state = store.kept clean h.world.state h.at.state;
+      state = kept clean h.world.state h.at.state;
       kept = subst (λ (x : Config). (number : ℕ) → IsHeldAs x.max_upload (h.world.line number) (held number) (intake_of new.connections.items number)) (sym config)
           (subst (λ (cs : Vec Connection Global). (number : ℕ) → IsHeldAs old.config.max_upload (h.world.line number) (held number) (intake_of cs.items number)) (sym connections) h.at.kept);
     };
-  };
-  stops = λ honest first records held h. leaves_before (store_of condition old) (store_of condition new) _ (store.left honest)
-      (rests_holding condition old settles first records held h);
-  store = store;
-  config = config;
-  connections = connections;
-  next = next;
-}
+  }
+
+  -- it was asked for nothing that it keeps
+  pub rests_on : Settles (store_of condition old) → KeepsAll (store_of condition old) (store_of condition new) → RestsOn condition KeepsAll old new
+  rests_on settles store = record {
+    stands = stands_still store.kept;
+    stops = λ honest first records held h. leaves_before (store_of condition old) (store_of condition new) _ (store.left honest)
+        (rests_holding condition old settles first records held h);
+    store = store;
+    config = config;
+    connections = connections;
+    next = next;
+  }
+
+  -- it worked ahead
+  pub rests_ahead : KeepsEachState (store_of condition old) (store_of condition new) → RestsOn condition KeepsEachState old new
+  rests_ahead store = record {
+    stands = stands_still store.kept;
+    stops = λ honest first records held h.
+        leaves_wider (store_of condition new) _ _ (λ found e. subst (λ s. Run old.config first (records ++ stopped ∷ []) (first_world s)) (sym e) (stops h.run))
+        (store.stop honest h.world.state h.at.state);
+    store = store;
+    config = config;
+    connections = connections;
+    next = next;
+  }

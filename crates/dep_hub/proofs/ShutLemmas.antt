@@ -110,7 +110,7 @@ module _ {A : Type 0} (condition : A → Condition) where
       (fixed_more first t so_far.0 then.sends, leaves_both (store_of condition old) (store_of condition mid) (store_of condition new) so_far.1 then.leaves)
   turns_shut n old new before after turns (ahead {mid = mid} talks stays a) disk shut =
       let so_far = turns_shut n old mid before after turns talks (a.store.honest disk) shut in
-      (so_far.0, leaves_both (store_of condition old) (store_of condition mid) (store_of condition new) so_far.1 (a.store.left disk))
+      (so_far.0, leaves_both (store_of condition old) (store_of condition mid) (store_of condition new) so_far.1 (a.store.left disk (λ is_open. shut (clean_before n old mid before after turns talks is_open))))
 
   -- from before the connection was opened until it was closed
   pub conversation_shut : (n : ℕ) (old opened talked new : Hub A) (before after : ℕ) (turns : List Turn) → opened.store ≡ old.store → new.store ≡ talked.store

@@ -9,6 +9,7 @@ use Rattle.dep_types.specs.declared.inlet.ReadFailed.{ReadFailed}
 use Rattle.dep_types.specs.declared.inlet.LastRead.TheVariants.{Bytes, Nothing}
 use Rattle.dep_hub.specs.Turns.{most_read}
 use Rattle.dep_hub.specs.Standing.{ArrivesOver, IsArrival, GoesOnAs}
+use Rattle.dep_hub.specs.Archives.{KeepsEachState}
 use Rattle.dep_hub.specs.Holding.{RestsOn}
 use Rattle.dep_hub.specs.Conversation.{Session, OneTurn, NoTurn}
 use Rattle.dep_hub.specs.declared.hub.Hub.{Hub}
@@ -70,7 +71,7 @@ module _ {A : Type 0} (condition : A → Condition) where
   }
 
   -- the store worked ahead
-  pub goes_ahead : {old new : Hub A} → RestsOn condition old new → GoesOnAs condition old new
+  pub goes_ahead : {old new : Hub A} → RestsOn condition KeepsEachState old new → GoesOnAs condition old new
   goes_ahead r = record { config = r.config; next = r.next; clean = r.store.was_open; honest = r.store.honest }
 
   -- an arrival, and then the outlet was flushed

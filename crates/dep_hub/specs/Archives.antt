@@ -69,6 +69,15 @@ pub record KeepsAll (old new : Condition) : Type 0 where
   pub was_open : IsTrue new.is_open → IsTrue old.is_open
   pub left : HasCleanDisk new → LeavesNoMore old new
 
+-- What it keeps may be committed once more: it stands for each state for which it stood, while it is open,
+-- and a crash leaves just that state. Of one that was shut a crash leaves no more than before.
+pub record KeepsEachState (old new : Condition) : Type 0 where
+  pub kept : IsTrue new.is_open → (s : State) → StandsFor old s → StandsFor new s
+  pub honest : HasCleanDisk new → HasCleanDisk old
+  pub was_open : IsTrue new.is_open → IsTrue old.is_open
+  pub stop : HasCleanDisk new → (s : State) → StandsFor old s → Leaves new (λ left. left ≡ s)
+  pub left : IfShut old new (LeavesNoMore old new)
+
 -- an outlet took these bytes of the file of this number
 abbrev pub Streams : {A : Type 0} → (old new : Condition) → (taken takes : Option (List ℕ))
     → (file : ℕ) → Result A StreamFault → Type 0

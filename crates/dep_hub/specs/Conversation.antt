@@ -12,7 +12,7 @@ use Rattle.dep_types.specs.declared.outlet.Outlet as outlet
 use Rattle.dep_hub.specs.Records.{World, Connect, Close, Record, stopped, Run, first_world}
 use Rattle.dep_hub.specs.Standing.{StandsAt, StandsAfter, IsClean, IsHonest, Moves, IsArrival, GoesOnAs, intake_of, store_of}
 use Rattle.dep_hub.specs.Turns.{Turn, pieces_of, replies_of, record_of, records_of, most_read, most_reads, reads_made, reads_after, HasLastRead, ArePieces, last_answer, with_opened, with_closed, Exchanges, LeftByExchanges, EndsAs}
-use Rattle.dep_hub.specs.Archives.{KeepsAll}
+use Rattle.dep_hub.specs.Archives.{KeepsEachState}
 use Rattle.dep_hub.specs.Shut.{LeavesNoMore, IfShut, SendsFixed}
 use Rattle.dep_hub.specs.declared.hub.Hub.{Hub}
 use Rattle.dep_hub.specs.declared.arrived.Arrived.{Arrived}
@@ -114,11 +114,11 @@ module _ {A : Type 0} (condition : A → Condition) where
       (λ found. Run old.config first ((records ++ more) ++ stopped ∷ []) (first_world found))
 
   -- between two calls the store did a part of its later work: the hub stands for what it stood for,
-  -- and a crash leaves no more than before
+  -- and a crash leaves just that
   pub record WorksAhead (old new : Hub A) : Type 0 where
     pub same_config : new.config ≡ old.config
     pub same_connections : new.connections ≡ old.connections
-    pub store : KeepsAll (store_of condition old) (store_of condition new)
+    pub store : KeepsEachState (store_of condition old) (store_of condition new)
 
   -- the turns leave the connection open, one after another, each with the outlet's failures that
   -- the one before left; behind one that leaves it open the store may work ahead

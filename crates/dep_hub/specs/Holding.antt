@@ -10,7 +10,6 @@ use Rattle.dep_message.specs.Stream.{Item}
 use Rattle.dep_hub.specs.Machine.{Serves, serves_all, step_fails, gives_up, SendsUpTo, want_of_memory}
 use Rattle.dep_hub.specs.Records.{Event, Arrive, Record, stopped, Run, Line, World, first_world, with_line, Arrives, at_live, at_shut_line, LeftByArrival}
 use Rattle.dep_hub.specs.Standing.{IsKeptAs, intake_of, store_of, IsClean, IsHonest, IsNoSuch}
-use Rattle.dep_hub.specs.Archives.{KeepsAll}
 use Rattle.dep_hub.specs.Causes.{HasCause}
 use Rattle.dep_hub.specs.Shut.{LeavesNoMore, IfShut, SendsFixed}
 use Rattle.dep_hub.specs.declared.arrived.Arrived.{Arrived}
@@ -124,11 +123,11 @@ module _ {A : Type 0} (condition : A → Condition) where
       → KeepsHolding old lines held → KeepsHolding new (with_line number line lines) (left held)
 
   -- No connection had a part in it: the hub stands for the same records, holds the same bytes, and
-  -- what a stop now leaves stands for them too. The store was asked for nothing that it keeps.
-  pub record RestsOn (old new : Hub A) : Type 0 where
+  -- what a stop now leaves stands for them too. The store keeps what it kept, in this sense.
+  pub record RestsOn (Keeps : Condition → Condition → Type 0) (old new : Hub A) : Type 0 where
     pub stands : StandsOn old new
     pub stops : StopsOn old new
-    pub store : KeepsAll (store_of condition old) (store_of condition new)
+    pub store : Keeps (store_of condition old) (store_of condition new)
     pub config : new.config ≡ old.config
     pub connections : new.connections ≡ old.connections
     pub next : new.next ≡ old.next

@@ -102,6 +102,13 @@ module _ {A : Type 0} (condition : A → Condition) where
     pub next : new.next ≡ old.next
     pub store : new.store ≡ old.store
 
+  -- the same, and what a stop leaves of the store is the state at which the hub stood
+  pub record LeavesStore (old new : Hub A) : Type 0 where
+    pub config : new.config ≡ old.config
+    pub next : new.next ≡ old.next
+    pub store : new.store ≡ old.store
+    pub rests : LeavesItsState old (store_of new)
+
   -- for all records that it stood for, the hub stands for them with one more
   abbrev pub Adds : Hub A → Hub A → Event → List ℕ → Type 0
   Adds old new event sent = (first : State) (records : List Record) → StandsAfter old first records

@@ -7,7 +7,7 @@ ghost use Rattle.dep_answers.specs.Steps.{operation_step};
 ghost use Rattle.dep_types.specs.Conditions.{Condition, StandsFor, HasCleanDisk, Leaves};
 ghost use Rattle.dep_hub.specs.Shut.{TellsOpen};
 ghost use Rattle.dep_hub.specs.Errands.{Account, Asked, WorkedAhead, Runs, FailsToTell};
-ghost use Rattle.dep_hub.specs.Archives.{Ticks, MakesStep, Streams, KeepsState, KeepsAll, FailsIfShut, CountsFailures};
+ghost use Rattle.dep_hub.specs.Archives.{Ticks, MakesStep, Streams, KeepsState, KeepsAll, KeepsEachState, FailsIfShut, CountsFailures};
 
 use dep_answers::{Performed, Service};
 use dep_decisions::Operation;
@@ -57,12 +57,12 @@ pub trait Archive {
         ensures asked { Runs (Asked result) (account self.old) (account self.new) }
         ensures rests { KeepsAll (condition self.old) (condition self.new) };
 
-    /// Does a bounded part of the work that a later request would have to wait for, and returns whether more
-    /// is left. It changes nothing that is kept, but a fault may shut it, which `is_open` returns. What it
-    /// returns is about time alone, so no clause speaks of it.
+    /// Does a bounded part of the work that a later request would have to wait for, and returns whether
+    /// more is left. It changes nothing that is kept, which it may commit once more, but a fault may shut
+    /// it, which `is_open` returns. What it returns is about time alone, so no clause speaks of it.
     fn work_ahead(&mut self) -> bool
         ensures asked { Runs WorkedAhead (account self.old) (account self.new) }
-        ensures rests { KeepsAll (condition self.old) (condition self.new) };
+        ensures rests { KeepsEachState (condition self.old) (condition self.new) };
 
     // An open archive has an honest disk.
     ghost honest_if_open: { (a : Self) → IsTrue (condition a).is_open

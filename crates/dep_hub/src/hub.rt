@@ -35,8 +35,9 @@ const MOST_CONNECTIONS: usize = 1_024;
 const LAST_NUMBER: u64 = 4_000_000_000_000_000_000;
 
 impl<A: Archive> Hub<A> {
-    ghost use Rattle.dep_hub.specs.Standing.{StandsAfter, StandsAt, GoesOnFrom, GoesOnAs, IsHonest, KeepsStore, LeavesItsState, store_of, Adds, Moves, ComesTo, intake_of};
+    ghost use Rattle.dep_hub.specs.Standing.{StandsAfter, StandsAt, GoesOnFrom, GoesOnAs, IsHonest, KeepsStore, LeavesStore, LeavesItsState, store_of, Adds, Moves, ComesTo, intake_of};
     ghost use Rattle.dep_hub.specs.Holding.{HoldsOn, RestsOn, MovesLine, OffersTo, ComesToNext, with_held};
+    ghost use Rattle.dep_hub.specs.Archives.{KeepsAll, KeepsEachState};
     ghost use Rattle.dep_hub.specs.Shut.{TellsOpen};
     ghost use Rattle.dep_hub.specs.Errands.{Asked, WorkedAhead, Runs, FailsToTell};
 
@@ -210,16 +211,16 @@ impl<A: Archive> Hub<A> {
             → IfErr result (FailsToTell (A.account self.old.store) (A.account self.new.store)) }
         ensures asked { Runs (Asked result) (A.account self.old.store)
             (A.account self.new.store) }
-        ensures rests { RestsOn A.condition self.old self.new }
+        ensures rests { RestsOn A.condition KeepsAll self.old self.new }
     {
         self.store.is_open()
     }
 
-    /// Does a part of the work that a later request would have to wait for, and returns whether more is left
-    /// (`Archive::work_ahead`). No connection has a part in it, so it is no event of a run.
+    /// Does a part of the work that a later request would have to wait for, and returns whether more is
+    /// left (`Archive::work_ahead`). No connection has a part in it, so it is no event of a run.
     pub fn work_ahead(&mut self) -> bool
         ensures asked { Runs WorkedAhead (A.account self.old.store) (A.account self.new.store) }
-        ensures rests { RestsOn A.condition self.old self.new }
+        ensures rests { RestsOn A.condition KeepsEachState self.old self.new }
     {
         self.store.work_ahead()
     }
@@ -232,9 +233,8 @@ impl<A: Archive> Hub<A> {
         ensures holding { MovesLine A.condition self.old self.new connection Absent
             (with_held connection []) }
         ensures gone { intake_of self.new.connections.items connection ≡ None }
-        // What a stop now leaves.
-        ensures rests { LeavesItsState A.condition self.old (store_of A.condition self.new) }
-        ensures kept { KeepsStore A.condition self.old self.new }
+        // So what a stop now leaves.
+        ensures kept { LeavesStore A.condition self.old self.new }
     {
         if let Some(i) = index_among(self.connections.as_slice(), connection.number()) {
             drop(self.connections.remove(i));

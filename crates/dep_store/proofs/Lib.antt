@@ -11,3 +11,4 @@ pub mod LineLemmas
 pub mod ShutLemmas
 pub mod Tries
 pub mod KnownFiles
+pub mod Copied

@@ -9,3 +9,4 @@ pub mod Exports
 pub mod Audits
 pub mod Reporting
 pub mod Working
+pub mod Copying

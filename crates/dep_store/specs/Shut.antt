@@ -15,7 +15,7 @@ use Rattle.dep_staging.specs.declared.running.RunningHashes.{RunningHashes}
 use Rattle.dep_requests.specs.declared.performing.Done.{Done}
 use Rattle.dep_schema.specs.Performing.{StepsOver, TellsChanges, IsBackUnchanged}
 use Rattle.dep_schema.specs.Transactions.{IsBackAt, IsRestored, Transacts}
-use Rattle.dep_hub.specs.Archives.{Streams, KeepsState, CountsFailures}
+use Rattle.dep_hub.specs.Archives.{Ticks, Streams, KeepsState, CountsFailures}
 use Rattle.dep_hub.specs.Shut.{TellsOpen}
 use Rattle.dep_store.specs.Archive.{shown_by}
 use Rattle.dep_store.specs.Remembering.{ShowsFile}
@@ -30,6 +30,12 @@ LeavesNoMore old new = db.HasCleanDisk new → ¬ IsTrue old.is_open
 pub record FailsIfShut {A E : Type 0} (old new : db.State) (result : Result A E) : Type 0 where
   pub opened : db.HasCleanDisk new → OnOk result (IsTrue old.is_open)
   pub left : LeavesNoMore old new
+
+-- so a tick fails, which else moves the clock
+pub record TicksIfOpen {E : Type 0} (old new : db.State) (config : Config) (moment : ℕ) (result : Result ℕ E)
+    : Type 0 where
+  pub does : Ticks (shown_by old) (shown_by new) config moment result
+  pub shut : FailsIfShut old new result
 
 -- so it fails; an Ok has found the store open, and leaves it so, with all as it was
 pub record StaysOpen {A E : Type 0} (old new : db.State) (result : Result A E) : Type 0 where

@@ -12,20 +12,6 @@ use dep_tables::BlockOwner;
 use dep_types::{Outlet, StreamFault};
 use sqlite::{Alter, Connection};
 
-/// Sends the content of the file of this number, one block at a time. Over a store that was shut none is asked for.
-fn stream_if_open<S: Alter, O: Outlet>(
-    connection: &mut Connection<S>,
-    file: u64,
-    out: &mut O,
-) -> Result<(), StreamFault>
-    requires settled { (state S.Store connection.old).in_transaction ≡ false }
-    ensures sends { SendsFile (state S.Store connection.old) (state S.Store connection.new)
-        (O.taken out.old) (O.taken out.new) (O.failures out.old) (O.failures out.new) file result }
-{
-    check_open(connection)?;
-    stream_content(connection, file, out)
-}
-
 /// Sends the content of a file that is there, over a store that is open.
 fn stream_file<S: Alter, O: Outlet>(
     connection: &mut Connection<S>,
@@ -40,7 +26,8 @@ fn stream_file<S: Alter, O: Outlet>(
     stream_blocks(connection, BlockOwner::File(known.file), known.size, out)
 }
 
-/// Sends the content of the file of this number, whose size is asked for where another file is known, or none.
+/// Sends the content of the file of this number, one block at a time. Where another file is known, or none, its size is
+/// asked for; over a store that was shut it isn't.
 pub(crate) fn stream_known<S: Alter, O: Outlet>(
     connection: &mut Connection<S>,
     known: Option<StoredFile>,
@@ -57,5 +44,6 @@ pub(crate) fn stream_known<S: Alter, O: Outlet>(
             return stream_file(connection, it, out);
         }
     }
-    stream_if_open(connection, file, out)
+    check_open(connection)?;
+    stream_content(connection, file, out)
 }

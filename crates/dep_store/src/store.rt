@@ -18,10 +18,11 @@ ghost use Rattle.dep_schema.specs.Performing.{IsKeptUnchanged};
 ghost use Rattle.dep_store.specs.Causes.{FailsToOpenTables, FindsOrUpgrades};
 ghost use Rattle.dep_store.specs.Migrating.{Keeps, OpenLeaves, OpensOlder, Stood};
 ghost use Rattle.dep_hub.specs.Shut.{TellsOpen};
-ghost use Rattle.dep_hub.specs.Archives.{Ticks, MakesStep, Streams, Tells, KeepsState, KeepsAll, CountsFailures};
+ghost use Rattle.dep_hub.specs.Archives.{MakesStep, Tells, KeepsAll};
 ghost use Rattle.dep_store.specs.Archive.{condition_of};
 ghost use Rattle.dep_store.specs.Auditing.{IsObjectAudited};
-ghost use Rattle.dep_store.specs.Shut.{FailsIfShut, FailsToTell};
+ghost use Rattle.dep_store.specs.Copying.{CopiesLog};
+ghost use Rattle.dep_store.specs.Shut.{FailsIfShut, FailsToTell, SendsFile, TicksIfOpen};
 ghost use Rattle.dep_store.specs.Staying.{TablesStay, TellsTables, LeavesOnly, HashesOn};
 
 use crate::hashing::hash_running;
@@ -30,7 +31,7 @@ use crate::reading::{find_next, list_files, view_object};
 use crate::remembering::{Remembered, look, still_known, tell_open};
 use crate::sending::stream_known;
 use crate::showing::{file_shown, perform_if_open, recalled, show_service};
-use crate::ticking::{clock_still, move_clock};
+use crate::ticking::{clock_still, copy_log, move_clock};
 use dep_answers::{Performed, Service, StoredFile};
 use dep_decisions::Operation;
 use dep_moment::Moment;
@@ -138,10 +139,9 @@ impl<S: Alter> Store<S> {
     /// Moves the clock to the moment, and never back, and ends the uploads that were left idle. It returns
     /// the clock.
     pub fn tick(&mut self, config: &Config, moment: Moment) -> Result<Moment, StoreFault>
-        ensures does { Ticks (condition_of S.Store self.old) (condition_of S.Store self.new)
-            config.now moment result }
         // On a store that was shut it fails, and a crash leaves what it could leave before.
-        ensures shut { FailsIfShut (state S.Store self.old) (state S.Store self.new) result }
+        ensures { TicksIfOpen (state S.Store self.old) (state S.Store self.new)
+            config.now moment result }
     {
         if !self.connection.is_autocommit() {
             return Err(StoreFault::Store);
@@ -215,15 +215,24 @@ impl<S: Alter> Store<S> {
         hash_running(&mut self.connection, running)
     }
 
+    /// Commits the clock as it is. Before a commit SQLite copies a log of 1,000 pages and more into the file, so behind
+    /// a request that wrote much the next one hasn't to wait for that. A shorter log isn't copied.
+    pub fn copy_log(&mut self) -> Result<(), StoreFault>
+        ensures { CopiesLog (state S.Store self.old) (state S.Store self.new) result }
+    {
+        if !self.connection.is_autocommit() {
+            return Err(StoreFault::Store);
+        }
+        self.remembered = None;
+        self.shown = None;
+        copy_log(&mut self.connection)
+    }
+
     /// Sends the content of the file of this number, one block at a time.
     pub fn stream<O: Outlet>(&mut self, file: u64, out: &mut O) -> Result<(), StreamFault>
-        ensures streams { Streams (condition_of S.Store self.old) (condition_of S.Store self.new)
-            (O.taken out.old) (O.taken out.new) file result }
-        ensures does { KeepsState (condition_of S.Store self.old) (condition_of S.Store self.new)
-            result }
         // On a store that was shut it fails, and a crash leaves what it could leave before.
-        ensures shut { FailsIfShut (state S.Store self.old) (state S.Store self.new) result }
-        ensures count { CountsFailures (O.failures out.old) (O.failures out.new) result }
+        ensures { SendsFile (state S.Store self.old) (state S.Store self.new)
+            (O.taken out.old) (O.taken out.new) (O.failures out.old) (O.failures out.new) file result }
     {
         if !self.connection.is_autocommit() {
             return Err(StreamFault::Store);

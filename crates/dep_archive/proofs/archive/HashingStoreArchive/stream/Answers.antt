@@ -17,4 +17,4 @@ returns-clause-does g c =
 pub returns-clause-shut : goal.returns-clause-shut
 returns-clause-shut g c =
     let runs = c.args.self.now.running in
-    shut_hashed (state g.S.Store c.args.self.now.store) (state g.S.Store c.stream.new.self) runs runs c.stream.result c.stream.ensures.shut
+    shut_hashed (state g.S.Store c.args.self.now.store) (state g.S.Store c.stream.new.self) runs runs c.stream.result c.stream.ensures.stays.shut

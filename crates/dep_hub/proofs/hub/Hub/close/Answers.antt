@@ -43,13 +43,21 @@ invariant_of-self g c = record {
       (ascends_remove 0 c.args.self.now.next c.in-Some.i c.args.self.now.connections.items (rw c.as_slice.ensures.value at c.in-Some.ensures.within) c.args.self.now.ascends);
 }
 
-pub returns-in-Some-clause-rests : goal.returns-in-Some-clause-rests
-returns-in-Some-clause-rests g c =
-    leaves_as_before g.A.Archive.condition c.args.self.now _ refl (g.met.A.Archive.settled c.args.self.now.store)
+pub returns-in-Some-clause-kept : goal.returns-in-Some-clause-kept
+returns-in-Some-clause-kept g c = record {
+  config = refl;
+  next = refl;
+  store = refl;
+  rests = leaves_as_before g.A.Archive.condition c.args.self.now _ refl (g.met.A.Archive.settled c.args.self.now.store);
+}
 
-pub returns-in_default-clause-rests : goal.returns-in_default-clause-rests
-returns-in_default-clause-rests g c =
-    leaves_as_before g.A.Archive.condition c.args.self.now _ refl (g.met.A.Archive.settled c.args.self.now.store)
+pub returns-in_default-clause-kept : goal.returns-in_default-clause-kept
+returns-in_default-clause-kept g c = record {
+  config = refl;
+  next = refl;
+  store = refl;
+  rests = leaves_as_before g.A.Archive.condition c.args.self.now _ refl (g.met.A.Archive.settled c.args.self.now.store);
+}
 
 pub returns-in-Some-clause-holding : goal.returns-in-Some-clause-holding
 returns-in-Some-clause-holding g c =

@@ -1,9 +1,9 @@
 use Rattle.std.proofs.Common.{refl}
-use Rattle.dep_hub.proofs.HoldingLemmas.{rests_on}
+use Rattle.dep_hub.proofs.HoldingLemmas.{rests_ahead}
 use Rattle.dep_hub.proofs.hub.Hub.work_ahead.Goals as goal
 
 pub returns : goal.returns
 returns g c = record {
   asked = c.work_ahead.ensures.asked;
-  rests = rests_on g.A.Archive.condition c.args.self.now _ refl refl refl (g.met.A.Archive.settled c.args.self.now.store) c.work_ahead.ensures.rests;
+  rests = rests_ahead g.A.Archive.condition c.args.self.now _ refl refl refl c.work_ahead.ensures.rests;
 }

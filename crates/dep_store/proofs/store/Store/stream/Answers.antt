@@ -1,4 +1,5 @@
 use Rattle.std.proofs.Common.{◌≡◌, ◌∙◌, rules}
+use Rattle.std.proofs.lemmas.Result.{err_from_is_err_and}
 use Rattle.sqlite.specs.Held.{state}
 use Rattle.dep_schema.proofs.Transacting.{stood_before}
 use Rattle.dep_store.proofs.store.Store.stream.Goals as goal
@@ -19,11 +20,10 @@ stream_known-requires-clause-there g c =
     let was : c.self.inside.shown ≡ c.replace-shown.result = search rules in
     λ it is. c.self.invariant.2 it (was ∙ is)
 
-pub returns-clause-does : goal.returns-clause-does
-returns-clause-does g c = rw c.self.view_is at c.in_ok-stream_known.ensures.sends.does
+pub returns-in_err-stream_known : goal.returns-in_err-stream_known
+returns-in_err-stream_known g c =
+    let told = err_from_is_err_and c.from_residual.result c.from_residual.ensures.1 in
+    rw (told.1, told.2) (rw c.self.view_is at c.in_err-stream_known.ensures.sends)
 
-pub returns-clause-streams : goal.returns-clause-streams
-returns-clause-streams g c = rw c.self.view_is at c.in_ok-stream_known.ensures.sends.streams
-
-pub returns-clause-shut : goal.returns-clause-shut
-returns-clause-shut g c = rw c.self.view_is at c.in_ok-stream_known.ensures.sends.stays.shut
+pub returns : goal.returns
+returns g c = rw c.self.view_is at c.in_ok-stream_known.ensures.sends

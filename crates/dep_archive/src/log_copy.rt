@@ -1,0 +1,71 @@
+//! When the log of a store is copied into its file.
+
+ghost use Rattle.std.specs.Prelude.{◌≡◌, ◌↔◌, if◌then◌else◌, IsTrue};
+ghost use Rattle.dep_archive.specs.LogCopies.{writes_much, after_call, has_call};
+
+use dep_decisions::Operation;
+use dep_fields::{Field, Kind};
+use dep_types::Method;
+
+/// A content of so many octets makes the log long: it fills 1,024 of its pages, and a log of 1,000 is copied.
+const LONG_CONTENT: usize = 4_194_304;
+
+/// So many calls behind such a request are left out: who waited through it is answered meanwhile, in the rounds that share
+/// its moment.
+const CALLS_LEFT_OUT: u32 = 2;
+
+/// When the log is to be copied, counted in calls that work ahead.
+#[derive(Clone, Copy, Debug, PartialEq, Eq)]
+pub(crate) enum LogCopy {
+    /// No request has made it long since it was copied.
+    NotDue,
+    /// Once so many further calls were made.
+    DueAfter(u32),
+}
+
+/// Whether the request writes much, or may: a deposit by reference moves as many bytes as its segments have.
+fn writes_much(operation: &Operation<'_>) -> bool
+    ensures { result ≡ writes_much operation.now }
+{
+    !matches!(operation.target.method, Method::Get | Method::Head)
+        && (operation.content.as_slice().len() >= LONG_CONTENT
+            || matches!(operation.fields.disposition, Field::Value(Kind::References)))
+}
+
+impl LogCopy {
+    ghost use Rattle.dep_archive.specs.declared.log_copy.LogCopy.TheVariants.{DueAfter};
+
+    /// Notes a request that was answered.
+    pub fn note(&mut self, operation: &Operation<'_>)
+        ensures { self.new ≡ (if writes_much operation.now then DueAfter 2 else self.old) }
+    {
+        if writes_much(operation) {
+            *self = LogCopy::DueAfter(CALLS_LEFT_OUT);
+        }
+    }
+
+    /// Counts a call. Returns whether the log is to be copied in it.
+    pub fn count(&mut self) -> bool
+        ensures due { IsTrue result ↔ (self.old ≡ DueAfter 0) }
+        ensures counted { self.new ≡ after_call self.old }
+    {
+        match *self {
+            LogCopy::NotDue => false,
+            LogCopy::DueAfter(0) => {
+                *self = LogCopy::NotDue;
+                true
+            }
+            LogCopy::DueAfter(calls) => {
+                *self = LogCopy::DueAfter(calls - 1);
+                false
+            }
+        }
+    }
+
+    /// Whether a further call is to copy it.
+    pub fn is_left(&self) -> bool
+        ensures { result ≡ has_call self.now }
+    {
+        matches!(self, LogCopy::DueAfter(_))
+    }
+}
