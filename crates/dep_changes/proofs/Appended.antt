@@ -25,7 +25,7 @@ use Rattle.dep_changes.proofs.Filled.{ingested_row}
 use Rattle.dep_changes.proofs.Steps.{row_is, its_number, rewritten, texts_of}
 
 -- it is the same whether the object becomes ingested before or after it
-ingested_after : (s : State) (content : List ℕ) (d : Deposit) (ingests : Bool) (o : Object) → appended s content d (ingested_by ingests o) ≡ ingested_by ingests (appended s content d o)
+pub ingested_after : (s : State) (content : List ℕ) (d : Deposit) (ingests : Bool) (o : Object) → appended s content d (ingested_by ingests o) ≡ ingested_by ingests (appended s content d o)
 ingested_after s content (Files new) ingests o = refl
 ingested_after s content (Metadata texts) ingests o = refl
 

@@ -1,21 +1,26 @@
 -- What the state after a decision shows of what is known.
-use Rattle.std.proofs.Common.{◌≡◌, ℕ, Bool, ◌||◌, List, Option, Some, None, option_and_then, ap, sym, ◌∙◌}
+use Rattle.std.proofs.Common.{◌≡◌, ℕ, Bool, true, ◌||◌, List, Option, Some, None, IfSome, option_and_then, refl, ap, subst, sym, ◌∙◌}
+use Rattle.std.specs.Prelude.{option_map}
 use Rattle.std.specs.Option.{option_map_or}
 use Rattle.dep_types.specs.Rows.{file_row, object_row, object_view}
 use Rattle.dep_types.specs.State.{State, File as Content, Object as Kept, Texts}
 use Rattle.std.specs.FinMap as finmap
-use Rattle.dep_types.specs.Maps.{Numbered}
+use Rattle.dep_types.specs.Maps.{Numbered, ◌>>=◌}
 use Rattle.dep_types.specs.declared.rows.FileRow.{FileRow}
 use Rattle.dep_types.specs.declared.rows.ObjectRow.{ObjectRow}
 use Rattle.dep_types.specs.declared.rows.ObjectView.{ObjectView}
 use Rattle.dep_row_maps.proofs.Lens.{get_here}
-use Rattle.dep_decisions.specs.Effects.{added, at, file_from, filled, with_files, with_texts}
+use Rattle.dep_decisions.specs.Effects.{added, appended, at, changed, effect_of, file_from, filled, ingested_by, with_files, with_texts}
+use Rattle.dep_decisions.specs.declared.decision.Decision.{Decision}
 use Rattle.dep_decisions.specs.declared.decision.Deposit.{Deposit}
 use Rattle.dep_decisions.specs.declared.decision.NewFile.{NewFile}
-use Rattle.dep_decisions.specs.declared.decision.Decision.TheVariants.{Create, Replace, SetMetadata, SetFiles, SetFile}
+use Rattle.dep_decisions.specs.declared.decision.Decision.TheVariants.{Show, Create, Append, Replace, Complete, SetMetadata, SetFiles, SetFile, DropFile, DropObject, Open, Receive, DropUpload}
 use Rattle.dep_answers.specs.declared.subject.Shown.TheVariants as shown
 use Rattle.dep_operations.specs.declared.view.View.{View}
-use Rattle.dep_changes.specs.Known.{known_shown}
+use Rattle.dep_objects.specs.Objects.{HasRow}
+use Rattle.dep_objects.proofs.Puts.{has_row}
+use Rattle.dep_changes.proofs.Appended.{ingested_after}
+use Rattle.dep_changes.specs.Known.{known_row, known_shown, row_in, row_left}
 use Rattle.dep_changes.specs.Told.{TellsObject}
 
 -- a new object
@@ -62,3 +67,67 @@ module _ (s : State) (content : List ℕ) (n : ℕ) (o : Kept) (there : finmap.g
 -- an object that is told is not absent
 pub never_told : {P : Type 0} (s : State) (view : View) (n : ℕ) (o : Kept) → TellsObject view s n o → view.object ≡ None → P
 never_told s view n o told none = absurd (let is = told.0 in cc)
+
+-- ---- the row of the object that is touched
+
+-- what is looked at of an object is what a state has at the number of its row
+seen_again : (objects : Numbered Kept) (looked : Option ℕ) (seen : Option ObjectRow) → seen ≡ (looked >>= (λ n. option_map (object_row n) (finmap.get objects n)))
+    → seen ≡ (seen >>= (λ row. option_map (object_row row.object) (finmap.get objects row.object)))
+seen_again objects None seen is = is ∙ ap (λ (x : Option ObjectRow). x >>= (λ row. option_map (object_row row.object) (finmap.get objects row.object))) (sym is)
+seen_again objects (Some n) seen is = go (finmap.get objects n) refl
+  where
+    again : Option ObjectRow → Option ObjectRow
+    again x = x >>= (λ row. option_map (object_row row.object) (finmap.get objects row.object))
+
+    go : (o : Option Kept) → finmap.get objects n ≡ o → seen ≡ again seen
+    go None at = let none : seen ≡ None = is ∙ ap (option_map (object_row n)) at in none ∙ ap again (sym none)
+    go (Some o) at =
+        let some : seen ≡ Some (object_row n o) = is ∙ ap (option_map (object_row n)) at in
+        is ∙ ap again (sym some)
+
+module _ (s : State) (content : List ℕ) (view : View) where
+  abbrev Leaves : Decision → Option ObjectRow → Type 0
+  Leaves d left = left ≡ known_row s content view d
+
+  pub shown_left : (looked : Option ℕ) → view.object ≡ (looked >>= (λ n. option_map (object_row n) (finmap.get s.objects n))) → Leaves Show view.object
+  shown_left looked is = seen_again s.objects looked view.object is
+
+  module _ (n : ℕ) (o : Kept) (told : TellsObject view s n o) where
+    left_at : (f : Kept → Kept) (row : ObjectRow) → row ≡ object_row n (f o)
+        → Some row ≡ (view.object >>= (λ was. option_map (object_row was.object) (finmap.get (at s.objects n f) was.object)))
+    left_at f row is =
+        ap (λ (r : ObjectRow). Some r) is
+        ∙ sym (ap (λ (x : Option ObjectRow). x >>= (λ was. option_map (object_row was.object) (finmap.get (at s.objects n f) was.object))) told.0
+        ∙ ap (option_map (object_row n)) (at_here s.objects n o f told.1))
+
+    pub completed_left : (row : ObjectRow) → row ≡ object_row n (ingested_by true (changed s o)) → Leaves (Complete n) (Some row)
+    completed_left row is = left_at (λ (x : Kept). ingested_by true (changed s x)) row is
+
+    pub appended_left : (d : Deposit) (ingests : Bool) (row : ObjectRow) → row ≡ object_row n (appended s content d (ingested_by ingests o)) → Leaves (Append n d ingests) (Some row)
+    appended_left d ingests row is =
+        left_at (λ (x : Kept). ingested_by ingests (appended s content d x)) row
+        (is ∙ ap (object_row n) (ingested_after s content d ingests o))
+
+-- so the state after has what is known
+pub has_known : (s : State) (content : List ℕ) (d : Decision) (seen known : Option ObjectRow) → known ≡ (seen >>= row_left s content d) → IfSome known (HasRow (effect_of s content d))
+has_known s content d None known is = subst (λ (x : Option ObjectRow). IfSome x (HasRow (effect_of s content d))) (sym is) tt
+has_known s content d (Some was) known is = subst (λ (x : Option ObjectRow). IfSome x (HasRow (effect_of s content d))) (sym is) (has d)
+  where
+    found : (after : State) (row : Option ObjectRow) → row ≡ row_in after was → IfSome row (HasRow after)
+    found after None at = tt
+    found after (Some row) at = has_row after was.object row at
+
+    has : (x : Decision) → IfSome (row_left s content x was) (HasRow (effect_of s content x))
+    has Show = found (effect_of s content Show) _ refl
+    has (Append n d ingests) = found (effect_of s content (Append n d ingests)) _ refl
+    has (Complete n) = found (effect_of s content (Complete n)) _ refl
+    has (Create d ingests) = tt
+    has (Replace n d ingests) = tt
+    has (SetMetadata n texts) = tt
+    has (SetFiles n new) = tt
+    has (SetFile n f new) = tt
+    has (DropFile n f) = tt
+    has (DropObject n) = tt
+    has (Open o) = tt
+    has (Receive u k) = tt
+    has (DropUpload u) = tt

@@ -1,19 +1,23 @@
 -- What the reply to a request shows, where that is known without a look at the tables.
 use Rattle.std.specs.Prelude.{◌≡◌, ⊤, ℕ, Bool, List, Option, Some, None, option_map}
+use Rattle.dep_types.specs.Maps.{◌>>=◌}
 use Rattle.dep_types.specs.State.{State}
-use Rattle.dep_types.specs.Rows.{file_row, object_view}
+use Rattle.std.specs.FinMap as map
+use Rattle.dep_types.specs.Rows.{file_row, object_row, object_view}
 use Rattle.dep_types.specs.declared.counters.Counters.{Counters}
 use Rattle.dep_types.specs.declared.rows.FileRow.{FileRow}
+use Rattle.dep_types.specs.declared.rows.ObjectRow.{ObjectRow as Row}
 use Rattle.dep_types.specs.declared.rows.ObjectView.{ObjectView}
 use Rattle.dep_decisions.specs.Effects.{effect_of, file_from, filled}
 use Rattle.dep_decisions.specs.declared.decision.Decision.{Decision}
 use Rattle.dep_decisions.specs.declared.decision.Deposit.{Deposit}
 use Rattle.dep_decisions.specs.declared.decision.NewFile.{NewFile}
-use Rattle.dep_decisions.specs.declared.decision.Decision.TheVariants.{Create, Replace, SetMetadata, SetFiles, SetFile}
+use Rattle.dep_decisions.specs.declared.decision.Decision.TheVariants.{Show, Create, Append, Replace, Complete, SetMetadata, SetFiles, SetFile}
 use Rattle.dep_answers.specs.Subjects.{shown_at}
 use Rattle.dep_answers.specs.declared.subject.Subject.{Subject}
 use Rattle.dep_answers.specs.declared.subject.Subject.TheVariants.{File, Object, ObjectRow}
 use Rattle.dep_answers.specs.declared.subject.Shown.{Shown}
+use Rattle.dep_operations.specs.declared.view.View.{View}
 use Rattle.dep_changes.specs.Causes.{HasCopies}
 use Rattle.dep_changes.specs.Told.{TellsDeposit}
 use Rattle.dep_changes.specs.declared.change.Change.{Change}
@@ -32,6 +36,23 @@ known_subject next d = None
 -- what the state after shows there
 abbrev pub known_shown : State → (content : List ℕ) → Decision → Option Shown
 known_shown s content d = option_map (shown_at (effect_of s content d)) (known_subject s.next d)
+
+-- the row of the object that has the number of this one
+abbrev pub row_in : State → Row → Option Row
+row_in s row = option_map (object_row row.object) (map.get s.objects row.object)
+
+-- What a decision leaves of the row of an object that is touched, where that is known: of one that is only shown, that is
+-- added to, or that becomes ingested.
+abbrev pub row_left : State → (content : List ℕ) → Decision → Row → Option Row
+row_left s content Show row = row_in (effect_of s content Show) row
+row_left s content (Append n d ingests) row =
+    row_in (effect_of s content (Append n d ingests)) row
+row_left s content (Complete n) row = row_in (effect_of s content (Complete n)) row
+row_left s content d row = None
+
+-- the same of the object in a view
+abbrev pub known_row : State → (content : List ℕ) → View → Decision → Option Row
+known_row s content view d = view.object >>= row_left s content d
 
 -- a deposit with a number for each of its files is known
 abbrev pub TellsNumbered : NumberedDeposit → State → Type 0

@@ -1,14 +1,18 @@
 //! Deposits.
 
-ghost use Rattle.std.specs.Prelude.{◌≡◌, ◌≢◌, ◌||◌, ℕ, [], Some};
+ghost use Rattle.std.specs.Prelude.{◌≡◌, ◌≢◌, ◌||◌, ℕ, List, [], Some};
 ghost use Rattle.std.specs.FinMap as map;
 ghost use Rattle.dep_types.specs.Limits.{IsStorable};
+ghost use Rattle.dep_types.specs.Rows.{object_row};
+ghost use Rattle.dep_types.specs.State.{Object, State};
 ghost use Rattle.dep_row_maps.specs.TablesAre.{with_metadata, with_object};
 ghost use Rattle.dep_row_maps.specs.Causes.{FailsByOne, FailsByStatement, FailsHolding};
+ghost use Rattle.dep_decisions.specs.Effects.{appended};
 ghost use Rattle.dep_decisions.specs.declared.decision.Decision.TheVariants.{Append, Create, Replace};
 ghost use Rattle.dep_changes.specs.Causes.{HasCopies, IsStorableAt, IsStorableBeside};
 ghost use Rattle.dep_changes.specs.Changed.{blank_row};
 ghost use Rattle.dep_changes.specs.Clauses.{Appends, CarriesOut, FailsAppending, FailsCarrying, FailsCarryingMaps, MakesOf, PutsIn};
+ghost use Rattle.dep_changes.specs.Told.{TellsNumbers};
 
 use crate::change::{Change, NumberedDeposit, NumberedFiles, touched};
 use crate::new_files::put_new_files;
@@ -42,6 +46,17 @@ pub(crate) fn blank_row(view: &View, object: u64, ingested: bool) -> ObjectRow
         metadata_tag: view.next.change,
         files_tag: view.next.change,
         changed: view.clock,
+    }
+}
+
+/// The row of an object to which the deposit is added.
+pub(crate) fn added_to(view: &View, row: ObjectRow, deposit: &Deposit) -> ObjectRow
+    ensures { (s : State) (content : List ℕ) (n : ℕ) (o : Object) → TellsNumbers view.now s
+        → row ≡ object_row n o → result ≡ object_row n (appended s content deposit.now o) }
+{
+    match deposit {
+        Deposit::Files(_) => files_changed(view, row),
+        Deposit::Metadata(_) => texts_changed(view, row),
     }
 }
 

@@ -1,22 +1,22 @@
 //! What the reply to a request shows, where that is known without a look at the tables.
 
-ghost use Rattle.std.specs.Prelude.{◌≡◌, IfOk, IfErr, IsTrue};
+ghost use Rattle.std.specs.Prelude.{◌≡◌, ℕ, List, IfOk, IfErr, IsTrue};
 ghost use Rattle.dep_types.specs.Numbers.{room_for};
 ghost use Rattle.dep_types.specs.State.{State};
 ghost use Rattle.dep_types.specs.declared.store_fault.StoreFault.TheVariants.{Memory};
 ghost use Rattle.dep_decisions.specs.Decisions.{numbers_for};
-ghost use Rattle.dep_changes.specs.Known.{CopiesKnown, known_shown};
+ghost use Rattle.dep_changes.specs.Known.{CopiesKnown, known_row, known_shown};
 ghost use Rattle.dep_changes.specs.Told.{IsAccepted};
 
 use crate::change::{Change, NumberedDeposit, touched};
 use crate::created::{filled_view, replaced_file};
-use crate::deposits::{blank_row, ingested_by};
-use crate::objects::{files_changed, texts_changed};
+use crate::deposits::{added_to, blank_row, ingested_by};
+use crate::objects::{completed, files_changed, texts_changed};
 use dep_answers::Shown;
 use dep_decisions::Decision;
 use dep_fixity::HashedOctets;
 use dep_operations::View;
-use dep_types::StoreFault;
+use dep_types::{ObjectRow, StoreFault};
 use std::alloc::Global;
 
 /// What the reply shows of what was decided, once it is carried out, where all of that is known: an object that is made or
@@ -68,5 +68,24 @@ pub fn known_after(
             Ok(Some(Shown::File(replaced)))
         }
         _ => Ok(None),
+    }
+}
+
+/// The row of the object that is touched, once what was decided is carried out, where it is known: of an object that is only
+/// shown, that is added to, or that becomes ingested. No statement is run.
+pub fn row_after(view: &View, decision: &Decision) -> Option<ObjectRow>
+    ensures { (s : State) (content : List ℕ) → IsAccepted s view.now content decision.now
+        → result ≡ known_row s content view.now decision.now }
+{
+    let row = view.object?;
+    match decision {
+        Decision::Show => Some(row),
+        Decision::Append {
+            deposit,
+            ingests,
+            ..
+        } => Some(added_to(view, ingested_by(row, *ingests), deposit)),
+        Decision::Complete { .. } => Some(completed(view, row)),
+        _ => None,
     }
 }

@@ -13,5 +13,5 @@ mod objects;
 mod uploads;
 
 pub use carrying::carry_out;
-pub use known::known_after;
+pub use known::{known_after, row_after};
 pub use new_files::copied_behalf;

@@ -1,6 +1,6 @@
 //! Changes of one object.
 
-ghost use Rattle.std.specs.Prelude.{◌≡◌, ℕ, Some};
+ghost use Rattle.std.specs.Prelude.{◌≡◌, ℕ, Some, true};
 ghost use Rattle.std.specs.FinMap as map;
 ghost use Rattle.dep_types.specs.Limits.{IsStorable};
 ghost use Rattle.dep_types.specs.Sound.{IsSound};
@@ -30,23 +30,30 @@ pub(crate) fn write_row<T: Statements>(tx: &mut T, row: &ObjectRow) -> Result<()
     put_object(tx, row)
 }
 
+/// The row of an object that becomes ingested.
+pub(crate) fn completed(view: &View, row: ObjectRow) -> ObjectRow
+    ensures { result ≡ record row {
+      ingested = true;
+      object_tag = view.now.next.change;
+      changed = view.now.clock;
+    } }
+{
+    ObjectRow {
+        ingested: true,
+        object_tag: view.next.change,
+        changed: view.clock,
+        ..row
+    }
+}
+
 /// The object becomes ingested.
 pub(crate) fn complete<T: Statements>(tx: &mut T, change: &Change<'_>) -> Result<(), StoreFault>
     ensures map { (n : ℕ) → CarriesOut T.lenders T.state tx.old tx.new result change.now
         (Complete n) }
     ensures cause { (n : ℕ) → FailsCarrying T.state tx.old tx.new result change.now (Complete n) }
 {
-    let view = change.view;
-    let row = touched(view)?;
-    write_row(
-        tx,
-        &ObjectRow {
-            ingested: true,
-            object_tag: view.next.change,
-            changed: view.clock,
-            ..row
-        },
-    )
+    let row = touched(change.view)?;
+    write_row(tx, &completed(change.view, row))
 }
 
 /// The row of an object whose metadata changes.

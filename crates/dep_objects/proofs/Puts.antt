@@ -20,7 +20,7 @@ use Rattle.dep_row_maps.proofs.Whole.{object_put, object_found, object_written, 
 use Rattle.dep_row_maps.specs.Stored.{grouped, listed, object_stored}
 use Rattle.dep_row_maps.proofs.Metadata.{grouped-listed}
 use Rattle.dep_objects.specs.declared.objects.DescribedObject.{DescribedObject}
-use Rattle.dep_objects.specs.Objects.{object_of, described_object}
+use Rattle.dep_objects.specs.Objects.{HasRow, object_of, described_object}
 
 -- ---- one row is put in, or written
 
@@ -70,6 +70,18 @@ pub object_gone : (t u v : Tables) (s : State) (n : ℕ) → TablesAre t s → f
     → v ≡ record u { objects = without_rowid (pos n) u.objects } → TablesAre v (record s { objects = finmap.remove s.objects n })
 object_gone t u v s n h files first second =
     subst (λ x. TablesAre x (record s { objects = finmap.remove s.objects n })) (sym (second ∙ ap (λ (x : Tables). record x { objects = without_rowid (pos n) x.objects }) first)) (object_deleted t s h n files)
+
+-- the row that is found of a number is that of an object that is there
+number_of : (n : ℕ) (row : ObjectRow) (o : Option Object) → Some row ≡ option_map (object_row n) o → row.object ≡ n
+number_of n row None e = absurd (cc)
+number_of n row (Some o) e = let same : row ≡ object_row n o = cc in ap (λ (r : ObjectRow). r.object) same
+
+module _ (s : State) (n : ℕ) (row : ObjectRow) (found : Some row ≡ option_map (object_row n) (finmap.get s.objects n)) where
+  pub its_number : row.object ≡ n
+  its_number = number_of n row (finmap.get s.objects n) found
+
+  pub has_row : HasRow s row
+  has_row = subst (λ (k : ℕ). Some row ≡ option_map (object_row k) (finmap.get s.objects k)) (sym its_number) found
 
 -- an object that is told by its row and its metadata
 pub described : (s : State) (n : ℕ) (row : ObjectRow) (metadata : Texts) → IsSound s → Some row ≡ option_map (object_row n) (finmap.get s.objects n) → metadata ≡ grouped (listed (metadata_at s.objects n))

@@ -1,5 +1,5 @@
 -- An object from its row, its metadata and its files.
-use Rattle.std.specs.Prelude.{◌≡◌, ℕ, Some}
+use Rattle.std.specs.Prelude.{◌≡◌, ℕ, Some, option_map}
 use Rattle.std.specs.FinMap as map
 use Rattle.dep_types.specs.Maps.{Numbered}
 use Rattle.dep_types.specs.State.{State, Object, File, Texts}
@@ -23,6 +23,14 @@ object_of row texts files = record {
 -- the object of this number, without its files
 abbrev pub described_object : ℕ → Object → DescribedObject
 described_object n o = record { row = object_row n o; metadata = o.metadata }
+
+-- the object of the row is there, and has this row
+abbrev pub HasRow : State → ObjectRow → Type 0
+HasRow s row = Some row ≡ option_map (object_row row.object) (map.get s.objects row.object)
+
+-- the object of this number is there, and is the one that is described
+abbrev pub IsDescribed : State → ℕ → DescribedObject → Type 0
+IsDescribed s n found = Some found ≡ option_map (described_object n) (map.get s.objects n)
 
 -- the state with the object of a row in place of this one, whose metadata and files it keeps
 abbrev pub with_row : State → ObjectRow → Object → State

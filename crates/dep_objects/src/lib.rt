@@ -10,5 +10,6 @@ mod objects;
 pub use clock::{counters, set_counters};
 pub use metadata::{append_metadata, set_metadata};
 pub use objects::{
-    DescribedObject, add_object, delete_object, find_object, load_object, next_object, put_object,
+    DescribedObject, add_object, delete_object, describe, find_object, load_object, next_object,
+    put_object,
 };

@@ -9,7 +9,7 @@ ghost use Rattle.dep_row_maps.specs.Keyed.{next_entry};
 ghost use Rattle.dep_row_maps.specs.TablesAre.{metadata_at, files_at, with_object, without_object};
 ghost use Rattle.dep_row_maps.specs.Clauses.{FromMaps, SeesState, ChangesMaps, Finds, QueriesMaps, WritesMaps};
 ghost use Rattle.dep_row_maps.specs.Causes.{FailsByStatement, FailsHolding, FailsSince};
-ghost use Rattle.dep_objects.specs.Objects.{object_of, described_object, PutsRow};
+ghost use Rattle.dep_objects.specs.Objects.{HasRow, IsDescribed, object_of, described_object, PutsRow};
 
 use crate::gathering::load_metadata;
 use dep_tables::{Statements, delete_metadata, insert_object};
@@ -23,6 +23,24 @@ pub struct DescribedObject {
     pub row: ObjectRow,
     /// Its metadata.
     pub metadata: Metadata,
+}
+
+/// The object of this row, which is there, with its metadata. The row is not read again. A number of 2^63 or more is a
+/// fault of the store.
+pub fn describe<T: Statements>(
+    tx: &mut T,
+    alloc: Global,
+    row: ObjectRow,
+) -> Result<DescribedObject, StoreFault>
+    ensures does { Finds T.lenders T.state tx.old tx.new result
+        (λ s. IsSound s → HasRow s row → IfOk result (IsDescribed s row.object)) }
+    ensures cause { FromMaps (T.state tx.old) (T.state tx.new)
+        (λ s. row.object < 2 ^ 63
+        → IfErr result (FailsSince T.state
+        (FailsHolding (metadata_at s.objects row.object ≢ map.empty)) tx.old tx.new)) }
+{
+    let metadata = load_metadata(tx, alloc, row.object)?;
+    Ok(DescribedObject { row, metadata })
 }
 
 /// The object of this number, if there is one. It reads the object's own rows alone. A number of 2^63
@@ -43,8 +61,8 @@ pub fn load_object<T: Statements>(
     let Some(row) = dep_tables::find_object(tx, object)? else {
         return Ok(None);
     };
-    let metadata = load_metadata(tx, alloc, object)?;
-    Ok(Some(DescribedObject { row, metadata }))
+    let described = describe(tx, alloc, row)?;
+    Ok(Some(described))
 }
 
 /// The row of an object, without its metadata and files, if there is one. A number of 2^63 or more is a

@@ -1,11 +1,13 @@
 -- What a reply shows, from what was found.
-use Rattle.std.proofs.Common.{◌≡◌, ℕ, List, map, Option, Some, None, Result, IfOk, refl, sym, ap, subst, ◌∙◌}
+use Rattle.std.proofs.Common.{◌≡◌, ℕ, List, map, Option, Some, None, Result, IfErr, refl, sym, ap, subst, ◌∙◌}
 use Rattle.std.specs.Prelude.{option_map}
 use Rattle.std.specs.Option.{option_map_or}
 use Rattle.std.specs.FinMap as finmap
+use Rattle.sqlite.specs.State as db
 use Rattle.dep_types.specs.State.{State, Upload as Staged}
 use Rattle.dep_types.specs.Rows.{upload_row}
 use Rattle.dep_types.specs.declared.rows.UploadRow.{UploadRow}
+use Rattle.dep_types.specs.declared.store_fault.StoreFault.{StoreFault}
 use Rattle.dep_answers.specs.Subjects.{shown_at}
 use Rattle.dep_answers.specs.declared.subject.Shown.{Shown}
 use Rattle.dep_answers.specs.declared.subject.Subject.{Subject}
@@ -16,7 +18,13 @@ use Rattle.dep_staging.specs.declared.loading.FoundRow.{FoundRow}
 use Rattle.dep_staging.specs.declared.loading.FoundRow.TheVariants as by_row
 use Rattle.dep_staging.specs.declared.loading.FoundUpload.TheVariants as found
 use Rattle.dep_staging.specs.declared.loading.StagedUpload.{StagedUpload}
+use Rattle.dep_row_maps.specs.Causes.{FailsByStatement, FailsHolding, FailsSince}
+use Rattle.dep_row_maps.specs.Causes.FailsHolding.{statement}
+use Rattle.dep_row_maps.proofs.Causes.{fails_among, if_err_then}
+use Rattle.dep_tables.proofs.Chains.{may_read}
+use Rattle.dep_tables.proofs.Results.{ok_then}
 use Rattle.dep_views.proofs.Found.{numbers_are}
+use Rattle.dep_views.specs.Shown.{MayReadShown, ReadsShown}
 
 module _ {X Y Z : Type 0} (f : X → Y) (g : Y → Z) (z : Z) where
   pub some_shown : (o : Option X) (v : Y) → Some v ≡ option_map f o → g v ≡ option_map_or (λ x. g (f x)) o z
@@ -46,6 +54,18 @@ module _ (s : State) (u : ℕ) where
       let keys = are ∙ ap (map (λ segment. segment.number)) h.1.received ∙ numbers_are u (finmap.entries (h.0).segments) in
       (λ i. shown.Upload (row i) (keys i)) ∙ sym (at (Some h.0) h.1.there)
 
--- what is shown of one subject is shown of the same under another name
-pub shown_as : {E : Type 0} (s : State) (r : Result Shown E) (a b : Subject) → a ≡ b → IfOk r (λ told. told ≡ shown_at s b) → IfOk r (λ told. told ≡ shown_at s a)
-shown_as s r a b is told = subst (λ (x : Subject). IfOk r (λ told. told ≡ shown_at s x)) (sym is) told
+-- ---- what a reply shows of a subject
+
+module _ {T L : Type 0} {lenders : T → L} {state : T → db.State} {old new : T} {r : Result Shown StoreFault} (a b : Subject) (is : a ≡ b) (told : State → Type 0) where
+  -- what is read of one subject is read of the same under another name
+  pub reads_shown : ReadsShown lenders state old new r b told → MayReadShown lenders state old new r a told
+  reads_shown reads =
+      subst (λ (x : Subject). MayReadShown lenders state old new r x told) (sym is) (record {
+        map = record { found = reads.map.found; keeps = may_read reads.map.keeps };
+        still = λ clean ours. ok_then r (reads.map.keeps.same clean ours) (λ same. same.0.now_is);
+        cause = reads.cause;
+      })
+
+-- where only a statement fails, no list is wanting memory
+pub fails_by_one : {T A : Type 0} (state : T → db.State) (old new : T) (held : Type 0) (r : Result A StoreFault) → IfErr r (FailsSince state FailsByStatement old new) → IfErr r (FailsSince state (FailsHolding held) old new)
+fails_by_one state old new held r failed = if_err_then r failed (fails_among state old new FailsByStatement (FailsHolding held) (λ at now fault by. statement by))

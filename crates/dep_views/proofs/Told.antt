@@ -4,8 +4,9 @@ use Rattle.std.specs.Prelude.{option_map}
 use Rattle.std.specs.Option.{option_map_or}
 use Rattle.std.specs.FinMap as finmap
 use Rattle.dep_types.specs.State.{State, Object, File}
-use Rattle.dep_types.specs.Rows.{object_view, file_row}
+use Rattle.dep_types.specs.Rows.{object_row, object_view, file_row}
 use Rattle.dep_types.specs.declared.rows.FileRow.{FileRow}
+use Rattle.dep_types.specs.declared.rows.ObjectRow.{ObjectRow}
 use Rattle.dep_types.specs.declared.rows.ObjectView.{ObjectView}
 use Rattle.dep_row_maps.specs.TablesAre.{files_at}
 use Rattle.dep_objects.specs.Objects.{described_object}
@@ -24,9 +25,9 @@ viewed s n found files there told = go (finmap.get s.objects n) refl there
         let rows : files ≡ map (λ e. file_row n e.0 e.1) (finmap.entries o.files) = told ∙ ap (λ x. map (λ (e : ℕ × File). file_row n e.0 e.1) (finmap.entries (option_map_or (λ (y : Object). y.files) x finmap.empty))) is in
         λ i. Some (record { object = (same i).row; metadata = (same i).metadata; files = rows i })
 
-pub none_viewed : (s : State) (n : ℕ) → ◌≡◌ {A = Option DescribedObject} None (option_map (described_object n) (finmap.get s.objects n)) → ◌≡◌ {A = Option ObjectView} None (option_map (object_view n) (finmap.get s.objects n))
+pub none_viewed : (s : State) (n : ℕ) → ◌≡◌ {A = Option ObjectRow} None (option_map (object_row n) (finmap.get s.objects n)) → ◌≡◌ {A = Option ObjectView} None (option_map (object_view n) (finmap.get s.objects n))
 none_viewed s n found = go (finmap.get s.objects n) found
   where
-    go : (o : Option Object) → ◌≡◌ {A = Option DescribedObject} None (option_map (described_object n) o) → ◌≡◌ {A = Option ObjectView} None (option_map (object_view n) o)
+    go : (o : Option Object) → ◌≡◌ {A = Option ObjectRow} None (option_map (object_row n) o) → ◌≡◌ {A = Option ObjectView} None (option_map (object_view n) o)
     go None e = refl
     go (Some o) e = absurd (cc)

@@ -6,15 +6,39 @@ ghost use Rattle.dep_types.specs.Limits.{IsStorable};
 ghost use Rattle.dep_types.specs.Sound.{IsSound};
 ghost use Rattle.dep_types.specs.Rows.{object_view};
 ghost use Rattle.dep_tables.specs.Clauses.{ReadsWithin};
-ghost use Rattle.dep_row_maps.specs.Clauses.{FromMaps};
+ghost use Rattle.dep_row_maps.specs.Clauses.{Finds, FromMaps};
 ghost use Rattle.dep_row_maps.specs.Causes.{FailsHolding, FailsSince};
 ghost use Rattle.dep_row_maps.specs.TablesAre.{metadata_at};
+ghost use Rattle.dep_objects.specs.Objects.{HasRow};
+ghost use Rattle.dep_views.specs.Shown.{IsViewOf};
 
 use dep_files::load_files;
-use dep_objects::load_object;
+use dep_objects::{describe, find_object};
 use dep_tables::Statements;
-use dep_types::{ObjectView, StoreFault};
+use dep_types::{ObjectRow, ObjectView, StoreFault};
 use std::alloc::Global;
+
+/// Returns the object of this row, which is there, as it is shown. The row is not read again.
+pub(crate) fn view_of<T: Statements>(
+    tx: &mut T,
+    alloc: Global,
+    row: ObjectRow,
+) -> Result<ObjectView, StoreFault>
+    ensures map { Finds T.lenders T.state tx.old tx.new result
+        (λ s. IsSound s → HasRow s row → IfOk result (IsViewOf s row.object)) }
+    ensures cause { FromMaps (T.state tx.old) (T.state tx.new)
+        (λ s. IsStorable row.object
+        → IfErr result (FailsSince T.state
+        (FailsHolding (metadata_at s.objects row.object ≢ finmap.empty)) tx.old tx.new)) }
+{
+    let described = describe(tx, alloc, row)?;
+    let files = load_files(tx, alloc, row.object)?;
+    Ok(ObjectView {
+        object: described.row,
+        metadata: described.metadata,
+        files,
+    })
+}
 
 /// Returns an object as it is shown, if there is one: its row, its metadata, and its files by ascending
 /// number. No content is read. A number of 2^63 or more is a fault of the store.
@@ -32,13 +56,9 @@ pub fn load_object_view<T: Statements>(
         (FailsHolding (metadata_at s.objects object ≢ finmap.empty)) tx.old tx.new)) }
     ensures keeps { ReadsWithin T.lenders T.state tx.old tx.new result }
 {
-    let Some(described) = load_object(tx, alloc, object)? else {
+    let Some(row) = find_object(tx, object)? else {
         return Ok(None);
     };
-    let files = load_files(tx, alloc, object)?;
-    Ok(Some(ObjectView {
-        object: described.row,
-        metadata: described.metadata,
-        files,
-    }))
+    let view = view_of(tx, alloc, row)?;
+    Ok(Some(view))
 }

@@ -1,36 +1,25 @@
 //! What a reply shows of the archive.
 
-ghost use Rattle.std.specs.Prelude.{◌≡◌, ◌≢◌, IfOk, IfErr, OnOk, IsTrue};
-ghost use Rattle.sqlite.specs.State.{HasCleanDisk};
-ghost use Rattle.std.specs.FinMap as finmap;
+ghost use Rattle.std.specs.Prelude.{⊤, IfSome};
 ghost use Rattle.dep_types.specs.Limits.{IsStorable};
-ghost use Rattle.dep_types.specs.Sound.{IsSound};
-ghost use Rattle.dep_answers.specs.Subjects.{shown_at};
 ghost use Rattle.dep_answers.specs.declared.subject.Subject.TheVariants as subject;
-ghost use Rattle.dep_tables.specs.Tables.{IsOurs};
 ghost use Rattle.dep_tables.specs.Clauses.{RefusesNumbers};
-ghost use Rattle.dep_row_maps.specs.Clauses.{FromMaps, Finds, MayFind};
-ghost use Rattle.dep_row_maps.specs.TablesAre.{metadata_at};
-ghost use Rattle.dep_row_maps.specs.Causes.{FailsByOne, FailsByStatement, FailsHolding, FailsSince};
-ghost use Rattle.dep_views.specs.Causes.{HasSegments, IsStorableSubject, ShowsList};
+ghost use Rattle.dep_objects.specs.Objects.{HasRow};
+ghost use Rattle.dep_views.specs.Shown.{MayReadShown, ReadsShown};
 
-use crate::objects::load_object_view;
+use crate::objects::{load_object_view, view_of};
 use crate::segments::numbers_of;
 use dep_answers::{FileId, Shown, Subject};
 use dep_files::find_file;
-use dep_objects::{find_object, load_object};
+use dep_objects::{describe, find_object, load_object};
 use dep_staging::{FoundUpload, load_upload};
 use dep_tables::Statements;
-use dep_types::StoreFault;
+use dep_types::{ObjectRow, StoreFault};
 use std::alloc::Global;
 
 fn show_object<T: Statements>(tx: &mut T, alloc: Global, object: u64) -> Result<Shown, StoreFault>
-    ensures map { Finds T.lenders T.state tx.old tx.new result
-        (λ s. IsSound s → IfOk result (λ shown. shown ≡ shown_at s (subject.Object object))) }
-    ensures cause { FromMaps (T.state tx.old) (T.state tx.new)
-        (λ s. IsStorable object
-        → IfErr result (FailsSince T.state
-        (FailsHolding (metadata_at s.objects object ≢ finmap.empty)) tx.old tx.new)) }
+    ensures does { ReadsShown T.lenders T.state tx.old tx.new result
+        (subject.Object object) (λ _. ⊤) }
 {
     match load_object_view(tx, alloc, object)? {
         Some(view) => Ok(Shown::Object(view)),
@@ -39,10 +28,9 @@ fn show_object<T: Statements>(tx: &mut T, alloc: Global, object: u64) -> Result<
 }
 
 fn show_row<T: Statements>(tx: &mut T, object: u64) -> Result<Shown, StoreFault>
-    ensures map { Finds T.lenders T.state tx.old tx.new result
-        (λ s. IfOk result (λ shown. shown ≡ shown_at s (subject.ObjectRow object))) }
+    ensures does { ReadsShown T.lenders T.state tx.old tx.new result
+        (subject.ObjectRow object) (λ _. ⊤) }
     ensures numbers { RefusesNumbers (T.state tx.old) (T.state tx.new) result (IsStorable object) }
-    ensures cause { FailsByOne T.state tx.old tx.new result (IsStorable object) FailsByStatement }
 {
     match find_object(tx, object)? {
         Some(row) => Ok(Shown::ObjectRow(row)),
@@ -51,12 +39,8 @@ fn show_row<T: Statements>(tx: &mut T, object: u64) -> Result<Shown, StoreFault>
 }
 
 fn show_metadata<T: Statements>(tx: &mut T, alloc: Global, object: u64) -> Result<Shown, StoreFault>
-    ensures map { Finds T.lenders T.state tx.old tx.new result
-        (λ s. IsSound s → IfOk result (λ shown. shown ≡ shown_at s (subject.Metadata object))) }
-    ensures cause { FromMaps (T.state tx.old) (T.state tx.new)
-        (λ s. IsStorable object
-        → IfErr result (FailsSince T.state
-        (FailsHolding (metadata_at s.objects object ≢ finmap.empty)) tx.old tx.new)) }
+    ensures does { ReadsShown T.lenders T.state tx.old tx.new result
+        (subject.Metadata object) (λ _. ⊤) }
 {
     match load_object(tx, alloc, object)? {
         Some(described) => Ok(Shown::Metadata {
@@ -68,10 +52,8 @@ fn show_metadata<T: Statements>(tx: &mut T, alloc: Global, object: u64) -> Resul
 }
 
 fn show_file<T: Statements>(tx: &mut T, id: FileId) -> Result<Shown, StoreFault>
-    ensures map { Finds T.lenders T.state tx.old tx.new result
-        (λ s. IfOk result (λ shown. shown ≡ shown_at s (subject.File id))) }
+    ensures does { ReadsShown T.lenders T.state tx.old tx.new result (subject.File id) (λ _. ⊤) }
     ensures numbers { RefusesNumbers (T.state tx.old) (T.state tx.new) result (IsStorable id.file) }
-    ensures cause { FailsByOne T.state tx.old tx.new result (IsStorable id.file) FailsByStatement }
 {
     match find_file(tx, id.object, id.file)? {
         Some(row) => Ok(Shown::File(row)),
@@ -80,12 +62,9 @@ fn show_file<T: Statements>(tx: &mut T, id: FileId) -> Result<Shown, StoreFault>
 }
 
 fn show_upload<T: Statements>(tx: &mut T, alloc: Global, upload: u64) -> Result<Shown, StoreFault>
-    ensures map { Finds T.lenders T.state tx.old tx.new result
-        (λ s. IfOk result (λ shown. shown ≡ shown_at s (subject.Upload upload))) }
+    ensures does { ReadsShown T.lenders T.state tx.old tx.new result
+        (subject.Upload upload) (λ _. ⊤) }
     ensures numbers { RefusesNumbers (T.state tx.old) (T.state tx.new) result (IsStorable upload) }
-    ensures cause { FromMaps (T.state tx.old) (T.state tx.new)
-        (λ s. IsStorable upload
-        → IfErr result (FailsSince T.state (FailsHolding (HasSegments s upload)) tx.old tx.new)) }
 {
     match load_upload(tx, alloc, upload)? {
         FoundUpload::Live(staged) => Ok(Shown::Upload {
@@ -97,22 +76,13 @@ fn show_upload<T: Statements>(tx: &mut T, alloc: Global, upload: u64) -> Result<
     }
 }
 
-/// What a reply shows, read of the archive; nothing where nothing is there. No content is read. A number of
-/// 2^63 or more is a fault of the store.
-pub fn load_shown<T: Statements>(
+// The same where no row is known.
+fn read_shown<T: Statements>(
     tx: &mut T,
     alloc: Global,
     subject: &Subject,
 ) -> Result<Shown, StoreFault>
-    ensures map { MayFind T.lenders T.state tx.old tx.new result
-        (λ s. IsSound s → IfOk result (λ shown. shown ≡ shown_at s subject.now)) }
-    ensures still { HasCleanDisk (T.state tx.new)
-        → IsOurs (T.state tx.old)
-        → OnOk result ((T.state tx.new).now ≡ (T.state tx.old).now) }
-    ensures cause { FromMaps (T.state tx.old) (T.state tx.new)
-        (λ s. IsStorableSubject subject.now
-        → IfErr result (FailsSince T.state (FailsHolding (ShowsList s subject.now))
-        tx.old tx.new)) }
+    ensures does { MayReadShown T.lenders T.state tx.old tx.new result subject.now (λ _. ⊤) }
 {
     match *subject {
         Subject::Nothing => Ok(Shown::Nothing),
@@ -121,5 +91,51 @@ pub fn load_shown<T: Statements>(
         Subject::Metadata(object) => show_metadata(tx, alloc, object),
         Subject::File(id) => show_file(tx, id),
         Subject::Upload(upload) => show_upload(tx, alloc, upload),
+    }
+}
+
+// What is told of the object of this row.
+fn show_rest<T: Statements>(tx: &mut T, alloc: Global, row: ObjectRow) -> Result<Shown, StoreFault>
+    ensures does { ReadsShown T.lenders T.state tx.old tx.new result
+        (subject.Object row.object) (λ s. HasRow s row) }
+{
+    let view = view_of(tx, alloc, row)?;
+    Ok(Shown::Object(view))
+}
+
+// The object of this row, with its metadata.
+fn show_texts<T: Statements>(tx: &mut T, alloc: Global, row: ObjectRow) -> Result<Shown, StoreFault>
+    ensures does { ReadsShown T.lenders T.state tx.old tx.new result
+        (subject.Metadata row.object) (λ s. HasRow s row) }
+{
+    let described = describe(tx, alloc, row)?;
+    Ok(Shown::Metadata {
+        object: described.row,
+        metadata: described.metadata,
+    })
+}
+
+/// What a reply shows, read of the archive; nothing where nothing is there. The row of the object is not read where it is the
+/// one that is known, which the archive has. No content is read. A number of 2^63 or more is a fault of the store.
+pub fn load_shown<T: Statements>(
+    tx: &mut T,
+    alloc: Global,
+    subject: &Subject,
+    known: Option<ObjectRow>,
+) -> Result<Shown, StoreFault>
+    ensures does { MayReadShown T.lenders T.state tx.old tx.new result subject.now
+        (λ s. IfSome known (HasRow s)) }
+{
+    match (*subject, known) {
+        (Subject::Object(object), Some(row)) if row.object == object => {
+            show_rest(tx, alloc, row)
+        }
+        (Subject::ObjectRow(object), Some(row)) if row.object == object => {
+            Ok(Shown::ObjectRow(row))
+        }
+        (Subject::Metadata(object), Some(row)) if row.object == object => {
+            show_texts(tx, alloc, row)
+        }
+        _ => read_shown(tx, alloc, subject),
     }
 }

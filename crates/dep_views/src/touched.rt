@@ -1,15 +1,15 @@
 //! What is there at the numbers of an object and of a file, and at a path of a bag.
 
-ghost use Rattle.std.specs.Prelude.{◌≡◌, ◌++◌, ⊤, IfOk, IsTrue, bytes_eq, map};
+ghost use Rattle.std.specs.Prelude.{◌≡◌, ◌++◌, ⊤, IfOk, IfSome, IsTrue, bytes_eq, map};
 ghost use Rattle.std.specs.List.{list_any};
 ghost use Rattle.std.specs.Option.{option_copied, option_to_list};
 ghost use Rattle.dep_types.specs.BagPaths.{tag_paths};
+ghost use Rattle.dep_types.specs.Limits.{IsStorable};
 ghost use Rattle.dep_manifest.specs.Told.{row_path};
 ghost use Rattle.dep_types.specs.Sound.{IsSound};
 ghost use Rattle.dep_operations.specs.Views.{touched_file, touched_object};
 ghost use Rattle.dep_row_maps.specs.Causes.{FailsByOne, FailsByStatement};
 ghost use Rattle.dep_row_maps.specs.Clauses.{MayFind};
-ghost use Rattle.dep_views.specs.Causes.{AreStorable};
 ghost use Rattle.dep_views.specs.Seen.{file_at_path, path_seen};
 
 use dep_bag::{file_number, has_bag_path};
@@ -28,7 +28,7 @@ pub(crate) fn find_touched_object<T: Statements>(
     ensures map { MayFind T.lenders T.state tx.old tx.new result
         (λ s. IfOk result (λ found. found ≡ touched_object s touched.now)) }
     ensures cause { FailsByOne T.state tx.old tx.new result
-        (AreStorable touched.now) FailsByStatement }
+        (IfSome touched.now.object IsStorable) FailsByStatement }
 {
     match touched.object {
         Some(object) => find_object(tx, object),
@@ -44,7 +44,7 @@ pub(crate) fn find_touched_file<T: Statements>(
     ensures map { MayFind T.lenders T.state tx.old tx.new result
         (λ s. IfOk result (λ found. found ≡ touched_file s touched.now)) }
     ensures cause { FailsByOne T.state tx.old tx.new result
-        (AreStorable touched.now) FailsByStatement }
+        (IfSome touched.now.file IsStorable) FailsByStatement }
 {
     match (touched.object, touched.file) {
         (Some(object), Some(file)) => find_file(tx, object, file),

@@ -1,4 +1,4 @@
-use Rattle.std.proofs.Common.{refl, sym, subst, ◌∙◌}
+use Rattle.std.proofs.Common.{IfSome, refl, sym, subst, ◌∙◌}
 use Rattle.std.proofs.lemmas.Result.{IfOk-from_err}
 use Rattle.dep_types.specs.State.{State}
 use Rattle.dep_tables.proofs.Chains.{clean_before}
@@ -8,6 +8,8 @@ use Rattle.dep_decisions.specs.Effects.{effect}
 use Rattle.dep_decisions.proofs.Accepted.{effect_sound}
 use Rattle.dep_changes.specs.Told.{IsAccepted}
 use Rattle.dep_changes.proofs.Carried.{request_made}
+use Rattle.dep_changes.proofs.KnownShown.{has_known}
+use Rattle.dep_objects.specs.Objects.{HasRow}
 use Rattle.dep_requests.proofs.Known.{known_shown_by}
 use Rattle.dep_requests.proofs.Stepping.{changes_still, left_alone, next_after, reads_alone, row_known_shown, shown_after}
 use Rattle.dep_requests.proofs.performing.carry.Goals as goal
@@ -43,20 +45,23 @@ returns-clause-map g c = record {
   done = λ clean within ours s are config sound fit rules ruling.
       let op = c.args.operation.now in
       let mid = g.T.Statements.state c.carry_out.new.tx in
-      let before = clean_before c.load_shown.ensures.map.keeps.stays clean in
-      let made = subst (SeesState mid) (request_made config s op c.args.decision.now ruling.1)
-      (c.in_ok-carry_out.ensures.map.done before within ours s are (record { config = config; op = op; sound = sound; seen = rules.view; ruling = ruling; sent = refl })) in
+      let before = clean_before c.load_shown.ensures.does.map.keeps.stays clean in
+      let accepted : IsAccepted s c.args.ruled.now.view op.content c.args.decision.now = record { config = config; op = op; sound = sound; seen = rules.view; ruling = ruling; sent = refl } in
+      let becomes = request_made config s op c.args.decision.now ruling.1 in
+      let made = subst (SeesState mid) becomes (c.in_ok-carry_out.ensures.map.done before within ours s are accepted) in
+      let known = has_known s op.content c.args.decision.now c.args.ruled.now.view.object c.row_after.result (c.row_after.ensures s op.content accepted) in
       let then = c.in_ok-carry_out.ensures.map.keeps.ours before within ours in
       let next = next_after config s op c.args.ruled.now.view c.args.decision.now c.after_taking-next.result rules.view ruling.1 (rw c.numbers_for.ensures at c.after_taking-next.ensures) in
       shown_after (effect config s op) op mid (g.T.Statements.state c.load_shown.new.tx) c.after_taking-next.result c.of-subject.result c.load_shown.result made c.of-subject.ensures next
-      (c.load_shown.ensures.still clean then)
-      (c.load_shown.ensures.map.found clean (c.in_ok-carry_out.ensures.map.keeps.stays.inside before within) then (effect config s op) made (effect_sound config s op fit ruling.0 sound));
-  keeps = changes_then c.in_ok-carry_out.ensures.map.keeps (changes_still c.load_shown.ensures.map.keeps.stays c.load_shown.ensures.still);
+      (c.load_shown.ensures.does.still clean then)
+      (c.load_shown.ensures.does.map.found clean (c.in_ok-carry_out.ensures.map.keeps.stays.inside before within) then (effect config s op) made (effect_sound config s op fit ruling.0 sound)
+      (subst (λ (after : State). IfSome c.row_after.result (HasRow after)) becomes known));
+  keeps = changes_then c.in_ok-carry_out.ensures.map.keeps (changes_still c.load_shown.ensures.does.map.keeps.stays c.load_shown.ensures.does.still);
 }
 
 pub returns-clause-unchanged : goal.returns-clause-unchanged
 returns-clause-unchanged g c show =
-    reads_alone g.T.Statements.state c.args.tx.now c.carry_out.new.tx c.load_shown.new.tx c.load_shown.result (c.in_ok-carry_out.ensures.untouched show).1 c.load_shown.ensures.map.keeps.same
+    reads_alone g.T.Statements.state c.args.tx.now c.carry_out.new.tx c.load_shown.new.tx c.load_shown.result (c.in_ok-carry_out.ensures.untouched show).1 c.load_shown.ensures.does.map.keeps.same
 
 pub returns-in-Some-2-clause-map : goal.returns-in-Some-2-clause-map
 returns-in-Some-2-clause-map g c = record {

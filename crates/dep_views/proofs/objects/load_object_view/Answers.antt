@@ -1,47 +1,59 @@
-use Rattle.dep_tables.proofs.Chains.{clean_before, reads_ok, reads_then, reads_err, still_ours}
-use Rattle.std.proofs.Common.{sym, ◌∙◌, ◌≢◌}
-use Rattle.dep_views.proofs.Chains.{still_seen}
-use Rattle.dep_views.proofs.Told.{viewed, none_viewed}
+use Rattle.std.proofs.Common.{◌≢◌, ℕ, sym, subst, ◌∙◌}
 use Rattle.std.specs.FinMap as finmap
+use Rattle.dep_tables.proofs.Chains.{clean_before, reads_ok, reads_then, reads_err, still_ours}
+use Rattle.dep_types.specs.Limits.{IsStorable}
 use Rattle.dep_row_maps.specs.TablesAre.{metadata_at}
-use Rattle.dep_row_maps.specs.Causes.{FailsHolding}
-use Rattle.dep_row_maps.specs.Causes.FailsByStatement.{files_read}
+use Rattle.dep_row_maps.specs.Causes.{FailsHolding, FailsSince}
+use Rattle.dep_row_maps.specs.Causes.FailsByStatement.{object_found}
 use Rattle.dep_row_maps.specs.Causes.FailsHolding.{statement}
-use Rattle.dep_row_maps.proofs.Causes.{fails_then, if_err_is}
+use Rattle.dep_row_maps.proofs.Causes.{fails_behind_them, fails_first, if_err_is}
+use Rattle.dep_objects.proofs.Puts.{has_row, its_number}
+use Rattle.dep_views.specs.Shown.{IsViewOf}
+use Rattle.dep_views.proofs.Chains.{still_seen}
+use Rattle.dep_views.proofs.Told.{none_viewed}
 use Rattle.dep_views.proofs.objects.load_object_view.Goals as goal
 
 pub returns-in_default-clause-map : goal.returns-in_default-clause-map
 returns-in_default-clause-map g c clean inside ours s are sound =
-    none_viewed s c.args.object (sym c.in_default.is ∙ c.in_ok-described.ensures.does.found clean inside ours s are sound)
+    none_viewed s c.args.object (sym c.in_default.is ∙ c.in_ok-row.ensures.does.map clean ours s are)
 
 pub returns-clause-map : goal.returns-clause-map
 returns-clause-map g c clean inside ours s are sound =
     let old = g.T.Statements.state c.args.tx.now in
-    let mid = g.T.Statements.state c.load_object.new.tx in
-    let new = g.T.Statements.state c.load_files.new.tx in
-    let before = clean_before c.load_files.ensures.does.keeps.stays clean in
-    let same = c.in_ok-described.ensures.does.keeps.same before ours in
-    viewed s c.args.object c.in-Some.described c.in_ok-files.files (sym c.in-Some.is ∙ c.in_ok-described.ensures.does.found before inside ours s are sound)
-    (c.in_ok-files.ensures.does.map clean (still_ours old mid same ours) s (still_seen old mid s same are))
+    let mid = g.T.Statements.state c.find_object.new.tx in
+    let before = clean_before c.view_of.ensures.map.keeps.stays clean in
+    let same = c.in_ok-row.ensures.does.keeps.same before ours in
+    let found = sym c.in-Some.is ∙ c.in_ok-row.ensures.does.map before ours s are in
+    subst (λ (n : ℕ). IsViewOf s n c.in_ok-view.view) (its_number s c.args.object c.in-Some.row found)
+    (c.in_ok-view.ensures.map.found clean (c.in_ok-row.ensures.does.keeps.stays.inside before inside) (still_ours old mid same ours) s (still_seen old mid s same are) sound (has_row s c.args.object c.in-Some.row found))
 
-pub returns-in_err-files-clause-keeps : goal.returns-in_err-files-clause-keeps
-returns-in_err-files-clause-keeps g c = reads_err c.from_residual-in_err-files.ensures.0 (reads_then c.in_ok-described.ensures.does.keeps c.load_files.ensures.does.keeps)
+pub returns-in_err-view-clause-keeps : goal.returns-in_err-view-clause-keeps
+returns-in_err-view-clause-keeps g c = reads_err c.from_residual-in_err-view.ensures.0 (reads_then c.in_ok-row.ensures.does.keeps c.view_of.ensures.map.keeps)
 
 pub returns-clause-keeps : goal.returns-clause-keeps
-returns-clause-keeps g c = reads_ok (reads_then c.in_ok-described.ensures.does.keeps c.in_ok-files.ensures.does.keeps)
+returns-clause-keeps g c = reads_ok (reads_then c.in_ok-row.ensures.does.keeps c.in_ok-view.ensures.map.keeps)
 
-pub returns-in_err-described-clause-cause : goal.returns-in_err-described-clause-cause
-returns-in_err-described-clause-cause g c clean inside ours s are storable =
-    if_err_is _ c.from_residual.result c.in_err-described.field-0.0 c.from_residual.ensures.1 (c.in_err-described.ensures.cause clean inside ours s are storable)
+pub returns-in_err-row-clause-cause : goal.returns-in_err-row-clause-cause
+returns-in_err-row-clause-cause g c clean inside ours s are storable =
+    if_err_is _ c.from_residual.result c.in_err-row.field-0.0 c.from_residual.ensures.1
+    (fails_first g.T.Statements.state c.args.tx.now c.find_object.new.tx (FailsHolding (metadata_at s.objects c.args.object ≢ finmap.empty)) _
+    (statement (object_found _ (c.in_err-row.ensures.does.cause storable clean))))
 
-pub returns-in_err-files-clause-cause : goal.returns-in_err-files-clause-cause
-returns-in_err-files-clause-cause g c clean inside ours s are storable =
-    if_err_is _ c.from_residual-in_err-files.result c.in_err-files.field-0.0 c.from_residual-in_err-files.ensures.1
-    (fails_then g.T.Statements.state c.args.tx.now c.load_object.new.tx c.load_files.new.tx c.load_object.ensures.does.keeps.stays.survives (FailsHolding (metadata_at s.objects c.args.object ≢ finmap.empty)) _
-    (statement (files_read _ (c.in_err-files.ensures.does.cause storable clean))))
+pub returns-in_err-view-clause-cause : goal.returns-in_err-view-clause-cause
+returns-in_err-view-clause-cause g c clean inside ours s are storable =
+    let old = g.T.Statements.state c.args.tx.now in
+    let mid = g.T.Statements.state c.find_object.new.tx in
+    let before = clean_before c.view_of.ensures.map.keeps.stays clean in
+    let same = c.in_ok-row.ensures.does.keeps.same before ours in
+    let number = its_number s c.args.object c.in-Some.row (sym c.in-Some.is ∙ c.in_ok-row.ensures.does.map before ours s are) in
+    let fault = c.in_err-view.field-0.0 in
+    let failed = c.in_err-view.ensures.cause clean (c.in_ok-row.ensures.does.keeps.stays.inside before inside) (still_ours old mid same ours) s (still_seen old mid s same are) (subst IsStorable (sym number) storable) in
+    if_err_is _ c.from_residual-in_err-view.result fault c.from_residual-in_err-view.ensures.1
+    (fails_behind_them g.T.Statements.state c.args.tx.now c.find_object.new.tx c.view_of.new.tx c.in_ok-row.ensures.does.keeps.stays.survives (FailsHolding (metadata_at s.objects c.args.object ≢ finmap.empty)) fault
+    (subst (λ (n : ℕ). FailsSince g.T.Statements.state (FailsHolding (metadata_at s.objects n ≢ finmap.empty)) c.find_object.new.tx c.view_of.new.tx fault) number failed))
 
-pub returns-in_err-described-clause-keeps : goal.returns-in_err-described-clause-keeps
-returns-in_err-described-clause-keeps g c = reads_err c.from_residual.ensures.0 c.in_err-described.ensures.does.keeps
+pub returns-in_err-row-clause-keeps : goal.returns-in_err-row-clause-keeps
+returns-in_err-row-clause-keeps g c = reads_err c.from_residual.ensures.0 c.in_err-row.ensures.does.keeps
 
 pub returns-in_default-clause-keeps : goal.returns-in_default-clause-keeps
-returns-in_default-clause-keeps g c = reads_ok c.in_ok-described.ensures.does.keeps
+returns-in_default-clause-keeps g c = reads_ok c.in_ok-row.ensures.does.keeps

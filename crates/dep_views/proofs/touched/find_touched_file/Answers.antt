@@ -8,5 +8,5 @@ use Rattle.dep_views.proofs.touched.find_touched_file.Goals as goal
 
 pub returns-in-Some-Some-clause-cause : goal.returns-in-Some-Some-clause-cause
 returns-in-Some-Some-clause-cause g c storable clean inside =
-    if_err_then c.find_file.result (c.find_file.ensures.does.cause (subst (λ o. IfSome o IsStorable) c.in-Some-Some.is-1 storable.file) clean)
+    if_err_then c.find_file.result (c.find_file.ensures.does.cause (subst (λ o. IfSome o IsStorable) c.in-Some-Some.is-1 storable) clean)
     (λ fault failed. fails_first g.T.Statements.state c.args.tx.now c.find_file.new.tx FailsByStatement fault (file_found _ failed))

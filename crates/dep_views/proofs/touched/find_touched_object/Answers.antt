@@ -8,5 +8,5 @@ use Rattle.dep_views.proofs.touched.find_touched_object.Goals as goal
 
 pub returns-in-Some-clause-cause : goal.returns-in-Some-clause-cause
 returns-in-Some-clause-cause g c storable clean inside =
-    if_err_then c.find_object.result (c.find_object.ensures.does.cause (subst (λ o. IfSome o IsStorable) c.in-Some.is storable.object) clean)
+    if_err_then c.find_object.result (c.find_object.ensures.does.cause (subst (λ o. IfSome o IsStorable) c.in-Some.is storable) clean)
     (λ fault failed. fails_first g.T.Statements.state c.args.tx.now c.find_object.new.tx FailsByStatement fault (object_found _ failed))

@@ -50,7 +50,7 @@ returns-in_err-object-clause-cause g c clean inside ours s are storable =
     let before = clean_before c.find_touched_object.ensures.map.keeps.stays clean in
     if_err_is _ c.from_residual-in_err-object.result c.in_err-object.field-0.0 c.from_residual-in_err-object.ensures.1
     (fails_behind_them g.T.Statements.state c.args.tx.now c.counters.new.tx c.find_touched_object.new.tx c.counters.ensures.does.keeps.stays.survives FailsByStatement _
-    (c.in_err-object.ensures.cause storable clean (c.in_ok-row.ensures.does.keeps.stays.inside before inside)))
+    (c.in_err-object.ensures.cause storable.object clean (c.in_ok-row.ensures.does.keeps.stays.inside before inside)))
 
 pub returns-in_err-path-clause-cause : goal.returns-in_err-path-clause-cause
 returns-in_err-path-clause-cause g c clean inside ours s are storable =
