@@ -1,9 +1,11 @@
 //! A connection that is served.
-ghost use Rattle.std.specs.Prelude.{◌≡◌, ◌≢◌, ◌<◌, ◌≤◌, ◌+◌, ◌-◌, ◌^◌, ◌||◌, min, nat_lt, length, true, false};
+ghost use Rattle.std.specs.Prelude.{IsSomeAnd, ◌≡◌, ◌≢◌, ◌<◌, ◌≤◌, ◌+◌, ◌-◌, ◌^◌, ◌||◌, min, nat_lt, length, true, false};
 ghost use Rattle.std.specs.Io.KnownBytes.{Keeps, IsAtEnd};
 ghost use Rattle.dep_hub.specs.Holding.{ComesToNext};
 ghost use Rattle.dep_outbox.specs.Wires.{told, owed, owed_count};
 ghost use Rattle.dep_host.specs.Courses.{StaysOrEnds, is_ended, is_held_back, phase_begun};
+ghost use Rattle.dep_host.specs.Hosting.{unfinished_of};
+ghost use Rattle.dep_host.specs.declared.course.Phase.TheVariants.{Open};
 ghost use Rattle.dep_host.specs.Seats.{HubStays, TakesTurn, MayRead, MayAnswer, IsOffered, SendsOn, next_duty, phase_answered, left_unfinished, woken_seat};
 
 use crate::course::{Course, Duty, Phase};
@@ -332,5 +334,25 @@ impl<R: Source, K: Sink, S: Spool> Seat<R, K, S> {
             Received::Later => self.course.is_readable = false,
             Received::Ended | Received::Failed => self.course.phase = Phase::Over,
         }
+    }
+}
+
+/// How many bytes of unfinished requests are kept for who sits at a place.
+pub(crate) fn unfinished<R: Source, K: Sink, S: Spool>(place: &Option<Seat<R, K, S>>) -> u64
+    ensures { result ≡ unfinished_of place.now }
+{
+    match place {
+        Some(seat) => seat.course.unfinished,
+        None => 0,
+    }
+}
+
+/// Whether who sits at a place is read, and none of its requests may be complete.
+pub(crate) fn is_read<R: Source, K: Sink, S: Spool>(place: &Option<Seat<R, K, S>>) -> bool
+    ensures { result ≡ true → IsSomeAnd place.now (λ seat. seat.course.phase ≡ Open) }
+{
+    match place {
+        Some(seat) => seat.course.phase == Phase::Open,
+        None => false,
     }
 }
