@@ -1,6 +1,6 @@
 -- How a host goes on.
 use Rattle.std.proofs.Common.{◌≡◌, ◌⊎◌, ◌<◌, ◌≤◌, ◌+◌, ℕ, zero, suc, Bool, true, false, List, [], ◌∷◌, ◌++◌, Option, None, Some, refl, sym, ap, subst, ◌∙◌, append_assoc, length, get_or, set, take, Ok, IsTrue, add-one, inl, inr, arith}
-use Rattle.std.proofs.lemmas.List.{append-nil, get_or_default, set-get_or, get_or_past}
+use Rattle.std.proofs.lemmas.List.{append-nil, get_or_default, set-get_or}
 use Rattle.std.proofs.Math.ListN.{length-set}
 use Rattle.std.proofs.lemmas.Bool.{cases_lt}
 use Rattle.std.proofs.KnownBytes.{Keeps-refl}

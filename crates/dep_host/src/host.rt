@@ -36,7 +36,7 @@ impl<A: Archive, R: Source + Drop, K: Sink + Drop, S: Spool + Drop> Host<A, R, K
     ghost use Rattle.std.specs.Io.KnownBytes.{IsAtEnd};
     ghost use Rattle.dep_outbox.specs.Wires.{told};
     ghost use Rattle.dep_hub.specs.Errands.{WorkedAhead, Runs};
-    ghost use Rattle.dep_host.specs.Hosting.{Steps, Serves, Goes, GoesRound, Sheds, Stays, HasTime, MayGo, IsEmpty, IsVacant, IsWaiting, position, slot, unfinished_of, unfinished_in};
+    ghost use Rattle.dep_host.specs.Hosting.{Steps, Serves, Closed, GoesRound, Sheds, Stays, HasTime, MayGo, IsEmpty, IsVacant, IsWaiting, position, slot, unfinished_of, unfinished_in};
     ghost use Rattle.dep_host.specs.Coming.{origin, seated_from};
     ghost use Rattle.dep_host.specs.Courses.{is_overdue};
     ghost use Rattle.dep_host.specs.Meeting.{Admits, IsAsked, IsOffer, Wakes};
@@ -281,13 +281,7 @@ impl<A: Archive, R: Source + Drop, K: Sink + Drop, S: Spool + Drop> Host<A, R, K
         requires there { at < length self.old.seats.items }
         requires done { MayGo (position self.old) second closing
             (slot at self.old.seats.items) }
-        ensures goes { IfSome (slot at self.old.seats.items)
-            (Goes A.condition R.unread K.taken S.held (position self.old) (position self.new)
-            at second) }
-        ensures gone { slot at self.new.seats.items ≡ None }
-        ensures others { (place : ℕ) → (place ≡ at → ⊥)
-            → slot place self.new.seats.items ≡ slot place self.old.seats.items }
-        ensures stays { Stays self.old self.new }
+        ensures { Closed A.condition R.unread K.taken S.held self.old self.new at second }
     {
         if let Some(seat) = self.seats[at].take() {
             self.hub.close(seat.connection);
@@ -314,8 +308,7 @@ impl<A: Archive, R: Source + Drop, K: Sink + Drop, S: Spool + Drop> Host<A, R, K
 
     /// Moves the end in front of the places behind which nobody sits.
     fn draw_in(&mut self)
-        ensures same { position self.new ≡ position self.old }
-        ensures stays { Stays self.old self.new }
+        ensures { (position self.new ≡ position self.old) × Stays self.old self.new }
     {
         for _ in 0..self.end {
             if self.seats[self.end - 1].is_some() {

@@ -29,18 +29,18 @@ pub serve_at-requires-clause-shut : goal.serve_at-requires-clause-shut
 serve_at-requires-clause-shut g c = c.is_some.ensures ∙ ap (λ (o : Option ℕ). is_some o) (sym c.loop-at.invariant.stays.shut)
 
 pub returns-clause-goes : goal.returns-clause-goes
-returns-clause-goes g c = subst (λ (q : Position _ _ _ _). GoesRound g.A.Archive.condition g.R.Source.unread g.K.Sink.taken g.S.Spool.held g.S.Spool.size (position c.args.self.now) q c.args.time.now) (sym c.draw_in.ensures.same)
+returns-clause-goes g c = subst (λ (q : Position _ _ _ _). GoesRound g.A.Archive.condition g.R.Source.unread g.K.Sink.taken g.S.Spool.held g.S.Spool.size (position c.args.self.now) q c.args.time.now) (sym c.draw_in.ensures.0)
     (round_sheds g.A.Archive.condition g.R.Source.unread g.K.Sink.taken g.S.Spool.held g.S.Spool.size _ _ _ _
     (round_ends g.A.Archive.condition g.R.Source.unread g.K.Sink.taken g.S.Spool.held g.S.Spool.size _ _ _ _ _ c.loop-at.invariant.goes c.is_full.ensures (λ place h. c.args.self.now.free place (omega (arith, h)))) c.shed.ensures.goes)
 
 pub returns-clause-left : goal.returns-clause-left
-returns-clause-left g c = subst (λ (q : Position _ _ _ _). (at : ℕ) → HasTime c.args.time.now.second q.limits (slot at q.seats)) (sym c.draw_in.ensures.same)
+returns-clause-left g c = subst (λ (q : Position _ _ _ _). (at : ℕ) → HasTime c.args.time.now.second q.limits (slot at q.seats)) (sym c.draw_in.ensures.0)
     (left_sheds _ _ _ _ _ (left_ends c.loop-at.self.seats.items c.loop-at.at c.args.time.now.second c.loop-at.self.limits (λ place h. c.loop-at.invariant.goes.stays place h ∙ c.args.self.now.free place (omega (arith, h))) c.loop-at.invariant.left)
     c.shed.ensures.stays.limits c.shed.ensures.left)
 
 pub returns-clause-stays : goal.returns-clause-stays
-returns-clause-stays g c = stays_on _ _ _ (stays_on _ _ _ c.loop-at.invariant.stays c.shed.ensures.stays) c.draw_in.ensures.stays
+returns-clause-stays g c = stays_on _ _ _ (stays_on _ _ _ c.loop-at.invariant.stays c.shed.ensures.stays) c.draw_in.ensures.1
 
 pub returns-clause-waits : goal.returns-clause-waits
-returns-clause-waits g c = λ idle. subst (λ (q : Position _ _ _ _). (at : ℕ) → IsWaiting g.S.Spool.size (slot at q.seats)) (sym c.draw_in.ensures.same)
+returns-clause-waits g c = λ idle. subst (λ (q : Position _ _ _ _). (at : ℕ) → IsWaiting g.S.Spool.size (slot at q.seats)) (sym c.draw_in.ensures.0)
     (each_sheds (IsWaiting g.S.Spool.size) _ _ c.loop-at.at tt (λ place h. c.loop-at.invariant.goes.stays place h ∙ c.args.self.now.free place (omega (arith, h))) (c.loop-at.invariant.waits idle) c.shed.ensures.left)
