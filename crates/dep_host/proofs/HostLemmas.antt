@@ -1,6 +1,6 @@
 -- How a host goes on.
 use Rattle.std.proofs.Common.{◌≡◌, ◌⊎◌, ◌<◌, ◌≤◌, ◌+◌, ℕ, zero, suc, Bool, true, false, List, [], ◌∷◌, ◌++◌, Option, None, Some, refl, sym, ap, subst, ◌∙◌, append_assoc, length, get_or, set, take, Ok, IsTrue, add-one, inl, inr, arith}
-use Rattle.std.proofs.lemmas.List.{append-nil, get_or_default, set-get_or, get_or_past}
+use Rattle.std.proofs.lemmas.List.{append-nil, get_or_default, set-get_or}
 use Rattle.std.proofs.Math.ListN.{length-set}
 use Rattle.std.proofs.lemmas.Bool.{cases_lt}
 use Rattle.std.proofs.KnownBytes.{Keeps-refl}
@@ -42,12 +42,12 @@ left_goes_on {R = R} {K = K} {S = S} old new at next second was limits before he
   | inr ge ↦ let is : place ≡ at = omega (arith, ge, h, e) in subst (λ (n : ℕ). HasTime second limits (slot n new)) (sym is) here
 ]
 
--- beyond the last place nobody sits
-pub left_ends : {R K S : Type 0} (seats : List (Option (Seat R K S))) (at second : ℕ) (limits : Limits) → at ≡ length seats → ((place : ℕ) → place < at → HasTime second limits (slot place seats))
+-- so at all places, where nobody sits behind those
+pub left_ends : {R K S : Type 0} (seats : List (Option (Seat R K S))) (at second : ℕ) (limits : Limits) → ((place : ℕ) → at ≤ place → slot place seats ≡ None) → ((place : ℕ) → place < at → HasTime second limits (slot place seats))
     → (place : ℕ) → HasTime second limits (slot place seats)
 left_ends {R = R} {K = K} {S = S} seats at second limits all before place = elim (cases_lt place at) [
   | inl lt ↦ before place lt
-  | inr ge ↦ subst (λ (x : Option (Seat R K S)). HasTime second limits x) (sym (get_or_past seats place None (omega (arith, ge, all)))) tt
+  | inr ge ↦ subst (λ (x : Option (Seat R K S)). HasTime second limits x) (sym (all place (omega (arith, ge)))) tt
 ]
 
 -- who has time left where the largest was closed
@@ -67,12 +67,12 @@ each_goes_on {X = X} P old new at next before here others e place h = elim (case
 ]
 
 -- so at all places, where it holds where nobody sits, also once one was closed
-pub each_sheds : {X : Type 0} (P : Option X → Type 0) (old new : List (Option X)) (at : ℕ) → P None → at ≡ length old → ((place : ℕ) → place < at → P (slot place old))
+pub each_sheds : {X : Type 0} (P : Option X → Type 0) (old new : List (Option X)) (at : ℕ) → P None → ((place : ℕ) → at ≤ place → slot place old ≡ None) → ((place : ℕ) → place < at → P (slot place old))
     → ((place : ℕ) → (slot place new ≡ slot place old) ⊎ (slot place new ≡ None)) → (place : ℕ) → P (slot place new)
 each_sheds {X = X} P old new at none all before stays place = elim (stays place) [
   | inl e ↦ subst (λ (x : Option X). P x) (sym e) (elim (cases_lt place at) [
     | inl lt ↦ before place lt
-    | inr ge ↦ subst (λ (x : Option X). P x) (sym (get_or_past old place None (omega (arith, ge, all)))) none
+    | inr ge ↦ subst (λ (x : Option X). P x) (sym (all place (omega (arith, ge)))) none
   ])
   | inr e ↦ subst (λ (x : Option X). P x) (sym e) none
 ]
@@ -164,6 +164,20 @@ kept_suc (s ∷ seats) (suc at) h =
 
 pub kept_more : {R K S : Type 0} (seats : List (Option (Seat R K S))) (at : ℕ) → at < length seats → unfinished_in (take (at + 1) seats) ≡ unfinished_in (take at seats) + unfinished_of (slot at seats)
 kept_more seats at h = ap (λ (n : ℕ). unfinished_in (take n seats)) (add-one at) ∙ kept_suc seats at h
+
+-- all that is kept is kept at the first places, where nobody sits behind them
+pub kept_front : {R K S : Type 0} (seats : List (Option (Seat R K S))) (n : ℕ) → ((at : ℕ) → n ≤ at → slot at seats ≡ None) → unfinished_in seats ≡ unfinished_in (take n seats)
+kept_front [] zero none = refl
+kept_front [] (suc n) none = refl
+kept_front (s ∷ seats) zero none =
+    let rest = kept_front seats zero (λ at h. none (suc at) (omega arith)) in
+    let here = ap (λ x. unfinished_of x) (none zero (omega arith)) in
+    let e : unfinished_in (s ∷ seats) ≡ unfinished_of s + unfinished_in seats = refl in
+    let z : unfinished_in (take zero seats) ≡ 0 = refl in
+    let y : unfinished_in (take zero (s ∷ seats)) ≡ 0 = refl in
+    let f : unfinished_of (slot zero (s ∷ seats)) ≡ unfinished_of s = refl in
+    omega (arith, rest, here, e, z, y, f)
+kept_front (s ∷ seats) (suc n) none = ap (λ (k : ℕ). unfinished_of s + k) (kept_front seats n (λ at h. none (suc at) (omega (arith, h))))
 
 module _ {A R K S : Type 0} (condition : A → Condition) (unread : R → Option (List ℕ)) (taken : K → Option (List ℕ)) (held : S → Option (List ℕ)) where
   pub stands_still : (p : Position A R K S) → Steps condition unread taken held p [] p

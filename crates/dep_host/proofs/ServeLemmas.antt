@@ -1,6 +1,6 @@
 -- What a turn and a round of a host serve.
 use Rattle.std.proofs.Common.{◌≡◌, ◌⊎◌, ◌<◌, ◌≤◌, ◌+◌, ◌==◌, ℕ, zero, suc, Bool, true, false, if◌then◌else◌, List, [], ◌∷◌, ◌++◌, Option, None, Some, refl, sym, ap, subst, ◌∙◌, append_assoc, length, get_or, set, nat_lt, is_some, ◌&&◌, ◌||◌, inl, inr, arith}
-use Rattle.std.proofs.lemmas.List.{get_or-set_same, get_or-set_other, get_or_past}
+use Rattle.std.proofs.lemmas.List.{get_or-set_same, get_or-set_other}
 use Rattle.std.proofs.Math.ListN.{length-set}
 use Rattle.std.proofs.lemmas.Bool.{ne_eqb, eq-eqb, cases_eq, cases_lt, lt-ltb}
 use Rattle.std.specs.Prelude.{IfSome}
@@ -332,7 +332,7 @@ module _ {A R K S : Type 0} (condition : A → Condition) (unread : R → Option
     later : (place : ℕ) → at ≤ place → answers_at place deeds ≡ 0
     waits : is_full ≡ true → (place : ℕ) → 0 < unfinished_of (slot place p.seats) → pieces_at place deeds ≡ 0
     unread_later : (place : ℕ) → at ≤ place → pieces_at place deeds ≡ 0
-    stays : (place : ℕ) → at ≤ place → slot place q.seats ≡ slot place p.seats
+    pub stays : (place : ℕ) → at ≤ place → slot place q.seats ≡ slot place p.seats
     served : (place : ℕ) → place < at → IsServedAt condition unread taken held size p q is_full deeds place (slot place p.seats)
     in_time : AreDoneAt time deeds
 
@@ -382,7 +382,7 @@ module _ {A R K S : Type 0} (condition : A → Condition) (unread : R → Option
     in_time = in_time_append time s.deeds t.deeds s.in_time t.in_time;
   }
 
-  pub round_ends : (p q : Position A R K S) (at : ℕ) (time : Time) (is_full : Bool) → RoundSoFar p q at time is_full → is_full ≡ nat_lt p.limits.unfinished_bytes (unfinished_in p.seats) → length p.seats ≤ at
+  pub round_ends : (p q : Position A R K S) (at : ℕ) (time : Time) (is_full : Bool) → RoundSoFar p q at time is_full → is_full ≡ nat_lt p.limits.unfinished_bytes (unfinished_in p.seats) → ((place : ℕ) → at ≤ place → slot place p.seats ≡ None)
       → GoesRound condition unread taken held size p q time
   round_ends p q at time is_full s e all = record {
     deeds = s.deeds;
@@ -391,7 +391,7 @@ module _ {A R K S : Type 0} (condition : A → Condition) (unread : R → Option
     waits = λ more place some. s.waits (e ∙ lt-ltb p.limits.unfinished_bytes (unfinished_in p.seats) more) place some;
     served = λ place. subst (λ (b : Bool). IsServedAt condition unread taken held size p q b s.deeds place (slot place p.seats)) e (elim (cases_lt place at) [
       | inl lt ↦ s.served place lt
-      | inr ge ↦ subst (λ (x : Option (Seat R K S)). IsServedAt condition unread taken held size p q is_full s.deeds place x) (sym (get_or_past p.seats place None (omega (arith, ge, all)))) tt
+      | inr ge ↦ subst (λ (x : Option (Seat R K S)). IsServedAt condition unread taken held size p q is_full s.deeds place x) (sym (all place (omega (arith, ge)))) tt
     ]);
     in_time = s.in_time;
   }

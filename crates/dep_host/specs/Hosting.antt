@@ -344,3 +344,14 @@ abbrev pub MayGo : {A R K S : Type 0} → Position A R K S → (second : ℕ) �
     → Option (Seat R K S) → Type 0
 MayGo p second reason None = ⊥
 MayGo p second reason (Some seat) = HasReason p second seat reason
+
+module _ {A R K S : Type 0} (condition : A → Condition) (unread : R → Option (List ℕ))
+    (taken : K → Option (List ℕ)) (held : S → Option (List ℕ)) where
+  -- who sat at a place, if anybody did, is gone from there, and nothing else changed
+  pub record Closed (p q : Host A R K S) (at second : ℕ) : Type 0 where
+    pub goes : IfSome (slot at p.seats.items)
+        (Goes condition unread taken held (position p) (position q) at second)
+    pub gone : slot at q.seats.items ≡ None
+    pub others : (place : ℕ) → (place ≡ at → ⊥)
+        → slot place q.seats.items ≡ slot place p.seats.items
+    pub stays : Stays p q

@@ -17,7 +17,7 @@ use Rattle.dep_host.specs.declared.course.Phase.{Phase}
 use Rattle.dep_host.specs.declared.course.Phase.TheVariants.{Open, Answering, Last, Draining, Over}
 use Rattle.dep_host.specs.declared.course.Duty.{Duty}
 use Rattle.dep_host.specs.declared.course.Duty.TheVariants as to
-use Rattle.dep_host.specs.Courses.{duty, is_ended, is_held_back, woken}
+use Rattle.dep_host.specs.Courses.{StaysOrEnds, duty, is_ended, is_held_back, woken}
 
 -- its socket may be ready
 abbrev pub woken_seat : {R K S : Type 0} → Seat R K S → (is_readable is_writable : Bool) → Seat R K S
@@ -56,10 +56,37 @@ abbrev pub next_duty : {R K S : Type 0} → (S → ℕ) → Seat R K S → Duty
 next_duty size seat = duty seat.course.phase (nat_lt 0 (owed_count size seat.wire))
     seat.course.is_readable seat.course.is_writable
 
+-- it does this next, where it is so far and nothing is owed
+pub record IsDue {R K S : Type 0} (held : S → Option (List ℕ)) (size : S → ℕ) (seat : Seat R K S)
+    (so_far : Phase) (next : Duty) : Type 0 where
+  pub unowed : IsAtEnd (owed held seat.wire)
+  pub phase : seat.course.phase ≡ so_far
+  pub due : next_duty size seat ≡ next
+
 -- fewer bytes are owed, or the socket takes no more now, or it or the spool failed
 abbrev pub SendsOn : {R K S : Type 0} → (S → ℕ) → (before after : Seat R K S) → Type 0
 SendsOn size before after = (owed_count size after.wire < owed_count size before.wire)
     ⊎ ((after.course.is_writable ≡ false) ⊎ (after.course.phase ≡ Over))
+
+-- what is owed was sent, as far as the socket takes it, and not more or less
+pub record Flushes {R K S : Type 0} (taken : K → Option (List ℕ)) (held : S → Option (List ℕ))
+    (size : S → ℕ) (before after : Seat R K S) : Type 0 where
+  pub keeps : Keeps (told taken held before.wire) (told taken held after.wire)
+  pub failures : after.wire.failures ≡ before.wire.failures
+  pub same : after ≡ record before { wire = after.wire; course = after.course }
+  pub course : StaysOrEnds before.course after.course
+  pub sends : 0 < owed_count size before.wire → SendsOn size before after
+
+-- its client was told that nothing more is sent, and from here on what it sends is thrown away
+pub record Finishes {R K S : Type 0} (taken : K → Option (List ℕ)) (held : S → Option (List ℕ))
+    (before after : Seat R K S) : Type 0 where
+  pub keeps : told taken held after.wire ≡ told taken held before.wire
+  pub same : after ≡ record before { wire = after.wire; course = after.course }
+  pub course : after.course ≡ record before.course {
+    phase = Draining;
+    has_moved = true;
+    unfinished = 0;
+  }
 
 -- the hub has no connection of that number
 abbrev pub IsUnknown : {A : Type 0} → Hub A → ℕ → Type 0

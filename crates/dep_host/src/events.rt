@@ -1,8 +1,9 @@
 //! What comes to a host from outside.
 ghost use Rattle.std.specs.Prelude.{◌≡◌, IsTrue, Bool, List, [], ◌∷◌, Option, None};
 ghost use Rattle.dep_host.specs.Coming.{IsFresh, origin, comes_from};
-ghost use Rattle.dep_host.specs.Notes.{Grows};
+ghost use Rattle.dep_host.specs.Notes.{TurnedAway, Grows};
 
+use crate::log::{HostLog, Refusal};
 use crate::seat::{Seat, Time};
 use dep_outbox::{Sink, Source, Spool, Wire};
 use std::net::IpAddr;
@@ -60,6 +61,21 @@ pub(crate) fn comes_from<R: Source, K: Sink, S: Spool>(
         Some(seat) => origin(seat.address) == from,
         None => false,
     }
+}
+
+/// Cuts a client off.
+pub(crate) fn turn_away<R: Drop, K: Drop, S: Drop, L: HostLog>(
+    client: Client<R, K, S>,
+    refusal: Refusal,
+    log: &mut L,
+) -> Refusal
+    ensures same { result ≡ refusal }
+    ensures noted { Grows (L.notes log.old) (L.notes log.new)
+        (TurnedAway client.address refusal ∷ []) }
+{
+    log.refused(client.address, refusal);
+    drop(client);
+    refusal
 }
 
 /// What comes to a host.

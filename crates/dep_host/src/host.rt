@@ -1,21 +1,12 @@
 //! All connections, over one hub.
-ghost use Rattle.std.specs.Prelude.{◌≡◌, ◌⊎◌, ◌<◌, ◌≤◌, ℕ, [], None, length, nat_lt, IfOk, IfErr, IfSome, IsSomeAnd, is_some, IsSome, IsNone, if◌then◌else◌, ◌∷◌, true, false};
-ghost use Rattle.std.specs.Io.KnownBytes.{IsAtEnd};
-ghost use Rattle.dep_outbox.specs.Wires.{told};
-ghost use Rattle.dep_hub.specs.Errands.{WorkedAhead, Runs};
-ghost use Rattle.dep_host.specs.Hosting.{Steps, Serves, Goes, GoesRound, Sheds, Stays, HasTime, MayGo, IsEmpty, IsVacant, IsWaiting, position, slot, unfinished_of, unfinished_in};
-ghost use Rattle.dep_host.specs.Coming.{origin, seated_from};
-ghost use Rattle.dep_host.specs.Courses.{is_overdue};
-ghost use Rattle.dep_host.specs.Meeting.{Admits, IsAsked, IsOffer, Wakes};
-ghost use Rattle.dep_host.specs.Notes.{TurnedAway, Grows};
-ghost use Rattle.dep_host.specs.declared.course.Phase.TheVariants.{Open};
+ghost use Rattle.std.specs.Prelude.{◌≡◌, ◌≤◌, ℕ, None, length, get_or, IfOk};
 
-use crate::course::{Phase, is_past};
-use crate::events::{Client, comes_from, origin};
+use crate::course::is_past;
+use crate::events::{Client, comes_from, origin, turn_away};
 use crate::limits::Limits;
 use crate::log::{Closing, HostLog, Refusal};
 use crate::read_buffer::ReadBuffer;
-use crate::seat::{Seat, Time, Turn};
+use crate::seat::{Seat, Time, Turn, is_read, unfinished};
 use dep_hub::{Archive, ConnectFault, Hub};
 use dep_outbox::{Sink, Source, Spool};
 use std::alloc::{AllocError, Global};
@@ -29,14 +20,27 @@ pub const MOST_SEATS: usize = 1_024;
 pub struct Host<A, R, K, S> {
     hub: Hub<A>,
     seats: Vec<Option<Seat<R, K, S>>>,
+    /// Nobody sits at this place, nor behind it.
+    end: usize,
     limits: Limits,
     /// The second at which it was told that the store is shut.
     shut_since: Option<u64>,
     /// How often it could not be known whether the store is open, up to 2^64 - 1. Clauses alone read it.
     unanswered: u64,
+    ghost within: { end ≤ length seats.items },
+    ghost free: { (at : ℕ) → end ≤ at → get_or seats.items at None ≡ None },
 }
 
 impl<A: Archive, R: Source + Drop, K: Sink + Drop, S: Spool + Drop> Host<A, R, K, S> {
+    ghost use Rattle.std.specs.Prelude.{◌⊎◌, ◌<◌, [], nat_lt, IfErr, IfSome, is_some, IsSome, IsNone, if◌then◌else◌, true, false};
+    ghost use Rattle.std.specs.Io.KnownBytes.{IsAtEnd};
+    ghost use Rattle.dep_outbox.specs.Wires.{told};
+    ghost use Rattle.dep_hub.specs.Errands.{WorkedAhead, Runs};
+    ghost use Rattle.dep_host.specs.Hosting.{Steps, Serves, Closed, GoesRound, Sheds, Stays, HasTime, MayGo, IsEmpty, IsVacant, IsWaiting, position, slot, unfinished_of, unfinished_in};
+    ghost use Rattle.dep_host.specs.Coming.{origin, seated_from};
+    ghost use Rattle.dep_host.specs.Courses.{is_overdue};
+    ghost use Rattle.dep_host.specs.Meeting.{Admits, IsAsked, IsOffer, Wakes};
+
     /// A host without connections, which are bounded by the limits. Where memory is refused the hub is handed back.
     pub fn new(alloc: Global, hub: Hub<A>, limits: Limits) -> Result<Host<A, R, K, S>, Hub<A>>
         ensures hub { IfOk result (λ host. host.hub ≡ hub) }
@@ -51,6 +55,7 @@ impl<A: Archive, R: Source + Drop, K: Sink + Drop, S: Spool + Drop> Host<A, R, K
         Ok(Host {
             hub,
             seats,
+            end: 0,
             limits,
             shut_since: None,
             unanswered: 0,
@@ -64,6 +69,7 @@ impl<A: Archive, R: Source + Drop, K: Sink + Drop, S: Spool + Drop> Host<A, R, K
         let Host {
             hub,
             seats: _,
+            end: _,
             limits: _,
             shut_since: _,
             unanswered: _,
@@ -125,12 +131,16 @@ impl<A: Archive, R: Source + Drop, K: Sink + Drop, S: Spool + Drop> Host<A, R, K
         if self.shut_since.is_some() {
             return None;
         }
-        for at in 0..self.seats.len() {
+        for at in 0..self.end {
             if self.seats[at].is_none() {
                 return Some(at);
             }
         }
-        None
+        if self.end < self.seats.len() {
+            Some(self.end)
+        } else {
+            None
+        }
     }
 
     /// Why a client is turned away that comes where there is no vacancy.
@@ -147,7 +157,7 @@ impl<A: Archive, R: Source + Drop, K: Sink + Drop, S: Spool + Drop> Host<A, R, K
     pub fn is_empty(&self) -> bool
         ensures { result ≡ true → IsEmpty (position self.now) }
     {
-        for at in 0..self.seats.len() {
+        for at in 0..self.end {
             if self.seats[at].is_some() {
                 return false;
             }
@@ -177,6 +187,7 @@ impl<A: Archive, R: Source + Drop, K: Sink + Drop, S: Spool + Drop> Host<A, R, K
             Err(ConnectFault::Memory) => return Err(turn_away(client, Refusal::Memory, log)),
         };
         log.opened(connection, client.address);
+        self.end = self.end.max(at + 1);
         self.seats[at] = Some(Seat::new(connection, client));
         Ok(())
     }
@@ -221,12 +232,13 @@ impl<A: Archive, R: Source + Drop, K: Sink + Drop, S: Spool + Drop> Host<A, R, K
             is_shut: self.shut_since.is_some(),
         };
         let mut is_busy = false;
-        for at in 0..self.seats.len() {
+        for at in 0..self.end {
             if self.serve_at(at, buffer, &turn, log) {
                 is_busy = true;
             }
         }
         self.shed(time.second, log);
+        self.draw_in();
         is_busy
     }
 
@@ -269,13 +281,7 @@ impl<A: Archive, R: Source + Drop, K: Sink + Drop, S: Spool + Drop> Host<A, R, K
         requires there { at < length self.old.seats.items }
         requires done { MayGo (position self.old) second closing
             (slot at self.old.seats.items) }
-        ensures goes { IfSome (slot at self.old.seats.items)
-            (Goes A.condition R.unread K.taken S.held (position self.old) (position self.new)
-            at second) }
-        ensures gone { slot at self.new.seats.items ≡ None }
-        ensures others { (place : ℕ) → (place ≡ at → ⊥)
-            → slot place self.new.seats.items ≡ slot place self.old.seats.items }
-        ensures stays { Stays self.old self.new }
+        ensures { Closed A.condition R.unread K.taken S.held self.old self.new at second }
     {
         if let Some(seat) = self.seats[at].take() {
             self.hub.close(seat.connection);
@@ -300,6 +306,18 @@ impl<A: Archive, R: Source + Drop, K: Sink + Drop, S: Spool + Drop> Host<A, R, K
         }
     }
 
+    /// Moves the end in front of the places behind which nobody sits.
+    fn draw_in(&mut self)
+        ensures { (position self.new ≡ position self.old) × Stays self.old self.new }
+    {
+        for _ in 0..self.end {
+            if self.seats[self.end - 1].is_some() {
+                return;
+            }
+            self.end -= 1;
+        }
+    }
+
     /// Where the most bytes of unfinished requests are kept.
     fn largest(&self) -> Option<usize>
         ensures { IfSome result (λ at. (at < length self.now.seats.items)
@@ -307,7 +325,7 @@ impl<A: Archive, R: Source + Drop, K: Sink + Drop, S: Spool + Drop> Host<A, R, K
             ≤ unfinished_of (slot at self.now.seats.items))) }
     {
         let mut largest = 0;
-        for at in 0..self.seats.len() {
+        for at in 0..self.end {
             if unfinished(&self.seats[at]) > unfinished(&self.seats[largest]) {
                 largest = at;
             }
@@ -325,53 +343,18 @@ impl<A: Archive, R: Source + Drop, K: Sink + Drop, S: Spool + Drop> Host<A, R, K
             (unfinished_in self.now.seats.items) }
     {
         let mut kept: u128 = 0;
-        for at in 0..self.seats.len() {
+        for at in 0..self.end {
             kept += unfinished(&self.seats[at]) as u128;
         }
         kept > self.limits.unfinished_bytes as u128
     }
 }
 
-/// How many bytes of unfinished requests are kept for who sits at a place.
-fn unfinished<R: Source, K: Sink, S: Spool>(place: &Option<Seat<R, K, S>>) -> u64
-    ensures { result ≡ unfinished_of place.now }
-{
-    match place {
-        Some(seat) => seat.course.unfinished,
-        None => 0,
-    }
-}
-
-/// Whether who sits at a place is read, and none of its requests may be complete.
-fn is_read<R: Source, K: Sink, S: Spool>(place: &Option<Seat<R, K, S>>) -> bool
-    ensures { result ≡ true → IsSomeAnd place.now (λ seat. seat.course.phase ≡ Open) }
-{
-    match place {
-        Some(seat) => seat.course.phase == Phase::Open,
-        None => false,
-    }
-}
-
-/// Cuts a client off.
-fn turn_away<R: Drop, K: Drop, S: Drop, L: HostLog>(
-    client: Client<R, K, S>,
-    refusal: Refusal,
-    log: &mut L,
-) -> Refusal
-    ensures same { result ≡ refusal }
-    ensures noted { Grows (L.notes log.old) (L.notes log.new)
-        (TurnedAway client.address refusal ∷ []) }
-{
-    log.refused(client.address, refusal);
-    drop(client);
-    refusal
-}
-
 /// Room for all connections.
 fn empty_seats<R: Drop, K: Drop, S: Drop>(
     alloc: Global,
 ) -> Result<Vec<Option<Seat<R, K, S>>>, AllocError>
-    ensures { IfOk result (λ seats. (at : ℕ) → slot at seats.items ≡ None) }
+    ensures { IfOk result (λ seats. (at : ℕ) → get_or seats.items at None ≡ None) }
 {
     let mut seats = Vec::with_capacity(alloc, MOST_SEATS)?;
     for _ in 0..MOST_SEATS {

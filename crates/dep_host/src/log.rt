@@ -1,5 +1,5 @@
 //! What is told of each connection, for a log of them.
-ghost use Rattle.std.specs.Prelude.{List, [], ◌∷◌, Option, None};
+ghost use Rattle.std.specs.Prelude.{◌≡◌, List, [], ◌∷◌, Option, None};
 ghost use Rattle.dep_host.specs.Notes.{Note, LetIn, TurnedAway, Grows};
 
 use dep_hub::{AccessLog, ConnId, Next};
@@ -64,4 +64,8 @@ pub trait HostLog: AccessLog {
 
     /// A connection was closed, of which so many bytes were read, and so many taken by its socket.
     fn closed(&mut self, connection: ConnId, address: IpAddr, closing: Closing, bytes: Bytes);
+
+    /// Nothing can go on at once: what it was told may be written now.
+    fn rest(&mut self)
+        ensures noted { notes self.new ≡ notes self.old };
 }

@@ -1,10 +1,12 @@
 //! A connection that is served.
-ghost use Rattle.std.specs.Prelude.{◌≡◌, ◌≢◌, ◌<◌, ◌≤◌, ◌+◌, ◌-◌, ◌^◌, ◌||◌, min, nat_lt, length, true, false};
+ghost use Rattle.std.specs.Prelude.{IsSomeAnd, ◌≡◌, ◌≢◌, ◌<◌, ◌≤◌, ◌+◌, ◌-◌, ◌^◌, ◌||◌, min, nat_lt, length, true, false};
 ghost use Rattle.std.specs.Io.KnownBytes.{Keeps, IsAtEnd};
 ghost use Rattle.dep_hub.specs.Holding.{ComesToNext};
 ghost use Rattle.dep_outbox.specs.Wires.{told, owed, owed_count};
 ghost use Rattle.dep_host.specs.Courses.{StaysOrEnds, is_ended, is_held_back, phase_begun};
-ghost use Rattle.dep_host.specs.Seats.{HubStays, TakesTurn, MayRead, MayAnswer, IsOffered, SendsOn, next_duty, phase_answered, left_unfinished, woken_seat};
+ghost use Rattle.dep_host.specs.Hosting.{unfinished_of};
+ghost use Rattle.dep_host.specs.declared.course.Phase.TheVariants.{Open};
+ghost use Rattle.dep_host.specs.Seats.{Finishes, Flushes, HubStays, IsDue, TakesTurn, MayRead, MayAnswer, IsOffered, next_duty, phase_answered, left_unfinished, woken_seat};
 
 use crate::course::{Course, Duty, Phase};
 use crate::events::Client;
@@ -184,9 +186,7 @@ impl<R: Source, K: Sink, S: Spool> Seat<R, K, S> {
 
     /// Answers the next item, and sends what is owed for it.
     fn answer<A: Archive, L: HostLog>(&mut self, hub: &mut Hub<A>, moment: Moment, log: &mut L)
-        requires unowed { IsAtEnd (owed S.held self.old.wire) }
-        requires phase { self.old.course.phase ≡ Phase.Answering }
-        requires due { next_duty S.size self.old ≡ Duty.Answer }
+        requires { IsDue S.held S.size self.old Phase.Answering Duty.Answer }
         ensures turn { MayAnswer A.condition R.unread K.taken S.held S.size hub.old hub.new
             self.old self.new moment }
         ensures moved { self.new.course.moved ≡ self.old.course.moved }
@@ -238,9 +238,7 @@ impl<R: Source, K: Sink, S: Spool> Seat<R, K, S> {
 
     /// Reads a piece, and offers it.
     fn read<A: Archive>(&mut self, hub: &mut Hub<A>, buffer: &mut ReadBuffer)
-        requires unowed { IsAtEnd (owed S.held self.old.wire) }
-        requires phase { self.old.course.phase ≡ Phase.Open }
-        requires due { next_duty S.size self.old ≡ Duty.Read }
+        requires { IsDue S.held S.size self.old Phase.Open Duty.Read }
         ensures turn { MayRead A.condition R.unread K.taken S.held S.size hub.old hub.new
             self.old self.new }
         ensures moved { min self.old.course.moved (2 ^ 64 - 1) ≤ self.new.course.moved }
@@ -283,15 +281,7 @@ impl<R: Source, K: Sink, S: Spool> Seat<R, K, S> {
 
     /// Sends what is owed, as far as the socket takes it.
     fn flush(&mut self)
-        ensures keeps { Keeps (told K.taken S.held self.old.wire)
-            (told K.taken S.held self.new.wire) }
-        ensures failures { self.new.wire.failures ≡ self.old.wire.failures }
-        ensures same { self.new ≡ record self.old {
-          wire = self.new.wire;
-          course = self.new.course;
-        } }
-        ensures course { StaysOrEnds self.old.course self.new.course }
-        ensures sends { 0 < owed_count S.size self.old.wire → SendsOn S.size self.old self.new }
+        ensures { Flushes K.taken S.held S.size self.old self.new }
     {
         match self.wire.flush() {
             Flushed::All | Flushed::Part => {}
@@ -302,16 +292,7 @@ impl<R: Source, K: Sink, S: Spool> Seat<R, K, S> {
 
     /// Shuts down the half that sends, so that the client sees that nothing more comes.
     fn finish(&mut self)
-        ensures keeps { told K.taken S.held self.new.wire ≡ told K.taken S.held self.old.wire }
-        ensures same { self.new ≡ record self.old {
-          wire = self.new.wire;
-          course = self.new.course;
-        } }
-        ensures course { self.new.course ≡ record self.old.course {
-          phase = Phase.Draining;
-          has_moved = true;
-          unfinished = 0;
-        } }
+        ensures { Finishes K.taken S.held self.old self.new }
     {
         self.wire.finish();
         self.course.phase = Phase::Draining;
@@ -332,5 +313,25 @@ impl<R: Source, K: Sink, S: Spool> Seat<R, K, S> {
             Received::Later => self.course.is_readable = false,
             Received::Ended | Received::Failed => self.course.phase = Phase::Over,
         }
+    }
+}
+
+/// How many bytes of unfinished requests are kept for who sits at a place.
+pub(crate) fn unfinished<R: Source, K: Sink, S: Spool>(place: &Option<Seat<R, K, S>>) -> u64
+    ensures { result ≡ unfinished_of place.now }
+{
+    match place {
+        Some(seat) => seat.course.unfinished,
+        None => 0,
+    }
+}
+
+/// Whether who sits at a place is read, and none of its requests may be complete.
+pub(crate) fn is_read<R: Source, K: Sink, S: Spool>(place: &Option<Seat<R, K, S>>) -> bool
+    ensures { result ≡ true → IsSomeAnd place.now (λ seat. seat.course.phase ≡ Open) }
+{
+    match place {
+        Some(seat) => seat.course.phase == Phase::Open,
+        None => false,
     }
 }

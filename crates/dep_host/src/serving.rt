@@ -106,7 +106,9 @@ fn meet<A: Archive, R: Source + Drop, K: Sink + Drop, S: Spool + Drop, L: HostLo
         }
         Event::Round(time) => {
             let is_busy = host.round(buffer, &time, log);
-            go_on(host, is_busy, time.second)
+            let next = go_on(host, is_busy, time.second);
+            let_rest(log, &next);
+            next
         }
         Event::End => Err(Ended::Events),
     }
@@ -141,6 +143,16 @@ fn go_on<A: Archive, R: Source + Drop, K: Sink + Drop, S: Spool + Drop>(
         vacancy: None,
         is_busy,
     })
+}
+
+/// Lets the log write what it was told, unless the host can go on at once.
+fn let_rest<L: HostLog>(log: &mut L, next: &Result<Now, Ended>)
+    ensures { L.notes log.new ≡ L.notes log.old }
+{
+    match next {
+        Ok(now) if now.is_busy => {}
+        Ok(_) | Err(_) => log.rest(),
+    }
 }
 
 /// Lets a client in, or turns it away.

@@ -1,5 +1,6 @@
 //! A spool in a file without a name.
 ghost use Rattle.std.specs.Prelude.{◌≡◌, ◌≤◌, ◌<◌, ◌+◌, ◌-◌, length, OnOk, OnErr, vec_len};
+ghost use Rattle.dep_sockets.specs.Totals.{HoldsTheSame};
 
 use crate::spools::Spools;
 use dep_outbox::{Spool, SpoolFailed};
@@ -57,8 +58,7 @@ impl<'a, R: Files> FileSpool<'a, R> {
 
     /// Writes the bytes behind those that it holds, which takes them once they are counted.
     fn write_behind(&mut self, bytes: &[u8]) -> io::Result<()>
-        ensures begin { self.new.begin ≡ self.old.begin }
-        ensures end { self.new.end ≡ self.old.end }
+        ensures { HoldsTheSame self.old.begin self.old.end self.new.begin self.new.end }
     {
         if self.file.is_none() {
             self.file = Some(self.spools.open()?);

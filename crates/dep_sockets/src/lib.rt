@@ -4,6 +4,7 @@
 mod door;
 mod file_spool;
 mod hosting;
+mod last_look;
 mod readiness;
 mod round_moment;
 mod socket;

@@ -1,6 +1,7 @@
 //! What happens at the sockets of the system.
 
 use crate::file_spool::FileSpool;
+use crate::last_look::LastLook;
 use crate::readiness::{Ready, note_all};
 use crate::round_moment::RoundMoment;
 use crate::socket::{SocketSink, SocketSource, halves};
@@ -81,6 +82,8 @@ pub struct Sockets<'a, R: Files> {
     start: Instant,
     /// How long after the start the last round began.
     begun: Duration,
+    /// When the system was asked last which sockets are ready.
+    look: LastLook,
     moment: RoundMoment,
     fault: Option<SocketFault>,
     has_ended: bool,
@@ -113,6 +116,7 @@ impl<'a, R: Files + Net + Clock> Sockets<'a, R> {
             open: Rc::new(alloc, ())?,
             start: Instant::now(rt)?,
             begun: Duration::from_secs(0),
+            look: LastLook::new(),
             moment: RoundMoment::new(),
             fault: None,
             has_ended: false,
@@ -151,10 +155,22 @@ impl<'a, R: Files + Net + Clock> Sockets<'a, R> {
         }
     }
 
-    /// Waits until a socket is ready, or only looks where something is to be done.
+    /// Waits until a socket is ready, or only looks where something is to be done, and not even that
+    /// where it has just looked.
     fn wait(&mut self, is_busy: bool) -> Result<(), SocketFault> {
-        let took = self.elapsed().saturating_sub(self.begun);
+        let elapsed = self.elapsed();
+        let took = elapsed.saturating_sub(self.begun);
         self.moment.note(took.as_millis());
+        if is_busy && self.look.serves(elapsed.as_micros()) {
+            return Ok(());
+        }
+        self.ask(is_busy)?;
+        self.look = LastLook::at(self.elapsed().as_micros());
+        Ok(())
+    }
+
+    /// Asks the system which sockets are ready.
+    fn ask(&mut self, is_busy: bool) -> Result<(), SocketFault> {
         let nap = Duration::from_secs(if is_busy { 0 } else { NAP });
         self.poll
             .poll(&mut self.polled, Some(nap))

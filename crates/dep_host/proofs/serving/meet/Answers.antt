@@ -1,7 +1,9 @@
-use Rattle.std.proofs.Common.{◌≡◌, false, [], refl}
+use Rattle.std.proofs.Common.{◌≡◌, false, [], refl, sym, subst}
 use Rattle.std.proofs.lemmas.Result.{IfOk-weaker}
 use Rattle.dep_host.specs.Courses.{is_overdue}
-use Rattle.dep_host.specs.Meeting.{wakes, makes_round}
+use Rattle.dep_host.specs.Coming.{seconds_of}
+use Rattle.dep_host.specs.declared.events.Event.{Event}
+use Rattle.dep_host.specs.Meeting.{MayEnd, wakes, makes_round}
 use Rattle.dep_host.proofs.RoundLemmas.{all_round}
 use Rattle.dep_host.proofs.MeetLemmas.{meets_as, round_met, offer_kept}
 use Rattle.dep_host.proofs.serving.meet.Goals as goal
@@ -16,7 +18,7 @@ pub returns-in-End-clause-met : goal.returns-in-End-clause-met
 returns-in-End-clause-met g c = (c.in-End.is, refl, refl)
 
 pub returns-in-Round-clause-met : goal.returns-in-Round-clause-met
-returns-in-Round-clause-met g c = round_met g.A.Archive.condition g.R.Source.unread g.K.Sink.taken g.S.Spool.held g.A.Archive.account g.S.Spool.size g.L.HostLog.notes _ _ _ _ c.args.now.vacancy c.args.event c.go_on.result c.go_on.ensures.end c.go_on.ensures.unspent
+returns-in-Round-clause-met g c = round_met g.A.Archive.condition g.R.Source.unread g.K.Sink.taken g.S.Spool.held g.A.Archive.account g.S.Spool.size g.L.HostLog.notes _ _ _ _ c.args.now.vacancy c.args.event c.go_on-next.result c.go_on-next.ensures.end c.go_on-next.ensures.unspent
     (meets_as g.A.Archive.condition g.R.Source.unread g.K.Sink.taken g.S.Spool.held g.A.Archive.account g.S.Spool.size g.L.HostLog.notes _ _ _ _ c.args.now.vacancy c.args.event _ c.in-Round.is (
       _,
       makes_round (record {
@@ -24,7 +26,7 @@ returns-in-Round-clause-met g c = round_met g.A.Archive.condition g.R.Source.unr
         goes = c.round-is_busy.ensures.goes;
         left = c.round-is_busy.ensures.left;
         stays = c.round-is_busy.ensures.stays;
-        asks = c.go_on.ensures.asks;
+        asks = c.go_on-next.ensures.asks;
       }),
     ))
 
@@ -33,4 +35,7 @@ returns-in-Ready-clause-vacant g c = offer_kept c.args.host.now c.awake.new.self
 
 pub returns-in-Round-clause-time : goal.returns-in-Round-clause-time
 returns-in-Round-clause-time g c =
-    IfOk-weaker c.go_on.result _ _ (λ next h. all_round (λ second. is_overdue c.go_on.new.host.shut_since second c.go_on.new.host.limits ≡ false) c.args.event c.in-Round.time c.in-Round.is h) c.go_on.ensures.time
+    IfOk-weaker c.go_on-next.result _ _ (λ next h. all_round (λ second. is_overdue c.go_on-next.new.host.shut_since second c.go_on-next.new.host.limits ≡ false) c.args.event c.in-Round.time c.in-Round.is h) c.go_on-next.ensures.time
+
+pub returns-in-Round-clause-shut : goal.returns-in-Round-clause-shut
+returns-in-Round-clause-shut g c = λ ends. subst (λ (event : Event _ _ _). MayEnd c.go_on-next.new.host (seconds_of event)) (sym c.in-Round.is) (c.go_on-next.ensures.shut ends)

@@ -1,5 +1,5 @@
-use Rattle.std.proofs.Common.{◌≡◌, ℕ, Option, true, false, is_some, refl, sym, ap, ◌∙◌, arith}
-use Rattle.dep_host.specs.Hosting.{IsWaiting}
+use Rattle.std.proofs.Common.{◌≡◌, ℕ, Option, true, false, is_some, refl, sym, ap, subst, ◌∙◌, arith}
+use Rattle.dep_host.specs.Hosting.{GoesRound, HasTime, IsWaiting, Position, position, slot}
 use Rattle.dep_host.proofs.HostLemmas.{each_goes_on, each_sheds, left_goes_on, left_ends, left_sheds, stays_same, stays_on}
 use Rattle.dep_host.proofs.ServeLemmas.{round_begins, round_goes_on, round_ends, round_sheds}
 use Rattle.dep_host.proofs.host.Host.round.Goals.{then-serve_at, else-serve_at}
@@ -29,14 +29,18 @@ pub serve_at-requires-clause-shut : goal.serve_at-requires-clause-shut
 serve_at-requires-clause-shut g c = c.is_some.ensures ∙ ap (λ (o : Option ℕ). is_some o) (sym c.loop-at.invariant.stays.shut)
 
 pub returns-clause-goes : goal.returns-clause-goes
-returns-clause-goes g c = round_sheds g.A.Archive.condition g.R.Source.unread g.K.Sink.taken g.S.Spool.held g.S.Spool.size _ _ _ _
-    (round_ends g.A.Archive.condition g.R.Source.unread g.K.Sink.taken g.S.Spool.held g.S.Spool.size _ _ _ _ _ c.loop-at.invariant.goes c.is_full.ensures (omega (arith, c.loop-at.invariant.stays.places))) c.shed.ensures.goes
+returns-clause-goes g c = subst (λ (q : Position _ _ _ _). GoesRound g.A.Archive.condition g.R.Source.unread g.K.Sink.taken g.S.Spool.held g.S.Spool.size (position c.args.self.now) q c.args.time.now) (sym c.draw_in.ensures.0)
+    (round_sheds g.A.Archive.condition g.R.Source.unread g.K.Sink.taken g.S.Spool.held g.S.Spool.size _ _ _ _
+    (round_ends g.A.Archive.condition g.R.Source.unread g.K.Sink.taken g.S.Spool.held g.S.Spool.size _ _ _ _ _ c.loop-at.invariant.goes c.is_full.ensures (λ place h. c.args.self.now.free place (omega (arith, h)))) c.shed.ensures.goes)
 
 pub returns-clause-left : goal.returns-clause-left
-returns-clause-left g c = left_sheds _ _ _ _ _ (left_ends c.loop-at.self.seats.items c.loop-at.at c.args.time.now.second c.loop-at.self.limits (omega arith) c.loop-at.invariant.left) c.shed.ensures.stays.limits c.shed.ensures.left
+returns-clause-left g c = subst (λ (q : Position _ _ _ _). (at : ℕ) → HasTime c.args.time.now.second q.limits (slot at q.seats)) (sym c.draw_in.ensures.0)
+    (left_sheds _ _ _ _ _ (left_ends c.loop-at.self.seats.items c.loop-at.at c.args.time.now.second c.loop-at.self.limits (λ place h. c.loop-at.invariant.goes.stays place h ∙ c.args.self.now.free place (omega (arith, h))) c.loop-at.invariant.left)
+    c.shed.ensures.stays.limits c.shed.ensures.left)
 
 pub returns-clause-stays : goal.returns-clause-stays
-returns-clause-stays g c = stays_on _ _ _ c.loop-at.invariant.stays c.shed.ensures.stays
+returns-clause-stays g c = stays_on _ _ _ (stays_on _ _ _ c.loop-at.invariant.stays c.shed.ensures.stays) c.draw_in.ensures.1
 
 pub returns-clause-waits : goal.returns-clause-waits
-returns-clause-waits g c = λ idle. each_sheds (IsWaiting g.S.Spool.size) _ _ c.loop-at.at tt (omega arith) (c.loop-at.invariant.waits idle) c.shed.ensures.left
+returns-clause-waits g c = λ idle. subst (λ (q : Position _ _ _ _). (at : ℕ) → IsWaiting g.S.Spool.size (slot at q.seats)) (sym c.draw_in.ensures.0)
+    (each_sheds (IsWaiting g.S.Spool.size) _ _ c.loop-at.at tt (λ place h. c.loop-at.invariant.goes.stays place h ∙ c.args.self.now.free place (omega (arith, h))) (c.loop-at.invariant.waits idle) c.shed.ensures.left)
