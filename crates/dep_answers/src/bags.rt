@@ -11,7 +11,7 @@ ghost use Rattle.dep_answers.specs.Subjects.{shown_at, subject_in_bag};
 ghost use Rattle.dep_answers.specs.Told.{told_list, form_at, bag_answer};
 ghost use Rattle.dep_answers.specs.Telling.{SaysPayload, SaysTagFile};
 
-use crate::answer::{Answer, ReplyText, Form};
+use crate::answer::{Answer, Form, ReplyText};
 use crate::performed::{Delivery, Performed};
 use crate::stored::stored_reply;
 use crate::subject::Shown;
