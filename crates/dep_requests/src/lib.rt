@@ -3,4 +3,4 @@
 
 mod performing;
 
-pub use performing::{Done, accept, answer, delivery_at, refuse};
+pub use performing::{Done, accept, answer_operation, delivery_at, refuse};

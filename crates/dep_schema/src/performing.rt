@@ -10,7 +10,7 @@ use crate::lending::Lent;
 use crate::probing::check_open;
 use dep_answers::Service;
 use dep_decisions::Operation;
-use dep_requests::{Done, answer};
+use dep_requests::{Done, answer_operation};
 use dep_staging::RunningHashes;
 use dep_types::StoreFault;
 use sqlite::{Alter, Connection};
@@ -34,7 +34,7 @@ pub fn perform_request<S: Alter>(
 {
     let _between = connection.is_autocommit();
     let mut tx = connection.transaction();
-    let performed = answer(
+    let performed = answer_operation(
         &mut Lent { tx: &mut tx },
         alloc,
         running,

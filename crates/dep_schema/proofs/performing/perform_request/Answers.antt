@@ -16,7 +16,7 @@ use Rattle.dep_schema.proofs.performing.perform_request.Goals as goal
 pub returns-in_err-performed : goal.returns-in_err-performed
 returns-in_err-performed g c =
     let old = c.args.connection.now in
-    let left : c.answer.new.tx.tx.now ≡ c.tx-2-1.given.0 = sym (c.tx-2-1.given.1 (lent_name g.S.Store c.in_err-performed.ensures.stays)) in
+    let left : c.answer_operation.new.tx.tx.now ≡ c.tx-2-1.given.0 = sym (c.tx-2-1.given.1 (lent_name g.S.Store c.in_err-performed.ensures.stays)) in
     let inside = c.tx-2-1.given.0.conn.now in
     let new = c.drop-tx.new.self.0 in
     let work = works_within g.S.Store old new c.in_err-performed.ensures.stays c.transaction-tx.ensures.begun left (λ is_open trees h. g.met.S.Store.settled old.store trees is_open h)
@@ -34,7 +34,7 @@ returns-in_err-performed g c =
 pub returns-then-performed : goal.returns-then-performed
 returns-then-performed g c =
     let old = c.args.connection.now in
-    let left : c.answer.new.tx.tx.now ≡ c.tx-2-1.given.0 = sym (c.tx-2-1.given.1 (lent_name g.S.Store c.in_ok-performed.ensures.stays)) in
+    let left : c.answer_operation.new.tx.tx.now ≡ c.tx-2-1.given.0 = sym (c.tx-2-1.given.1 (lent_name g.S.Store c.in_ok-performed.ensures.stays)) in
     let inside = c.tx-2-1.given.0.conn.now in
     let new = c.commit.new.tx.0 in
     let told = c.in_ok-performed.ensures in
@@ -55,7 +55,7 @@ returns-then-performed g c =
 pub returns-in_err-commit : goal.returns-in_err-commit
 returns-in_err-commit g c =
     let old = c.args.connection.now in
-    let left : c.answer.new.tx.tx.now ≡ c.tx-2-1.given.0 = sym (c.tx-2-1.given.1 (lent_name g.S.Store c.in_ok-performed.ensures.stays)) in
+    let left : c.answer_operation.new.tx.tx.now ≡ c.tx-2-1.given.0 = sym (c.tx-2-1.given.1 (lent_name g.S.Store c.in_ok-performed.ensures.stays)) in
     let inside = c.tx-2-1.given.0.conn.now in
     let new = c.commit.new.tx.0 in
     let told = c.in_ok-performed.ensures in
@@ -82,7 +82,7 @@ returns-in_err-commit g c =
 pub returns-in_err-check_open : goal.returns-in_err-check_open
 returns-in_err-check_open g c =
     let old = c.args.connection.now in
-    let left : c.answer.new.tx.tx.now ≡ c.tx-2-1.given.0 = sym (c.tx-2-1.given.1 (lent_name g.S.Store c.in_ok-performed.ensures.stays)) in
+    let left : c.answer_operation.new.tx.tx.now ≡ c.tx-2-1.given.0 = sym (c.tx-2-1.given.1 (lent_name g.S.Store c.in_ok-performed.ensures.stays)) in
     let inside = c.tx-2-1.given.0.conn.now in
     let mid = c.rollback.new.self.0 in
     let new = c.check_open.new.connection in
@@ -106,7 +106,7 @@ returns-in_err-check_open g c =
 pub returns : goal.returns
 returns g c =
     let old = c.args.connection.now in
-    let left : c.answer.new.tx.tx.now ≡ c.tx-2-1.given.0 = sym (c.tx-2-1.given.1 (lent_name g.S.Store c.in_ok-performed.ensures.stays)) in
+    let left : c.answer_operation.new.tx.tx.now ≡ c.tx-2-1.given.0 = sym (c.tx-2-1.given.1 (lent_name g.S.Store c.in_ok-performed.ensures.stays)) in
     let inside = c.tx-2-1.given.0.conn.now in
     let mid = c.rollback.new.self.0 in
     let new = c.check_open.new.connection in

@@ -3,7 +3,7 @@ use Rattle.dep_tables.specs.Tables.{HasOurTables}
 use Rattle.dep_tables.proofs.Chains.{clean_before, reads_ours, stays_err, stays_ok, stays_then}
 use Rattle.dep_requests.proofs.Stepping.{only_reads, reads_alike, sees_still}
 use Rattle.sqlite.proofs.Callers.{unchanged_then}
-use Rattle.dep_requests.proofs.performing.answer.Goals as goal
+use Rattle.dep_requests.proofs.performing.answer_operation.Goals as goal
 
 pub returns-clause-map : goal.returns-clause-map
 returns-clause-map g c clean within ours s are sound running fit =
