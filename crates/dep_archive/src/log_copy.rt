@@ -10,8 +10,8 @@ use dep_types::Method;
 /// A content of so many octets makes the log long: it fills 1,024 of its pages, and a log of 1,000 is copied.
 const LONG_CONTENT: usize = 4_194_304;
 
-/// So many calls behind such a request are left out: who waited through it is answered meanwhile, in the rounds that share
-/// its moment.
+/// So many calls behind such a request are left out: who waited through it is answered meanwhile, in the rounds that
+/// share its moment.
 const CALLS_LEFT_OUT: u32 = 2;
 
 /// When the log is to be copied, counted in calls that work ahead.

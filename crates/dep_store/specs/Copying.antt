@@ -1,4 +1,4 @@
--- What a transaction makes that writes the row of the clock once more, before which SQLite copies a long log into the file.
+-- What a transaction makes that writes the row of the clock as it is, before which SQLite copies a long log.
 use Rattle.std.specs.Prelude.{◌≡◌, IsTrue, Result, OnOk}
 use Rattle.sqlite.specs.State as db
 use Rattle.dep_tables.specs.Edits.{HasStateRow, with_state_row}

@@ -232,7 +232,8 @@ impl<S: Alter> Store<S> {
     pub fn stream<O: Outlet>(&mut self, file: u64, out: &mut O) -> Result<(), StreamFault>
         // On a store that was shut it fails, and a crash leaves what it could leave before.
         ensures { SendsFile (state S.Store self.old) (state S.Store self.new)
-            (O.taken out.old) (O.taken out.new) (O.failures out.old) (O.failures out.new) file result }
+            (O.taken out.old) (O.taken out.new) (O.failures out.old) (O.failures out.new)
+            file result }
     {
         if !self.connection.is_autocommit() {
             return Err(StreamFault::Store);

@@ -42,8 +42,8 @@ fn write_again<T: Statements>(tx: &mut T) -> Result<(), StoreFault>
     write_state(tx, &row)
 }
 
-/// Has the log copied into the file, by a transaction that writes the row of the clock as it is. Over a store that was shut
-/// none is begun.
+/// Has the log copied into the file, by a transaction that writes the row of the clock as it is. Over a store that was
+/// shut none is begun.
 pub(crate) fn copy_log<S: Alter>(connection: &mut Connection<S>) -> Result<(), StoreFault>
     requires settled { (state S.Store connection.old).in_transaction ≡ false }
     ensures { CopiesLog (state S.Store connection.old) (state S.Store connection.new) result }
