@@ -35,7 +35,7 @@ pub(crate) struct NumberedDeposit<'a> {
 }
 
 /// The object that is touched. That none is there is a fault of the store, as the rules let no such request through.
-pub(crate) fn touched(view: &View) -> Result<ObjectRow, StoreFault>
+pub(crate) fn touched_object(view: &View) -> Result<ObjectRow, StoreFault>
     ensures told { IfOk result (λ row. view.now.object ≡ Some row) }
     ensures absent { IfErr result (λ _. view.now.object ≡ None) }
 {

@@ -12,7 +12,7 @@ ghost use Rattle.dep_changes.specs.Changed.{IsExtent, new_rows};
 ghost use Rattle.dep_changes.specs.Known.{IsFilledView, IsRowFrom, TellsNumbered};
 ghost use Rattle.dep_changes.specs.Told.{HasItsSources, TellsDeposit, TellsNewFile, TellsObject, TellsSource};
 
-use crate::change::{Change, NumberedDeposit, NumberedFiles, touched};
+use crate::change::{Change, NumberedDeposit, NumberedFiles, touched_object};
 use crate::copies::copied_metadata;
 use crate::new_files::{Extent, FileNumbers, new_row, whole_upload};
 use dep_decisions::{Deposit, NewFile, Source};
@@ -122,6 +122,6 @@ pub(crate) fn replaced_file(
     ensures cause { (s : State) (n : ℕ) (o : Object) → TellsSource change.now s 0 new.now.source
         → TellsObject change.now.view.now s n o → IfErr result (λ fault. fault ≡ Memory) }
 {
-    let object = touched(change.view)?.object;
+    let object = touched_object(change.view)?.object;
     row_of(change, FileNumbers { object, file }, new, 0)
 }

@@ -14,7 +14,7 @@ ghost use Rattle.dep_changes.specs.Changed.{blank_row};
 ghost use Rattle.dep_changes.specs.Clauses.{Appends, CarriesOut, FailsAppending, FailsCarrying, FailsCarryingMaps, MakesOf, PutsIn};
 ghost use Rattle.dep_changes.specs.Told.{TellsNumbers};
 
-use crate::change::{Change, NumberedDeposit, NumberedFiles, touched};
+use crate::change::{Change, NumberedDeposit, NumberedFiles, touched_object};
 use crate::new_files::put_new_files;
 use crate::objects::{files_changed, texts_changed, write_row};
 use dep_decisions::Deposit;
@@ -121,7 +121,7 @@ pub(crate) fn replace<T: Statements>(
         (Replace n numbered.now.deposit.now ingests) }
 {
     let change = &numbered.change;
-    let row = ingested_by(touched(change.view)?, ingests);
+    let row = ingested_by(touched_object(change.view)?, ingests);
     delete_files(tx, change.alloc, row.object)?;
     clear_metadata(tx, change.alloc, row.object)?;
     write_row(tx, &blank_row(change.view, row.object, row.ingested))?;
@@ -170,7 +170,7 @@ pub(crate) fn append<T: Statements>(
         (Append n numbered.now.deposit.now ingests) }
 {
     let change = numbered.change;
-    let row = ingested_by(touched(change.view)?, ingests);
+    let row = ingested_by(touched_object(change.view)?, ingests);
     match numbered.deposit {
         Deposit::Files(files) => {
             let files = files.as_slice();

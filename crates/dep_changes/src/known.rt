@@ -8,7 +8,7 @@ ghost use Rattle.dep_decisions.specs.Decisions.{numbers_for};
 ghost use Rattle.dep_changes.specs.Known.{CopiesKnown, known_row, known_shown};
 ghost use Rattle.dep_changes.specs.Told.{IsAccepted};
 
-use crate::change::{Change, NumberedDeposit, touched};
+use crate::change::{Change, NumberedDeposit, touched_object};
 use crate::created::{filled_view, replaced_file};
 use crate::deposits::{added_to, blank_row, ingested_by};
 use crate::objects::{completed, files_changed, texts_changed};
@@ -50,17 +50,17 @@ pub fn known_after(
             ingests,
             ..
         } => {
-            let was = ingested_by(touched(view)?, *ingests);
+            let was = ingested_by(touched_object(view)?, *ingests);
             let row = blank_row(view, was.object, was.ingested);
             let replaced = filled_view(&NumberedDeposit { change, deposit }, row)?;
             Ok(Some(Shown::Object(replaced)))
         }
         Decision::SetMetadata { .. } => {
-            let row = touched(view)?;
+            let row = touched_object(view)?;
             Ok(Some(Shown::ObjectRow(texts_changed(view, row))))
         }
         Decision::SetFiles { .. } => {
-            let row = touched(view)?;
+            let row = touched_object(view)?;
             Ok(Some(Shown::ObjectRow(files_changed(view, row))))
         }
         Decision::SetFile { file, new, .. } => {

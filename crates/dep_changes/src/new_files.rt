@@ -15,7 +15,7 @@ ghost use Rattle.dep_changes.specs.Changed.{new_row};
 ghost use Rattle.dep_changes.specs.Clauses.{CarriesOut, FailsCarrying, FailsCarryingMaps, PutsFile, PutsIn};
 ghost use Rattle.dep_changes.specs.Told.{whole_view};
 
-use crate::change::{Change, NumberedFiles, touched};
+use crate::change::{Change, NumberedFiles, touched_object};
 use crate::objects::{files_changed, write_row};
 use dep_decisions::{NewFile, Source};
 use dep_files::{delete_file, delete_files, put_file};
@@ -210,7 +210,7 @@ pub(crate) fn set_files<T: Statements>(
         (SetFiles n numbered.now.files.now) }
 {
     let change = &numbered.change;
-    let row = touched(change.view)?;
+    let row = touched_object(change.view)?;
     delete_files(tx, change.alloc, row.object)?;
     write_row(tx, &files_changed(change.view, row))?;
     put_new_files(tx, numbered, row.object)
@@ -231,7 +231,7 @@ pub(crate) fn set_file<T: Statements>(
     let Source::Posted(digests) = new.source else {
         return Err(StoreFault::Store);
     };
-    let row = touched(change.view)?;
+    let row = touched_object(change.view)?;
     write_row(tx, &files_changed(change.view, row))?;
     delete_file(tx, file)?;
     let numbers = FileNumbers {

@@ -12,7 +12,7 @@ ghost use Rattle.dep_decisions.specs.declared.decision.Decision.TheVariants.{Com
 ghost use Rattle.dep_changes.specs.Clauses.{CarriesOut, FailsCarrying, FailsFromMaps, MakesOf};
 ghost use Rattle.dep_changes.specs.Told.{Rewrites};
 
-use crate::change::{Change, touched};
+use crate::change::{Change, touched_object};
 use dep_files::{delete_file, delete_files};
 use dep_objects::{delete_object, put_object};
 use dep_operations::View;
@@ -52,7 +52,7 @@ pub(crate) fn complete<T: Statements>(tx: &mut T, change: &Change<'_>) -> Result
         (Complete n) }
     ensures cause { (n : ℕ) → FailsCarrying T.state tx.old tx.new result change.now (Complete n) }
 {
-    let row = touched(change.view)?;
+    let row = touched_object(change.view)?;
     write_row(tx, &completed(change.view, row))
 }
 
@@ -83,7 +83,7 @@ pub(crate) fn set_texts<T: Statements>(
     ensures cause { (n : ℕ) → FailsCarrying T.state tx.old tx.new result change.now
         (SetMetadata n metadata.now) }
 {
-    let row = touched(change.view)?;
+    let row = touched_object(change.view)?;
     write_row(tx, &texts_changed(change.view, row))?;
     dep_objects::set_metadata(tx, change.alloc, row.object, metadata)
 }
@@ -115,7 +115,7 @@ pub(crate) fn drop_file<T: Statements>(
     ensures cause { (n : ℕ) → FailsCarrying T.state tx.old tx.new result change.now
         (DropFile n file) }
 {
-    let row = touched(change.view)?;
+    let row = touched_object(change.view)?;
     write_row(tx, &files_changed(change.view, row))?;
     delete_file(tx, file)
 }

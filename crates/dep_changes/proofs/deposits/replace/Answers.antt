@@ -42,7 +42,7 @@ returns-clause-map g c n = record {
       let row = c.ingested_by-row.result in
       let ingested = o.ingested || c.args.ingests in
       let it : Object = ingested_by c.args.ingests o in
-      let row_of = ingested_row n o c.args.ingests c.in_ok-touched.field-0 row (row_is s n o view.object object.0 c.in_ok-touched.field-0 c.in_ok-touched.ensures.told) c.ingested_by-row.ensures in
+      let row_of = ingested_row n o c.args.ingests c.in_ok-touched_object.field-0 row (row_is s n o view.object object.0 c.in_ok-touched_object.field-0 c.in_ok-touched_object.ensures.told) c.ingested_by-row.ensures in
       let number = its_number n it row row_of in
       let left : Object = record o { files = finmap.empty } in
       let gone = at_number (tables_of one) s row.object n left number (c.in_ok-delete_files.ensures.does.done clean_one inside ours s are o (there_at s.objects row.object n o number object.1)) in
@@ -77,15 +77,15 @@ returns-in_err-write_row-clause-map g c n = record {
   keeps = changes_err c.from_residual-in_err-write_row.ensures.0 (stays_then (stays_then c.in_ok-delete_files.ensures.does.keeps.stays c.in_ok-clear_metadata.ensures.map.keeps.stays) c.write_row.ensures.map.keeps.stays);
 }
 
-pub returns-in_err-touched-clause-cause : goal.returns-in_err-touched-clause-cause
-returns-in_err-touched-clause-cause g c n clean inside ours s are storable = never_absent c.args.numbered.now.change.view.now storable.1 c.in_err-touched.ensures.absent
+pub returns-in_err-touched_object-clause-cause : goal.returns-in_err-touched_object-clause-cause
+returns-in_err-touched_object-clause-cause g c n clean inside ours s are storable = never_absent c.args.numbered.now.change.view.now storable.1 c.in_err-touched_object.ensures.absent
 
 pub returns-in_err-delete_files-clause-cause : goal.returns-in_err-delete_files-clause-cause
 returns-in_err-delete_files-clause-cause g c n clean inside ours s are storable =
     let view = c.args.numbered.now.change.view.now in
     let told = storable.1 in
     let held = HasCopies c.args.numbered.now.deposit.now in
-    let row = ingested_fits c.in_ok-touched.field-0 c.ingested_by-row.result c.args.ingests (found_fits view told c.in_ok-touched.field-0 c.in_ok-touched.ensures.told) c.ingested_by-row.ensures in
+    let row = ingested_fits c.in_ok-touched_object.field-0 c.ingested_by-row.result c.args.ingests (found_fits view told c.in_ok-touched_object.field-0 c.in_ok-touched_object.ensures.told) c.ingested_by-row.ensures in
     if_err_is _ c.from_residual-in_err-delete_files.result c.in_err-delete_files.field-0.0 c.from_residual-in_err-delete_files.ensures.1
     (fails_among g.T.Statements.state c.args.tx.now c.delete_files.new.tx FailsByStatement (FailsHolding held) (by_statement held) _ (c.in_err-delete_files.ensures.cause clean inside ours s are storable.0 row.object))
 
@@ -95,7 +95,7 @@ returns-in_err-clear_metadata-clause-cause g c n clean inside ours s are storabl
     let told = storable.1 in
     let held = HasCopies c.args.numbered.now.deposit.now in
     let before = clean_before c.clear_metadata.ensures.map.keeps.stays clean in
-    let row = ingested_fits c.in_ok-touched.field-0 c.ingested_by-row.result c.args.ingests (found_fits view told c.in_ok-touched.field-0 c.in_ok-touched.ensures.told) c.ingested_by-row.ensures in
+    let row = ingested_fits c.in_ok-touched_object.field-0 c.ingested_by-row.result c.args.ingests (found_fits view told c.in_ok-touched_object.field-0 c.in_ok-touched_object.ensures.told) c.ingested_by-row.ensures in
     if_err_is _ c.from_residual-in_err-clear_metadata.result c.in_err-clear_metadata.field-0.0 c.from_residual-in_err-clear_metadata.ensures.1
     (fails_later g.T.Statements.state c.args.tx.now c.delete_files.new.tx c.clear_metadata.new.tx c.in_ok-delete_files.ensures.does.keeps.stays.survives FailsByStatement (FailsHolding held) (by_statement held) _
     (c.in_err-clear_metadata.ensures.cause row.object clean (c.in_ok-delete_files.ensures.does.keeps.stays.inside before inside)))
@@ -107,7 +107,7 @@ returns-in_err-write_row-clause-cause g c n clean inside ours s are storable =
     let held = HasCopies c.args.numbered.now.deposit.now in
     let two = stays_then c.in_ok-delete_files.ensures.does.keeps.stays c.in_ok-clear_metadata.ensures.map.keeps.stays in
     let before = clean_before c.write_row.ensures.map.keeps.stays clean in
-    let row = ingested_fits c.in_ok-touched.field-0 c.ingested_by-row.result c.args.ingests (found_fits view told c.in_ok-touched.field-0 c.in_ok-touched.ensures.told) c.ingested_by-row.ensures in
+    let row = ingested_fits c.in_ok-touched_object.field-0 c.ingested_by-row.result c.args.ingests (found_fits view told c.in_ok-touched_object.field-0 c.in_ok-touched_object.ensures.told) c.ingested_by-row.ensures in
     if_err_is _ c.from_residual-in_err-write_row.result c.in_err-write_row.field-0.0 c.from_residual-in_err-write_row.ensures.1
     (fails_then g.T.Statements.state c.args.tx.now c.clear_metadata.new.tx c.write_row.new.tx two.survives (FailsHolding held) _
     (statement (object_written _ (c.in_err-write_row.ensures.cause (blank_fits view told.numbers c.blank_row.result _ _ row.object c.blank_row.ensures) clean (two.inside before inside)))))
@@ -119,12 +119,12 @@ returns-clause-cause g c n clean inside ours s are storable =
     let held = HasCopies c.args.numbered.now.deposit.now in
     let three = stays_then (stays_then c.in_ok-delete_files.ensures.does.keeps.stays c.in_ok-clear_metadata.ensures.map.keeps.stays) c.in_ok-write_row.ensures.map.keeps.stays in
     let before = clean_before c.fill.ensures.map.keeps.stays clean in
-    let row = ingested_fits c.in_ok-touched.field-0 c.ingested_by-row.result c.args.ingests (found_fits view told c.in_ok-touched.field-0 c.in_ok-touched.ensures.told) c.ingested_by-row.ensures in
+    let row = ingested_fits c.in_ok-touched_object.field-0 c.ingested_by-row.result c.args.ingests (found_fits view told c.in_ok-touched_object.field-0 c.in_ok-touched_object.ensures.told) c.ingested_by-row.ensures in
     caused_later g.T.Statements.state (FailsHolding held) (FailsHolding held) (λ at now fault it. it) c.fill.result c.args.tx.now c.write_row.new.tx c.fill.new.tx three.survives
     (c.fill.ensures.cause (told.numbers, row.object, storable.2) clean (three.inside before inside))
 
-pub returns-in_err-touched-clause-map : goal.returns-in_err-touched-clause-map
-returns-in_err-touched-clause-map g c n = record {
+pub returns-in_err-touched_object-clause-map : goal.returns-in_err-touched_object-clause-map
+returns-in_err-touched_object-clause-map g c n = record {
   done = λ clean inside ours s are told. IfOk-from_err c.from_residual.result _ c.from_residual.ensures.0;
   keeps = changes_put g.T.Statements.lenders g.T.Statements.state c.args.tx.now _;
 }

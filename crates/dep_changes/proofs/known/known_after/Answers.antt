@@ -52,18 +52,18 @@ returns-in_ok-replaced-in-Replace-clause-told c s it =
     let has = subst (TellsFor view s content) c.in-Replace.is (told s view content c.args.decision.now it) in
     let numbers = numbers_told s view content c.args.decision.now it in
     let o = has.0 in
-    let found = c.in_ok-touched-in-Replace.field-0 in
-    let was = ingested_row n o c.in-Replace.ingests found c.ingested_by-was.result (row_is s n o view.object has.1.0 found c.in_ok-touched-in-Replace.ensures.told) c.ingested_by-was.ensures in
+    let found = c.in_ok-touched_object-in-Replace.field-0 in
+    let was = ingested_row n o c.in-Replace.ingests found c.ingested_by-was.result (row_is s n o view.object has.1.0 found c.in_ok-touched_object-in-Replace.ensures.told) c.ingested_by-was.ensures in
     let row = blank_again s view.clock view.next numbers.0 numbers.1 c.blank_row-row-in-Replace.result n (ingested_by c.in-Replace.ingests o) c.ingested_by-was.result was c.blank_row-row-in-Replace.ensures in
     let are = c.in_ok-replaced-in-Replace.ensures.told s n (o.ingested || c.in-Replace.ingests) (numbers, has.2) row in
     subst (λ (d : Decision). Some (shown.Object c.in_ok-replaced-in-Replace.replaced) ≡ known_shown s content d) (sym c.in-Replace.is)
     (replaced_known s content n has.0 has.1.1 c.in-Replace.deposit c.in-Replace.ingests c.in_ok-replaced-in-Replace.replaced are)
 
-pub returns-in_err-touched-in-Replace-clause-cause : goal.returns-in_err-touched-in-Replace-clause-cause
-returns-in_err-touched-in-Replace-clause-cause c s it =
+pub returns-in_err-touched_object-in-Replace-clause-cause : goal.returns-in_err-touched_object-in-Replace-clause-cause
+returns-in_err-touched_object-in-Replace-clause-cause c s it =
     let view = c.args.view.now in
     let has = subst (TellsFor view s c.args.content.now) c.in-Replace.is (told s view c.args.content.now c.args.decision.now it) in
-    never_told s view c.in-Replace.object has.0 has.1 c.in_err-touched-in-Replace.ensures.absent
+    never_told s view c.in-Replace.object has.0 has.1 c.in_err-touched_object-in-Replace.ensures.absent
 
 pub returns-in_err-replaced-in-Replace-clause-cause : goal.returns-in_err-replaced-in-Replace-clause-cause
 returns-in_err-replaced-in-Replace-clause-cause c s it =
