@@ -10,7 +10,7 @@ use Rattle.dep_requests.proofs.Stepping.{delivered, refused_then, accepted_then}
 use Rattle.dep_store.proofs.showing.reply_service.Goals as goal
 
 pub returns-in-Refuse : goal.returns-in-Refuse
-returns-in-Refuse c reads fit s sound recalls rules =
+returns-in-Refuse c fit s sound recalls rules =
     let op = c.args.operation.now in
     let config = c.args.service.now in
     let way = delivered s op c.args.remembered.now.clock c.delivery_at-delivery.result sound recalls.clock
@@ -18,12 +18,12 @@ returns-in-Refuse c reads fit s sound recalls rules =
     refused_then config s op (λ (after : State). after ≡ s) _ c.delivery_at-delivery.result c.refuse.result (subst (λ (r : Ruling). IsRuling config s op r) c.in-Refuse.is rules) way refl c.refuse.ensures
 
 pub returns-in-Do : goal.returns-in-Do
-returns-in-Do c reads fit s sound recalls rules =
+returns-in-Do c fit s sound recalls rules =
     let op = c.args.operation.now in
     let config = c.args.service.now in
     let way = delivered s op c.args.remembered.now.clock c.delivery_at-delivery.result sound recalls.clock
     c.delivery_at-delivery.ensures.clock c.delivery_at-delivery.ensures.bare c.delivery_at-delivery.ensures.closes in
     let told = subst (λ (r : Ruling). IsRuling config s op r) c.in-Do.is rules in
-    let same = reads_keep config s op reads.method in
-    let nothing = subst (λ (after : State). shown.Nothing ≡ shown_at after (subject_of after.next op.target.resource op.target.method)) (sym same) (shows_nothing s op reads) in
+    let same = reads_keep config s op c.requires.method in
+    let nothing = subst (λ (after : State). shown.Nothing ≡ shown_at after (subject_of after.next op.target.resource op.target.method)) (sym same) (shows_nothing s op c.requires) in
     accepted_then config s op (λ (after : State). after ≡ s) c.delivery_at-delivery.result shown.Nothing c.accept.result fit sound told.0 way (same, nothing) c.accept.ensures

@@ -9,4 +9,4 @@ returns c fit s sound recalls =
     let config = c.config.result.now in
     let seen : c.view_service-view.result ≡ true_view config s op = c.view_service-view.ensures ∙ service_seen config s op c.args.remembered.now c.requires recalls in
     let ruled = rw c.config.ensures at (c.in_ok-ruling.ensures.ruling s seen) in
-    c.reply_service-performed.ensures c.requires fit s sound recalls ruled
+    c.reply_service-performed.ensures fit s sound recalls ruled
