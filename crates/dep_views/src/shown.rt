@@ -76,7 +76,7 @@ fn show_upload<T: Statements>(tx: &mut T, alloc: Global, upload: u64) -> Result<
     }
 }
 
-// The same where no row is known.
+// What a reply shows, where no row is known.
 fn read_shown<T: Statements>(
     tx: &mut T,
     alloc: Global,
@@ -115,8 +115,8 @@ fn show_texts<T: Statements>(tx: &mut T, alloc: Global, row: ObjectRow) -> Resul
     })
 }
 
-/// What a reply shows, read of the archive; nothing where nothing is there. The row of the object is not read where it is the
-/// one that is known, which the archive has. No content is read. A number of 2^63 or more is a fault of the store.
+/// What a reply shows, read of the archive; nothing where nothing is there. Where the known row, which the archive has, is the
+/// object's, it is not read again. No content is read. A number of 2^63 or more is a fault of the store.
 pub fn load_shown<T: Statements>(
     tx: &mut T,
     alloc: Global,
