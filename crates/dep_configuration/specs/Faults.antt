@@ -46,6 +46,11 @@ IsReadable field j =
 abbrev pub AreReadable : Json → Type 0
 AreReadable j = (field : Field) → IsReadable field j
 
+-- all fields are readable, and this one is one of which that is wanted
+pub record Gives (field : Field) (wants : Wanted) (j : Json) : Type 0 where
+  pub readable : AreReadable j
+  pub wanted : wanted_of field ≡ wants
+
 -- a fault is this field's: it isn't given and has to be, or is given as something else
 abbrev pub IsFaultOf : Field → ConfigurationFault → Json → Type 0
 IsFaultOf field Malformed j = ⊥

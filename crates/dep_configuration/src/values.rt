@@ -1,9 +1,10 @@
 //! The values of the fields that a configuration gives, once each of them can be read.
 ghost use Rattle.std.specs.Prelude.{◌≡◌, Some, option_map};
 ghost use Rattle.json.specs.Value.{value_view};
-ghost use Rattle.dep_configuration.specs.Fields.{bounds_of, wanted_of};
+ghost use Rattle.dep_configuration.specs.Fields.{bounds_of};
 ghost use Rattle.dep_configuration.specs.declared.field.Wanted.TheVariants.{AnyText, FilledText, Flag, WholeNumber};
-ghost use Rattle.dep_configuration.specs.Faults.{AreReadable};
+ghost use Rattle.dep_configuration.specs.declared.field.Wanted.TheVariants as Kind;
+ghost use Rattle.dep_configuration.specs.Faults.{Gives};
 ghost use Rattle.dep_configuration.specs.Readings.{filled_text_of, flag_of, given_flag, given_number, given_text, number_of, number_within, optional_number_of, text_of, IsAddressOf};
 
 use crate::field::{Bounds, Field};
@@ -13,8 +14,7 @@ use std::net::{IpAddr, Ipv4Addr};
 
 /// The text of a field, or the default.
 pub(crate) fn text<'a>(value: &Value<'a>, field: Field, default: &'static str) -> &'a str
-    requires readable { AreReadable (value_view value.now) }
-    requires wanted { wanted_of field ≡ AnyText }
+    requires { Gives field AnyText (value_view value.now) }
     ensures { text_of field default.now (value_view value.now) ≡ Some result.now }
 {
     given_text(value, field).unwrap_or(default)
@@ -22,8 +22,7 @@ pub(crate) fn text<'a>(value: &Value<'a>, field: Field, default: &'static str) -
 
 /// The text of a field that has to be given, and not to be empty.
 pub(crate) fn filled_text<'a>(value: &Value<'a>, field: Field) -> &'a str
-    requires readable { AreReadable (value_view value.now) }
-    requires wanted { wanted_of field ≡ FilledText }
+    requires { Gives field FilledText (value_view value.now) }
     ensures { filled_text_of field (value_view value.now) ≡ Some result.now }
 {
     given_text(value, field).unwrap()
@@ -31,7 +30,7 @@ pub(crate) fn filled_text<'a>(value: &Value<'a>, field: Field) -> &'a str
 
 /// The text of the base, which has to be given.
 pub(crate) fn base<'a>(value: &Value<'a>) -> &'a str
-    requires { AreReadable (value_view value.now) }
+    requires { Gives Field.Base Kind.Base (value_view value.now) }
     ensures { given_text Field.Base (value_view value.now) ≡ Some result.now }
 {
     given_text(value, Field::Base).unwrap()
@@ -39,8 +38,7 @@ pub(crate) fn base<'a>(value: &Value<'a>) -> &'a str
 
 /// The truth value of a field, which is false where it isn't given.
 pub(crate) fn flag(value: &Value<'_>, field: Field) -> bool
-    requires readable { AreReadable (value_view value.now) }
-    requires wanted { wanted_of field ≡ Flag }
+    requires { Gives field Flag (value_view value.now) }
     ensures { flag_of field (value_view value.now) ≡ Some result }
 {
     given_flag(value, field).unwrap_or(false)
@@ -48,7 +46,7 @@ pub(crate) fn flag(value: &Value<'_>, field: Field) -> bool
 
 /// The IP address to listen at: 127.0.0.1 where none is given.
 pub(crate) fn address(value: &Value<'_>) -> IpAddr
-    requires { AreReadable (value_view value.now) }
+    requires { Gives Field.Address Kind.Address (value_view value.now) }
     ensures { IsAddressOf (value_view value.now) result }
 {
     let Some(text) = given_text(value, Field::Address) else {
@@ -62,8 +60,7 @@ pub(crate) fn address(value: &Value<'_>) -> IpAddr
 
 /// The number of a field, or the default, which has to be within its bounds.
 pub(crate) fn number(value: &Value<'_>, field: Field, default: u64) -> u64
-    requires readable { AreReadable (value_view value.now) }
-    requires wanted { wanted_of field ≡ WholeNumber (bounds_of field) }
+    requires { Gives field (WholeNumber (bounds_of field)) (value_view value.now) }
     ensures { number_of field default (value_view value.now) ≡ Some result }
 {
     given_number(value, field).unwrap_or(default)
@@ -71,8 +68,7 @@ pub(crate) fn number(value: &Value<'_>, field: Field, default: u64) -> u64
 
 /// The number of a field, where it is given.
 pub(crate) fn optional_number(value: &Value<'_>, field: Field) -> Option<u64>
-    requires readable { AreReadable (value_view value.now) }
-    requires wanted { wanted_of field ≡ WholeNumber (bounds_of field) }
+    requires { Gives field (WholeNumber (bounds_of field)) (value_view value.now) }
     ensures { optional_number_of field (value_view value.now) ≡ Some result }
 {
     given_number(value, field)

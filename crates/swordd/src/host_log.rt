@@ -1,5 +1,6 @@
 //! The log of a host: lines of JSON on standard error.
 
+use crate::held_lines::HeldLines;
 use crate::hosting::Place;
 use crate::start::write_start;
 use dep_configuration::{
@@ -10,8 +11,6 @@ use dep_host::{Bytes, Closing, HostLog, Refusal};
 use dep_hub::{AccessLog, ConnId, Next};
 use dep_program::{microseconds_since, moment_of};
 use dep_sockets::DoorLog;
-use std::alloc::AllocError;
-use std::io::Write;
 use std::net::IpAddr;
 use std::time::{Instant, SystemTime};
 
@@ -23,6 +22,7 @@ const MOST_METHOD: usize = 32;
 pub struct StandardErrorLog<'a> {
     rt: &'a HostRuntime,
     place: &'a Place,
+    lines: HeldLines<'a>,
     /// The time that opening the database took.
     open_microseconds: u64,
     /// The item that is answered.
@@ -49,6 +49,7 @@ impl<'a> StandardErrorLog<'a> {
         StandardErrorLog {
             rt,
             place,
+            lines: HeldLines::new(rt),
             open_microseconds: microseconds_since(rt, place.begun),
             item: Item {
                 connection: 0,
@@ -67,33 +68,31 @@ impl<'a> StandardErrorLog<'a> {
         moment_of(SystemTime::now(self.rt)).secs()
     }
 
-    fn write(&self, line: Result<Vec<u8>, AllocError>) {
-        if let Ok(line) = line {
-            let _ = self.rt.stderr().write_all(line.as_slice());
-        }
-    }
-
-    fn write_closing(&self, connection: Option<u64>, address: IpAddr, reason: Reason) {
+    fn write_closing(&mut self, connection: Option<u64>, address: IpAddr, reason: Reason) {
         let Ok(peer) = format!(in self.rt.alloc(); "{address}") else {
             return;
         };
+        let moment = self.moment();
         let closed = Closed {
-            moment: self.moment(),
+            moment,
             connection,
             peer: peer.as_str(),
             reason,
         };
-        self.write(closing_line(self.rt.alloc(), &closed));
+        if let Ok(line) = closing_line(self.rt.alloc(), &closed) {
+            self.lines.push(moment, line.as_slice());
+        }
     }
 
     // The line of an item that was answered.
-    fn write_exchange(&self, address: IpAddr, status: u16, bytes: Bytes) {
-        let item = &self.item;
+    fn write_exchange(&mut self, address: IpAddr, status: u16, bytes: Bytes) {
         let Ok(peer) = format!(in self.rt.alloc(); "{address}") else {
             return;
         };
+        let moment = self.moment();
+        let item = &self.item;
         let exchange = Exchange {
-            moment: self.moment(),
+            moment,
             connection: item.connection,
             peer: peer.as_str(),
             method: item.method.as_str(),
@@ -104,7 +103,9 @@ impl<'a> StandardErrorLog<'a> {
             bytes_out: bytes.sent,
             microseconds: microseconds_since(self.rt, item.begun),
         };
-        self.write(exchange_line(self.rt.alloc(), &exchange));
+        if let Ok(line) = exchange_line(self.rt.alloc(), &exchange) {
+            self.lines.push(moment, line.as_slice());
+        }
     }
 }
 
@@ -180,6 +181,10 @@ impl HostLog for StandardErrorLog<'_> {
         if let Some(reason) = reason_of_closing(closing) {
             self.write_closing(Some(connection.number()), address, reason);
         }
+    }
+
+    fn rest(&mut self) {
+        self.lines.write();
     }
 }
 

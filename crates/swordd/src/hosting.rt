@@ -7,6 +7,7 @@ ghost use Rattle.swordd.specs.Hosted.{HostsDatabase, host_limits};
 use crate::host_log::StandardErrorLog;
 use dep_archive::open_hub;
 use dep_configuration::{Configuration, Limits};
+use dep_host::HostLog;
 use dep_outbox::{Sink, Source, Spool};
 use dep_program::Outcome;
 use dep_sockets::{Door, SocketDoor, Spools, serve_hub};
@@ -98,6 +99,7 @@ fn host_database<S: Alter, R: Source + Drop, K: Sink + Drop, P: Spool + Drop, E:
                 door,
                 &mut log,
             );
+            log.rest();
             (outcome, archive.into_store().close())
         }
         Err((fault, connection)) => {

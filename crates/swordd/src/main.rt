@@ -6,6 +6,7 @@ mod called;
 mod commands;
 mod examination;
 mod folders;
+mod held_lines;
 mod host;
 mod host_log;
 mod hosting;

@@ -7,7 +7,7 @@ use Rattle.dep_configuration.proofs.values.base.Goals as goal
 
 pub unwrap-requires : goal.unwrap-requires
 unfolding wanted_of
-unwrap-requires c = there-seen c.given_text.result _ c.given_text.ensures (base-text Base (value_view c.args.value.now) c.requires refl)
+unwrap-requires c = there-seen c.given_text.result _ c.given_text.ensures (base-text Base (value_view c.args.value.now) c.requires.readable refl)
 
 pub returns : goal.returns
 returns c = sym c.given_text.ensures ∙ ap (option_map (λ x. x.now)) c.unwrap.ensures
