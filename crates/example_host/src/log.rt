@@ -101,4 +101,7 @@ impl HostLog for ScriptLog {
             roll.close(connection, closing);
         }
     }
+
+    // Nothing is held.
+    fn rest(&mut self) {}
 }
