@@ -1,66 +1,70 @@
 //! At which moments rounds are played.
-ghost use Rattle.std.specs.Prelude.{◌≡◌, ◌≢◌, ◌≤◌, ◌<◌, ◌+◌, nat_lt, true, false};
+ghost use Rattle.std.specs.Prelude.{◌≡◌, ◌≤◌, ◌<◌, ◌+◌};
 
 use dep_moment::Moment;
 
 /// A round that takes so many milliseconds holds up who comes meanwhile.
 const LONG: u128 = 20;
 
-/// In so many rounds at its moment those are answered: one reads their requests, the next answers them.
+/// In so many rounds behind it those are answered: one reads their requests, the next answers them.
+const SHARED: u32 = 2;
+
+/// A long round among so many first ones at a moment holds it, and none behind them.
 const MOST_ROUNDS: u32 = 3;
 
-/// The moment of a round, which the next two share where it took long. What came meanwhile came at that moment, and at a
-/// later one it would wait once more: the clock would move first, by a commit that copies a long log into the file.
+/// The moment of a round, which the next two share where it took long: at most five rounds in all. What came meanwhile
+/// came at that moment, and at a later one it would wait once more: the clock would move first, by a commit that copies
+/// a long log into the file.
 #[derive(Clone, Copy, Debug, PartialEq, Eq)]
 pub(crate) struct RoundMoment {
     moment: Moment,
     /// How many rounds were played at it.
     rounds: u32,
-    /// Whether the first of these took long.
-    is_late: bool,
+    /// How many rounds may be played at it.
+    last: u32,
 }
 
 impl RoundMoment {
     /// Of no round yet.
     pub fn new() -> RoundMoment
         ensures unplayed { result.rounds ≡ 0 }
-        ensures clock { result.is_late ≡ false }
+        ensures unshared { result.last ≡ 0 }
     {
         RoundMoment {
             moment: Moment::new(0),
             rounds: 0,
-            is_late: false,
+            last: 0,
         }
     }
 
-    /// Notes how many milliseconds the last round took. Further ones at the same moment are ignored.
+    /// Notes how many milliseconds the last round took.
     pub fn note(&mut self, took: u128)
-        ensures first { self.old.rounds ≡ 1
-            → self.new ≡ record self.old { is_late = nat_lt 19 took } }
-        ensures further { self.old.rounds ≢ 1 → self.new ≡ self.old }
+        ensures long { 20 ≤ took → 0 < self.old.rounds → self.old.rounds ≤ 3
+            → self.new ≡ record self.old { last = self.old.rounds + 2 } }
+        ensures short { took < 20 → self.new ≡ self.old }
+        ensures unplayed { self.old.rounds ≡ 0 → self.new ≡ self.old }
+        ensures later { 3 < self.old.rounds → self.new ≡ self.old }
     {
-        if self.rounds == 1 {
-            self.is_late = took >= LONG;
+        if took >= LONG && 0 < self.rounds && self.rounds <= MOST_ROUNDS {
+            self.last = self.rounds + SHARED;
         }
     }
 
     /// The moment of the next round, where the clock reads this one now.
     pub fn next(&mut self, now: Moment) -> Moment
-        ensures told { result ≡ self.new.moment }
-        ensures shared { self.old.is_late ≡ true → self.old.rounds < 3
+        ensures at { result ≡ self.new.moment }
+        ensures shared { self.old.rounds < self.old.last
             → self.new ≡ record self.old { rounds = self.old.rounds + 1 } }
-        ensures read { self.old.is_late ≡ false
-            → self.new ≡ record { moment = now; rounds = 1; is_late = false } }
-        ensures goes_on { 3 ≤ self.old.rounds
-            → self.new ≡ record { moment = now; rounds = 1; is_late = false } }
+        ensures read { self.old.last ≤ self.old.rounds
+            → self.new ≡ record { moment = now; rounds = 1; last = 1 } }
     {
-        if self.is_late && self.rounds < MOST_ROUNDS {
+        if self.rounds < self.last {
             self.rounds += 1;
         } else {
             *self = RoundMoment {
                 moment: now,
                 rounds: 1,
-                is_late: false,
+                last: 1,
             };
         }
         self.moment
