@@ -110,11 +110,13 @@ impl<S: Alter> Archive for HashingStore<S> {
             let _copied = self.store.copy_log();
             return self.is_due;
         }
-        if !self.is_due {
-            return self.log_copy.is_left();
+        // Who waited through the request is answered first.
+        let waits = self.log_copy.is_left();
+        if waits | !self.is_due {
+            return waits;
         }
         self.is_due = matches!(self.store.hash_ahead(&mut self.running), Ok(true));
-        self.is_due | self.log_copy.is_left()
+        self.is_due
     }
 
     ghost honest_if_open = { λ archive is_open.

@@ -19,9 +19,9 @@ returns-then-count-clause-rests g c =
     (tries_hashed old new runs runs Always Always (λ s answer. Unit {0}) (λ s. s) result (λ s its are. tt) (λ s are. are) (λ s are. are) c.copy_log-copied.ensures.does)
     (shut_hashed old new runs runs result c.copy_log-copied.ensures.shut)
 
--- nothing was left to be hashed
-pub returns-then-not-self-clause-rests : goal.returns-then-not-self-clause-rests
-returns-then-not-self-clause-rests g c =
+-- nothing is hashed in this call
+pub returns-then-waits-self-clause-rests : goal.returns-then-waits-self-clause-rests
+returns-then-waits-self-clause-rests g c =
     let runs = c.args.self.now.running in
     let store = c.args.self.now.store in
     keeps_itself (shown_by (state g.S.Store store) runs)
