@@ -12,7 +12,7 @@ const LONG_CONTENT: usize = 4_194_304;
 
 /// So many calls behind such a request are left out: who waited through it is answered meanwhile, in the rounds that
 /// share its moment.
-const CALLS_LEFT_OUT: u32 = 2;
+const CALLS_LEFT_OUT: u32 = 3;
 
 /// When the log is to be copied, counted in calls that work ahead.
 #[derive(Clone, Copy, Debug, PartialEq, Eq)]
@@ -37,7 +37,7 @@ impl LogCopy {
 
     /// Notes a request that was answered.
     pub fn note(&mut self, operation: &Operation<'_>)
-        ensures { self.new ≡ (if writes_much operation.now then DueAfter 2 else self.old) }
+        ensures { self.new ≡ (if writes_much operation.now then DueAfter 3 else self.old) }
     {
         if writes_much(operation) {
             *self = LogCopy::DueAfter(CALLS_LEFT_OUT);

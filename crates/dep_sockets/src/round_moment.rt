@@ -6,13 +6,14 @@ use dep_moment::Moment;
 /// A round that takes so many milliseconds holds up who comes meanwhile.
 const LONG: u128 = 20;
 
-/// In so many rounds behind it those are answered: one reads their requests, the next answers them.
-const SHARED: u32 = 2;
+/// In so many rounds behind it those are answered: one ends the last exchange of a client, or lets a new one in, the
+/// next reads its request, and the third answers it.
+const SHARED: u32 = 3;
 
 /// A long round among so many first ones at a moment holds it, and none behind them.
-const MOST_ROUNDS: u32 = 3;
+const MOST_ROUNDS: u32 = 4;
 
-/// The moment of a round, which the next two share where it took long: at most five rounds in all. What came meanwhile
+/// The moment of a round, which the next three share where it took long: at most seven rounds in all. What came meanwhile
 /// came at that moment, and at a later one it would wait once more: the clock would move first, by a commit that copies
 /// a long log into the file.
 #[derive(Clone, Copy, Debug, PartialEq, Eq)]
@@ -39,11 +40,11 @@ impl RoundMoment {
 
     /// Notes how many milliseconds the last round took.
     pub fn note(&mut self, took: u128)
-        ensures long { 20 ≤ took → 0 < self.old.rounds → self.old.rounds ≤ 3
-            → self.new ≡ record self.old { last = self.old.rounds + 2 } }
+        ensures long { 20 ≤ took → 0 < self.old.rounds → self.old.rounds ≤ 4
+            → self.new ≡ record self.old { last = self.old.rounds + 3 } }
         ensures short { took < 20 → self.new ≡ self.old }
         ensures unplayed { self.old.rounds ≡ 0 → self.new ≡ self.old }
-        ensures later { 3 < self.old.rounds → self.new ≡ self.old }
+        ensures later { 4 < self.old.rounds → self.new ≡ self.old }
     {
         if took >= LONG && 0 < self.rounds && self.rounds <= MOST_ROUNDS {
             self.last = self.rounds + SHARED;
