@@ -106,11 +106,7 @@ fn filled(
 
 // Opens the database in the files and does the task: whether it was done stands beside the files. Over any disk, since
 // what opens or closes a database is dear to prove at the one that is played on.
-fn used<D: Disk + Drop>(
-    alloc: Global,
-    files: Files<D>,
-    task: Task<'_, '_>,
-) -> (Files<D>, bool) {
+fn used<D: Disk + Drop>(alloc: Global, files: Files<D>, task: Task<'_, '_>) -> (Files<D>, bool) {
     if !files.may_be_used() {
         return (files, true);
     }
