@@ -104,13 +104,9 @@ fn filled(
     }
 }
 
-// Opens the database in the files and does the task: whether it was done stands beside the files. One function alone
-// opens such a database, since each one that does costs the proof of this program a minute.
-fn used(
-    alloc: Global,
-    files: Files<Fuse<Memory>>,
-    task: Task<'_, '_>,
-) -> (Files<Fuse<Memory>>, bool) {
+// Opens the database in the files and does the task: whether it was done stands beside the files. Over any disk, since
+// what opens or closes a database is dear to prove at the one that is played on.
+fn used<D: Disk + Drop>(alloc: Global, files: Files<D>, task: Task<'_, '_>) -> (Files<D>, bool) {
     if !files.may_be_used() {
         return (files, true);
     }
@@ -124,10 +120,7 @@ fn used(
     }
 }
 
-fn closed(
-    connection: Connection<FileStore<Fuse<Memory>>>,
-    copies_log: bool,
-) -> Files<Fuse<Memory>> {
+fn closed<D: Disk + Drop>(connection: Connection<FileStore<D>>, copies_log: bool) -> Files<D> {
     if !copies_log {
         return connection.into_store().close();
     }

@@ -1,9 +1,10 @@
 //! One connection over a socket of 127.0.0.1, with its client in the same process.
 
 use crate::archive::MemoryArchive;
-use dep_hub::{Hub, HubFault};
+use dep_hub::Hub;
 use dep_moment::Moment;
 use dep_program::{Outcome, address, serve_on};
+use example_faults::{hub_over, trouble_of};
 use example_player::{ExampleArchive, Verdict};
 use example_text::{Cut, Exchange, Settings, Trouble, Words};
 use std::alloc::Global;
@@ -57,14 +58,11 @@ fn exchanged(rt: &HostRuntime, words: &Words) -> Result<(), Trouble> {
 // A hub over a new archive, by the configuration of the examples.
 fn new_hub(alloc: Global) -> Result<Hub<MemoryArchive>, Trouble> {
     let settings = Settings::new(alloc)?;
-    match Hub::new(alloc, settings.config(alloc)?, MemoryArchive::made(alloc)?) {
+    match hub_over(alloc, &settings, MemoryArchive::made(alloc)?) {
         Ok(hub) => Ok(hub),
         Err((fault, store)) => {
             drop(store);
-            Err(match fault {
-                HubFault::Memory => Trouble::Memory,
-                HubFault::Config => Trouble::Line("the configuration is refused"),
-            })
+            Err(trouble_of(fault))
         }
     }
 }
