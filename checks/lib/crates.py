@@ -1,7 +1,6 @@
 """The crates that crates.txt lists, the programs that were built of them, and copies of them in folders of their own, over
 the work that their checks kept."""
 
-import contextlib
 import os
 import shutil
 import sys
@@ -49,18 +48,26 @@ def libraries_below(name, lines):
 
 def built_program(name):
     """Returns the whole path of a program: the one that the gate or `rt run` built, or the one that the environment names under
-    the name in capitals (SWORDD, SWORDD_HOST, EXAMPLES). Where there is none, this program ends. A second name is a link, which
-    is made where it isn't there, and must not be followed before the program is started."""
+    the name in capitals (SWORDD, SWORDD_HOST, EXAMPLES). Where there is none, this program ends."""
     crate = SECOND_NAMES.get(name, name)
     built = ROOT / "crates" / crate / "out" / name
     if name != crate and built.with_name(crate).exists():
-        with contextlib.suppress(FileExistsError):
-            built.symlink_to(crate)
+        name_second(built.with_name(crate), built)
     path = Path(os.environ.get(name.upper()) or built).absolute()
     if not os.access(path, os.X_OK):
         print(f"{path} isn't there: build it by rt ci, or in crates/{crate} by rt run", file=sys.stderr)
         sys.exit(2)
     return path
+
+
+def name_second(program, name):
+    """Gives a program this second name, where another file has it or none. It is no symbolic link, since rt ci takes none below
+    crates/."""
+    if not name.is_symlink() and name.exists() and name.samefile(program):
+        return
+    part = name.with_name(f"{name.name}.{os.getpid()}")
+    os.link(program, part)
+    os.replace(part, name)
 
 
 def begin_room(room, names, lines):
