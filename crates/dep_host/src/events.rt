@@ -1,5 +1,6 @@
 //! What comes to a host from outside.
 ghost use Rattle.std.specs.Prelude.{◌≡◌, IsTrue, Bool, List, [], ◌∷◌, Option, None};
+ghost use Rattle.std.specs.Net.Addr.{MatchIp, IsCanonicalOf};
 ghost use Rattle.dep_host.specs.Coming.{IsFresh, origin, comes_from};
 ghost use Rattle.dep_host.specs.Notes.{TurnedAway, Grows};
 
@@ -24,6 +25,8 @@ impl<R, K, S> Client<R, K, S> {
     pub fn new(source: R, wire: Wire<K, S>, address: IpAddr) -> Client<R, K, S>
         ensures source { result.source ≡ source }
         ensures wire { result.wire ≡ wire }
+        ensures address { MatchIp address (λ _. result.address ≡ address)
+            (λ ip. IsCanonicalOf ip result.address) }
     {
         Client {
             source,
