@@ -36,7 +36,7 @@ example_lexemes =
     ∷ comma
     ∷ (token (Token.string (codes "spool_folder")))
     ∷ colon
-    ∷ (token (Token.string (codes "/var/spool/swordd")))
+    ∷ (token (Token.string (codes "/var/lib/swordd/spools")))
     ∷ comma
     ∷ (token (Token.string (codes "base")))
     ∷ colon
@@ -109,7 +109,7 @@ example_tokens =
     ∷ (Token.key (codes "database"))
     ∷ (Token.string (codes "/var/lib/swordd/deposits.db"))
     ∷ (Token.key (codes "spool_folder"))
-    ∷ (Token.string (codes "/var/spool/swordd"))
+    ∷ (Token.string (codes "/var/lib/swordd/spools"))
     ∷ (Token.key (codes "base"))
     ∷ (Token.string (codes "http://127.0.0.1:8080"))
     ∷ (Token.key (codes "title"))
@@ -146,7 +146,7 @@ unfoldable pub example_members : Members
 example_members = member (codes "address") (Json.string (codes "127.0.0.1")) (
     member (codes "port") (Json.number (codes "8080")) (
     member (codes "database") (Json.string (codes "/var/lib/swordd/deposits.db")) (
-    member (codes "spool_folder") (Json.string (codes "/var/spool/swordd")) (
+    member (codes "spool_folder") (Json.string (codes "/var/lib/swordd/spools")) (
     member (codes "base") (Json.string (codes "http://127.0.0.1:8080")) (
     member (codes "title") (Json.string (codes "swordd")) (
     member (codes "abstract") (Json.string (codes "Deposit service")) (

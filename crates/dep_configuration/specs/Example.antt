@@ -35,7 +35,7 @@ example_configuration = record {
   address = V4 record { octets = 127 ∷ 0 ∷ 0 ∷ 1 ∷ [] };
   port = 8080;
   database = codes "/var/lib/swordd/deposits.db";
-  spool_folder = codes "/var/spool/swordd";
+  spool_folder = codes "/var/lib/swordd/spools";
   config = example_config;
   limits = example_limits;
 }

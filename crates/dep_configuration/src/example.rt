@@ -9,7 +9,7 @@ pub const EXAMPLE: &str = "{
   \"address\": \"127.0.0.1\",
   \"port\": 8080,
   \"database\": \"/var/lib/swordd/deposits.db\",
-  \"spool_folder\": \"/var/spool/swordd\",
+  \"spool_folder\": \"/var/lib/swordd/spools\",
   \"base\": \"http://127.0.0.1:8080\",
   \"title\": \"swordd\",
   \"abstract\": \"Deposit service\",

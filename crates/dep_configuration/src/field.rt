@@ -108,7 +108,9 @@ impl fmt::Display for Wanted {
             Wanted::Flag => f.write_str("true or false"),
             Wanted::Address => f.write_str("an IP address in quotes"),
             Wanted::Base => {
-                f.write_str("an http URL in its normal form, without the slash at its end")
+                f.write_str(
+                    "an http URL in its normal form, without a path or the slash at its end",
+                )
             }
             Wanted::WholeNumber(bounds) => {
                 write!(f, "a whole number from {} to {}", bounds.least, bounds.most)
