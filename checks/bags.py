@@ -128,7 +128,10 @@ def export_wrongly(store, folder):
 def audit(store, folder):
     """Before and after the store is damaged, of which an export then gives a front."""
     expect("an audit", ends(0, "", "audit", store), b"files 5 damaged 0\n")
-    expect("an audit of no store", ends(0, "", "audit", folder / "new.db"), b"files 0 damaged 0\n")
+    absent = folder / "absent.db"
+    ends(2, STORE_FAULT, "audit", absent)
+    ends(2, STORE_FAULT, "export", absent, "1", folder / "none-of-it")
+    expect("whether a store was made", absent.exists(), False)
     ends(2, STORE_FAULT, "audit", folder / "other.db")
     database = sqlite3.connect(store)
     database.executescript(DAMAGE)

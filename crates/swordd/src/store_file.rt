@@ -10,6 +10,7 @@ use dep_program::{Job, Outcome, Progress};
 use dep_store::{Work, work_on_file};
 use dep_types::Through;
 use sqlite::{Alter, Connection};
+use std::fs;
 
 /// A job that is done here.
 #[derive(Drop)]
@@ -24,9 +25,12 @@ impl Work for JobHere<'_> {
     }
 }
 
-/// Opens the store in the file, which is made where it isn't there, and does the job. Then the log of the store is
-/// copied into its file.
+/// Opens the store in the file, and does the job. Then the log of the store is copied into its file. A service makes the
+/// file where it isn't there; for an export or an audit that is a fault of the store.
 pub fn work_on(rt: &HostRuntime, file: &str, job: Job<'_>) -> Outcome {
+    if !matches!(job, Job::Serve(_)) && fs::metadata(rt, file).is_err() {
+        return Outcome::StoreFault;
+    }
     match work_on_file(rt, file, JobHere { rt, job }) {
         Some(outcome) => outcome,
         None => Outcome::StoreFault,
