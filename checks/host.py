@@ -92,7 +92,7 @@ def examples():
 
 REQUIRED = ("database", "spool_folder", "base")
 WRONG_VALUES = {
-    "address": ("localhost", "", 1, None), "port": (0, 65_536, "8080", -1, 1.5), "database": (1, None, "", "/no/such/folder/a.db"),
+    "address": ("localhost", "", 1, None), "port": (0, 65_536, "8080", -1, 1.5), "database": (1, None, "", "/", "/no/such/folder/a.db"),
     "spool_folder": (False, "", "/no/such/folder"), "base": ("nonsense", "https://a", "http://a/", 7), "title": (1,),
     "abstract": ([],), "depositor": ({},), "on_behalf_of": ("true", 1), "require_if_match": (0,),
     "max_upload": (0, 16 * MIB + 1, "1"), "max_assembled": (0, 2**34 + 1), "max_segments": (0, 10_001),

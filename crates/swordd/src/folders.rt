@@ -26,13 +26,14 @@ impl fmt::Display for FolderFault {
 
 impl Error for FolderFault {}
 
-/// Returns `Ok` where the folder of the database and that of the spools are there, else the fault of the first that
-/// isn't.
+/// Returns `Ok` where the folder of the database and that of the spools are there, and the database is no folder, else the
+/// first fault.
 pub fn check_folders<R: Files>(
     files: &R,
     configuration: &Configuration,
 ) -> Result<(), FolderFault> {
-    if !is_folder(files, folder_of(configuration.database.as_str())) {
+    let database = configuration.database.as_str();
+    if is_folder(files, database) || !is_folder(files, folder_of(database)) {
         return Err(FolderFault::OfDatabase);
     }
     if !is_folder(files, configuration.spool_folder.as_str()) {
