@@ -7,7 +7,8 @@ use crate::log::ScriptLog;
 use crate::script::{Script, Wrong};
 use crate::setting::{ScriptHost, host_of};
 use dep_host::{ReadBuffer, serve};
-use example_player::{ExampleArchive, Verdict};
+use dep_hub::Archive;
+use example_player::{ExampleTables, Verdict};
 use example_text::{Trouble, Words};
 use std::alloc::Global;
 use std::io;
@@ -24,7 +25,7 @@ pub fn is_of_a_host(text: &str) -> bool
 }
 
 /// Plays the examples of a file, and prints what is not as it is written.
-pub fn play_host_file<A: ExampleArchive>(
+pub fn play_host_file<T: ExampleTables>(
     rt: &impl Print,
     alloc: Global,
     words: &Words,
@@ -37,7 +38,7 @@ pub fn play_host_file<A: ExampleArchive>(
     let mut right = 0usize;
     for (i, example) in text.split("\n# ").enumerate() {
         if i > 0 {
-            match player.plays::<A>(rt, line, example)? {
+            match player.plays::<T>(rt, line, example)? {
                 Verdict::AsWritten => right = right.saturating_add(1),
                 other => verdict = verdict.and(other),
             }
@@ -62,14 +63,14 @@ struct Player<'a> {
 
 impl Player<'_> {
     // Plays an example, whose title stands in this line, and prints what is not as it is written.
-    fn plays<A: ExampleArchive>(
+    fn plays<T: ExampleTables>(
         &self,
         rt: &impl Print,
         line: usize,
         example: &str,
     ) -> io::Result<Verdict> {
         let (title, lines) = example.split_once("\n").unwrap_or((example, ""));
-        let played = play::<A>(self.alloc, self.words, lines);
+        let played = play::<T>(self.alloc, self.words, lines);
         came_of(rt, self.name, line, title, played)
     }
 }
@@ -111,8 +112,8 @@ fn verdict_of(why: &Trouble) -> Verdict
 }
 
 // Plays the lines of an example.
-fn play<A: ExampleArchive>(alloc: Global, words: &Words, lines: &str) -> Result<(), Wrong> {
-    match host_of::<A>(alloc, lines) {
+fn play<T: ExampleTables>(alloc: Global, words: &Words, lines: &str) -> Result<(), Wrong> {
+    match host_of::<T>(alloc, lines) {
         Ok(mut host) => {
             let played = play_over(alloc, words, lines, &mut host);
             drop(host);
@@ -122,7 +123,7 @@ fn play<A: ExampleArchive>(alloc: Global, words: &Words, lines: &str) -> Result<
     }
 }
 
-fn play_over<A: ExampleArchive>(
+fn play_over<A: Archive + Drop>(
     alloc: Global,
     words: &Words,
     lines: &str,

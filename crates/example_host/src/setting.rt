@@ -3,9 +3,9 @@
 use crate::socket::Shared;
 use crate::spool::MemorySpool;
 use dep_host::{Host, Limits};
-use dep_hub::{Hub, HubFault};
+use dep_hub::{Archive, Hub, HubFault};
 use dep_types::Config;
-use example_player::ExampleArchive;
+use example_player::ExampleTables;
 use example_text::{Settings, Trouble, first_word, number};
 use std::alloc::Global;
 
@@ -13,7 +13,10 @@ use std::alloc::Global;
 pub type ScriptHost<A> = Host<A, Shared, Shared, MemorySpool>;
 
 /// The host of an example over a new archive, as its lines set it.
-pub fn host_of<A: ExampleArchive>(alloc: Global, lines: &str) -> Result<ScriptHost<A>, Trouble> {
+pub fn host_of<T: ExampleTables>(
+    alloc: Global,
+    lines: &str,
+) -> Result<ScriptHost<T::Archive>, Trouble> {
     let mut limits = Limits {
         idle_seconds: 60,
         least_rate: 0,
@@ -21,7 +24,7 @@ pub fn host_of<A: ExampleArchive>(alloc: Global, lines: &str) -> Result<ScriptHo
         unfinished_bytes: 67_108_864,
     };
     let config = configured(alloc, lines, &mut limits)?;
-    match A::made(alloc) {
+    match opened::<T>(alloc) {
         Ok(archive) => host_over(alloc, config, archive, limits),
         Err(why) => {
             drop(config);
@@ -30,8 +33,13 @@ pub fn host_of<A: ExampleArchive>(alloc: Global, lines: &str) -> Result<ScriptHo
     }
 }
 
+// A new archive.
+fn opened<T: ExampleTables>(alloc: Global) -> Result<T::Archive, Trouble> {
+    T::made(alloc, "")?.opened(alloc)
+}
+
 // The host over a hub by this configuration.
-fn host_over<A: ExampleArchive>(
+fn host_over<A: Archive + Drop>(
     alloc: Global,
     config: Config,
     archive: A,
@@ -54,7 +62,7 @@ fn trouble_of(fault: HubFault) -> Trouble {
 }
 
 // A host over the hub.
-fn seated<A: ExampleArchive>(
+fn seated<A: Archive + Drop>(
     alloc: Global,
     hub: Hub<A>,
     limits: Limits,

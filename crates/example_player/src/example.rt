@@ -1,7 +1,7 @@
 //! An example, and the ways in which it is played.
 
-use crate::archive::ExampleArchive;
 use crate::play::Play;
+use crate::tables::ExampleTables;
 use example_text::{Cut, Trouble, Words};
 use std::alloc::Global;
 use std::fmt;
@@ -48,25 +48,25 @@ impl<'a> Example<'a> {
 
     /// Plays it for each of its rows, in each of its ways. Its texts end with it. What stands at the head of the file
     /// is no example, and its texts stay.
-    pub fn plays<A: ExampleArchive>(&mut self) -> Result<(), Trouble> {
+    pub fn plays<T: ExampleTables>(&mut self) -> Result<(), Trouble> {
         if self.number == 1 {
-            let _longest = self.each_line::<A>(0)?;
+            let _longest = self.each_line::<T>(0)?;
             return Ok(());
         }
         match (self.value_behind("\neach "), self.lines.contains("\n-")) {
-            (None, false) => self.in_all_ways::<A>(),
-            (Some(names), true) => self.for_each_row::<A>(names),
+            (None, false) => self.in_all_ways::<T>(),
+            (Some(names), true) => self.for_each_row::<T>(names),
             _ => Err(Trouble::Line("rows stand below `each`")),
         }
     }
 
-    fn for_each_row<A: ExampleArchive>(&mut self, names: &str) -> Result<(), Trouble> {
+    fn for_each_row<T: ExampleTables>(&mut self, names: &str) -> Result<(), Trouble> {
         for (i, line) in self.lines.lines().enumerate() {
             if let Some(row) = line.strip_prefix("-") {
                 self.line = i;
                 self.row = row.trim_ascii();
                 let kept = self.words.count();
-                let played = self.for_row::<A>(names);
+                let played = self.for_row::<T>(names);
                 self.words.forget(kept);
                 played?;
             }
@@ -74,23 +74,23 @@ impl<'a> Example<'a> {
         Ok(())
     }
 
-    fn for_row<A: ExampleArchive>(&mut self, names: &str) -> Result<(), Trouble> {
+    fn for_row<T: ExampleTables>(&mut self, names: &str) -> Result<(), Trouble> {
         add_cells(self.alloc, self.words, names, self.row)?;
-        self.in_all_ways::<A>()
+        self.in_all_ways::<T>()
     }
 
-    fn in_all_ways<A: ExampleArchive>(&mut self) -> Result<(), Trouble> {
+    fn in_all_ways<T: ExampleTables>(&mut self) -> Result<(), Trouble> {
         let ways = self.value_behind("\npieces ").unwrap_or("whole");
         for way in ways.split(' ') {
             self.line = 0;
             self.cut = Cut::Whole;
-            self.in_way::<A>(way)?;
+            self.in_way::<T>(way)?;
         }
         self.cut = Cut::Whole;
         Ok(())
     }
 
-    fn in_way<A: ExampleArchive>(&mut self, way: &str) -> Result<(), Trouble> {
+    fn in_way<T: ExampleTables>(&mut self, way: &str) -> Result<(), Trouble> {
         let mut next = Cut::first(way);
         if next.is_none() {
             return Err(Trouble::Line("no way to cut has that name"));
@@ -100,32 +100,32 @@ impl<'a> Example<'a> {
                 break;
             };
             self.cut = cut;
-            next = cut.following(self.played::<A>()?);
+            next = cut.following(self.played::<T>()?);
         }
         Ok(())
     }
 
     // Plays it on an archive of its own. It returns the length of the longest stream of an exchange. Its
     // texts end with it.
-    fn played<A: ExampleArchive>(&mut self) -> Result<usize, Trouble> {
+    fn played<T: ExampleTables>(&mut self) -> Result<usize, Trouble> {
         let kept = self.words.count();
-        let played = self.each_line::<A>(1);
+        let played = self.each_line::<T>(1);
         self.words.forget(kept);
         played
     }
 
     // Plays the lines from the first of these on.
-    fn each_line<A: ExampleArchive>(&mut self, first: usize) -> Result<usize, Trouble> {
+    fn each_line<T: ExampleTables>(&mut self, first: usize) -> Result<usize, Trouble> {
         self.line = 0;
-        let mut play = Play::<A>::new(self.alloc, self.cut)?;
+        let mut play = Play::<T>::new(self.alloc, self.cut)?;
         let played = self.all_lines(&mut play, first);
         drop(play);
         played
     }
 
-    fn all_lines<A: ExampleArchive>(
+    fn all_lines<T: ExampleTables>(
         &mut self,
-        play: &mut Play<A>,
+        play: &mut Play<T>,
         first: usize,
     ) -> Result<usize, Trouble> {
         for (i, line) in self.lines.lines().enumerate() {

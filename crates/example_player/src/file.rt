@@ -1,7 +1,7 @@
 //! The examples of a file.
 
-use crate::archive::ExampleArchive;
 use crate::example::Example;
+use crate::tables::ExampleTables;
 use crate::verdict::Verdict;
 use example_text::{Trouble, Words};
 use std::alloc::Global;
@@ -10,7 +10,7 @@ use std::io;
 /// Plays the examples of a file on such archives, and prints what is not as it is written. Each example begins at a line with `# ` and
 /// its title, and what stands before the first are texts for all that follow, in later files too: where one of these
 /// is wrong, none is played.
-pub fn play_file<A: ExampleArchive>(
+pub fn play_file<T: ExampleTables>(
     rt: &impl Print,
     alloc: Global,
     words: &mut Words,
@@ -23,7 +23,7 @@ pub fn play_file<A: ExampleArchive>(
     for lines in text.split("\n# ") {
         let is_front = line == 1;
         let mut example = Example::new(alloc, words, lines, line);
-        let played = example.plays::<A>();
+        let played = example.plays::<T>();
         match came_of(rt, name, &example, played)? {
             Verdict::AsWritten => right = right.saturating_add(1),
             other if is_front => return Ok(other),

@@ -1,7 +1,6 @@
 //! Plays examples on an archive: over a hub, over an intake by itself, and by calls that no request makes.
 #![tactic(auto)]
 
-mod archive;
 mod example;
 mod file;
 mod intake;
@@ -9,9 +8,10 @@ mod play;
 mod server;
 mod shelf;
 mod side;
+mod tables;
 mod verdict;
 
-pub use archive::ExampleArchive;
 pub use file::play_file;
 pub use shelf::Shelf;
+pub use tables::ExampleTables;
 pub use verdict::Verdict;

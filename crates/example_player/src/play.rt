@@ -1,8 +1,8 @@
 //! An example is played line by line.
 
-use crate::archive::ExampleArchive;
 use crate::intake::is_one_request;
 use crate::side::Side;
+use crate::tables::ExampleTables;
 use example_faults::{Fault, Script, play_faults};
 use example_text::{
     ArchiveCall, Cut, Exchange, Page, Settings, Trouble, Words, blank, fill, first_word, number,
@@ -33,19 +33,19 @@ const KINDS: [&str; 4] = ["object", "file", "upload", "change"];
 
 /// An example that is played, its bytes cut in one way.
 #[derive(Drop)]
-pub struct Play<A: ExampleArchive> {
+pub struct Play<T: ExampleTables> {
     alloc: Global,
     settings: Settings,
-    side: Side<A>,
+    side: Side<T>,
     exchange: Exchange,
     page: Page,
     script: Script,
     longest: usize,
 }
 
-impl<A: ExampleArchive> Play<A> {
+impl<T: ExampleTables> Play<T> {
     /// Before its first line: the archive is made once it is needed. It fails for want of memory alone.
-    pub fn new(alloc: Global, cut: Cut) -> Result<Play<A>, Trouble> {
+    pub fn new(alloc: Global, cut: Cut) -> Result<Play<T>, Trouble> {
         let page = Page::new(alloc)?;
         let settings = Settings::new(alloc)?;
         Ok(Play {
@@ -84,7 +84,7 @@ impl<A: ExampleArchive> Play<A> {
     pub fn finish(&self) -> Result<usize, Trouble> {
         self.exchange.is_answered()?;
         if self.script.has_faults() {
-            play_faults::<A::Files>(self.alloc, &self.script, &self.settings)?;
+            play_faults::<T::Files>(self.alloc, &self.script, &self.settings)?;
         }
         Ok(self.longest)
     }

@@ -1,8 +1,8 @@
 //! What an example is played against.
 
-use crate::archive::ExampleArchive;
 use crate::intake::takes;
 use crate::server::{Server, refused};
+use crate::tables::ExampleTables;
 use dep_message::Intake;
 use example_text::{Exchange, Page, Settings, Trouble};
 use std::alloc::Global;
@@ -10,18 +10,18 @@ use std::mem;
 
 /// What an example is played against.
 #[derive(Drop)]
-pub enum Side<A: ExampleArchive> {
+pub enum Side<T: ExampleTables> {
     /// Nothing was played yet, and the archive is to be a new one.
     New,
     /// The tables of an archive that is closed.
-    Closed(A::Tables),
+    Closed(T),
     /// An archive that no hub has.
-    Archive(A),
-    Server(Server<A>),
+    Archive(T::Archive),
+    Server(Server<T::Archive>),
     Intake(Intake),
 }
 
-impl<A: ExampleArchive> Side<A> {
+impl<T: ExampleTables> Side<T> {
     /// Plays an exchange, and returns a word for its result.
     pub fn plays(
         &mut self,
@@ -33,7 +33,7 @@ impl<A: ExampleArchive> Side<A> {
         match self {
             Side::New | Side::Closed(_) => Err(Trouble::Line("no hub is there")),
             Side::Archive(store) => match exchange.call {
-                Some(call) => store.answers(alloc, call, page),
+                Some(call) => T::answers(store, alloc, call, page),
                 None => Err(Trouble::Line("no hub is there")),
             },
             Side::Intake(intake) => takes(intake, exchange, page),
@@ -46,7 +46,7 @@ impl<A: ExampleArchive> Side<A> {
         if !matches!(self, Side::New) {
             return Err(Trouble::Line("a store stands above all that is played"));
         }
-        self.change_to(Side::Closed(A::filled(alloc, statements)?));
+        self.change_to(Side::Closed(T::made(alloc, statements)?));
         Ok(())
     }
 
@@ -55,7 +55,7 @@ impl<A: ExampleArchive> Side<A> {
         match self {
             Side::Server(_) | Side::Intake(_) => Ok(()),
             _ => {
-                let store = self.take_store(alloc)?;
+                let store = self.take_archive(alloc)?;
                 self.change_to(Side::Server(Server::open(alloc, settings, store)?));
                 Ok(())
             }
@@ -80,7 +80,7 @@ impl<A: ExampleArchive> Side<A> {
         &mut self,
         alloc: Global,
         settings: &Settings,
-    ) -> Result<&mut Server<A>, Trouble> {
+    ) -> Result<&mut Server<T::Archive>, Trouble> {
         self.open(alloc, settings)?;
         match self {
             Side::Server(server) => Ok(server),
@@ -90,7 +90,7 @@ impl<A: ExampleArchive> Side<A> {
 
     /// The archive goes on without a hub.
     pub fn leave(&mut self, alloc: Global) -> Result<(), Trouble> {
-        let store = self.take_store(alloc)?;
+        let store = self.take_archive(alloc)?;
         self.change_to(Side::Archive(store));
         Ok(())
     }
@@ -98,7 +98,7 @@ impl<A: ExampleArchive> Side<A> {
     // The archive is closed and opened again.
     fn reopen(&mut self, alloc: Global) -> Result<(), Trouble> {
         let tables = self.take_tables(alloc)?;
-        self.change_to(Side::Archive(A::opened(alloc, tables)?));
+        self.change_to(Side::Archive(tables.opened(alloc)?));
         Ok(())
     }
 
@@ -106,7 +106,7 @@ impl<A: ExampleArchive> Side<A> {
     pub fn change(&mut self, alloc: Global, statement: &str) -> Result<(), Trouble> {
         self.close(alloc)?;
         match self {
-            Side::Closed(tables) => A::change(tables, statement),
+            Side::Closed(tables) => tables.change(statement),
             _ => Ok(()),
         }
     }
@@ -121,13 +121,13 @@ impl<A: ExampleArchive> Side<A> {
     /// The archive doesn't open, by the fault of this name.
     pub fn fail_to_open(&mut self, alloc: Global, fault: &str) -> Result<(), Trouble> {
         let tables = self.take_tables(alloc)?;
-        self.change_to(Side::Closed(A::unopened(alloc, tables, fault)?));
+        self.change_to(Side::Closed(tables.unopened(alloc, fault)?));
         Ok(())
     }
 
     // No hub takes the archive by this configuration.
     fn refuse(&mut self, alloc: Global, settings: &Settings) -> Result<(), Trouble> {
-        let store = self.take_store(alloc)?;
+        let store = self.take_archive(alloc)?;
         self.change_to(Side::Archive(refused(alloc, settings, store)?));
         Ok(())
     }
@@ -148,7 +148,7 @@ impl<A: ExampleArchive> Side<A> {
         }
     }
 
-    fn change_to(&mut self, other: Side<A>) {
+    fn change_to(&mut self, other: Side<T>) {
         drop(mem::replace(self, other));
     }
 
@@ -163,20 +163,20 @@ impl<A: ExampleArchive> Side<A> {
         }
     }
 
-    fn take_tables(&mut self, alloc: Global) -> Result<A::Tables, Trouble> {
+    fn take_tables(&mut self, alloc: Global) -> Result<T, Trouble> {
         match mem::replace(self, Side::New) {
             Side::Closed(tables) => Ok(tables),
             other => {
                 self.change_to(other);
-                Ok(self.take_store(alloc)?.closed())
+                Ok(T::closed(self.take_archive(alloc)?))
             }
         }
     }
 
-    fn take_store(&mut self, alloc: Global) -> Result<A, Trouble> {
+    fn take_archive(&mut self, alloc: Global) -> Result<T::Archive, Trouble> {
         match mem::replace(self, Side::New) {
-            Side::New => A::made(alloc),
-            Side::Closed(tables) => A::opened(alloc, tables),
+            Side::New => T::made(alloc, "")?.opened(alloc),
+            Side::Closed(tables) => tables.opened(alloc),
             Side::Archive(store) => Ok(store),
             Side::Server(server) => Ok(server.into_store()),
             other => {

@@ -5,13 +5,13 @@ use dep_store::{Store, Unwatched, audit_all, export_object};
 use dep_types::{StoreFault, Through};
 use example_player::Shelf;
 use example_text::{ArchiveCall, Page, Trouble};
-use sqlite::MemStore;
+use sqlite::Alter;
 use std::alloc::Global;
 
 /// Makes the call, and returns a word for its result.
-pub fn answered(
+pub fn answered<S: Alter>(
     alloc: Global,
-    store: &mut Store<MemStore>,
+    store: &mut Store<S>,
     call: ArchiveCall,
     page: &mut Page,
 ) -> Result<&'static str, Trouble> {
@@ -30,8 +30,8 @@ pub fn answered(
 }
 
 // The files of an object, a line for each that is damaged.
-fn audited(
-    store: &mut Store<MemStore>,
+fn audited<S: Alter>(
+    store: &mut Store<S>,
     object: u64,
     page: &mut Page,
 ) -> Result<&'static str, Trouble> {

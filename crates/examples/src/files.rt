@@ -8,52 +8,95 @@ use sqlite::{Alter, Connection, FileStore, Files, Options};
 use sqlite_disk::{Crash, Disk, Fuse, Memory};
 use std::alloc::Global;
 
-/// A log and a database in memory, of which one fails from a call on.
-#[derive(Drop)]
-pub struct MemoryFiles {
-    files: Files<Fuse<Memory>>,
+/// A file whose calls are counted, and fail once so many went through.
+pub trait CountedFile: Disk + Drop {
+    /// An empty file.
+    fn empty(alloc: Global) -> Self;
+
+    /// A file with the same bytes, all synced, of which so many calls go through.
+    fn copied(&self, alloc: Global, calls: u64) -> Result<Self, Trouble>;
+
+    /// Whether no further call goes through.
+    fn is_spent(&mut self) -> bool;
+
+    /// The machine stops: what was not synced is lost. Each call goes through.
+    fn stop(&mut self);
 }
 
-impl FaultyFiles for MemoryFiles {
-    fn made(alloc: Global, statements: &str) -> Result<MemoryFiles, Trouble> {
+impl CountedFile for Fuse<Memory> {
+    fn empty(alloc: Global) -> Fuse<Memory> {
+        Fuse::new(Memory::new(alloc), u64::MAX)
+    }
+
+    fn copied(&self, alloc: Global, calls: u64) -> Result<Fuse<Memory>, Trouble> {
+        let mut copy = Memory::new(alloc);
+        if copy.write_at(0, self.inner().bytes()).is_err() || copy.sync().is_err() {
+            return Err(Trouble::Memory);
+        }
+        Ok(Fuse::new(copy, calls))
+    }
+
+    fn is_spent(&mut self) -> bool {
+        !self.may_be_used() || self.len().is_err()
+    }
+
+    fn stop(&mut self) {
+        self.crash();
+    }
+}
+
+/// A log and a database, of which one fails from a call on. Over any kind of file, since what is called at one kind is dear
+/// to prove.
+#[derive(Drop)]
+pub struct CountedFiles<D: CountedFile> {
+    files: Files<D>,
+}
+
+impl<D: CountedFile> FaultyFiles for CountedFiles<D> {
+    fn made(alloc: Global, statements: &str) -> Result<CountedFiles<D>, Trouble> {
         let files = Files {
-            log: Fuse::new(Memory::new(alloc), u64::MAX),
-            db: Fuse::new(Memory::new(alloc), u64::MAX),
+            log: D::empty(alloc),
+            db: D::empty(alloc),
         };
-        Ok(MemoryFiles {
+        Ok(CountedFiles {
             files: filled(alloc, files, statements)?,
         })
     }
 
-    fn copied(&self, alloc: Global, file: FaultyFile, calls: u64) -> Result<MemoryFiles, Trouble> {
+    fn copied(
+        &self,
+        alloc: Global,
+        file: FaultyFile,
+        calls: u64,
+    ) -> Result<CountedFiles<D>, Trouble> {
         let (log, db) = match file {
             FaultyFile::Log => (calls, u64::MAX),
             FaultyFile::Database => (u64::MAX, calls),
         };
-        Ok(MemoryFiles {
+        Ok(CountedFiles {
             files: Files {
-                log: copied(alloc, &self.files.log, log)?,
-                db: copied(alloc, &self.files.db, db)?,
+                log: self.files.log.copied(alloc, log)?,
+                db: self.files.db.copied(alloc, db)?,
             },
         })
     }
 
-    fn played(self, alloc: Global, play: &mut FaultPlay<'_>) -> MemoryFiles {
-        MemoryFiles {
+    fn played(self, alloc: Global, play: &mut FaultPlay<'_>) -> CountedFiles<D> {
+        CountedFiles {
             files: used(alloc, self.files, Task::Play(play)).0,
         }
     }
 
     fn is_spent(&mut self) -> bool {
-        is_spent(&mut self.files.log) || is_spent(&mut self.files.db)
+        self.files.log.is_spent() || self.files.db.is_spent()
     }
 
-    fn left(mut self, alloc: Global, fault: Fault) -> Result<MemoryFiles, Trouble> {
+    fn left(mut self, alloc: Global, fault: Fault) -> Result<CountedFiles<D>, Trouble> {
         match fault {
             Fault::Fails => self.copied(alloc, FaultyFile::Log, u64::MAX),
             Fault::Stops => {
-                self.files.log.crash();
-                self.files.db.crash();
+                self.files.log.stop();
+                self.files.db.stop();
                 Ok(self)
             }
         }
@@ -65,19 +108,6 @@ fn options() -> Options {
     Options::new(1)
 }
 
-fn is_spent(file: &mut Fuse<Memory>) -> bool {
-    !file.may_be_used() || file.len().is_err()
-}
-
-// A file with the same bytes, all synced, of which so many calls go through.
-fn copied(alloc: Global, file: &Fuse<Memory>, calls: u64) -> Result<Fuse<Memory>, Trouble> {
-    let mut copy = Memory::new(alloc);
-    if copy.write_at(0, file.inner().bytes()).is_err() || copy.sync().is_err() {
-        return Err(Trouble::Memory);
-    }
-    Ok(Fuse::new(copy, calls))
-}
-
 // What is done over a database once it is open.
 #[derive(Drop)]
 enum Task<'a, 'b> {
@@ -87,11 +117,11 @@ enum Task<'a, 'b> {
 }
 
 // The files, whose database these statements have made, where there are any. The log is empty then, unless memory was refused.
-fn filled(
+fn filled<D: CountedFile>(
     alloc: Global,
-    files: Files<Fuse<Memory>>,
+    files: Files<D>,
     statements: &str,
-) -> Result<Files<Fuse<Memory>>, Trouble> {
+) -> Result<Files<D>, Trouble> {
     if statements.is_empty() {
         return Ok(files);
     }
@@ -104,9 +134,8 @@ fn filled(
     }
 }
 
-// Opens the database in the files and does the task: whether it was done stands beside the files. Over any disk, since
-// what opens or closes a database is dear to prove at the one that is played on.
-fn used<D: Disk + Drop>(alloc: Global, files: Files<D>, task: Task<'_, '_>) -> (Files<D>, bool) {
+// Opens the database in the files and does the task: whether it was done stands beside the files.
+fn used<D: CountedFile>(alloc: Global, files: Files<D>, task: Task<'_, '_>) -> (Files<D>, bool) {
     if !files.may_be_used() {
         return (files, true);
     }
@@ -120,7 +149,7 @@ fn used<D: Disk + Drop>(alloc: Global, files: Files<D>, task: Task<'_, '_>) -> (
     }
 }
 
-fn closed<D: Disk + Drop>(connection: Connection<FileStore<D>>, copies_log: bool) -> Files<D> {
+fn closed<D: CountedFile>(connection: Connection<FileStore<D>>, copies_log: bool) -> Files<D> {
     if !copies_log {
         return connection.into_store().close();
     }

@@ -1,11 +1,10 @@
 //! One connection over a socket of 127.0.0.1, with its client in the same process.
 
-use crate::archive::MemoryArchive;
-use dep_hub::Hub;
+use dep_hub::{Archive, Hub};
 use dep_moment::Moment;
 use dep_program::{Outcome, address, serve_on};
 use example_faults::{hub_over, trouble_of};
-use example_player::{ExampleArchive, Verdict};
+use example_player::{ExampleTables, Verdict};
 use example_text::{Cut, Exchange, Settings, Trouble, Words};
 use std::alloc::Global;
 use std::io;
@@ -14,11 +13,11 @@ use std::net::{Shutdown, TcpListener, TcpStream};
 
 /// Plays the texts `socket-requests` and `socket-replies`, where the files have them: a client sends the first and
 /// shuts its side, `serve_on` serves that one connection, and the client has to get just the second. It prints a line.
-pub fn play_socket(rt: &HostRuntime, words: &Words) -> io::Result<Verdict> {
+pub fn play_socket<T: ExampleTables>(rt: &HostRuntime, words: &Words) -> io::Result<Verdict> {
     if words.find("socket-requests").is_none() {
         return Ok(Verdict::AsWritten);
     }
-    match exchanged(rt, words) {
+    match exchanged::<T>(rt, words) {
         Ok(()) => {
             println!(rt; "a socket: as written")?;
             Ok(Verdict::AsWritten)
@@ -37,12 +36,12 @@ fn verdict_of(why: &Trouble) -> Verdict {
     }
 }
 
-fn exchanged(rt: &HostRuntime, words: &Words) -> Result<(), Trouble> {
+fn exchanged<T: ExampleTables>(rt: &HostRuntime, words: &Words) -> Result<(), Trouble> {
     let alloc = rt.alloc();
     let mut exchange = Exchange::new(alloc, Cut::Whole);
     exchange.line(alloc, words, ">", "\\{socket-requests}\\")?;
     exchange.line(alloc, words, "<", "\\{socket-replies}\\")?;
-    let mut hub = new_hub(alloc)?;
+    let mut hub = new_hub::<T>(alloc)?;
     let mut replies = Vec::new(alloc);
     let got = answered(rt, &exchange, &mut hub, &mut replies);
     drop(hub);
@@ -56,9 +55,9 @@ fn exchanged(rt: &HostRuntime, words: &Words) -> Result<(), Trouble> {
 }
 
 // A hub over a new archive, by the configuration of the examples.
-fn new_hub(alloc: Global) -> Result<Hub<MemoryArchive>, Trouble> {
+fn new_hub<T: ExampleTables>(alloc: Global) -> Result<Hub<T::Archive>, Trouble> {
     let settings = Settings::new(alloc)?;
-    match hub_over(alloc, &settings, MemoryArchive::made(alloc)?) {
+    match hub_over(alloc, &settings, T::made(alloc, "")?.opened(alloc)?) {
         Ok(hub) => Ok(hub),
         Err((fault, store)) => {
             drop(store);
@@ -68,10 +67,10 @@ fn new_hub(alloc: Global) -> Result<Hub<MemoryArchive>, Trouble> {
 }
 
 // Sends the requests over a socket, has them served, and takes the replies to their end.
-fn answered(
+fn answered<A: Archive + Drop>(
     rt: &HostRuntime,
     exchange: &Exchange,
-    hub: &mut Hub<MemoryArchive>,
+    hub: &mut Hub<A>,
     replies: &mut Vec<u8>,
 ) -> Result<(), Trouble> {
     let (listener, client) = sent(rt, exchange.stream.as_slice()).map_err(transfer_fails)?;
