@@ -8,14 +8,49 @@ use crate::script::{Script, Wrong};
 use crate::setting::{ScriptHost, host_of};
 use dep_host::{ReadBuffer, serve};
 use dep_hub::Archive;
-use example_player::{ExampleTables, Verdict};
+use example_player::{ExampleTables, Verdict, play_file};
 use example_text::{Trouble, Words};
 use std::alloc::Global;
-use std::io;
 use std::rc::Rc;
+use std::{fs, io};
 
 /// How many bytes are received at once at most.
 const ROOM: usize = 4_096;
+
+/// Plays the examples of these files, one after another. It ends where there was no memory for one, since the texts of the
+/// next may be missing.
+pub fn play_files<T: ExampleTables>(
+    rt: &HostRuntime,
+    words: &mut Words,
+    names: &[String],
+) -> io::Result<Verdict> {
+    let mut verdict = Verdict::AsWritten;
+    for name in names {
+        verdict = verdict.and(play_named_file::<T>(rt, words, name.as_str())?);
+        if matches!(verdict, Verdict::Unknown) {
+            break;
+        }
+    }
+    Ok(verdict)
+}
+
+// Plays a file, and returns what came of it.
+fn play_named_file<T: ExampleTables>(
+    rt: &HostRuntime,
+    words: &mut Words,
+    name: &str,
+) -> io::Result<Verdict> {
+    match fs::read_to_string(rt, name) {
+        Ok(text) if is_of_a_host(text.as_str()) => {
+            play_host_file::<T>(rt, rt.alloc(), words, name, text.as_str())
+        }
+        Ok(text) => play_file::<T>(rt, rt.alloc(), words, name, text.as_str()),
+        Err(error) => {
+            println!(rt; "{name}: {error}")?;
+            Ok(Verdict::of(&error))
+        }
+    }
+}
 
 /// Whether the examples of a file are played by a host, which its first line says.
 pub fn is_of_a_host(text: &str) -> bool
@@ -24,8 +59,8 @@ pub fn is_of_a_host(text: &str) -> bool
     text.starts_with("host\n")
 }
 
-/// Plays the examples of a file, and prints what is not as it is written.
-pub fn play_host_file<T: ExampleTables>(
+// Plays the examples of a file, and prints what is not as it is written.
+fn play_host_file<T: ExampleTables>(
     rt: &impl Print,
     alloc: Global,
     words: &Words,

@@ -5,7 +5,7 @@ use crate::spool::MemorySpool;
 use dep_host::{Host, Limits};
 use dep_hub::{Archive, Hub, HubFault};
 use dep_types::Config;
-use example_player::ExampleTables;
+use example_player::{ExampleTables, new_archive};
 use example_text::{Settings, Trouble, first_word, number};
 use std::alloc::Global;
 
@@ -24,18 +24,13 @@ pub fn host_of<T: ExampleTables>(
         unfinished_bytes: 67_108_864,
     };
     let config = configured(alloc, lines, &mut limits)?;
-    match opened::<T>(alloc) {
+    match new_archive::<T>(alloc) {
         Ok(archive) => host_over(alloc, config, archive, limits),
         Err(why) => {
             drop(config);
             Err(why)
         }
     }
-}
-
-// A new archive.
-fn opened<T: ExampleTables>(alloc: Global) -> Result<T::Archive, Trouble> {
-    T::made(alloc, "")?.opened(alloc)
 }
 
 // The host over a hub by this configuration.

@@ -12,6 +12,7 @@ mod tables;
 mod verdict;
 
 pub use file::play_file;
+pub use server::{new_archive, new_hub};
 pub use shelf::Shelf;
 pub use tables::ExampleTables;
 pub use verdict::Verdict;

@@ -1,5 +1,6 @@
 //! A hub and its connections.
 
+use crate::tables::ExampleTables;
 use dep_hub::{Archive, ConnId, ConnectFault, Hub, HubFault, Served, serve_connection};
 use dep_moment::Moment;
 use dep_types::{ReaderInlet, Through};
@@ -146,6 +147,19 @@ fn served_word(served: Served) -> &'static str {
         Served::Unserved => "unserved",
         Served::Bound => "bound",
     }
+}
+
+/// A hub over a new archive, by the configuration of the examples.
+pub fn new_hub<T: ExampleTables>(alloc: Global) -> Result<Hub<T::Archive>, Trouble> {
+    let settings = Settings::new(alloc)?;
+    let hub = new_archive::<T>(alloc).and_then(|archive| opened(alloc, &settings, archive));
+    drop(settings);
+    hub
+}
+
+/// A new archive.
+pub fn new_archive<T: ExampleTables>(alloc: Global) -> Result<T::Archive, Trouble> {
+    T::made(alloc, "")?.opened(alloc)
 }
 
 // A hub over the archive.

@@ -1,7 +1,7 @@
 //! What an example is played against.
 
 use crate::intake::takes;
-use crate::server::{Server, refused};
+use crate::server::{Server, new_archive, refused};
 use crate::tables::ExampleTables;
 use dep_message::Intake;
 use example_text::{Exchange, Page, Settings, Trouble};
@@ -175,7 +175,7 @@ impl<T: ExampleTables> Side<T> {
 
     fn take_archive(&mut self, alloc: Global) -> Result<T::Archive, Trouble> {
         match mem::replace(self, Side::New) {
-            Side::New => T::made(alloc, "")?.opened(alloc),
+            Side::New => new_archive::<T>(alloc),
             Side::Closed(tables) => tables.opened(alloc),
             Side::Archive(store) => Ok(store),
             Side::Server(server) => Ok(server.into_store()),

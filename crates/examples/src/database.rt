@@ -72,12 +72,7 @@ impl<S: NewDatabase> ExampleTables for Database<S> {
     }
 
     fn change(&mut self, statements: &str) -> Result<(), Trouble> {
-        match self.connection.execute_batch(statements) {
-            Ok(()) if self.connection.is_autocommit() => Ok(()),
-            Ok(()) => Err(Trouble::Line("the statement left a transaction open")),
-            Err(Error::SqliteFailure(ErrorCode::OutOfMemory)) => Err(Trouble::Memory),
-            Err(_) => Err(Trouble::Line("the statement fails")),
-        }
+        change(&mut self.connection, statements)
     }
 
     fn closed(archive: HashingStore<S>) -> Database<S> {
@@ -105,6 +100,16 @@ fn open<S: Alter>(
         Store::open(alloc, connection, &mut Unwatched)
     } else {
         Err((OpenFault::Store, connection))
+    }
+}
+
+/// The statements change the database.
+pub fn change<S: Alter>(connection: &mut Connection<S>, statements: &str) -> Result<(), Trouble> {
+    match connection.execute_batch(statements) {
+        Ok(()) if connection.is_autocommit() => Ok(()),
+        Ok(()) => Err(Trouble::Line("the statement left a transaction open")),
+        Err(Error::SqliteFailure(ErrorCode::OutOfMemory)) => Err(Trouble::Memory),
+        Err(_) => Err(Trouble::Line("the statement fails")),
     }
 }
 

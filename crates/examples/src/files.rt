@@ -1,5 +1,6 @@
 //! The files of an archive, in memory.
 
+use crate::database::change;
 use dep_archive::HashingStore;
 use dep_store::{Store, Unwatched};
 use example_faults::{Fault, FaultPlay, FaultyFile, FaultyFiles};
@@ -7,6 +8,12 @@ use example_text::Trouble;
 use sqlite::{Alter, Connection, FileStore, Files, Options};
 use sqlite_disk::{Crash, Disk, Fuse, Memory};
 use std::alloc::Global;
+
+/// How many pages of a database are kept in memory: each opening takes the room for them.
+const CACHE_PAGES: usize = 64;
+
+/// For the salts of a log, which are the same each time.
+const SEED: u64 = 1;
 
 /// A file whose calls are counted, and fail once so many went through.
 pub trait CountedFile: Disk + Drop {
@@ -54,13 +61,17 @@ pub struct CountedFiles<D: CountedFile> {
 
 impl<D: CountedFile> FaultyFiles for CountedFiles<D> {
     fn made(alloc: Global, statements: &str) -> Result<CountedFiles<D>, Trouble> {
-        let files = Files {
-            log: D::empty(alloc),
-            db: D::empty(alloc),
-        };
-        Ok(CountedFiles {
-            files: filled(alloc, files, statements)?,
-        })
+        let files = empty(alloc);
+        if statements.is_empty() {
+            return Ok(CountedFiles { files });
+        }
+        match opened(alloc, files) {
+            Ok(connection) => filled(connection, statements),
+            Err(files) => {
+                drop(files);
+                Err(Trouble::Memory)
+            }
+        }
     }
 
     fn copied(
@@ -82,9 +93,11 @@ impl<D: CountedFile> FaultyFiles for CountedFiles<D> {
     }
 
     fn played(self, alloc: Global, play: &mut FaultPlay<'_>) -> CountedFiles<D> {
-        CountedFiles {
-            files: used(alloc, self.files, Task::Play(play)).0,
-        }
+        let files = match opened(alloc, self.files) {
+            Ok(connection) => played_on(alloc, connection, play).into_store().close(),
+            Err(files) => files,
+        };
+        CountedFiles { files }
     }
 
     fn is_spent(&mut self) -> bool {
@@ -103,73 +116,51 @@ impl<D: CountedFile> FaultyFiles for CountedFiles<D> {
     }
 }
 
-// How each database is opened: with one seed for the salts of its log.
-fn options() -> Options {
-    Options::new(1)
-}
-
-// What is done over a database once it is open.
-#[derive(Drop)]
-enum Task<'a, 'b> {
-    // These statements are run, and the log is copied into the database.
-    Fill(&'a str),
-    Play(&'a mut FaultPlay<'b>),
-}
-
-// The files, whose database these statements have made, where there are any. The log is empty then, unless memory was refused.
-fn filled<D: CountedFile>(
-    alloc: Global,
-    files: Files<D>,
-    statements: &str,
-) -> Result<Files<D>, Trouble> {
-    if statements.is_empty() {
-        return Ok(files);
+// Files that are empty, and all of whose calls go through.
+fn empty<D: CountedFile>(alloc: Global) -> Files<D> {
+    Files {
+        log: D::empty(alloc),
+        db: D::empty(alloc),
     }
-    match used(alloc, files, Task::Fill(statements)) {
-        (files, true) => Ok(files),
-        (files, false) => {
+}
+
+// The files, whose database these statements have made. The log is empty then, unless memory was refused.
+fn filled<D: CountedFile>(
+    mut connection: Connection<FileStore<D>>,
+    statements: &str,
+) -> Result<CountedFiles<D>, Trouble> {
+    let changed = change(&mut connection, statements);
+    let mut store = connection.into_store();
+    let copied = store.checkpoint().is_ok();
+    let files = store.close();
+    match changed {
+        Ok(()) if copied => Ok(CountedFiles { files }),
+        Ok(()) => {
             drop(files);
             Err(Trouble::Memory)
         }
-    }
-}
-
-// Opens the database in the files and does the task: whether it was done stands beside the files.
-fn used<D: CountedFile>(alloc: Global, files: Files<D>, task: Task<'_, '_>) -> (Files<D>, bool) {
-    if !files.may_be_used() {
-        return (files, true);
-    }
-    match Connection::open_files(alloc, files, options()) {
-        Ok(connection) => {
-            let copies_log = matches!(task, Task::Fill(_));
-            let (connection, is_done) = worked(alloc, connection, task);
-            (closed(connection, copies_log), is_done)
+        Err(why) => {
+            drop(files);
+            Err(why)
         }
-        Err((_, left)) => (left.into_files(), false),
     }
 }
 
-fn closed<D: CountedFile>(connection: Connection<FileStore<D>>, copies_log: bool) -> Files<D> {
-    if !copies_log {
-        return connection.into_store().close();
-    }
-    match connection.close_files() {
-        Ok(files) => files,
-        Err((_, store)) => store.close(),
-    }
-}
-
-fn worked<S: Alter + Drop>(
+// The database in the files, or the files where it can't be opened. Few pages are kept in memory, since many are opened.
+fn opened<D: CountedFile>(
     alloc: Global,
-    mut connection: Connection<S>,
-    task: Task<'_, '_>,
-) -> (Connection<S>, bool) {
-    match task {
-        Task::Fill(statements) => {
-            let is_done = connection.execute_batch(statements).is_ok();
-            (connection, is_done)
-        }
-        Task::Play(play) => (played_on(alloc, connection, play), true),
+    files: Files<D>,
+) -> Result<Connection<FileStore<D>>, Files<D>> {
+    if !files.may_be_used() {
+        return Err(files);
+    }
+    let options = Options {
+        cache_pages: CACHE_PAGES,
+        ..Options::new(SEED)
+    };
+    match Connection::open_files(alloc, files, options) {
+        Ok(connection) => Ok(connection),
+        Err((_, left)) => Err(left.into_files()),
     }
 }
 

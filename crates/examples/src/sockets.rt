@@ -3,9 +3,8 @@
 use dep_hub::{Archive, Hub};
 use dep_moment::Moment;
 use dep_program::{Outcome, address, serve_on};
-use example_faults::{hub_over, trouble_of};
-use example_player::{ExampleTables, Verdict};
-use example_text::{Cut, Exchange, Settings, Trouble, Words};
+use example_player::{ExampleTables, Verdict, new_hub};
+use example_text::{Cut, Exchange, Trouble, Words};
 use std::alloc::Global;
 use std::io;
 use std::io::{Read, Write};
@@ -52,18 +51,6 @@ fn exchanged<T: ExampleTables>(rt: &HostRuntime, words: &Words) -> Result<(), Tr
         "served"
     };
     exchange.has_come(alloc, replies.as_slice(), came, "served")
-}
-
-// A hub over a new archive, by the configuration of the examples.
-fn new_hub<T: ExampleTables>(alloc: Global) -> Result<Hub<T::Archive>, Trouble> {
-    let settings = Settings::new(alloc)?;
-    match hub_over(alloc, &settings, T::made(alloc, "")?.opened(alloc)?) {
-        Ok(hub) => Ok(hub),
-        Err((fault, store)) => {
-            drop(store);
-            Err(trouble_of(fault))
-        }
-    }
 }
 
 // Sends the requests over a socket, has them served, and takes the replies to their end.
