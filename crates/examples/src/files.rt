@@ -10,7 +10,7 @@ use sqlite_disk::{Crash, Disk, Fuse, Memory};
 use std::alloc::Global;
 
 /// How many pages of a database are kept in memory: each opening takes the room for them.
-const CACHE_PAGES: usize = 64;
+const CACHE_PAGES: usize = 16;
 
 /// For the salts of a log, which are the same each time.
 const SEED: u64 = 1;
@@ -61,15 +61,18 @@ pub struct CountedFiles<D: CountedFile> {
 
 impl<D: CountedFile> FaultyFiles for CountedFiles<D> {
     fn made(alloc: Global, statements: &str) -> Result<CountedFiles<D>, Trouble> {
-        let files = empty(alloc);
+        let files = Files {
+            log: D::empty(alloc),
+            db: D::empty(alloc),
+        };
         if statements.is_empty() {
             return Ok(CountedFiles { files });
         }
-        match opened(alloc, files) {
-            Ok(connection) => filled(connection, statements),
-            Err(files) => {
+        match used(alloc, files, Task::Fill(statements)) {
+            (files, Ok(())) => Ok(CountedFiles { files }),
+            (files, Err(why)) => {
                 drop(files);
-                Err(Trouble::Memory)
+                Err(why)
             }
         }
     }
@@ -93,10 +96,7 @@ impl<D: CountedFile> FaultyFiles for CountedFiles<D> {
     }
 
     fn played(self, alloc: Global, play: &mut FaultPlay<'_>) -> CountedFiles<D> {
-        let files = match opened(alloc, self.files) {
-            Ok(connection) => played_on(alloc, connection, play).into_store().close(),
-            Err(files) => files,
-        };
+        let (files, _opened) = used(alloc, self.files, Task::Play(play));
         CountedFiles { files }
     }
 
@@ -116,51 +116,61 @@ impl<D: CountedFile> FaultyFiles for CountedFiles<D> {
     }
 }
 
-// Files that are empty, and all of whose calls go through.
-fn empty<D: CountedFile>(alloc: Global) -> Files<D> {
-    Files {
-        log: D::empty(alloc),
-        db: D::empty(alloc),
-    }
+// What is done over a database once it is open.
+#[derive(Drop)]
+enum Task<'a, 'b> {
+    // These statements are run, and the log is copied into the database.
+    Fill(&'a str),
+    Play(&'a mut FaultPlay<'b>),
 }
 
-// The files, whose database these statements have made. The log is empty then, unless memory was refused.
-fn filled<D: CountedFile>(
-    mut connection: Connection<FileStore<D>>,
-    statements: &str,
-) -> Result<CountedFiles<D>, Trouble> {
-    let changed = change(&mut connection, statements);
-    let mut store = connection.into_store();
-    let copied = store.checkpoint().is_ok();
-    let files = store.close();
-    match changed {
-        Ok(()) if copied => Ok(CountedFiles { files }),
-        Ok(()) => {
-            drop(files);
-            Err(Trouble::Memory)
-        }
-        Err(why) => {
-            drop(files);
-            Err(why)
-        }
-    }
-}
-
-// The database in the files, or the files where it can't be opened. Few pages are kept in memory, since many are opened.
-fn opened<D: CountedFile>(
+// Opens the database in the files and does the task. It fails where the database can't be opened, or a statement fails.
+fn used<D: CountedFile>(
     alloc: Global,
     files: Files<D>,
-) -> Result<Connection<FileStore<D>>, Files<D>> {
+    task: Task<'_, '_>,
+) -> (Files<D>, Result<(), Trouble>) {
     if !files.may_be_used() {
-        return Err(files);
+        return (files, Err(Trouble::Memory));
     }
-    let options = Options {
+    let copies_log = matches!(task, Task::Fill(_));
+    match Connection::open_files(alloc, files, options()) {
+        Ok(connection) => {
+            let (store, done) = worked(alloc, connection, task);
+            (closed(store, copies_log), done)
+        }
+        Err((_, left)) => (left.into_files(), Err(Trouble::Memory)),
+    }
+}
+
+// How each database is opened: few pages are kept in memory, since many are opened.
+fn options() -> Options {
+    Options {
         cache_pages: CACHE_PAGES,
         ..Options::new(SEED)
-    };
-    match Connection::open_files(alloc, files, options) {
-        Ok(connection) => Ok(connection),
-        Err((_, left)) => Err(left.into_files()),
+    }
+}
+
+// The files of the store. Where the log is copied, it is empty then, unless memory was refused.
+fn closed<D: CountedFile>(mut store: FileStore<D>, copies_log: bool) -> Files<D> {
+    if copies_log {
+        let _copied = store.checkpoint();
+    }
+    store.close()
+}
+
+// Does the task, and hands the store of the database back.
+fn worked<S: Alter + Drop>(
+    alloc: Global,
+    mut connection: Connection<S>,
+    task: Task<'_, '_>,
+) -> (S, Result<(), Trouble>) {
+    match task {
+        Task::Fill(statements) => {
+            let changed = change(&mut connection, statements);
+            (connection.into_store(), changed)
+        }
+        Task::Play(play) => (played_on(alloc, connection, play).into_store(), Ok(())),
     }
 }
 
