@@ -11,8 +11,9 @@ use dep_hub::Archive;
 use example_player::{ExampleTables, Verdict, play_file};
 use example_text::{Trouble, Words};
 use std::alloc::Global;
+use std::fs::{self, Files};
+use std::io;
 use std::rc::Rc;
-use std::{fs, io};
 
 /// How many bytes are received at once at most.
 const ROOM: usize = 4_096;
@@ -20,13 +21,14 @@ const ROOM: usize = 4_096;
 /// Plays the examples of these files, one after another. It ends where there was no memory for one, since the texts of the
 /// next may be missing.
 pub fn play_files<T: ExampleTables>(
-    rt: &HostRuntime,
+    rt: &(impl Print + Files + Alloc),
+    alloc: Global,
     words: &mut Words,
     names: &[String],
 ) -> io::Result<Verdict> {
     let mut verdict = Verdict::AsWritten;
     for name in names {
-        verdict = verdict.and(play_named_file::<T>(rt, words, name.as_str())?);
+        verdict = verdict.and(play_named_file::<T>(rt, alloc, words, name.as_str())?);
         if matches!(verdict, Verdict::Unknown) {
             break;
         }
@@ -36,15 +38,16 @@ pub fn play_files<T: ExampleTables>(
 
 // Plays a file, and returns what came of it.
 fn play_named_file<T: ExampleTables>(
-    rt: &HostRuntime,
+    rt: &(impl Print + Files + Alloc),
+    alloc: Global,
     words: &mut Words,
     name: &str,
 ) -> io::Result<Verdict> {
     match fs::read_to_string(rt, name) {
         Ok(text) if is_of_a_host(text.as_str()) => {
-            play_host_file::<T>(rt, rt.alloc(), words, name, text.as_str())
+            play_host_file::<T>(rt, alloc, words, name, text.as_str())
         }
-        Ok(text) => play_file::<T>(rt, rt.alloc(), words, name, text.as_str()),
+        Ok(text) => play_file::<T>(rt, alloc, words, name, text.as_str()),
         Err(error) => {
             println!(rt; "{name}: {error}")?;
             Ok(Verdict::of(&error))

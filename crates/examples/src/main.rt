@@ -32,7 +32,7 @@ fn all_played<T: ExampleTables>(rt: &HostRuntime) -> io::Result<Verdict> {
         return Ok(Verdict::Otherwise);
     }
     let mut texts = Words::new(rt.alloc());
-    match play_files::<T>(rt, &mut texts, names.as_slice())? {
+    match play_files::<T>(rt, rt.alloc(), &mut texts, names.as_slice())? {
         Verdict::Unknown => Ok(Verdict::Unknown),
         verdict => Ok(verdict.and(play_socket::<T>(rt, &texts)?)),
     }
