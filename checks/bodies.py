@@ -40,6 +40,8 @@ ONLY = {"conversations.txt": "a deposit and its file in one input",
         "stopped-disks.txt": "an upload that timed out stays so, whatever the moment"}
 ALL_WAYS, ONE_WAY = "stops log database\nfails log database\n", "stops log\n"
 WITHOUT = "no_wrong_body"
+# No wrong body: a database in memory gets a smaller cache, whose megabyte that program would write byte by byte at each open.
+FEW_PAGES = BODIES / "few_pages.edit"
 # The service document without its abstract.
 SERVICE_LENGTH = 639
 SECONDS = "1800"
@@ -52,6 +54,7 @@ def lay_out(room, edits):
     begin_room(room, names, lines)
     for name in names:
         copy_parts(ROOT / "crates" / name, room / "crates" / name)
+    apply(FEW_PAGES, room / "crates/examples")
     for edit in edits:
         folder = edit.parent if edit.parent.parent == BODIES else edit.parent.parent
         apply(edit, room / "crates" / folder.name)

@@ -10,7 +10,7 @@ use sqlite_disk::{Crash, Disk, Fuse, Memory};
 use std::alloc::Global;
 
 /// How many pages of a database are kept in memory: each opening takes the room for them.
-const CACHE_PAGES: usize = 16;
+const CACHE_PAGES: usize = 256;
 
 /// For the salts of a log, which are the same each time.
 const SEED: u64 = 1;
