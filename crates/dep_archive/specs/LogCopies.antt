@@ -1,5 +1,7 @@
 -- When the log of a store is copied into its file.
-use Rattle.std.specs.Prelude.{zero, suc, Bool, true, false, nat_le, not, ◌&&◌, ◌||◌, length}
+use Rattle.std.specs.Prelude.{zero, suc, Bool, true, false, nat_eq, nat_le, not, ◌&&◌, ◌||◌, length, codes}
+use Rattle.std.specs.List.{starts_with}
+use Rattle.dep_answers.specs.declared.performed.Performed.{Performed}
 use Rattle.dep_fields.specs.declared.field.Field.{Field}
 use Rattle.dep_fields.specs.declared.field.Field.TheVariants.{Absent, Bad, Value}
 use Rattle.dep_fields.specs.declared.kind.Kind.{Kind}
@@ -23,6 +25,10 @@ is_by_reference Bad = false
 abbrev pub writes_much : Operation → Bool
 writes_much op = not (is_read op.target.method)
     && (nat_le 4194304 (length op.content) || is_by_reference op.fields.disposition)
+
+-- the reply says that the request was done
+abbrev pub is_accepted : Performed → Bool
+is_accepted performed = starts_with nat_eq performed.front.items (codes "HTTP/1.1 2")
 
 -- what is due once a call was made
 abbrev pub after_call : LogCopy → LogCopy

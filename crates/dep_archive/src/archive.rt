@@ -92,7 +92,7 @@ impl<S: Alter> Archive for HashingStore<S> {
     ) -> Result<Performed, StoreFault> {
         let performed = self.store.perform(&self.running, service, operation)?;
         self.note(operation);
-        self.log_copy.note(operation);
+        self.log_copy.note(operation, &performed);
         Ok(performed)
     }
 

@@ -1,8 +1,9 @@
 //! When the log of a store is copied into its file.
 
-ghost use Rattle.std.specs.Prelude.{◌≡◌, ◌↔◌, if◌then◌else◌, IsTrue};
-ghost use Rattle.dep_archive.specs.LogCopies.{writes_much, after_call, has_call};
+ghost use Rattle.std.specs.Prelude.{◌≡◌, ◌↔◌, ◌&&◌, if◌then◌else◌, IsTrue};
+ghost use Rattle.dep_archive.specs.LogCopies.{writes_much, is_accepted, after_call, has_call};
 
+use dep_answers::Performed;
 use dep_decisions::Operation;
 use dep_fields::{Field, Kind};
 use dep_types::Method;
@@ -32,14 +33,22 @@ fn writes_much(operation: &Operation<'_>) -> bool
             || matches!(operation.fields.disposition, Field::Value(Kind::References)))
 }
 
+/// Whether the reply says that the request was done (RFC 9110, section 15.3).
+fn is_accepted(performed: &Performed) -> bool
+    ensures { result ≡ is_accepted performed.now }
+{
+    performed.front.as_slice().starts_with(b"HTTP/1.1 2")
+}
+
 impl LogCopy {
     ghost use Rattle.dep_archive.specs.declared.log_copy.LogCopy.TheVariants.{DueAfter};
 
-    /// Notes a request that was answered.
-    pub fn note(&mut self, operation: &Operation<'_>)
-        ensures { self.new ≡ (if writes_much operation.now then DueAfter 3 else self.old) }
+    /// Notes a request that was answered so. One that was refused has written next to nothing.
+    pub fn note(&mut self, operation: &Operation<'_>, performed: &Performed)
+        ensures { self.new ≡ (if writes_much operation.now && is_accepted performed.now
+            then DueAfter 3 else self.old) }
     {
-        if writes_much(operation) {
+        if writes_much(operation) && is_accepted(performed) {
             *self = LogCopy::DueAfter(CALLS_LEFT_OUT);
         }
     }
