@@ -9,7 +9,7 @@ const STORE_FAULT: &[u8] =
     b"HTTP/1.1 500 Internal Server Error\r\nContent-Length: 0\r\nConnection: close\r\n\r\n";
 
 /// How what was sent stands to the reply that is written.
-#[derive(Clone, Copy, PartialEq, Eq)]
+#[derive(Clone, Copy)]
 pub enum Reply {
     AsWritten,
     /// The fixed reply of a fault of the store, or that of want of memory.
