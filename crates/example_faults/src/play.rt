@@ -44,7 +44,8 @@ enum End {
 /// A script that is played, part by part.
 #[derive(Drop)]
 pub struct FaultPlay<'a> {
-    alloc: Global,
+    /// Where its memory comes from.
+    pub(crate) alloc: Global,
     script: &'a Script,
     settings: &'a Settings,
     part: Part,
@@ -82,15 +83,10 @@ impl<'a> FaultPlay<'a> {
         })
     }
 
-    /// Where its memory comes from.
-    pub fn alloc(&self) -> Global {
-        self.alloc
-    }
-
     /// The next part is this one.
     pub fn begin(&mut self, part: Part) {
         self.part = part;
-        self.ends(End::Unopened);
+        drop(mem::replace(&mut self.end, End::Unopened));
         if !matches!(part, Part::Resume) {
             self.done = 0;
             self.has_work = false;
@@ -102,25 +98,19 @@ impl<'a> FaultPlay<'a> {
 
     /// Plays the part over this archive.
     pub fn plays<A: Archive + Drop>(&mut self, archive: A) -> A {
-        match hub_over(self.alloc, self.settings, archive) {
+        let (end, archive) = match hub_over(self.alloc, self.settings, archive) {
             Ok(mut hub) => {
                 let end = match self.plays_on(&mut hub) {
                     Ok(true) => End::Done,
                     Ok(false) => End::Stopped,
                     Err(why) => End::Wrong(why),
                 };
-                self.ends(end);
-                hub.into_store()
+                (end, hub.into_store())
             }
-            Err((fault, archive)) => {
-                self.ends(End::Wrong(trouble_of(fault)));
-                archive
-            }
-        }
-    }
-
-    fn ends(&mut self, end: End) {
+            Err((fault, archive)) => (End::Wrong(trouble_of(fault)), archive),
+        };
         drop(mem::replace(&mut self.end, end));
+        archive
     }
 
     /// The requests came to their end, or to a call of a file that failed.
@@ -181,7 +171,7 @@ impl<'a> FaultPlay<'a> {
         for look in &script.looks {
             let pieces = Cut::Whole.pieces(look.as_bytes());
             let _came = asked(hub, pieces, moment, &mut self.page)?;
-            self.seen.push(self.page.copied(self.alloc)?)?;
+            self.seen.push(self.page.bytes()?.to_vec(self.alloc)?)?;
         }
         Ok(())
     }
@@ -190,7 +180,7 @@ impl<'a> FaultPlay<'a> {
     // whether there is none.
     fn goes_on<A: Archive + Drop>(&mut self, hub: &mut Hub<A>) -> Result<bool, Trouble> {
         let script = self.script;
-        for request in script.left(self.done) {
+        for request in script.requests.iter().skip(self.done) {
             let reply = replied(self.alloc, hub, request, &mut self.page)?;
             // A reply is cut behind its request's step, so that only a fixed one leaves the request in work.
             self.has_work = matches!(reply, Reply::Fixed);

@@ -42,7 +42,7 @@ fn all_faults<F: FaultyFiles>(
 }
 
 fn recorded<F: FaultyFiles>(files: &F, play: &mut FaultPlay<'_>) -> Result<(), Trouble> {
-    let alloc = play.alloc();
+    let alloc = play.alloc;
     let copy = files.copied(alloc, FaultyFile::Log, u64::MAX)?;
     plays_whole(copy, play, Part::Record)
 }
@@ -54,7 +54,7 @@ fn plays_whole<F: FaultyFiles>(
     part: Part,
 ) -> Result<(), Trouble> {
     play.begin(part);
-    drop(files.played(play.alloc(), play));
+    drop(files.played(play.alloc, play));
     play.has_ended(false)
 }
 
@@ -74,7 +74,7 @@ fn at_each_call<F: FaultyFiles>(
             Err(why) => {
                 return Err(match plays_round(files, play, at) {
                     Ok(_) => Trouble::Memory,
-                    Err(_) => Trouble::told(format!(in play.alloc(); "{at}: {why}")),
+                    Err(_) => Trouble::told(format!(in play.alloc; "{at}: {why}")),
                 });
             }
         }
@@ -89,21 +89,13 @@ fn plays_round<F: FaultyFiles>(
     play: &mut FaultPlay<'_>,
     at: FileFault,
 ) -> Result<bool, Trouble> {
-    let alloc = play.alloc();
+    let alloc = play.alloc;
     let copy = files.copied(alloc, at.file, at.calls)?;
     play.begin(Part::Faulty(at.fault));
     let mut spent = copy.played(alloc, play);
     let is_spent = spent.is_spent();
     let left = spent.left(alloc, at.fault)?;
-    resumes(left, play, is_spent)?;
-    Ok(is_spent)
-}
-
-fn resumes<F: FaultyFiles>(
-    left: F,
-    play: &mut FaultPlay<'_>,
-    is_spent: bool,
-) -> Result<(), Trouble> {
     play.has_ended(is_spent)?;
-    plays_whole(left, play, Part::Resume)
+    plays_whole(left, play, Part::Resume)?;
+    Ok(is_spent)
 }

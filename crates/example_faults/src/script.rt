@@ -45,11 +45,6 @@ impl Script {
         }
     }
 
-    /// The requests behind so many.
-    pub fn left(&self, done: usize) -> &[Request] {
-        self.requests.as_slice().get(done..).unwrap_or(&[])
-    }
-
     /// Whether something happens to a file.
     pub fn has_faults(&self) -> bool {
         !self.faults.is_empty()
