@@ -94,7 +94,8 @@ impl Script {
             closes: matches!(answer, "closed"),
             exchange,
         };
-        self.requests.push(request).map_err(Trouble::from)
+        self.requests.push(request)?;
+        Ok(())
     }
 
     // Whether a request has these bytes.

@@ -17,7 +17,10 @@ pub enum Trouble {
 impl Trouble {
     /// What a text says, or the want of memory for it.
     pub fn told(text: Result<String, AllocError>) -> Trouble {
-        text.map_or(Trouble::Memory, Trouble::Other)
+        match text {
+            Ok(text) => Trouble::Other(text),
+            Err(AllocError) => Trouble::Memory,
+        }
     }
 }
 
