@@ -99,14 +99,7 @@ impl<'a> FaultPlay<'a> {
     /// Plays the part over this archive.
     pub fn plays<A: Archive + Drop>(&mut self, archive: A) -> A {
         let (end, archive) = match hub_over(self.alloc, self.settings, archive) {
-            Ok(mut hub) => {
-                let end = match self.plays_on(&mut hub) {
-                    Ok(true) => End::Done,
-                    Ok(false) => End::Stopped,
-                    Err(why) => End::Wrong(why),
-                };
-                (end, hub.into_store())
-            }
+            Ok(mut hub) => (self.plays_on(&mut hub), hub.into_store()),
             Err((fault, archive)) => (End::Wrong(trouble_of(fault)), archive),
         };
         drop(mem::replace(&mut self.end, end));
@@ -124,16 +117,21 @@ impl<'a> FaultPlay<'a> {
         }
     }
 
-    // It returns whether each request was answered as it is written.
-    fn plays_on<A: Archive + Drop>(&mut self, hub: &mut Hub<A>) -> Result<bool, Trouble> {
-        match self.part {
+    fn plays_on<A: Archive + Drop>(&mut self, hub: &mut Hub<A>) -> End {
+        let came = match self.part {
             Part::Record => self.records(hub),
             Part::Faulty(Fault::Stops) => self.goes_on(hub),
             Part::Faulty(Fault::Fails) => self.goes_through(hub),
             Part::Resume => self.resumes(hub),
+        };
+        match came {
+            Ok(true) => End::Done,
+            Ok(false) => End::Stopped,
+            Err(why) => End::Wrong(why),
         }
     }
 
+    // It returns whether each request was answered as it is written.
     fn records<A: Archive + Drop>(&mut self, hub: &mut Hub<A>) -> Result<bool, Trouble> {
         let _is_new = self.adds_picture(hub, LOOKING)?;
         let script = self.script;
