@@ -21,9 +21,9 @@ const GIVEN_UP: Trouble = Trouble::Line("a request is given up where no call of 
 pub enum Part {
     /// All requests, each of which is answered as it is written. What is looked at is recorded.
     Record,
-    /// The requests from the first one on, up to one that isn't answered as it is written, where that call of a file
-    /// fails. Where only the call fails it then goes on as far as it comes with the same store, and what is looked at is
-    /// as recorded there, or isn't answered.
+    /// The requests from the first one on, up to one that isn't answered as it is written. Where the process goes on it
+    /// goes on from there too, as far as it comes with the same store, and what is looked at is as recorded there, or
+    /// isn't answered.
     Faulty(Fault),
     /// What is looked at is as recorded before the request in work, or as after it. The requests go on from there, and
     /// in the end all is as recorded.

@@ -5,11 +5,13 @@ use crate::words::{Words, first_word};
 use dep_types::{Config, GREATEST_MAX_ASSEMBLED, GREATEST_MAX_SEGMENTS, GREATEST_MAX_UPLOAD, Text};
 use std::alloc::{AllocError, Global};
 
-/// The parts of a configuration that are any text, those that are true or false, and those that are numbers.
+/// The parts of a configuration that may be any text.
 const TEXTS: [&str; 4] = ["base", "title", "abstract", "depositor"];
 
+/// Those that are true or false.
 const RULES: [&str; 2] = ["on-behalf-of", "require-if-match"];
 
+/// Those that are numbers.
 const LIMITS: [&str; 4] = [
     "max-upload",
     "max-assembled",
