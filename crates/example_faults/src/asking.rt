@@ -20,7 +20,7 @@ pub fn asked<A: Archive + Drop>(
     Ok(came)
 }
 
-/// How a request is answered.
+/// How a request is answered. Behind its reply the connection has to stand as it should.
 pub fn replied<A: Archive + Drop>(
     alloc: Global,
     hub: &mut Hub<A>,
@@ -29,37 +29,18 @@ pub fn replied<A: Archive + Drop>(
 ) -> Result<Reply, Trouble> {
     let exchange = &request.exchange;
     let came = asked(hub, exchange.pieces(), exchange.moment, page)?;
-    judged(alloc, request, page.bytes()?, came)
-}
-
-// How these bytes answer the request, behind which the connection has to stand as it should.
-fn judged(alloc: Global, request: &Request, sent: &[u8], came: Arrived) -> Result<Reply, Trouble> {
-    let want = request.exchange.want.as_slice();
+    let (want, sent) = (exchange.want.as_slice(), page.bytes()?);
     let reply = Reply::of(want, sent);
-    let is_right = match (reply, came) {
-        (Reply::Other, _) => return Err(differing(alloc, want, sent)),
-        (Reply::AsWritten, Arrived::Open) => !request.closes,
-        (Reply::AsWritten, Arrived::Closed) => request.closes,
-        (Reply::Fixed, Arrived::Closed) => true,
-        (Reply::Cut, Arrived::Cut) => true,
-        _ => false,
+    let stands = match reply {
+        Reply::Other => return Err(differing(alloc, want, sent)),
+        Reply::AsWritten if request.closes => Arrived::Closed,
+        Reply::AsWritten => Arrived::Open,
+        Reply::Fixed => Arrived::Closed,
+        Reply::Cut => Arrived::Cut,
     };
-    if is_right {
+    if came == stands {
         Ok(reply)
     } else {
         Err(Trouble::Line("behind its reply a connection stands otherwise than it should"))
-    }
-}
-
-/// A request is answered as it is written.
-pub fn is_answered<A: Archive + Drop>(
-    alloc: Global,
-    hub: &mut Hub<A>,
-    request: &Request,
-    page: &mut Page,
-) -> Result<(), Trouble> {
-    match replied(alloc, hub, request, page)? {
-        Reply::AsWritten => Ok(()),
-        _ => Err(Trouble::Line("a request is given up where no call of a file fails")),
     }
 }

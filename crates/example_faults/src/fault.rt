@@ -12,15 +12,6 @@ pub enum Fault {
     Stops,
 }
 
-impl Fault {
-    fn name(self) -> &'static str {
-        match self {
-            Fault::Fails => "fails",
-            Fault::Stops => "stops",
-        }
-    }
-}
-
 /// A file of an archive.
 #[derive(Clone, Copy)]
 pub enum FaultyFile {
@@ -37,13 +28,6 @@ impl FaultyFile {
             _ => Err(Trouble::Line("no file of an archive has that name")),
         }
     }
-
-    fn name(self) -> &'static str {
-        match self {
-            FaultyFile::Log => "log",
-            FaultyFile::Database => "database",
-        }
-    }
 }
 
 /// What happens to which file.
@@ -57,7 +41,15 @@ pub struct FileFault {
 
 impl fmt::Display for FileFault {
     fn fmt<W: fmt::Write>(&self, f: &mut fmt::Formatter<W>) -> fmt::Result {
-        let (fault, file, calls) = (self.fault.name(), self.file.name(), self.calls);
+        let fault = match self.fault {
+            Fault::Fails => "fails",
+            Fault::Stops => "stops",
+        };
+        let file = match self.file {
+            FaultyFile::Log => "log",
+            FaultyFile::Database => "database",
+        };
+        let calls = self.calls;
         write!(f, "{fault} {file} after {calls} calls")
     }
 }

@@ -1,6 +1,7 @@
 //! A script that is played over an archive, part by part.
 
-use crate::asking::{asked, is_answered, replied};
+use crate::asking::{asked, replied};
+use crate::fault::Fault;
 use crate::hub::{hub_over, trouble_of};
 use crate::script::{Request, Script};
 use dep_hub::{Archive, Hub};
@@ -11,16 +12,19 @@ use std::mem;
 /// The moment at which the archive is looked at: before all others, so that looking moves no clock.
 const LOOKING: u64 = 0;
 
+const UNOPENED: Trouble = Trouble::Line("the archive is not opened where no call of a file fails");
+
+const GIVEN_UP: Trouble = Trouble::Line("a request is given up where no call of a file fails");
+
 /// What is played.
 #[derive(Clone, Copy)]
 pub enum Part {
     /// All requests, each of which is answered as it is written. What is looked at is recorded.
     Record,
-    /// The requests from the first one on, up to one that isn't answered as it is written.
-    UpToFault,
-    /// The same. Then it goes on as far as it comes with the same store, and what is looked at is as recorded there, or
+    /// The requests from the first one on, up to one that isn't answered as it is written. Where the process goes on it
+    /// goes on from there too, as far as it comes with the same store, and what is looked at is as recorded there, or
     /// isn't answered.
-    ThroughFault,
+    Faulty(Fault),
     /// What is looked at is as recorded before the request in work, or as after it. The requests go on from there, and
     /// in the end all is as recorded.
     Resume,
@@ -28,7 +32,7 @@ pub enum Part {
 
 /// What came of a part.
 #[derive(Drop)]
-pub enum End {
+enum End {
     /// The archive was not opened.
     Unopened,
     /// A request was not answered as it is written, as may be where a call of a file fails.
@@ -40,7 +44,8 @@ pub enum End {
 /// A script that is played, part by part.
 #[derive(Drop)]
 pub struct FaultPlay<'a> {
-    alloc: Global,
+    /// Where its memory comes from.
+    pub(crate) alloc: Global,
     script: &'a Script,
     settings: &'a Settings,
     part: Part,
@@ -78,100 +83,83 @@ impl<'a> FaultPlay<'a> {
         })
     }
 
-    /// Where its memory comes from.
-    pub fn alloc(&self) -> Global {
-        self.alloc
-    }
-
     /// The next part is this one.
     pub fn begin(&mut self, part: Part) {
         self.part = part;
-        self.ends(End::Unopened);
-        match part {
-            Part::Resume => {}
-            Part::Record => {
-                self.rewinds();
-                self.pictures.clear();
-            }
-            Part::UpToFault | Part::ThroughFault => self.rewinds(),
+        drop(mem::replace(&mut self.end, End::Unopened));
+        if !matches!(part, Part::Resume) {
+            self.done = 0;
+            self.has_work = false;
         }
-    }
-
-    // No request is done.
-    fn rewinds(&mut self) {
-        self.done = 0;
-        self.has_work = false;
+        if matches!(part, Part::Record) {
+            self.pictures.clear();
+        }
     }
 
     /// Plays the part over this archive.
     pub fn plays<A: Archive + Drop>(&mut self, archive: A) -> A {
-        match hub_over(self.alloc, self.settings, archive) {
-            Ok(mut hub) => {
-                let end = match self.plays_on(&mut hub) {
-                    Ok(true) => End::Done,
-                    Ok(false) => End::Stopped,
-                    Err(why) => End::Wrong(why),
-                };
-                self.ends(end);
-                hub.into_store()
-            }
-            Err((fault, archive)) => {
-                self.ends(End::Wrong(trouble_of(fault)));
-                archive
-            }
+        let (end, archive) = match hub_over(self.alloc, self.settings, archive) {
+            Ok(mut hub) => (self.plays_on(&mut hub), hub.into_store()),
+            Err((fault, archive)) => (End::Wrong(trouble_of(fault)), archive),
+        };
+        drop(mem::replace(&mut self.end, end));
+        archive
+    }
+
+    /// The requests came to their end, or to a call of a file that failed.
+    pub fn has_ended(&mut self, may_fail: bool) -> Result<(), Trouble> {
+        match mem::replace(&mut self.end, End::Unopened) {
+            End::Wrong(why) => Err(why),
+            End::Done => Ok(()),
+            End::Unopened | End::Stopped if may_fail => Ok(()),
+            End::Unopened => Err(UNOPENED),
+            End::Stopped => Err(GIVEN_UP),
         }
     }
 
-    fn ends(&mut self, end: End) {
-        drop(mem::replace(&mut self.end, end));
-    }
-
-    /// What came of the part.
-    pub fn end(&mut self) -> End {
-        mem::replace(&mut self.end, End::Unopened)
+    fn plays_on<A: Archive + Drop>(&mut self, hub: &mut Hub<A>) -> End {
+        let came = match self.part {
+            Part::Record => self.records(hub),
+            Part::Faulty(Fault::Stops) => self.goes_on(hub),
+            Part::Faulty(Fault::Fails) => self.goes_through(hub),
+            Part::Resume => self.resumes(hub),
+        };
+        match came {
+            Ok(true) => End::Done,
+            Ok(false) => End::Stopped,
+            Err(why) => End::Wrong(why),
+        }
     }
 
     // It returns whether each request was answered as it is written.
-    fn plays_on<A: Archive + Drop>(&mut self, hub: &mut Hub<A>) -> Result<bool, Trouble> {
-        match self.part {
-            Part::Record => self.records(hub),
-            Part::UpToFault => self.goes_on(hub),
-            Part::ThroughFault => self.goes_through(hub),
-            Part::Resume => self.resumes(hub),
-        }
-    }
-
     fn records<A: Archive + Drop>(&mut self, hub: &mut Hub<A>) -> Result<bool, Trouble> {
-        self.adds_picture(hub, LOOKING)?;
+        let _is_new = self.adds_picture(hub, LOOKING)?;
         let script = self.script;
         for request in &script.requests {
-            self.records_one(hub, request)?;
+            let _is_new = self.adds_picture(hub, request.exchange.moment)?;
+            let reply = replied(self.alloc, hub, request, &mut self.page)?;
+            if !matches!(reply, Reply::AsWritten) {
+                return Ok(false);
+            }
+            let is_new = self.adds_picture(hub, LOOKING)?;
+            if !is_new && !request.may_change_nothing() {
+                return Err(Trouble::Line("a request changes nothing that is looked at"));
+            }
         }
         Ok(true)
     }
 
-    fn records_one<A: Archive + Drop>(
-        &mut self,
-        hub: &mut Hub<A>,
-        request: &Request,
-    ) -> Result<(), Trouble> {
-        self.adds_picture(hub, request.exchange.moment)?;
-        is_answered(self.alloc, hub, request, &mut self.page)?;
-        self.adds_picture(hub, LOOKING)?;
-        if self.has_changed() || request.may_change_nothing() {
-            return Ok(());
-        }
-        Err(Trouble::Line("a request changes nothing that is looked at"))
-    }
-
+    // Records what is looked at. It returns whether that differs from what was recorded last.
     fn adds_picture<A: Archive + Drop>(
         &mut self,
         hub: &mut Hub<A>,
         moment: u64,
-    ) -> Result<(), Trouble> {
+    ) -> Result<bool, Trouble> {
         self.looks(hub, moment)?;
+        let is_new = !self.is_seen(self.pictures.len().saturating_sub(1));
         let picture = mem::replace(&mut self.seen, Vec::new(self.alloc));
-        self.pictures.push(picture).map_err(Trouble::from)
+        self.pictures.push(picture)?;
+        Ok(is_new)
     }
 
     // Looks at all that is looked at.
@@ -179,28 +167,24 @@ impl<'a> FaultPlay<'a> {
         self.seen.clear();
         let script = self.script;
         for look in &script.looks {
-            let pieces = Cut::Whole.pieces(look.as_slice());
+            let pieces = Cut::Whole.pieces(look.as_bytes());
             let _came = asked(hub, pieces, moment, &mut self.page)?;
-            self.seen.push(self.page.copied(self.alloc)?)?;
+            self.seen.push(self.page.bytes()?.to_vec(self.alloc)?)?;
         }
         Ok(())
-    }
-
-    // Whether the last two pictures differ.
-    fn has_changed(&self) -> bool {
-        match self.pictures.as_slice() {
-            [.., before, after] => before != after,
-            _ => true,
-        }
     }
 
     // The requests that are not done yet, up to the first that isn't answered as it is written. It returns
     // whether there is none.
     fn goes_on<A: Archive + Drop>(&mut self, hub: &mut Hub<A>) -> Result<bool, Trouble> {
         let script = self.script;
-        for request in script.left(self.done) {
+        for request in script.requests.iter().skip(self.done) {
             let reply = replied(self.alloc, hub, request, &mut self.page)?;
-            self.counts(reply);
+            // A reply is cut behind its request's step, so that only a fixed one leaves the request in work.
+            self.has_work = matches!(reply, Reply::Fixed);
+            if !self.has_work {
+                self.done = self.done.saturating_add(1);
+            }
             if !matches!(reply, Reply::AsWritten) {
                 return Ok(false);
             }
@@ -208,20 +192,10 @@ impl<'a> FaultPlay<'a> {
         Ok(true)
     }
 
-    // One more request is done, unless it was given up. A reply is cut behind its request's step.
-    fn counts(&mut self, reply: Reply) {
-        self.has_work = matches!(reply, Reply::Fixed);
-        if !self.has_work {
-            self.done = self.done.saturating_add(1);
-        }
-    }
-
     fn goes_through<A: Archive + Drop>(&mut self, hub: &mut Hub<A>) -> Result<bool, Trouble> {
         let is_whole = self.goes_on(hub)?;
-        if !is_whole {
-            // The request that was given up comes once more.
-            let _is_whole = self.goes_on(hub)?;
-        }
+        // A request that was given up comes once more.
+        let _is_whole = self.goes_on(hub)?;
         self.looks(hub, LOOKING)?;
         if self.may_be_seen() {
             return Ok(is_whole);
@@ -245,22 +219,19 @@ impl<'a> FaultPlay<'a> {
 
     // Whether this may be sent for what is looked at as it is recorded at this place.
     fn may_show(&self, place: usize, look: usize, sent: &[u8]) -> bool {
-        match self.pictures.get(place) {
-            Some(picture) => match picture.get(look) {
-                Some(want) => !matches!(Reply::of(want.as_slice(), sent), Reply::Other),
-                None => false,
-            },
-            None => false,
+        if let Some(picture) = self.pictures.get(place)
+            && let Some(want) = picture.get(look)
+        {
+            return !matches!(Reply::of(want.as_slice(), sent), Reply::Other);
         }
+        false
     }
 
     fn resumes<A: Archive + Drop>(&mut self, hub: &mut Hub<A>) -> Result<bool, Trouble> {
         self.finds_place(hub)?;
-        let script = self.script;
-        for request in script.left(self.done) {
-            is_answered(self.alloc, hub, request, &mut self.page)?;
+        if !self.goes_on(hub)? {
+            return Ok(false);
         }
-        self.done = script.requests.len();
         self.has_work = false;
         self.finds_place(hub)?;
         Ok(true)
@@ -270,12 +241,12 @@ impl<'a> FaultPlay<'a> {
     fn finds_place<A: Archive + Drop>(&mut self, hub: &mut Hub<A>) -> Result<(), Trouble> {
         self.looks(hub, LOOKING)?;
         let place = self.done.saturating_mul(2);
-        if self.is_seen(place) || self.has_work && self.is_seen(place.saturating_add(1)) {
-            return Ok(());
-        }
-        if self.has_work && self.is_seen(place.saturating_add(2)) {
-            self.done = self.done.saturating_add(1);
-            return Ok(());
+        let steps = if self.has_work { 3 } else { 1 };
+        for step in 0..steps {
+            if self.is_seen(place.saturating_add(step)) {
+                self.done = self.done.saturating_add(step / 2);
+                return Ok(());
+            }
         }
         Err(self.neither(place))
     }
@@ -290,22 +261,16 @@ impl<'a> FaultPlay<'a> {
 
     // What is looked at is neither as recorded at this place nor as the request in work leaves it.
     fn neither(&self, place: usize) -> Trouble {
-        match self.pictures.get(place) {
-            Some(picture) => seen_otherwise(self.alloc, picture.as_slice(), self.seen.as_slice()),
-            None => Trouble::Line("nothing is recorded there"),
-        }
-    }
-}
-
-fn seen_otherwise(alloc: Global, picture: &[Vec<u8>], seen: &[Vec<u8>]) -> Trouble {
-    let look = parting(picture, seen);
-    match (picture.get(look), seen.get(look)) {
-        (Some(want), Some(sent)) => {
-            let why = differing(alloc, want.as_slice(), sent.as_slice());
-            Trouble::told(format!(in alloc;
+        let seen = self.seen.as_slice();
+        if let Some(picture) = self.pictures.get(place)
+            && let look = parting(picture.as_slice(), seen)
+            && let (Some(want), Some(sent)) = (picture.get(look), seen.get(look))
+        {
+            let why = differing(self.alloc, want.as_slice(), sent.as_slice());
+            return Trouble::told(format!(in self.alloc;
                 "opened again, what is looked at is neither as before the request in work nor as after it: {why}"
-            ))
+            ));
         }
-        _ => Trouble::Line("nothing is recorded there"),
+        Trouble::Line("nothing is recorded there")
     }
 }

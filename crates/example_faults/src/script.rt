@@ -29,7 +29,7 @@ pub struct Script {
     pub statements: String,
     pub requests: Vec<Request>,
     /// The requests by which the archive is looked at.
-    pub looks: Vec<Vec<u8>>,
+    pub looks: Vec<String>,
     /// What happens to which file, one after another.
     pub faults: Vec<(Fault, FaultyFile)>,
 }
@@ -43,11 +43,6 @@ impl Script {
             looks: Vec::new(alloc),
             faults: Vec::new(alloc),
         }
-    }
-
-    /// The requests behind so many.
-    pub fn left(&self, done: usize) -> &[Request] {
-        self.requests.as_slice().get(done..).unwrap_or(&[])
     }
 
     /// Whether something happens to a file.
@@ -86,7 +81,8 @@ impl Script {
             return Err(Trouble::Line("no line above says which file fails or stops"));
         }
         for path in paths.split(' ') {
-            self.looks.push(get(alloc, path)?)?;
+            let get = format!(in alloc; "GET {path} HTTP/1.1\r\nHost: a\r\n\r\n")?;
+            self.looks.push(get)?;
         }
         Ok(())
     }
@@ -98,7 +94,8 @@ impl Script {
             closes: matches!(answer, "closed"),
             exchange,
         };
-        self.requests.push(request).map_err(Trouble::from)
+        self.requests.push(request)?;
+        Ok(())
     }
 
     // Whether a request has these bytes.
@@ -121,9 +118,4 @@ impl Script {
         }
         Ok(())
     }
-}
-
-fn get(alloc: Global, path: &str) -> Result<Vec<u8>, AllocError> {
-    let text = format!(in alloc; "GET {path} HTTP/1.1\r\nHost: a\r\n\r\n")?;
-    text.as_bytes().to_vec(alloc)
 }

@@ -8,17 +8,6 @@ use std::alloc::{AllocError, Global};
 /// So deep may named texts stand in one another.
 const DEPTH: u32 = 6;
 
-/// Appends the bytes of a text: the named texts are filled in, and then the escapes are read.
-pub fn expand(
-    alloc: Global,
-    words: &Words,
-    text: &str,
-    bytes: &mut Vec<u8>,
-) -> Result<(), Trouble> {
-    let filled = fill(alloc, words, text)?;
-    unescape(filled.as_str(), bytes)
-}
-
 /// The text with the named texts filled in.
 pub fn fill(alloc: Global, words: &Words, text: &str) -> Result<String, AllocError> {
     let mut filled = String::from_str(alloc, text)?;
@@ -46,25 +35,15 @@ fn fill_part(
     part: &str,
     filled: &mut String,
 ) -> Result<(), AllocError> {
-    let Some((inside, rest)) = part.strip_prefix('{').and_then(until_brace) else {
-        return keep_part(part, filled);
-    };
-    let (numbers, name) = numbered(inside);
-    match words.find(name) {
-        Some(text) => {
+    if let Some(braced) = part.strip_prefix('{')
+        && let Some((inside, rest)) = braced.split_once('}')
+    {
+        let (numbers, name) = numbered(inside);
+        if let Some(text) = words.find(name) {
             push_numbered(alloc, text, numbers, filled)?;
-            filled.push_str(rest)
+            return filled.push_str(rest);
         }
-        None => keep_part(part, filled),
     }
-}
-
-// Up to the brace, and behind it.
-fn until_brace(text: &str) -> Option<(&str, &str)> {
-    text.split_once('}')
-}
-
-fn keep_part(part: &str, filled: &mut String) -> Result<(), AllocError> {
     filled.push_str("\\")?;
     filled.push_str(part)
 }
@@ -86,31 +65,37 @@ fn push_numbered(
 
 // `9 name` and `2 to 10 name` are the numbers from which on and up to which. A name alone is there once.
 fn numbered(inside: &str) -> ((usize, usize), &str) {
-    match counted(inside) {
-        None => ((0, 1), inside),
-        Some((first, what)) => match what.strip_prefix("to ").and_then(counted) {
-            None => ((0, first), what),
-            Some((last, what)) => ((first, last.saturating_add(1)), what),
-        },
+    let Some((first, what)) = counted(inside) else {
+        return ((0, 1), inside);
+    };
+    if let Some(up_to) = what.strip_prefix("to ")
+        && let Some((last, what)) = counted(up_to)
+    {
+        return ((first, last.saturating_add(1)), what);
     }
+    ((0, first), what)
 }
 
 // A number, a blank, and what is to stand there so often.
 fn counted(inside: &str) -> Option<(usize, &str)> {
-    let (count, what) = inside.split_once(' ')?;
-    match count.parse::<usize>() {
-        Ok(count) => Some((count, what)),
-        Err(_) => None,
+    if let Some((count, what)) = inside.split_once(' ')
+        && let Ok(count) = count.parse::<usize>()
+    {
+        return Some((count, what));
     }
+    None
 }
 
-fn unescape(text: &str, bytes: &mut Vec<u8>) -> Result<(), Trouble> {
+/// Appends the bytes of a text, of which the escapes are read, and those of this end.
+pub fn unescape(text: &str, end: &str, bytes: &mut Vec<u8>) -> Result<(), Trouble> {
     let mut parts = text.split('\\');
     bytes.extend_from_slice(parts.next().unwrap_or("").as_bytes())?;
     for part in parts {
         escape(part, bytes)?;
     }
-    Ok(())
+    bytes
+        .extend_from_slice(end.as_bytes())
+        .map_err(Trouble::from)
 }
 
 fn escape(part: &str, bytes: &mut Vec<u8>) -> Result<(), Trouble> {
@@ -124,11 +109,13 @@ fn escape(part: &str, bytes: &mut Vec<u8>) -> Result<(), Trouble> {
         [] => return Err(Trouble::Line("a backslash before nothing")),
         _ => return Err(Trouble::Line("an escape that is none")),
     };
-    put(byte, rest, bytes)
+    put(&[byte], 1, rest, bytes)
 }
 
-fn put(byte: u8, rest: &str, bytes: &mut Vec<u8>) -> Result<(), Trouble> {
-    bytes.push(byte)?;
+fn put(letters: &[u8], count: usize, rest: &str, bytes: &mut Vec<u8>) -> Result<(), Trouble> {
+    for _ in 0..count {
+        bytes.extend_from_slice(letters)?;
+    }
     bytes
         .extend_from_slice(rest.as_bytes())
         .map_err(Trouble::from)
@@ -139,7 +126,7 @@ fn hex(part: &str, bytes: &mut Vec<u8>) -> Result<(), Trouble> {
         return Err(Trouble::Line("fewer than two digits"));
     };
     match u8::from_str_radix(digits, 16) {
-        Ok(byte) => put(byte, rest, bytes),
+        Ok(byte) => put(&[byte], 1, rest, bytes),
         Err(_) => Err(Trouble::Line("no digits of a byte")),
     }
 }
@@ -149,13 +136,8 @@ fn repeat(part: &str, bytes: &mut Vec<u8>) -> Result<(), Trouble> {
     let Some((inside, rest)) = part.split_once('}') else {
         return Err(Trouble::Line("no end of what stands in braces"));
     };
-    let Some((count, letters)) = counted(inside) else {
-        return Err(Trouble::Line("no text has that name"));
-    };
-    for _ in 0..count {
-        bytes.extend_from_slice(letters.as_bytes())?;
+    match counted(inside) {
+        Some((count, letters)) => put(letters.as_bytes(), count, rest, bytes),
+        None => Err(Trouble::Line("no text has that name")),
     }
-    bytes
-        .extend_from_slice(rest.as_bytes())
-        .map_err(Trouble::from)
 }

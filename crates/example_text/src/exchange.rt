@@ -2,7 +2,7 @@
 
 use crate::archive_call::ArchiveCall;
 use crate::cut::{Cut, Pieces};
-use crate::escapes::expand;
+use crate::escapes::{fill, unescape};
 use crate::page::Page;
 use crate::reply::{WANT_OF_MEMORY, is_cut_in_content};
 use crate::settings::number;
@@ -72,7 +72,8 @@ impl Exchange {
         mem::replace(self, next)
     }
 
-    /// Adds a line to what comes, or to what has to be sent for it.
+    /// Adds a line to what comes, or to what has to be sent for it: its bytes with CR and LF, or without where it ends
+    /// in a backslash.
     pub fn line(
         &mut self,
         alloc: Global,
@@ -81,10 +82,15 @@ impl Exchange {
         text: &str,
     ) -> Result<(), Trouble> {
         self.begin();
-        match word {
-            ">" => line_to(alloc, words, text, &mut self.stream),
-            _ => line_to(alloc, words, text, &mut self.want),
-        }
+        let bytes = match word {
+            ">" => &mut self.stream,
+            _ => &mut self.want,
+        };
+        let (front, end) = match text.strip_suffix('\\') {
+            Some(front) => (front, ""),
+            None => (text, "\r\n"),
+        };
+        unescape(fill(alloc, words, front)?.as_str(), end, bytes)
     }
 
     /// A line of it was read, and not its answer yet.
@@ -149,7 +155,9 @@ impl Exchange {
         } else if self.is_given_up(sent, came) {
             Err(Trouble::Memory)
         } else if is_sent {
-            Err(other_end(alloc, came, answer))
+            Err(Trouble::told(format!(in alloc;
+                "it is written to end as \"{answer}\", and came to \"{came}\""
+            )))
         } else {
             Err(differing(alloc, self.want.as_slice(), sent))
         }
@@ -165,38 +173,16 @@ impl Exchange {
                 Some(front) => want.starts_with(front),
                 None => false,
             },
-            "cut" => self.is_cut_503(sent) || self.is_short(sent) && is_cut_in_content(want, sent),
-            "write-fault" | "store-fault" => {
-                self.is_cut_503(sent) || self.is_short(sent) && want.starts_with(sent)
-            }
+            "cut" => self.is_cut(sent, is_cut_in_content(want, sent)),
+            "write-fault" | "store-fault" => self.is_cut(sent, want.starts_with(sent)),
             _ => false,
         }
     }
 
-    // Whether its writer would take more.
-    fn is_short(&self, sent: &[u8]) -> bool {
-        sent.len() < self.most
-    }
-
-    // Whether the writer failed in the reply that says so.
-    fn is_cut_503(&self, sent: &[u8]) -> bool {
+    // Whether its writer failed in the reply that says so, or would take more of the reply that is written.
+    fn is_cut(&self, sent: &[u8], is_front: bool) -> bool {
         self.most < usize::MAX && WANT_OF_MEMORY.starts_with(sent)
-    }
-}
-
-// The result is another than the answer that is written.
-fn other_end(alloc: Global, came: &str, answer: &str) -> Trouble {
-    Trouble::told(format!(in alloc; "it is written to end as \"{answer}\", and came to \"{came}\""))
-}
-
-// A line's bytes with CR and LF, or without where it ends in a backslash.
-fn line_to(alloc: Global, words: &Words, text: &str, bytes: &mut Vec<u8>) -> Result<(), Trouble> {
-    match text.strip_suffix('\\') {
-        Some(front) => expand(alloc, words, front, bytes),
-        None => {
-            expand(alloc, words, text, bytes)?;
-            bytes.extend_from_slice(b"\r\n").map_err(Trouble::from)
-        }
+            || sent.len() < self.most && is_front
     }
 }
 

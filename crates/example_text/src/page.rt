@@ -49,11 +49,6 @@ impl Page {
         }
     }
 
-    /// A copy of what it took.
-    pub fn copied(&self, alloc: Global) -> Result<Vec<u8>, AllocError> {
-        self.bytes()?.to_vec(alloc)
-    }
-
     /// Adds a line of a name and a number.
     pub fn tell_number(&mut self, name: &[u8], number: u64) {
         let mut digits = Buffer::new();
@@ -63,19 +58,15 @@ impl Page {
     /// Adds a line of these parts.
     pub fn tell(&mut self, parts: &[&[u8]]) {
         self.put(parts);
-        self.add(b"\r\n");
+        self.put(&[b"\r\n"]);
     }
 
     /// Adds these parts.
     pub fn put(&mut self, parts: &[&[u8]]) {
         for part in parts {
-            self.add(part);
-        }
-    }
-
-    fn add(&mut self, part: &[u8]) {
-        if self.bytes.extend_from_slice(part).is_err() {
-            self.is_whole = false;
+            if self.bytes.extend_from_slice(part).is_err() {
+                self.is_whole = false;
+            }
         }
     }
 }

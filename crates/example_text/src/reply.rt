@@ -9,7 +9,7 @@ const STORE_FAULT: &[u8] =
     b"HTTP/1.1 500 Internal Server Error\r\nContent-Length: 0\r\nConnection: close\r\n\r\n";
 
 /// How what was sent stands to the reply that is written.
-#[derive(Clone, Copy, PartialEq, Eq)]
+#[derive(Clone, Copy)]
 pub enum Reply {
     AsWritten,
     /// The fixed reply of a fault of the store, or that of want of memory.
@@ -24,7 +24,7 @@ impl Reply {
     pub fn of(want: &[u8], sent: &[u8]) -> Reply {
         if sent == want {
             Reply::AsWritten
-        } else if sent == STORE_FAULT || sent == WANT_OF_MEMORY {
+        } else if [STORE_FAULT, WANT_OF_MEMORY].contains(&sent) {
             Reply::Fixed
         } else if is_cut_in_content(want, sent) {
             Reply::Cut
@@ -36,10 +36,9 @@ impl Reply {
 
 /// Whether not all of a reply was sent, and its head was.
 pub fn is_cut_in_content(want: &[u8], sent: &[u8]) -> bool {
-    sent.len() < want.len() && want.starts_with(sent) && holds_head(sent)
-}
-
-fn holds_head(sent: &[u8]) -> bool {
+    if sent.len() >= want.len() || !want.starts_with(sent) {
+        return false;
+    }
     for i in 0..sent.len() {
         if sent[i..].starts_with(b"\r\n\r\n") {
             return true;

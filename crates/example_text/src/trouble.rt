@@ -17,7 +17,10 @@ pub enum Trouble {
 impl Trouble {
     /// What a text says, or the want of memory for it.
     pub fn told(text: Result<String, AllocError>) -> Trouble {
-        text.map_or(Trouble::Memory, Trouble::Other)
+        match text {
+            Ok(text) => Trouble::Other(text),
+            Err(AllocError) => Trouble::Memory,
+        }
     }
 }
 
@@ -81,10 +84,11 @@ impl fmt::Display for Shown<'_> {
 }
 
 fn show<W: fmt::Write>(byte: u8, f: &mut fmt::Formatter<W>) -> fmt::Result {
-    match byte {
-        b'\r' => f.write_str("\\r"),
-        b'\n' => f.write_str("\\n"),
-        b' '..=b'~' => f.write_char(char::from(byte)),
-        other => write!(f, "\\x{other:02X}"),
-    }
+    let escaped = match byte {
+        b'\r' => "\\r",
+        b'\n' => "\\n",
+        b' '..=b'~' => return f.write_char(char::from(byte)),
+        other => return write!(f, "\\x{other:02X}"),
+    };
+    f.write_str(escaped)
 }
