@@ -13,6 +13,9 @@ use Rattle.dep_hub.specs.declared.arrived.Arrived.{Arrived}
 use Rattle.dep_hub.specs.declared.arrived.Arrived.TheVariants as came
 use Rattle.dep_hub.specs.declared.next.Next.{Next}
 use Rattle.dep_hub.specs.declared.next.Next.TheVariants.{More, Waiting, Closed, Cut, NoSuch}
+use Rattle.dep_outbox.specs.Sockets.{Receives}
+use Rattle.dep_outbox.specs.declared.socket.Received.{Received}
+use Rattle.dep_outbox.specs.declared.socket.Received.TheVariants as gave
 use Rattle.dep_outbox.specs.declared.wire.Wire.{Wire}
 use Rattle.dep_outbox.specs.Wires.{told, owed, owed_count}
 use Rattle.dep_host.specs.declared.seat.Seat.{Seat}
@@ -81,6 +84,11 @@ ended_still before after (inr o) e = ap is_ended o
 opened_still : (before after : Phase) → (after ≡ before) ⊎ (after ≡ Over) → after ≡ Open → before ≡ Open
 opened_still before after (inl s) h = sym s ∙ h
 opened_still before after (inr o) h = absurd (not_open after o h)
+
+-- a socket that has ended, or failed, gave nothing
+pub ends_read : (old new : Option (List ℕ)) (room : List ℕ) (it : Received) → (it ≡ gave.Ended) ⊎ (it ≡ gave.Failed) → Receives old new room it → Keeps old new
+ends_read old new room it (inl e) gives = let both : Receives old new room gave.Ended = subst (λ (r : Received). Receives old new room r) e gives in both.0
+ends_read old new room it (inr e) gives = subst (λ (r : Received). Receives old new room r) e gives
 
 -- what comes next, by what was computed of it
 pub due_as : {R K S : Type 0} (size : S → ℕ) (seat : Seat R K S) (owes : Bool) (next to : Duty) → owes ≡ nat_lt 0 (owed_count size seat.wire)
