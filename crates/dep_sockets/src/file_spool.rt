@@ -48,6 +48,27 @@ impl<'a, R: Files> FileSpool<'a, R> {
         file.write_all(bytes)
     }
 
+    /// Moves some of its first bytes behind those of the vector.
+    fn read_into(&mut self, into: &mut Vec<u8>) -> Result<(), SpoolFailed>
+        ensures moved { OnOk result
+            (vec_len into.new + self.old.begin ≡ vec_len into.old + self.new.begin) }
+        ensures some { OnOk result (self.old.begin < self.old.end
+            → self.old.begin < self.new.begin) }
+        ensures same { OnErr result (self.new.begin ≡ self.old.begin) }
+        ensures kept { OnErr result (vec_len into.new ≡ vec_len into.old) }
+        ensures end { self.new.end ≡ self.old.end }
+    {
+        let count = (self.end - self.begin).min(MOST_PULLED);
+        let Some(file) = &mut self.file else {
+            return Err(SpoolFailed);
+        };
+        if read_behind(file, self.begin, count, into).is_err() {
+            return Err(SpoolFailed);
+        }
+        self.begin += count;
+        Ok(())
+    }
+
     /// Gives the file up, once all that it holds was taken.
     fn forget_file(&mut self)
         ensures { self.new.begin ≡ self.new.end }
@@ -60,7 +81,7 @@ impl<'a, R: Files> FileSpool<'a, R> {
 }
 
 /// Reads so many bytes of the file behind those of the vector, or leaves it as it was.
-fn read_at<F: Read + Seek>(
+fn read_behind<F: Read + Seek>(
     file: &mut F,
     begin: u64,
     count: u64,
@@ -125,14 +146,7 @@ impl<R: Files> Spool for FileSpool<'_, R> {
         if self.begin == self.end {
             return Err(SpoolFailed);
         }
-        let count = (self.end - self.begin).min(MOST_PULLED);
-        let Some(file) = &mut self.file else {
-            return Err(SpoolFailed);
-        };
-        if read_at(file, self.begin, count, into).is_err() {
-            return Err(SpoolFailed);
-        }
-        self.begin += count;
+        self.read_into(into)?;
         if self.begin == self.end {
             self.forget_file();
         }
