@@ -1,8 +1,8 @@
 -- How a host goes on.
 use Rattle.std.proofs.Common.{◌≡◌, ◌⊎◌, ◌<◌, ◌≤◌, ◌+◌, ℕ, zero, suc, Bool, true, false, List, [], ◌∷◌, ◌++◌, Option, None, Some, refl, sym, ap, subst, ◌∙◌, append_assoc, length, get_or, set, take, Ok, IsTrue, add-one, inl, inr, arith}
-use Rattle.std.proofs.lemmas.List.{append-nil, get_or_default, set-get_or}
+use Rattle.std.proofs.lemmas.List.{append-nil, get_or_default, set-get_or, get_or-set_same, get_or-set_other}
 use Rattle.std.proofs.Math.ListN.{length-set}
-use Rattle.std.proofs.lemmas.Bool.{cases_lt}
+use Rattle.std.proofs.lemmas.Bool.{cases_eq, cases_lt}
 use Rattle.std.proofs.KnownBytes.{Keeps-refl}
 use Rattle.std.specs.Prelude.{IfSome, IsSomeAnd}
 use Rattle.std.specs.Io.KnownBytes.{Keeps}
@@ -21,8 +21,9 @@ use Rattle.dep_host.specs.declared.limits.Limits.{Limits}
 use Rattle.dep_host.specs.declared.log.Closing.{Closing}
 use Rattle.dep_host.specs.declared.log.Closing.TheVariants.{Large}
 use Rattle.dep_host.specs.declared.course.Phase.TheVariants.{Open}
-use Rattle.dep_host.specs.Seats.{SameClient}
-use Rattle.dep_host.specs.Hosting.{Position, slot, HasTime, MayGo, Stays, Deed, unfinished_of, unfinished_in, Goes, Asks, Refused, Step, refused, asks, rests, Steps, begins, goes_on, Sheds}
+use Rattle.dep_host.specs.declared.course.Duty.TheVariants.{Wait}
+use Rattle.dep_host.specs.Seats.{SameClient, next_duty}
+use Rattle.dep_host.specs.Hosting.{Position, slot, HasTime, IsWaiting, MayGo, Stays, Deed, unfinished_of, unfinished_in, Goes, Asks, Refused, Step, refused, asks, rests, Steps, begins, goes_on, Sheds}
 
 -- the places that there are stay
 pub there_still : {X : Type 0} (l : List X) (at : ℕ) (x : X) → at < length l → at < length (set l at x)
@@ -31,6 +32,24 @@ there_still l at x there = omega (arith, there, length-set l at x)
 -- what was read at a place is what stands there
 pub slot_read : {X : Type 0} (at : ℕ) (seats : List (Option X)) (x : Option X) → at < length seats → x ≡ get_or seats at x → slot at seats ≡ x
 slot_read at seats x there read = get_or_default seats at None x there ∙ sym read
+
+-- nobody sits from a place on, also once a place changed to one where nobody sits, or where somebody sat
+pub free_once_left : {X : Type 0} (seats : List (Option X)) (at end : ℕ) (x : Option X) → at < length seats → x ≡ None → ((place : ℕ) → end ≤ place → slot place seats ≡ None)
+    → (place : ℕ) → end ≤ place → slot place (set seats at x) ≡ None
+free_once_left {X = X} seats at end x there none free place h = elim (cases_eq place at) [
+  | inl e ↦ subst (λ (n : ℕ). slot n (set seats at x) ≡ None) (sym e) (get_or-set_same seats at x None there ∙ none)
+  | inr ne ↦ get_or-set_other seats at place x None ne ∙ free place h
+]
+
+pub free_where_sat : {X : Type 0} (seats : List (Option X)) (at end : ℕ) (x : Option X) (seat : X) → slot at seats ≡ Some seat → ((place : ℕ) → end ≤ place → slot place seats ≡ None)
+    → (place : ℕ) → end ≤ place → slot place (set seats at x) ≡ None
+free_where_sat {X = X} seats at end x seat sat free place h = elim (cases_eq place at) [
+  | inl e ↦ absurd (let bad : Some seat ≡ None = sym sat ∙ free at (omega (arith, e, h)) in cc)
+  | inr ne ↦ get_or-set_other seats at place x None ne ∙ free place h
+]
+
+pub within_still : {X : Type 0} (seats : List (Option X)) (at end : ℕ) (x : Option X) → end ≤ length seats → end ≤ length (set seats at x)
+within_still seats at end x within = omega (arith, within, length-set seats at x)
 
 -- who has time left at the places so far, and at one more
 pub left_goes_on : {R K S : Type 0} (old new : List (Option (Seat R K S))) (at next second : ℕ) (was limits : Limits) → ((place : ℕ) → place < at → HasTime second was (slot place old))
@@ -88,6 +107,13 @@ time_there {R = R} {K = K} {S = S} seats at second limits seat sat e = subst (λ
 
 pub none_there : {R K S : Type 0} (seats : List (Option (Seat R K S))) (at second : ℕ) (limits : Limits) → slot at seats ≡ None → HasTime second limits (slot at seats)
 none_there {R = R} {K = K} {S = S} seats at second limits free = subst (λ (o : Option (Seat R K S)). HasTime second limits o) (sym free) tt
+
+-- who sits at a place waits, also where nobody sits there
+pub none_waits : {R K S : Type 0} (size : S → ℕ) (seats : List (Option (Seat R K S))) (at : ℕ) → slot at seats ≡ None → IsWaiting size (slot at seats)
+none_waits {R = R} {K = K} {S = S} size seats at free = subst (λ (o : Option (Seat R K S)). IsWaiting size o) (sym free) tt
+
+pub waits_there : {R K S : Type 0} (size : S → ℕ) (seats : List (Option (Seat R K S))) (at : ℕ) (seat : Seat R K S) → slot at seats ≡ Some seat → next_duty size seat ≡ Wait → IsWaiting size (slot at seats)
+waits_there {R = R} {K = K} {S = S} size seats at seat sat waits = subst (λ (o : Option (Seat R K S)). IsWaiting size o) (sym sat) waits
 
 -- nothing of what stays changed
 pub stays_same : {A R K S : Type 0} (p : Host A R K S) → Stays p p

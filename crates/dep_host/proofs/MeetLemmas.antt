@@ -29,6 +29,13 @@ use Rattle.dep_host.specs.Rounds.{IsTold, EndsInTime}
 use Rattle.dep_host.proofs.HostLemmas.{untouched, woken, alone, stands_still, steps_join}
 use Rattle.dep_host.proofs.RoundLemmas.{rounds_begin, rounds_go_on, one_second}
 
+-- what goes on has not ended, and what a fault shut has ended for nothing else
+pub not_yet_ended : {X : Type 0} (x : X) (end : Ended) → (let r : Result X Ended = Ok x in r) ≡ Err end → ⊥
+not_yet_ended {X = X} x end e = let bad : (let r : Result X Ended = Ok x in r) ≡ Err end = e in cc
+
+pub shut_alone : {X : Type 0} (end : Ended) → (ended.Shut ≡ end → ⊥) → (let r : Result X Ended = Err ended.Shut in r) ≡ Err end → ⊥
+shut_alone {X = X} end ne e = ne (let same : (let r : Result X Ended = Err ended.Shut in r) ≡ Err end = e in cc)
+
 pub grows_none : {X : Type 0} (told : Option (List X)) → Grows told told []
 grows_none None = tt
 grows_none (Some xs) = sym (append-nil xs)

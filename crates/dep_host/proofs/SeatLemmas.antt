@@ -13,6 +13,9 @@ use Rattle.dep_hub.specs.declared.arrived.Arrived.{Arrived}
 use Rattle.dep_hub.specs.declared.arrived.Arrived.TheVariants as came
 use Rattle.dep_hub.specs.declared.next.Next.{Next}
 use Rattle.dep_hub.specs.declared.next.Next.TheVariants.{More, Waiting, Closed, Cut, NoSuch}
+use Rattle.dep_outbox.specs.Sockets.{Receives}
+use Rattle.dep_outbox.specs.declared.socket.Received.{Received}
+use Rattle.dep_outbox.specs.declared.socket.Received.TheVariants as gave
 use Rattle.dep_outbox.specs.declared.wire.Wire.{Wire}
 use Rattle.dep_outbox.specs.Wires.{told, owed, owed_count}
 use Rattle.dep_host.specs.declared.seat.Seat.{Seat}
@@ -21,7 +24,7 @@ use Rattle.dep_host.specs.declared.course.Phase.{Phase}
 use Rattle.dep_host.specs.declared.course.Phase.TheVariants.{Open, Answering, Last, Draining, Over}
 use Rattle.dep_host.specs.declared.course.Duty.{Duty}
 use Rattle.dep_host.specs.declared.course.Duty.TheVariants.{Flush, Answer, Read, Finish, Drain, Wait}
-use Rattle.dep_host.specs.Courses.{is_ended, StaysOrEnds}
+use Rattle.dep_host.specs.Courses.{duty, is_ended, StaysOrEnds}
 use Rattle.dep_host.specs.Seats.{HubStays, SameClient, SendsOn, IsUnknown, Rests, Answers, IsRead, MayRest, ActsOnce, TakesTurn, next_duty, phase_offered, phase_answered, left_unfinished}
 
 appends_kept : (a b c : Option (List ℕ)) (bytes : List ℕ) → Appends a b bytes → Keeps b c → Appends a c bytes
@@ -81,6 +84,39 @@ ended_still before after (inr o) e = ap is_ended o
 opened_still : (before after : Phase) → (after ≡ before) ⊎ (after ≡ Over) → after ≡ Open → before ≡ Open
 opened_still before after (inl s) h = sym s ∙ h
 opened_still before after (inr o) h = absurd (not_open after o h)
+
+-- a socket that has ended, or failed, gave nothing
+pub ends_read : (old new : Option (List ℕ)) (room : List ℕ) (it : Received) → (it ≡ gave.Ended) ⊎ (it ≡ gave.Failed) → Receives old new room it → Keeps old new
+ends_read old new room it (inl e) gives = let both : Receives old new room gave.Ended = subst (λ (r : Received). Receives old new room r) e gives in both.0
+ends_read old new room it (inr e) gives = subst (λ (r : Received). Receives old new room r) e gives
+
+-- what comes next, by what was computed of it
+pub due_as : {R K S : Type 0} (size : S → ℕ) (seat : Seat R K S) (owes : Bool) (next to : Duty) → owes ≡ nat_lt 0 (owed_count size seat.wire)
+    → next ≡ duty seat.course.phase owes seat.course.is_readable seat.course.is_writable → next ≡ to → next_duty size seat ≡ to
+due_as size seat owes next to owed is comes = ap (λ (o : Bool). duty seat.course.phase o seat.course.is_readable seat.course.is_writable) (sym owed) ∙ (sym is ∙ comes)
+
+-- who sends owes, and of who is drained nothing comes to the hub any more
+pub sends_owed : (p : Phase) (owes r w : Bool) → duty p owes r w ≡ Flush → owes ≡ true
+sends_owed p true r w h = refl
+sends_owed Over false r w h = absurd (let bad : Wait ≡ Flush = h in cc)
+sends_owed Open false true w h = absurd (let bad : Read ≡ Flush = h in cc)
+sends_owed Open false false w h = absurd (let bad : Wait ≡ Flush = h in cc)
+sends_owed Answering false r w h = absurd (let bad : Answer ≡ Flush = h in cc)
+sends_owed Last false r w h = absurd (let bad : Finish ≡ Flush = h in cc)
+sends_owed Draining false true w h = absurd (let bad : Drain ≡ Flush = h in cc)
+sends_owed Draining false false w h = absurd (let bad : Wait ≡ Flush = h in cc)
+
+pub drains_ended : (p : Phase) (owes r w : Bool) → duty p owes r w ≡ Drain → is_ended p ≡ true
+drains_ended Over owes r w h = refl
+drains_ended Last owes r w h = refl
+drains_ended Draining owes r w h = refl
+drains_ended Open true r true h = absurd (let bad : Flush ≡ Drain = h in cc)
+drains_ended Open true r false h = absurd (let bad : Wait ≡ Drain = h in cc)
+drains_ended Open false true w h = absurd (let bad : Read ≡ Drain = h in cc)
+drains_ended Open false false w h = absurd (let bad : Wait ≡ Drain = h in cc)
+drains_ended Answering true r true h = absurd (let bad : Flush ≡ Drain = h in cc)
+drains_ended Answering true r false h = absurd (let bad : Wait ≡ Drain = h in cc)
+drains_ended Answering false r w h = absurd (let bad : Answer ≡ Drain = h in cc)
 
 -- who is read or answered has not ended
 not_yet : (before after p : Phase) → before ≡ p → is_ended p ≡ false → is_ended before ≡ true → is_ended after ≡ true

@@ -34,28 +34,6 @@ impl<'a, R: Files> FileSpool<'a, R> {
         }
     }
 
-    /// Holds the bytes behind those that it holds, if all spools together may hold so many.
-    fn append(&mut self, bytes: &[u8]) -> io::Result<()>
-        ensures grown { OnOk result (self.new.end ≡ self.old.end + length bytes.now) }
-        ensures same { OnErr result (self.new.end ≡ self.old.end) }
-        ensures begin { self.new.begin ≡ self.old.begin }
-    {
-        let count = bytes.len() as u64;
-        let Some(end) = self.end.checked_add(count) else {
-            return Err(ErrorKind::FileTooLarge.into());
-        };
-        if !self.spools.charge(count) {
-            return Err(ErrorKind::StorageFull.into());
-        }
-        let written = self.write_behind(bytes);
-        if written.is_ok() {
-            self.end = end;
-        } else {
-            self.spools.give_back(count);
-        }
-        written
-    }
-
     /// Writes the bytes behind those that it holds, which takes them once they are counted.
     fn write_behind(&mut self, bytes: &[u8]) -> io::Result<()>
         ensures { HoldsTheSame self.old.begin self.old.end self.new.begin self.new.end }
@@ -71,7 +49,7 @@ impl<'a, R: Files> FileSpool<'a, R> {
     }
 
     /// Moves some of its first bytes behind those of the vector.
-    fn read_into(&mut self, into: &mut Vec<u8>) -> io::Result<()>
+    fn read_into(&mut self, into: &mut Vec<u8>) -> Result<(), SpoolFailed>
         ensures moved { OnOk result
             (vec_len into.new + self.old.begin ≡ vec_len into.old + self.new.begin) }
         ensures some { OnOk result (self.old.begin < self.old.end
@@ -82,10 +60,11 @@ impl<'a, R: Files> FileSpool<'a, R> {
     {
         let count = (self.end - self.begin).min(MOST_PULLED);
         let Some(file) = &mut self.file else {
-            return Err(ErrorKind::NotFound.into());
+            return Err(SpoolFailed);
         };
-        file.seek(SeekFrom::Start(self.begin))?;
-        read_behind(file, count, into)?;
+        if read_behind(file, self.begin, count, into).is_err() {
+            return Err(SpoolFailed);
+        }
         self.begin += count;
         Ok(())
     }
@@ -101,11 +80,17 @@ impl<'a, R: Files> FileSpool<'a, R> {
     }
 }
 
-/// Reads so many bytes behind those of the vector, or leaves it as it was.
-fn read_behind<F: Read>(file: &mut F, count: u64, into: &mut Vec<u8>) -> io::Result<()>
+/// Reads so many bytes of the file behind those of the vector, or leaves it as it was.
+fn read_behind<F: Read + Seek>(
+    file: &mut F,
+    begin: u64,
+    count: u64,
+    into: &mut Vec<u8>,
+) -> io::Result<()>
     ensures read { OnOk result (vec_len into.new ≡ vec_len into.old + count) }
     ensures same { OnErr result (into.new.items ≡ into.old.items) }
 {
+    file.seek(SeekFrom::Start(begin))?;
     let before = into.len();
     let Some(whole) = before.checked_add(count as usize) else {
         return Err(ErrorKind::OutOfMemory.into());
@@ -142,14 +127,26 @@ impl<R: Files> Spool for FileSpool<'_, R> {
         if bytes.is_empty() {
             return Ok(());
         }
-        self.append(bytes).map_err(|_| SpoolFailed)
+        let count = bytes.len() as u64;
+        let Some(end) = self.end.checked_add(count) else {
+            return Err(SpoolFailed);
+        };
+        if !self.spools.charge(count) {
+            return Err(SpoolFailed);
+        }
+        if self.write_behind(bytes).is_err() {
+            self.spools.give_back(count);
+            return Err(SpoolFailed);
+        }
+        self.end = end;
+        Ok(())
     }
 
     fn pull(&mut self, into: &mut Vec<u8>) -> Result<(), SpoolFailed> {
         if self.begin == self.end {
             return Err(SpoolFailed);
         }
-        self.read_into(into).map_err(|_| SpoolFailed)?;
+        self.read_into(into)?;
         if self.begin == self.end {
             self.forget_file();
         }

@@ -9,7 +9,7 @@ const MOST_ROUNDS: u32 = 64;
 
 /// When the system was asked last which sockets are ready, and how many rounds may do without asking it
 /// again: a client that is ready meanwhile waits until then.
-#[derive(Clone, Copy, Debug, PartialEq, Eq)]
+#[derive(Clone, Copy)]
 pub(crate) struct LastLook {
     /// How many microseconds after the start.
     at: u128,

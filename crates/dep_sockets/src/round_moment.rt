@@ -16,7 +16,7 @@ const MOST_ROUNDS: u32 = 4;
 /// The moment of a round, which the next three share where it took long: at most seven rounds in all. What came meanwhile
 /// came at that moment, and at a later one it would wait once more: the clock would move first, by a commit that copies
 /// a long log into the file.
-#[derive(Clone, Copy, Debug, PartialEq, Eq)]
+#[derive(Clone, Copy)]
 pub(crate) struct RoundMoment {
     moment: Moment,
     /// How many rounds were played at it.

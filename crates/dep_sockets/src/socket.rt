@@ -29,16 +29,16 @@ pub struct SocketSink {
     socket: Rc<Socket>,
 }
 
-/// The halves of a socket whose calls never wait. It is closed once both are gone, and until then it owns
-/// `open`, whose owners are counted.
+/// The halves of a socket whose calls never wait. It is closed once both are gone, and until then it is
+/// one of the owners of `open`, who are counted.
 pub(crate) fn halves(
     alloc: Global,
     stream: TcpStream,
-    open: Rc<()>,
+    open: &Rc<()>,
 ) -> Result<(SocketSource, SocketSink), AllocError> {
     let socket = Socket {
         stream,
-        _open: open,
+        _open: open.clone()?,
     };
     let socket = Rc::new(alloc, socket)?;
     let other = socket.clone()?;

@@ -99,22 +99,22 @@ impl<'a, R: Files + Net + Clock> Sockets<'a, R> {
         clients: u64,
     ) -> io::Result<Sockets<'a, R>> {
         let poll = Poll::new(rt)?;
-        let mut listener = TcpListener::bind(rt, address)?;
-        poll.registry()
-            .register(&mut listener, LISTENER, Interest::READABLE)?;
+        let listener = listener_at(rt, address, &poll)?;
+        let (polled, ready, open) = room(alloc)?;
+        let start = Instant::now(rt)?;
         Ok(Sockets {
             alloc,
             rt,
             spools,
             poll,
-            polled: mio::Events::with_capacity(alloc, MOST_READY)?,
-            ready: Vec::with_capacity(alloc, MOST_READY)?,
+            polled,
+            ready,
             listener,
             stage: Stage::LettingIn(0),
             is_waited_for: true,
             remaining: clients,
-            open: Rc::new(alloc, ())?,
-            start: Instant::now(rt)?,
+            open,
+            start,
             begun: Duration::from_secs(0),
             look: LastLook::new(),
             moment: RoundMoment::new(),
@@ -128,14 +128,9 @@ impl<'a, R: Files + Net + Clock> Sockets<'a, R> {
         self.fault
     }
 
-    /// Whether all clients were let in, and have left.
-    fn is_over(&self) -> bool {
-        self.remaining == 0 && Rc::strong_count(&self.open) == 1
-    }
-
-    /// Waits, unless it is over. It returns whether it could.
+    /// Waits, unless all clients were let in, and have left. It returns whether it could.
     fn go_on(&mut self, is_busy: bool) -> bool {
-        if self.is_over() {
+        if self.remaining == 0 && Rc::strong_count(&self.open) == 1 {
             return false;
         }
         match self.wait(is_busy) {
@@ -164,20 +159,14 @@ impl<'a, R: Files + Net + Clock> Sockets<'a, R> {
         if is_busy && self.look.serves(elapsed.as_micros()) {
             return Ok(());
         }
-        self.ask(is_busy)?;
-        self.look = LastLook::at(self.elapsed().as_micros());
-        Ok(())
-    }
-
-    /// Asks the system which sockets are ready.
-    fn ask(&mut self, is_busy: bool) -> Result<(), SocketFault> {
         let nap = Duration::from_secs(if is_busy { 0 } else { NAP });
-        self.poll
-            .poll(&mut self.polled, Some(nap))
-            .map_err(|_| SocketFault::Poll)?;
+        if self.poll.poll(&mut self.polled, Some(nap)).is_err() {
+            return Err(SocketFault::Poll);
+        }
         if note_all(&self.polled, LISTENER, &mut self.ready)? {
             self.is_waited_for = true;
         }
+        self.look = LastLook::at(self.elapsed().as_micros());
         Ok(())
     }
 
@@ -206,8 +195,7 @@ impl<'a, R: Files + Net + Clock> Sockets<'a, R> {
         self.poll
             .registry()
             .register(&mut stream, Token(at), interest)?;
-        let open = self.open.clone()?;
-        let (source, sink) = halves(self.alloc, stream, open)?;
+        let (source, sink) = halves(self.alloc, stream, &self.open)?;
         let wire = Wire::new(self.alloc, sink, FileSpool::new(self.spools));
         Ok(Client::new(source, wire, address.ip()))
     }
@@ -274,4 +262,19 @@ impl<'a, R: Files + Net + Clock> Events<SocketSource, SocketSink, FileSpool<'a, 
             }
         }
     }
+}
+
+/// What listens at the address, of which the system tells that a client waits there.
+fn listener_at<R: Net>(rt: &R, address: SocketAddr, poll: &Poll) -> io::Result<TcpListener> {
+    let mut listener = TcpListener::bind(rt, address)?;
+    poll.registry()
+        .register(&mut listener, LISTENER, Interest::READABLE)?;
+    Ok(listener)
+}
+
+/// Room for what the system says of all sockets at once, and the first owner of what each connection owns too.
+fn room(alloc: Global) -> Result<(mio::Events, Vec<Ready>, Rc<()>), AllocError> {
+    let polled = mio::Events::with_capacity(alloc, MOST_READY)?;
+    let ready = Vec::with_capacity(alloc, MOST_READY)?;
+    Ok((polled, ready, Rc::new(alloc, ())?))
 }

@@ -1,7 +1,7 @@
 use Rattle.std.proofs.Common.{None, refl, sym, ap, subst, set, ◌∙◌}
 use Rattle.std.proofs.lemmas.List.{get_or-set_same, get_or-set_other}
 use Rattle.dep_host.specs.Hosting.{MayGo, position}
-use Rattle.dep_host.proofs.HostLemmas.{slot_read, closing, closing_none, stays_set}
+use Rattle.dep_host.proofs.HostLemmas.{within_still, free_once_left, slot_read, closing, closing_none, stays_set}
 use Rattle.dep_host.proofs.host.Host.close.Goals as goal
 
 pub returns-in-Some : goal.returns-in-Some
@@ -33,4 +33,16 @@ returns-in_default g c = record {
   gone = get_or-set_same _ c.args.at _ None c.requires.there ∙ c.take.ensures.after;
   others = λ place ne. get_or-set_other _ c.args.at place _ None ne;
   stays = stays_set _ _ c.args.at _ refl refl refl refl;
+}
+
+pub invariant_of-self : goal.invariant_of-self
+invariant_of-self g c = record {
+  within = within_still _ c.args.at _ _ c.args.self.now.within;
+  free = free_once_left _ c.args.at _ _ c.requires.there c.take.ensures.after c.args.self.now.free;
+}
+
+pub invariant_of-self-in_default : goal.invariant_of-self-in_default
+invariant_of-self-in_default g c = record {
+  within = within_still _ c.args.at _ _ c.args.self.now.within;
+  free = free_once_left _ c.args.at _ _ c.requires.there c.take.ensures.after c.args.self.now.free;
 }

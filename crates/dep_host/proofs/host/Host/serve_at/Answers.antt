@@ -1,6 +1,6 @@
 use Rattle.std.proofs.Common.{None, refl, sym, ◌∙◌}
 use Rattle.std.proofs.lemmas.List.{get_or-set_same, get_or-set_other}
-use Rattle.dep_host.proofs.HostLemmas.{there_still, slot_read, closes_there, time_there, stays_after, stays_set}
+use Rattle.dep_host.proofs.HostLemmas.{there_still, within_still, free_once_left, free_where_sat, slot_read, closes_there, time_there, none_there, none_waits, waits_there, stays_after, stays_set}
 use Rattle.dep_host.proofs.ServeLemmas.{served, served_none, closes_served}
 use Rattle.dep_host.proofs.host.Host.serve_at.Goals as goal
 
@@ -44,3 +44,36 @@ returns-in-Some-closing-clause-others g c = λ place ne. c.close.ensures.others 
 
 pub returns-in-Some-closing-clause-stays : goal.returns-in-Some-closing-clause-stays
 returns-in-Some-closing-clause-stays g c = stays_after _ _ _ c.args.at _ c.close.ensures.stays refl refl refl refl
+
+pub returns-in_default-clause-here : goal.returns-in_default-clause-here
+returns-in_default-clause-here g c = none_there _ c.args.at c.args.turn.now.time.second c.args.self.now.limits (get_or-set_same _ c.args.at _ None c.requires.there ∙ c.in_default.is)
+
+pub returns-in_default-clause-waits : goal.returns-in_default-clause-waits
+returns-in_default-clause-waits g c = λ idle. none_waits g.S.Spool.size _ c.args.at (get_or-set_same _ c.args.at _ None c.requires.there ∙ c.in_default.is)
+
+pub returns-in_default-clause-others : goal.returns-in_default-clause-others
+returns-in_default-clause-others g c = λ place ne. get_or-set_other _ c.args.at place _ None ne
+
+pub returns-in_default-clause-stays : goal.returns-in_default-clause-stays
+returns-in_default-clause-stays g c = stays_set _ _ c.args.at _ refl refl refl refl
+
+pub returns-in-Some-closing-clause-here : goal.returns-in-Some-closing-clause-here
+returns-in-Some-closing-clause-here g c = none_there _ c.args.at c.args.turn.now.time.second c.close.new.self.limits c.close.ensures.gone
+
+pub returns-in-Some-closing-clause-waits : goal.returns-in-Some-closing-clause-waits
+returns-in-Some-closing-clause-waits g c = λ idle. none_waits g.S.Spool.size _ c.args.at c.close.ensures.gone
+
+pub returns-clause-waits : goal.returns-clause-waits
+returns-clause-waits g c = λ idle. waits_there g.S.Spool.size _ c.args.at c.take_turn.new.self (get_or-set_same _ c.args.at _ None c.requires.there) (c.is_busy-is_busy.ensures.waits idle)
+
+pub invariant_of-self : goal.invariant_of-self
+invariant_of-self g c = record {
+  within = within_still _ c.args.at _ _ c.args.self.now.within;
+  free = free_once_left _ c.args.at _ _ c.requires.there c.in_default.is c.args.self.now.free;
+}
+
+pub invariant_of-self-2 : goal.invariant_of-self-2
+invariant_of-self-2 g c = record {
+  within = within_still _ c.args.at _ _ c.args.self.now.within;
+  free = free_where_sat _ c.args.at _ _ c.in-Some.seat (slot_read _ _ _ c.requires.there c.index_mut.ensures.value ∙ c.in-Some.is) c.args.self.now.free;
+}

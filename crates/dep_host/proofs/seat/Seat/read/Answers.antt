@@ -1,7 +1,7 @@
-use Rattle.std.proofs.Common.{◌≤◌, ℕ, List, length, take, sym, subst, arith}
+use Rattle.std.proofs.Common.{◌≤◌, ℕ, List, length, take, inl, inr, refl, sym, subst, arith}
 use Rattle.std.specs.Io.KnownBytes.{Consumes}
 use Rattle.dep_hub.specs.Turns.{most_read}
-use Rattle.dep_host.proofs.SeatLemmas.{received, offered_to}
+use Rattle.dep_host.proofs.SeatLemmas.{received, none_read, ends_read, offered_to}
 use Rattle.dep_host.proofs.seat.Seat.read.Goals as goal
 
 pub returns-in-Bytes-clause-turn : goal.returns-in-Bytes-clause-turn
@@ -17,3 +17,13 @@ returns-in-Bytes-clause-turn g c = λ moment is_full is_shut allowed unshut.
     (subst (λ (l : List ℕ). Consumes (g.R.Source.unread c.args.self.now.source) (g.R.Source.unread c.receive.new.source) (take c.in-Bytes.n l)) (sym c.deref.ensures.value) bytes.2)
     kept.1 c.offer.ensures.store offers.1 offers.2
     allowed unshut c.offer.ensures.has_moved c.offer.ensures.moved c.offer.ensures.unfinished moment
+
+pub returns-in-Later-clause-turn : goal.returns-in-Later-clause-turn
+returns-in-Later-clause-turn g c = λ moment is_full is_shut allowed unshut.
+    none_read g.A.Archive.condition g.R.Source.unread g.K.Sink.taken g.S.Spool.held g.S.Spool.size c.args.hub.now c.args.self.now _ is_full is_shut moment c.receive.new.source _ refl
+    c.in-Later.ensures c.requires.due c.requires.phase (inl refl) refl
+
+pub returns-in-Ended-clause-turn : goal.returns-in-Ended-clause-turn
+returns-in-Ended-clause-turn g c = λ moment is_full is_shut allowed unshut.
+    none_read g.A.Archive.condition g.R.Source.unread g.K.Sink.taken g.S.Spool.held g.S.Spool.size c.args.hub.now c.args.self.now _ is_full is_shut moment c.receive.new.source _ refl
+    (ends_read _ _ _ c.receive.result c.in-Ended.is c.receive.ensures) c.requires.due c.requires.phase (inr refl) refl
