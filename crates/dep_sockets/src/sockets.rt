@@ -264,7 +264,7 @@ impl<'a, R: Files + Net + Clock> Events<SocketSource, SocketSink, FileSpool<'a, 
     }
 }
 
-/// What listens at the address, of which the system tells that a client waits there.
+/// A listener at the address, of which the poll says that a client waits.
 fn listener_at<R: Net>(rt: &R, address: SocketAddr, poll: &Poll) -> io::Result<TcpListener> {
     let mut listener = TcpListener::bind(rt, address)?;
     poll.registry()
@@ -272,7 +272,7 @@ fn listener_at<R: Net>(rt: &R, address: SocketAddr, poll: &Poll) -> io::Result<T
     Ok(listener)
 }
 
-/// Room for what the system says of all sockets at once, and the first owner of what each connection owns too.
+/// Room for what the poll says of all sockets at once, and the first owner of what each connection owns too.
 fn room(alloc: Global) -> Result<(mio::Events, Vec<Ready>, Rc<()>), AllocError> {
     let polled = mio::Events::with_capacity(alloc, MOST_READY)?;
     let ready = Vec::with_capacity(alloc, MOST_READY)?;
