@@ -14,11 +14,6 @@ abbrev pub RewritesClock : Tables → Tables → Type 0
 RewritesClock before after =
     (row : StateRow) × HasStateRow before row × (after ≡ with_state_row row before)
 
--- an Ok does so inside a transaction over our tables
-abbrev pub RewritesInside : {A E : Type 0} → (old new : db.State) → Result A E → Type 0
-RewritesInside old new result = db.HasCleanDisk new → IsTrue old.in_transaction → IsOurs old
-    → OnOk result (IsOurs new × RewritesClock (tables_of old) (tables_of new))
-
 -- One transaction does so, whatever the tables are, and the state stays. On a store that was shut it fails.
 pub record CopiesLog {A E : Type 0} (old new : db.State) (result : Result A E) : Type 0 where
   pub does : KeepsState (shown_by old) (shown_by new) result

@@ -49,12 +49,6 @@ pub record TellsTables {A E : Type 0} (old new : db.State) (told : Tables → A 
   pub stop : db.HasCleanDisk new → (t : Tables) → Stands old t → (trees : Trees)
       → new.may_leave trees → Holds trees t
 
--- A transaction that only returns this of the tables. On a store that was shut it fails.
-pub record TellsIfOpen {A E : Type 0} (old new : db.State) (told : Tables → A → Type 0)
-    (result : Result A E) : Type 0 where
-  pub transacts : Transacts old new result (OnlyTells told)
-  pub opened : db.HasCleanDisk new → OnOk result (IsTrue old.is_open)
-
 -- the tables stay, and a crash leaves the state for which they stood, if they stood for one
 pub record KeepsTables (old new : db.State) : Type 0 where
   pub still : TablesStay old new

@@ -16,8 +16,8 @@ use Rattle.dep_store.proofs.store.Store.audit.Goals as goal
 pub returns-in_err-files : goal.returns-in_err-files
 returns-in_err-files g c =
     let old = state g.S.Store c.self.inside.connection in
-    let new = state g.S.Store c.list_files.new.connection in
-    let store = c.list_files.new.connection.store in
+    let new = state g.S.Store c.transact.new.connection in
+    let store = c.transact.new.connection.store in
     let it = c.in_err-files.ensures.transacts in
     let told : TellsTables old new (λ t audit. IsObjectAudited t c.args.object audit) c.from_residual.result = record {
       ok = λ clean t at. IfOk-from_err c.from_residual.result (λ audit. IsObjectAudited t c.args.object audit × Stands new t) c.from_residual.ensures.0;
@@ -31,7 +31,7 @@ returns-in_err-files g c =
 pub returns : goal.returns
 returns g c =
     let old = state g.S.Store c.self.inside.connection in
-    let mid = state g.S.Store c.list_files.new.connection in
+    let mid = state g.S.Store c.transact.new.connection in
     let new = state g.S.Store c.audit_files.new.connection in
     let stays = c.audit_files.ensures.leaves.stays in
     let clean_now = clean_if_open (g.S.Store.view c.audit_files.new.connection.store) (g.met.S.Store.shut_if_dirty c.audit_files.new.connection.store) in
@@ -41,7 +41,7 @@ returns g c =
           let it = listed clean t at in
           audited_of mid new t c.args.object c.in_ok-files.files.items c.audit_files.result it.1 it.0
           (ok_then c.audit_files.result (c.audit_files.ensures.leaves.same clean)
-          (λ left. (still_left g.S.Store c.list_files.new.connection c.audit_files.new.connection left).unchanged it.1.is_open))
+          (λ left. (still_left g.S.Store c.transact.new.connection c.audit_files.new.connection left).unchanged it.1.is_open))
           (rw c.as_slice.ensures.value at (c.audit_files.ensures.audits clean it.1.ours));
       still = λ is_open t at.
           let it = listed (clean_now is_open) t at in
@@ -50,6 +50,6 @@ returns g c =
       was_open = λ is_open. c.in_ok-files.ensures.opened (stays.honest (clean_now is_open));
       stop = λ clean t at.
           let it = listed clean t at in
-          left_still mid new t (λ trees h. g.met.S.Store.settled c.list_files.new.connection.store trees it.1.is_open h) it.1 stays.survives clean;
+          left_still mid new t (λ trees h. g.met.S.Store.settled c.transact.new.connection.store trees it.1.is_open h) it.1 stays.survives clean;
     } in
     rw c.self.view_is at told

@@ -10,12 +10,12 @@ use Rattle.dep_store.proofs.store.Store.next_object.Goals as goal
 
 pub returns-clause-does : goal.returns-clause-does
 returns-clause-does g c =
-    tells_over (state g.S.Store c.args.self.now) (state g.S.Store c.find_next.new.connection) c.find_next.result _ (rw c.self.view_is at c.find_next.ensures.transacts)
+    tells_over (state g.S.Store c.args.self.now) (state g.S.Store c.transact.new.connection) c.transact.result _ (rw c.self.view_is at c.transact.ensures.transacts)
     (λ (s : State) (found : Option ℕ). found ≡ option_map (λ e. e.0) (next_entry s.objects c.args.after))
     (λ t found s after means. next_object_read t s means.are c.args.after found after)
 
 pub returns-clause-rows : goal.returns-clause-rows
 returns-clause-rows g c =
-    let store = c.find_next.new.connection.store in
-    tells_tables (state g.S.Store c.args.self.now) (state g.S.Store c.find_next.new.connection) c.find_next.result _ (rw c.self.view_is at c.find_next.ensures.transacts)
+    let store = c.transact.new.connection.store in
+    tells_tables (state g.S.Store c.args.self.now) (state g.S.Store c.transact.new.connection) c.transact.result _ (rw c.self.view_is at c.transact.ensures.transacts)
     (clean_if_open (g.S.Store.view store) (g.met.S.Store.shut_if_dirty store))

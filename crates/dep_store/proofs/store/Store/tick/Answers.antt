@@ -67,13 +67,13 @@ pub returns-in-None : goal.returns-in-None
 returns-in-None g c =
     let old = state g.S.Store c.self.inside.connection in
     let mid = state g.S.Store c.look.new.connection in
-    let new = state g.S.Store c.move_clock.new.connection in
+    let new = state g.S.Store c.transact.new.connection in
     let store = c.look.new.connection.store in
     let finds = c.in_ok-found.ensures.finds in
-    let moved : Transacts old new c.move_clock.result (Clocked c.args.config.now c.secs-secs.result) = after_back old mid new _ _ (λ is_open trees h. g.met.S.Store.settled c.self.inside.connection.store trees is_open h)
-    (clean_if_open (g.S.Store.view store) (g.met.S.Store.shut_if_dirty store)) finds.restored.back finds.restored.survives finds.opened c.move_clock.ensures in
-    let shut : FailsIfShut old new c.move_clock.result = was_open_then old new c.move_clock.result
-    (λ clean. (finds.restored.back (finds.opened (c.move_clock.ensures.honest clean))).0) in
+    let moved : Transacts old new c.transact.result (Clocked c.args.config.now c.secs-secs.result) = after_back old mid new _ _ (λ is_open trees h. g.met.S.Store.settled c.self.inside.connection.store trees is_open h)
+    (clean_if_open (g.S.Store.view store) (g.met.S.Store.shut_if_dirty store)) finds.restored.back finds.restored.survives finds.opened c.transact.ensures.transacts in
+    let shut : FailsIfShut old new c.transact.result = was_open_then old new c.transact.result
+    (λ clean. (finds.restored.back (finds.opened (c.transact.ensures.transacts.honest clean))).0) in
     record {
       does = ticks_over _ _ _ c.args.config.now _ _ c.secs-secs.ensures.seconds (rw c.self.view_is at moved);
       shut = rw c.self.view_is at shut;

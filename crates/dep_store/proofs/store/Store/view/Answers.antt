@@ -10,10 +10,10 @@ use Rattle.dep_store.proofs.store.Store.view.Goals as goal
 
 pub returns-clause-does : goal.returns-clause-does
 returns-clause-does g c =
-    tells_over (state g.S.Store c.args.self.now) (state g.S.Store c.view_object.new.connection) c.view_object.result _ (rw c.self.view_is at c.view_object.ensures.transacts)
+    tells_over (state g.S.Store c.args.self.now) (state g.S.Store c.transact.new.connection) c.transact.result _ (rw c.self.view_is at c.transact.ensures.transacts)
     (λ (s : State) (found : Option ObjectView). found ≡ view_at s c.args.object) (λ t found s told means. told s means)
 
 pub returns-clause-still : goal.returns-clause-still
 returns-clause-still g c is_open t given =
-    let store = c.view_object.new.connection.store in
-    still_tells _ _ _ _ c.view_object.ensures.transacts (clean_if_open (g.S.Store.view store) (g.met.S.Store.shut_if_dirty store)) is_open t (rw (← c.self.view_is) at given)
+    let store = c.transact.new.connection.store in
+    still_tells _ _ _ _ c.transact.ensures.transacts (clean_if_open (g.S.Store.view store) (g.met.S.Store.shut_if_dirty store)) is_open t (rw (← c.self.view_is) at given)
