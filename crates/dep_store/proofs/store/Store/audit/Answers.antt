@@ -7,6 +7,7 @@ use Rattle.std.proofs.lemmas.Result.{IfOk-from_err}
 use Rattle.dep_store.proofs.Audited.{audited_of}
 use Rattle.dep_store.proofs.Carrying.{tables_kept}
 use Rattle.dep_streams.proofs.Stills.{still_left}
+use Rattle.dep_tables.specs.Edits.{AreSha256sOf}
 use Rattle.dep_tables.specs.Tables.{Tables}
 use Rattle.dep_tables.proofs.Results.{ok_then}
 use Rattle.dep_schema.specs.Standing.{Stands}
@@ -21,10 +22,10 @@ returns-in_err-files g c =
     let it = c.in_err-files.ensures.transacts in
     let told : TellsTables old new (λ t audit. IsObjectAudited t c.args.object audit) c.from_residual.result = record {
       ok = λ clean t at. IfOk-from_err c.from_residual.result (λ audit. IsObjectAudited t c.args.object audit × Stands new t) c.from_residual.ensures.0;
-      still = still_tells _ _ _ _ it (clean_if_open (g.S.Store.view store) (g.met.S.Store.shut_if_dirty store));
+      still = still_tells old new _ (λ t found. AreSha256sOf c.args.object t found.items) it (clean_if_open (g.S.Store.view store) (g.met.S.Store.shut_if_dirty store));
       honest = it.honest;
       was_open = it.was_open;
-      stop = left_tells _ _ _ _ it;
+      stop = left_tells old new _ (λ t found. AreSha256sOf c.args.object t found.items) it;
     } in
     rw c.self.view_is at told
 
@@ -35,7 +36,7 @@ returns g c =
     let new = state g.S.Store c.audit_files.new.connection in
     let stays = c.audit_files.ensures.leaves.stays in
     let clean_now = clean_if_open (g.S.Store.view c.audit_files.new.connection.store) (g.met.S.Store.shut_if_dirty c.audit_files.new.connection.store) in
-    let listed = λ (clean : HasCleanDisk new) (t : Tables) (at : Stands old t). ok_tells _ _ _ _ c.in_ok-files.ensures.transacts (stays.honest clean) t at in
+    let listed = λ (clean : HasCleanDisk new) (t : Tables) (at : Stands old t). ok_tells old mid _ (λ t found. AreSha256sOf c.args.object t found.items) c.in_ok-files.ensures.transacts (stays.honest clean) t at in
     let told : TellsTables old new (λ t audit. IsObjectAudited t c.args.object audit) c.audit_files.result = record {
       ok = λ clean t at.
           let it = listed clean t at in

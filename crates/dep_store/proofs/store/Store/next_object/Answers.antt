@@ -19,3 +19,6 @@ returns-clause-rows g c =
     let store = c.transact.new.connection.store in
     tells_tables (state g.S.Store c.args.self.now) (state g.S.Store c.transact.new.connection) c.transact.result _ (rw c.self.view_is at c.transact.ensures.transacts)
     (clean_if_open (g.S.Store.view store) (g.met.S.Store.shut_if_dirty store))
+
+pub returns-clause-opened : goal.returns-clause-opened
+returns-clause-opened g c = rw c.self.view_is at c.transact.ensures.opened
