@@ -1,8 +1,8 @@
 -- What a transaction makes that writes the row of the clock as it is, before which SQLite copies a long log.
-use Rattle.std.specs.Prelude.{◌≡◌, IsTrue, Result, OnOk}
+use Rattle.std.specs.Prelude.{◌≡◌, Result}
 use Rattle.sqlite.specs.State as db
 use Rattle.dep_tables.specs.Edits.{HasStateRow, with_state_row}
-use Rattle.dep_tables.specs.Tables.{Tables, tables_of, IsOurs}
+use Rattle.dep_tables.specs.Tables.{Tables}
 use Rattle.dep_tables.specs.declared.state.StateRow.{StateRow}
 use Rattle.dep_hub.specs.Archives.{KeepsState}
 use Rattle.dep_schema.specs.Transactions.{Transacts}

@@ -1,5 +1,5 @@
 -- What stays of a store over a call that reads.
-use Rattle.std.specs.Prelude.{◌≡◌, IsTrue, Result, IfOk, OnOk}
+use Rattle.std.specs.Prelude.{◌≡◌, IsTrue, Result, IfOk}
 use Rattle.sqlite.specs.State as db
 use Rattle.sqlite.specs.Tree.{Trees}
 use Rattle.dep_types.specs.State.{State}
@@ -9,7 +9,7 @@ use Rattle.dep_staging.specs.HashedAhead.{AreRunning}
 use Rattle.dep_staging.specs.declared.running.RunningHashes.{RunningHashes}
 use Rattle.dep_schema.specs.Standing.{Holds, Stands}
 use Rattle.dep_schema.specs.States.{StandsFor, Leaves}
-use Rattle.dep_schema.specs.Transactions.{Transacts, OnlyTells, IsRestored}
+use Rattle.dep_schema.specs.Transactions.{IsRestored}
 use Rattle.dep_store.specs.Archive.{shown_by}
 
 -- whatever its tables are, they stay, while it is open
