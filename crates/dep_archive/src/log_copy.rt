@@ -16,7 +16,7 @@ const LONG_CONTENT: usize = 4_194_304;
 const CALLS_LEFT_OUT: u32 = 3;
 
 /// When the log is to be copied, counted in calls that work ahead.
-#[derive(Clone, Copy, Debug, PartialEq, Eq)]
+#[derive(Clone, Copy)]
 pub(crate) enum LogCopy {
     /// No request has made it long since it was copied.
     NotDue,

@@ -1,5 +1,5 @@
 -- What the calls make of the state that the tables stand for.
-use Rattle.std.proofs.Common.{◌≡◌, ℕ, ◌≤◌, min, Option, Some, None, Result, Ok, Err, OnOk, OnErr, inl, inr, IsTrue, true, refl, sym, ap, subst, ◌∙◌, arith}
+use Rattle.std.proofs.Common.{◌≡◌, ℕ, ◌≤◌, min, Option, Some, None, Result, Ok, Err, IfOk, OnOk, OnErr, inl, inr, IsTrue, true, refl, sym, ap, subst, ◌∙◌, arith}
 use Rattle.std.specs.FinMap as map
 use Rattle.sqlite.specs.State as db
 use Rattle.sqlite.specs.State.{HasCleanDisk, IsUnchanged}
@@ -15,12 +15,12 @@ use Rattle.dep_tables.specs.Tables.{Tables, tables_in, tables_of, HasOurTables, 
 use Rattle.dep_row_maps.specs.TablesAre.{TablesAre}
 use Rattle.dep_row_maps.specs.Clauses.{FromMaps}
 use Rattle.dep_streams.specs.Reading.{IsKept}
-use Rattle.dep_tables.specs.Schema.{our_schema}
+use Rattle.dep_tables.specs.Clauses.{ReadsWithin}
 use Rattle.dep_schema.specs.Standing.{Stands}
 use Rattle.dep_schema.proofs.Transactions.{stands_left}
 use Rattle.dep_schema.specs.States.{StandsFor}
 use Rattle.dep_schema.specs.Transactions.{OnlyTells, OverStates}
-use Rattle.dep_schema.proofs.Transacting.{IsMade}
+use Rattle.dep_store.specs.Tasks.{Makes}
 
 -- no upload of a sound state has the number 0
 pub none_at_0 : (s : State) → IsSound s → map.get s.uploads 0 ≡ None
@@ -35,29 +35,42 @@ pub shown_whole : (clock told shown : ℕ) → shown ≡ min clock greatest_mome
 shown_whole clock told shown is same least = omega arith
 
 -- a tick inside a transaction keeps the state sound
-pub ticks : {S : Type 0} (g : Ghosts S) (old inside : Held S) (config : Config) (moment clock shown : ℕ) → shown ≡ min clock greatest_moment
-    → FromMaps (state g (record old { in_transaction = true })) (state g inside)
-    (λ s. map.get s.uploads 0 ≡ None → (clock ≡ (tick config s moment).clock) × TablesAre (tables_of (state g inside)) (tick config s moment))
-    → (HasCleanDisk (state g inside) → IsTrue true → IsOurs (state g (record old { in_transaction = true })) → IsOurs (state g inside))
-    → IsMade our_schema our_schema g old inside (OverStates (λ s n. n ≡ (tick config s moment).clock) (λ s. tick config s moment)) shown
-ticks g old inside config moment clock shown is told ours clean are_ours = (
-  ours clean refl are_ours,
+pub ticks : (old new : db.State) (config : Config) (moment clock shown : ℕ) → shown ≡ min clock greatest_moment
+    → FromMaps old new (λ s. map.get s.uploads 0 ≡ None → (clock ≡ (tick config s moment).clock) × TablesAre (tables_of new) (tick config s moment))
+    → (HasCleanDisk new → IsTrue old.in_transaction → IsOurs old → IsOurs new)
+    → HasCleanDisk new → IsTrue old.in_transaction → IsOurs old
+    → IsOurs new × OverStates (λ s n. n ≡ (tick config s moment).clock) (λ s. tick config s moment) (tables_of old) shown (tables_of new)
+ticks old new config moment clock shown is told ours clean inside are_ours = (
+  ours clean inside are_ours,
   λ s means.
-      let it = told clean refl are_ours s means.are (none_at_0 s means.sound) in
+      let it = told clean inside are_ours s means.are (none_at_0 s means.sound) in
       let sound = keeps_sound config s moment means.sound in
       (shown_whole clock (tick config s moment).clock shown is it.0 sound.clock, record { are = it.1; sound = sound }),
 )
 
 -- what reads alone, inside a transaction
-pub tells : {S A : Type 0} (g : Ghosts S) (old inside : Held S) (told : Tables → A → Type 0) (answer : A)
-    → (HasCleanDisk (state g inside) → IsOurs (state g (record old { in_transaction = true })) → told (tables_of (state g (record old { in_transaction = true }))) answer)
-    → (HasCleanDisk (state g inside) → IsOurs (state g (record old { in_transaction = true })) → IsUnchanged (state g (record old { in_transaction = true })) (state g inside))
-    → IsMade our_schema our_schema g old inside (OnlyTells told) answer
-tells g old inside told answer read same clean are_ours =
-    let still = (same clean are_ours).0.now_is in (
-      subst HasOurTables (sym still) are_ours,
-      (read clean are_ours, ap (λ (d : Database). tables_in d.trees) still),
-    )
+pub tells : {T L A E : Type 0} (lenders : T → L) (state : T → db.State) (old new : T) (r : Result A E) (told : Tables → A → Type 0)
+    → (HasCleanDisk (state new) → IsTrue (state old).in_transaction → IsOurs (state old) → IfOk r (told (tables_of (state old))))
+    → ReadsWithin lenders state old new r → Makes lenders state old new r (OnlyTells told)
+tells {T} {L} {A} {E} lenders state old new r told asks keeps = record {
+  made = λ clean inside ours. each r ours (asks clean inside ours) (keeps.same clean ours);
+  stays = keeps.stays;
+}
+  where
+    each : (r : Result A E) → IsOurs (state old) → IfOk r (told (tables_of (state old))) → OnOk r (IsUnchanged (state old) (state new))
+        → IfOk r (λ answer. IsOurs (state new) × OnlyTells told (tables_of (state old)) answer (tables_of (state new)))
+    each (Ok answer) ours read same = let still = same.0.now_is in (subst HasOurTables (sym still) ours, (read, ap (λ (d : Database). tables_in d.trees) still))
+    each (Err e) ours read same = tt
+
+-- it told the same of each state
+pub of_each : {A E : Type 0} (r : Result A E) (is : State → Type 0) (told : State → A → Type 0) → ((s : State) → is s → IfOk r (told s))
+    → IfOk r (λ answer. (s : State) → is s → told s answer)
+of_each (Ok answer) is told each = each
+of_each (Err e) is told each = tt
+
+pub ok_leaves : {A E P Q : Type 0} (r : Result A E) → OnOk r P → (P → Q) → IfOk r (λ answer. Q)
+ok_leaves (Ok answer) p f = f p
+ok_leaves (Err e) p f = tt
 
 -- what it told of the state that the database stands for
 pub told_then : {S : Type 0} (g : Ghosts S) (old : Held S) (inside : db.State) (told : State → Type 0)

@@ -8,11 +8,19 @@ use Rattle.dep_tables.specs.Schema.{our_schema}
 use Rattle.dep_tables.specs.Tables.{HasTablesOf, IsKnown, IsOurs}
 use Rattle.dep_tables.specs.Versions.{our_version, older_version, IsKnownVersion}
 use Rattle.dep_schema.specs.Beside.{AreNewNamesFree}
-use Rattle.dep_schema.specs.OpenFaults.{begun, ShowsOrMakes, ShowsVersion, TellsVersion}
+use Rattle.dep_types.specs.declared.store_fault.StoreFault.{StoreFault}
+use Rattle.dep_types.specs.declared.store_fault.StoreFault.TheVariants as fault
+use Rattle.dep_schema.specs.declared.opening.OpenFault.TheVariants.{UnknownVersion}
+use Rattle.dep_schema.specs.OpenFaults.{begun, open_fault_for, ShowsOrMakes, ShowsVersion, TellsVersion}
 use Rattle.dep_schema.specs.Standing.{IsBack, IsStill}
 use Rattle.dep_schema.proofs.Upgraded.{new_not_free}
 use Rattle.dep_schema.proofs.Version.{not_older, shows_again}
 use Rattle.dep_store.specs.Causes.{HadFreeNames}
+
+-- no fault of the store is that its version isn't known
+pub never_unknown : (fault : StoreFault) → open_fault_for fault ≡ UnknownVersion → ⊥
+never_unknown fault.Store said = cc said
+never_unknown fault.Memory said = cc said
 
 pub one_left : (found : ℕ) → IsKnownVersion found → (found ≡ our_version → ⊥) → found ≡ older_version
 one_left found (inl two) other = absurd (other two)

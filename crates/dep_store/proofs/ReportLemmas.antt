@@ -19,12 +19,12 @@ use Rattle.dep_schema.specs.States.{TablesStandFor, StandsFor, Leaves}
 use Rattle.dep_types.specs.Sinks.{IsFront}
 use Rattle.dep_store.specs.Auditing.{IsObjectAudited}
 use Rattle.dep_store.specs.Audits.{Audited, AreAudits, object_rows, damaged_line, damaged_lines, lines_of, count_line, audit_text, outcome_of_audit, IsWhole, IsBegun, Audits}
-use Rattle.dep_store.specs.Reporting.{IsReportedObject, IsPartOfObject, IsReported, IsReportedTo, ReportsObject, ReportsObjects, outcome_of_fault}
+use Rattle.dep_store.specs.Reporting.{BlamesTransfer, BlamesWriter, IsReportedObject, IsPartOfObject, IsReported, IsReportedTo, ReportsObject, ReportsObjects, outcome_of_fault}
 use Rattle.dep_store.specs.declared.audit_fault.AuditFault.{AuditFault}
 use Rattle.dep_streams.specs.declared.auditing.Audit.{Audit}
 use Rattle.dep_store.specs.declared.tally.Tally.{Tally}
 use Rattle.dep_program.specs.declared.outcome.Outcome.{Outcome}
-use Rattle.dep_program.specs.declared.outcome.Outcome.TheVariants.{Damaged}
+use Rattle.dep_program.specs.declared.outcome.Outcome.TheVariants.{Damaged, TransferFault}
 use Rattle.dep_store.specs.declared.audit_fault.AuditFault.TheVariants.{Store, Writer}
 use Rattle.dep_store.proofs.WalkLemmas.{next_row, no_row}
 
@@ -213,6 +213,15 @@ is_damaged (suc n) some = refl
 pub fault_begun : (t : Tables) (written : List ℕ) (fault : AuditFault) (outcome : Outcome) → outcome ≡ outcome_of_fault fault → IsBegun t written → Audits t written outcome
 fault_begun t written Store outcome is begun = subst (Audits t written) (sym is) begun
 fault_begun t written Writer outcome is begun = subst (Audits t written) (sym is) begun
+
+-- whether the transfer failed
+pub no_transfer : (failures failures_after : ℕ) (outcome : Outcome) → (outcome ≡ TransferFault → ⊥) → failures_after ≡ failures → BlamesTransfer failures failures_after outcome
+no_transfer failures failures_after outcome other same = record { count = λ its. same; cause = λ said. absurd (other said) }
+
+pub transfer_of : {X : Type 0} (failures failures_after : ℕ) (fault : AuditFault) (outcome : Outcome) → outcome ≡ outcome_of_fault fault
+    → BlamesWriter {X = X} failures failures_after (Err fault) → BlamesTransfer failures failures_after outcome
+transfer_of failures failures_after Store outcome is it = no_transfer failures failures_after outcome (λ said. cc (is, said)) (it.quiet refl)
+transfer_of failures failures_after Writer outcome is it = record { count = λ other. absurd (other is); cause = λ said. it.cause refl }
 
 pub begun_fails : (t : Tables) (written : List ℕ) → IsBegun t written → (fault : AuditFault) (result : Result Tally AuditFault) → IsErrAnd result (λ x. x ≡ fault)
     → ReportsObjects t written result

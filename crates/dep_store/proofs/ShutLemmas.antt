@@ -1,5 +1,5 @@
 -- A store that a fault shut: what fails on it, and what stands again once a statement was given back.
-use Rattle.std.proofs.Common.{◌≡◌, ◌∙◌, ℕ, List, [], Result, Ok, Err, OnOk, IsErr, MatchResult, codes, refl, IsTrue, inl, inr, sym, ap, subst, length, le_of_eq}
+use Rattle.std.proofs.Common.{◌≡◌, ◌∙◌, ℕ, List, [], Bool, true, false, not, Result, Ok, Err, OnOk, IsErr, MatchResult, codes, refl, IsTrue, inl, inr, sym, ap, subst, length, le_of_eq}
 use Rattle.std.proofs.lemmas.Result.{IfOk-from_err}
 use Rattle.sqlite.specs.State as db
 use Rattle.sqlite.specs.State.{HasCleanDisk, Survives, IsNotRun, store_error}
@@ -22,6 +22,11 @@ use Rattle.sqlite_resolve.specs.declared.error.CompileError.{CompileError}
 on_any : {A E : Type 0} (r : Result A E) (P : Type 0) → P → OnOk r P
 on_any (Ok answer) P h = h
 on_any (Err e) P h = tt
+
+-- a transaction is under way
+pub under_way : (mode : Bool) → false ≡ not mode → IsTrue mode
+under_way true told = refl
+under_way false told = cc told
 
 -- nothing was committed
 pub leaves_no_more : (old new : db.State) → Survives old new (λ _. ⊥) → LeavesNoMore old new

@@ -1,5 +1,5 @@
 -- What a call on a store comes to, as those who serve it see it, from what it makes of the tables.
-use Rattle.std.proofs.Common.{◌≡◌, ℕ, inl, inr, Result, Ok, Err, IsErr, OnOk, OnErr, IfOk, IsTrue, sym, subst, arith}
+use Rattle.std.proofs.Common.{◌≡◌, ℕ, inl, inr, Result, Ok, Err, IsErr, OnOk, OnErr, IfOk, IsTrue, sym, subst, arith, ◌∙◌}
 use Rattle.sqlite.specs.State as db
 use Rattle.sqlite.specs.State.{HasCleanDisk, Survives}
 use Rattle.dep_types.specs.State.{State, tick}
@@ -15,6 +15,7 @@ use Rattle.dep_schema.specs.Transactions.{Transacts, OnlyTells, OverStates, IsBa
 use Rattle.dep_schema.proofs.Transacting.{IsSettled, IsOver, ok_over_states, err_state, stop_over_states, ok_tells, still_tells, left_tells, leaves_still, leaves_as_was}
 use Rattle.dep_hub.specs.Archives.{TriesTo, Ticks, Tells, KeepsState, KeepsAll, Always, CountsFailures}
 use Rattle.dep_store.specs.Archive.{shown_by}
+use Rattle.dep_store.specs.Shut.{FailsIfShut}
 use Rattle.dep_store.specs.Staying.{TellsTables, KeepsTables, KeepsRunning, LeavesOnly, HashesOn}
 use Rattle.dep_store.proofs.ShutLemmas.{state_back}
 use Rattle.dep_store.proofs.ReportLemmas.{leaves_held, stands_still}
@@ -116,6 +117,42 @@ keeps_state {A} {E} old new r ok err honest was_open stop = record {
 
 pub counts : {A : Type 0} (failures failures_after : ℕ) (r : Result A StreamFault) → BlamesOutlet Writer failures failures_after r → CountsFailures failures failures_after r
 counts failures failures_after r it = record { kept = it.kept; cause = it.cause; others = it.others }
+
+-- ---- where a transaction is under way, so that the connection stands for nothing
+
+module _ (d : db.State) (busy : IsTrue d.in_transaction) where
+  stands_not : (t : Tables) → Stands d t → ⊥
+  stands_not t stands = absurd (let never = sym busy ∙ stands.settled in cc never)
+
+  pub busy_tries : {A E : Type 0} {holds : State → Type 0} {told : State → A → Type 0} {next : State → State} {fault : E} → TriesTo (shown_by d) (shown_by d) holds told next (Err fault)
+  busy_tries = record {
+    ok = λ clean s at its. tt;
+    err = λ is_open s at. at;
+    honest = λ clean. clean;
+    was_open = λ is_open. is_open;
+    stop = λ clean s at its. absurd (stands_not at.tables at.stands);
+  }
+
+  pub busy_transacts : {A E : Type 0} {Makes : Tables → A → Tables → Type 0} {fault : E} → Transacts d d (Err fault) Makes
+  busy_transacts = record {
+    ok = λ clean t at. tt;
+    err = λ is_open t at. at;
+    honest = λ clean. clean;
+    was_open = λ is_open. is_open;
+    stop = λ clean t at. absurd (stands_not t at);
+  }
+
+  pub busy_tells : {A E : Type 0} {told : Tables → A → Type 0} {fault : E} → TellsTables d d told (Err fault)
+  busy_tells = record {
+    ok = λ clean t at. tt;
+    still = λ is_open t at. at;
+    honest = λ clean. clean;
+    was_open = λ is_open. is_open;
+    stop = λ clean t at. absurd (stands_not t at);
+  }
+
+  pub busy_fails : {A E : Type 0} {fault : E} → FailsIfShut {A = A} d d (Err fault)
+  busy_fails = record { opened = λ clean. tt; left = λ clean shut trees h. h }
 
 -- ---- tables that stay
 

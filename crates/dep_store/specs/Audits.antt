@@ -25,6 +25,11 @@ pub record AreAudits (t : Tables) (rows : List Row) (found : List Audited) : Typ
 abbrev pub object_rows : Tables → List Row
 object_rows t = filter (is_after 0) t.objects
 
+-- a line of two numbers, each behind a text
+abbrev pub two_numbers : (before : List ℕ) (first : ℕ) (between : List ℕ) (second : ℕ) → List ℕ
+two_numbers before first between second =
+    before ++ decimal first ++ between ++ decimal second ++ codes "\n"
+
 abbrev pub damaged_line : (object file : ℕ) → List ℕ
 damaged_line object file =
     codes "damaged " ++ decimal object ++ codes " " ++ decimal file ++ codes "\n"

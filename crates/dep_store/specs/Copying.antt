@@ -1,8 +1,8 @@
 -- What a transaction makes that writes the row of the clock as it is, before which SQLite copies a long log.
-use Rattle.std.specs.Prelude.{◌≡◌, IsTrue, Result, OnOk}
+use Rattle.std.specs.Prelude.{◌≡◌, Result}
 use Rattle.sqlite.specs.State as db
 use Rattle.dep_tables.specs.Edits.{HasStateRow, with_state_row}
-use Rattle.dep_tables.specs.Tables.{Tables, tables_of, IsOurs}
+use Rattle.dep_tables.specs.Tables.{Tables}
 use Rattle.dep_tables.specs.declared.state.StateRow.{StateRow}
 use Rattle.dep_hub.specs.Archives.{KeepsState}
 use Rattle.dep_schema.specs.Transactions.{Transacts}
@@ -13,11 +13,6 @@ use Rattle.dep_store.specs.Shut.{FailsIfShut}
 abbrev pub RewritesClock : Tables → Tables → Type 0
 RewritesClock before after =
     (row : StateRow) × HasStateRow before row × (after ≡ with_state_row row before)
-
--- an Ok does so inside a transaction over our tables
-abbrev pub RewritesInside : {A E : Type 0} → (old new : db.State) → Result A E → Type 0
-RewritesInside old new result = db.HasCleanDisk new → IsTrue old.in_transaction → IsOurs old
-    → OnOk result (IsOurs new × RewritesClock (tables_of old) (tables_of new))
 
 -- One transaction does so, whatever the tables are, and the state stays. On a store that was shut it fails.
 pub record CopiesLog {A E : Type 0} (old new : db.State) (result : Result A E) : Type 0 where

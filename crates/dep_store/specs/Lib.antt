@@ -10,3 +10,4 @@ pub mod Audits
 pub mod Reporting
 pub mod Working
 pub mod Copying
+pub mod Tasks

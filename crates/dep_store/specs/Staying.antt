@@ -1,5 +1,5 @@
 -- What stays of a store over a call that reads.
-use Rattle.std.specs.Prelude.{◌≡◌, IsTrue, Result, IfOk, OnOk}
+use Rattle.std.specs.Prelude.{◌≡◌, IsTrue, Result, IfOk}
 use Rattle.sqlite.specs.State as db
 use Rattle.sqlite.specs.Tree.{Trees}
 use Rattle.dep_types.specs.State.{State}
@@ -9,7 +9,7 @@ use Rattle.dep_staging.specs.HashedAhead.{AreRunning}
 use Rattle.dep_staging.specs.declared.running.RunningHashes.{RunningHashes}
 use Rattle.dep_schema.specs.Standing.{Holds, Stands}
 use Rattle.dep_schema.specs.States.{StandsFor, Leaves}
-use Rattle.dep_schema.specs.Transactions.{Transacts, OnlyTells, IsRestored}
+use Rattle.dep_schema.specs.Transactions.{IsRestored}
 use Rattle.dep_store.specs.Archive.{shown_by}
 
 -- whatever its tables are, they stay, while it is open
@@ -48,12 +48,6 @@ pub record TellsTables {A E : Type 0} (old new : db.State) (told : Tables → A 
   pub was_open : IsTrue new.is_open → IsTrue old.is_open
   pub stop : db.HasCleanDisk new → (t : Tables) → Stands old t → (trees : Trees)
       → new.may_leave trees → Holds trees t
-
--- A transaction that only returns this of the tables. On a store that was shut it fails.
-pub record TellsIfOpen {A E : Type 0} (old new : db.State) (told : Tables → A → Type 0)
-    (result : Result A E) : Type 0 where
-  pub transacts : Transacts old new result (OnlyTells told)
-  pub opened : db.HasCleanDisk new → OnOk result (IsTrue old.is_open)
 
 -- the tables stay, and a crash leaves the state for which they stood, if they stood for one
 pub record KeepsTables (old new : db.State) : Type 0 where

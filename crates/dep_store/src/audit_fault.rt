@@ -3,7 +3,7 @@ use dep_types::{StoreFault, WriteFailed};
 use std::alloc::AllocError;
 
 /// Why an audit ended before its last line.
-#[derive(Clone, Copy, Debug)]
+#[derive(Clone, Copy)]
 pub(crate) enum AuditFault {
     /// The store failed, or there was no memory.
     Store,

@@ -16,6 +16,7 @@ mod showing;
 mod source;
 mod store;
 mod tally;
+mod tasks;
 mod ticking;
 mod working;
 

@@ -1,6 +1,6 @@
 //! The lines of an audit.
 ghost use Rattle.std.specs.Prelude.{◌≡◌, IfOk, flat_map, string_bytes};
-ghost use Rattle.dep_store.specs.Audits.{damaged_line, count_line};
+ghost use Rattle.dep_store.specs.Audits.{damaged_line, count_line, two_numbers};
 ghost use Rattle.dep_store.specs.Reporting.{WritesTo};
 
 use crate::audit_fault::AuditFault;
@@ -33,20 +33,8 @@ fn write_file<W: Outlet>(
 ) -> Result<(), AuditFault>
     ensures { WritesTo W.taken W.failures out.old out.new (damaged_line object file) result }
 {
-    let line = file_line(alloc, object, file)?;
+    let line = spell(alloc, "damaged ", object, " ", file)?;
     write_line(line.as_str(), out)
-}
-
-fn file_line(alloc: Global, object: u64, file: u64) -> Result<String, AllocError>
-    ensures { IfOk result (λ line. string_bytes line ≡ damaged_line object file) }
-{
-    let mut digits = Buffer::new();
-    let mut line = String::from_str(alloc, "damaged ")?;
-    line.push_str(digits.format(object))?;
-    line.push_str(" ")?;
-    line.push_str(digits.format(file))?;
-    line.push_str("\n")?;
-    Ok(line)
 }
 
 /// Writes the last line.
@@ -58,18 +46,26 @@ pub(crate) fn write_count<W: Outlet>(
     ensures { WritesTo W.taken W.failures out.old out.new
         (count_line tally.checked tally.damaged) result }
 {
-    let line = last_line(alloc, tally)?;
+    let line = spell(alloc, "files ", tally.checked, " damaged ", tally.damaged)?;
     write_line(line.as_str(), out)
 }
 
-fn last_line(alloc: Global, tally: Tally) -> Result<String, AllocError>
-    ensures { IfOk result (λ line. string_bytes line ≡ count_line tally.checked tally.damaged) }
+// A line of two numbers.
+fn spell(
+    alloc: Global,
+    before: &str,
+    first: u64,
+    between: &str,
+    second: u64,
+) -> Result<String, AllocError>
+    ensures { IfOk result (λ line.
+        string_bytes line ≡ two_numbers before.now first between.now second) }
 {
     let mut digits = Buffer::new();
-    let mut line = String::from_str(alloc, "files ")?;
-    line.push_str(digits.format(tally.checked))?;
-    line.push_str(" damaged ")?;
-    line.push_str(digits.format(tally.damaged))?;
+    let mut line = String::from_str(alloc, before)?;
+    line.push_str(digits.format(first))?;
+    line.push_str(between)?;
+    line.push_str(digits.format(second))?;
     line.push_str("\n")?;
     Ok(line)
 }

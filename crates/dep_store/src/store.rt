@@ -27,11 +27,12 @@ ghost use Rattle.dep_store.specs.Staying.{TablesStay, TellsTables, LeavesOnly, H
 
 use crate::hashing::hash_running;
 use crate::opening::open_tables;
-use crate::reading::{find_next, list_files, view_object};
+use crate::reading::{ListFiles, NextObject, ViewObject};
 use crate::remembering::{Remembered, look, still_known, tell_open};
 use crate::sending::stream_known;
 use crate::showing::{file_shown, perform_if_open, recalled, show_service};
-use crate::ticking::{clock_still, copy_log, move_clock};
+use crate::tasks::transact;
+use crate::ticking::{MoveClock, clock_still, copy_log};
 use dep_answers::{Performed, Service, StoredFile};
 use dep_decisions::Operation;
 use dep_moment::Moment;
@@ -160,7 +161,13 @@ impl<S: Alter> Store<S> {
                 let told = Moment::new(it.clock);
                 Ok(told)
             }
-            None => move_clock(&mut self.connection, config, secs),
+            None => {
+                let task = MoveClock {
+                    config,
+                    moment: secs,
+                };
+                transact(&mut self.connection, &task)
+            }
         }
     }
 
@@ -256,7 +263,11 @@ impl<S: Alter> Store<S> {
         }
         self.remembered = None;
         self.shown = None;
-        view_object(&mut self.connection, self.alloc, object)
+        let task = ViewObject {
+            alloc: self.alloc,
+            object,
+        };
+        transact(&mut self.connection, &task)
     }
 
     /// Returns the least number of an object above this one, if there is one.
@@ -274,7 +285,7 @@ impl<S: Alter> Store<S> {
         }
         self.remembered = None;
         self.shown = None;
-        find_next(&mut self.connection, after)
+        transact(&mut self.connection, &NextObject { after })
     }
 
     /// Checks the files of this object by the SHA-256 of the bytes that stand in the tables, also where
@@ -289,7 +300,11 @@ impl<S: Alter> Store<S> {
         }
         self.remembered = None;
         self.shown = None;
-        let files = list_files(&mut self.connection, self.alloc, object)?;
+        let task = ListFiles {
+            alloc: self.alloc,
+            object,
+        };
+        let files = transact(&mut self.connection, &task)?;
         audit_files(&mut self.connection, self.alloc, files.as_slice(), watch)
     }
 

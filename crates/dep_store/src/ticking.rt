@@ -2,44 +2,55 @@
 
 ghost use Rattle.std.specs.Prelude.{◌≡◌, ◌≤◌, ℕ, false, Some};
 ghost use Rattle.sqlite.specs.Held.{state};
-ghost use Rattle.dep_types.specs.State.{tick};
-ghost use Rattle.dep_row_maps.specs.Clauses.{Does};
-ghost use Rattle.dep_schema.specs.Transactions.{Transacts, OverStates};
-ghost use Rattle.dep_store.specs.Copying.{CopiesLog, RewritesInside};
+ghost use Rattle.dep_store.specs.Copying.{CopiesLog};
 
 use crate::remembering::Remembered;
+use crate::tasks::{Task, transact};
 use dep_moment::Moment;
-use dep_schema::{Lent, check_open, commit};
+use dep_schema::check_open;
 use dep_tables::{Statements, read_state, write_state};
 use dep_types::{Config, StoreFault};
 use sqlite::{Alter, Connection};
 
-/// Moves the clock to the moment, and never back, and ends the uploads that were left idle, in a
-/// transaction of its own.
-pub(crate) fn move_clock<S: Alter>(
-    connection: &mut Connection<S>,
-    config: &Config,
-    moment: u64,
-) -> Result<Moment, StoreFault>
-    requires settled { (state S.Store connection.old).in_transaction ≡ false }
-    ensures { Transacts (state S.Store connection.old) (state S.Store connection.new) result
-        (OverStates (λ s clock. clock ≡ (tick config.now s moment).clock)
-        (λ s. tick config.now s moment)) }
-{
-    let mut tx = connection.transaction();
-    let moved = dep_staging::tick(&mut Lent { tx: &mut tx }, config, moment)?;
-    let clock = Moment::new(moved);
-    commit(tx)?;
-    Ok(clock)
+/// Moves the clock to the moment, and never back, and ends the uploads that were left idle.
+#[derive(Clone, Copy)]
+pub(crate) struct MoveClock<'a> {
+    pub(crate) config: &'a Config,
+    pub(crate) moment: u64,
+}
+
+impl<'a> Task for MoveClock<'a> {
+    ghost use Rattle.std.specs.Prelude.{◌≡◌};
+    ghost use Rattle.dep_types.specs.State.{tick};
+    ghost use Rattle.dep_schema.specs.Transactions.{OverStates};
+
+    type Answer = Moment;
+
+    ghost makes = { λ asked. OverStates (λ s clock. clock ≡ (tick asked.config.now s asked.moment).clock)
+        (λ s. tick asked.config.now s asked.moment) };
+
+    fn run<T: Statements>(&self, tx: &mut T) -> Result<Moment, StoreFault> {
+        let moved = dep_staging::tick(tx, self.config, self.moment)?;
+        let clock = Moment::new(moved);
+        Ok(clock)
+    }
 }
 
 /// Writes the row of the clock and the counters as it is read.
-fn write_again<T: Statements>(tx: &mut T) -> Result<(), StoreFault>
-    ensures { Does T.lenders T.state tx.old tx.new result
-        (RewritesInside (T.state tx.old) (T.state tx.new) result) }
-{
-    let row = read_state(tx)?;
-    write_state(tx, &row)
+#[derive(Clone, Copy)]
+struct WriteClock;
+
+impl Task for WriteClock {
+    ghost use Rattle.dep_store.specs.Copying.{RewritesClock};
+
+    type Answer = ();
+
+    ghost makes = { λ _ before done after. RewritesClock before after };
+
+    fn run<T: Statements>(&self, tx: &mut T) -> Result<(), StoreFault> {
+        let row = read_state(tx)?;
+        write_state(tx, &row)
+    }
 }
 
 /// Has the log copied into the file, by a transaction that writes the row of the clock as it is. Over a store that was
@@ -49,10 +60,7 @@ pub(crate) fn copy_log<S: Alter>(connection: &mut Connection<S>) -> Result<(), S
     ensures { CopiesLog (state S.Store connection.old) (state S.Store connection.new) result }
 {
     check_open(connection)?;
-    let mut tx = connection.transaction();
-    write_again(&mut Lent { tx: &mut tx })?;
-    commit(tx)?;
-    Ok(())
+    transact(connection, &WriteClock)
 }
 
 /// The clock that is remembered, where a tick at this moment changes nothing.

@@ -6,7 +6,7 @@ use Rattle.dep_schema.proofs.Refusing.{clean_last}
 use Rattle.dep_tables.specs.Schema.{our_schema, older_schema}
 use Rattle.dep_tables.specs.Versions.{our_version, HasVersion}
 use Rattle.dep_store.proofs.Opened.{opened_stood, first_means, leaves_opened, is_openable, stood_back}
-use Rattle.dep_store.proofs.Older.{one_left, tells_older, known_since, back_since, had_free, not_upgraded}
+use Rattle.dep_store.proofs.Older.{never_unknown, one_left, tells_older, known_since, back_since, had_free, not_upgraded}
 use Rattle.dep_schema.specs.OpenFaults.{begun, ShowsOrMakes}
 use Rattle.dep_schema.specs.Standing.{Stands, first_tables}
 use Rattle.dep_streams.proofs.Told.{passed_on}
@@ -181,6 +181,64 @@ returns-in-Err-clause-stop g c =
         refl,
       );
     }
+
+pub returns-then-version-eq2-clause-refused : goal.returns-then-version-eq2-clause-refused
+returns-then-version-eq2-clause-refused g c = tt
+
+pub returns-then-version-eq2-clause-known : goal.returns-then-version-eq2-clause-known
+returns-then-version-eq2-clause-known g c = tt
+
+pub returns-then-version-eq2-clause-left : goal.returns-then-version-eq2-clause-left
+returns-then-version-eq2-clause-left g c = tt
+
+pub returns-then-version-eq2-clause-stood : goal.returns-then-version-eq2-clause-stood
+returns-then-version-eq2-clause-stood g c = tt
+
+pub returns-then-version-eq2-clause-mode : goal.returns-then-version-eq2-clause-mode
+returns-then-version-eq2-clause-mode g c = c.in_ok-schema.ensures.mode
+
+pub returns-then-version-eq2-clause-honest : goal.returns-then-version-eq2-clause-honest
+returns-then-version-eq2-clause-honest g c =
+    clean_last (state g.S.Store c.args.connection) (state g.S.Store c.in_ok-schema.schema.connection) _ c.in_ok-schema.ensures.crash
+
+pub returns-then-version-eq2-clause-open : goal.returns-then-version-eq2-clause-open
+returns-then-version-eq2-clause-open g c = c.in_ok-schema.ensures.opened
+
+pub returns-in-Ok-clause-refused : goal.returns-in-Ok-clause-refused
+returns-in-Ok-clause-refused g c = tt
+
+pub returns-in-Ok-clause-known : goal.returns-in-Ok-clause-known
+returns-in-Ok-clause-known g c = tt
+
+pub returns-in-Ok-clause-left : goal.returns-in-Ok-clause-left
+returns-in-Ok-clause-left g c = tt
+
+pub returns-in-Ok-clause-stood : goal.returns-in-Ok-clause-stood
+returns-in-Ok-clause-stood g c = tt
+
+pub returns-in-Ok-clause-mode : goal.returns-in-Ok-clause-mode
+returns-in-Ok-clause-mode g c = c.in-Ok.ensures.mode
+
+pub returns-in-Err-clause-fresh : goal.returns-in-Err-clause-fresh
+returns-in-Err-clause-fresh g c = tt
+
+pub returns-in-Err-clause-found : goal.returns-in-Err-clause-found
+returns-in-Err-clause-found g c = tt
+
+pub returns-in-Err-clause-tables : goal.returns-in-Err-clause-tables
+returns-in-Err-clause-tables g c = tt
+
+pub returns-in-Err-clause-older : goal.returns-in-Err-clause-older
+returns-in-Err-clause-older g c = tt
+
+pub returns-in-Err-clause-refused : goal.returns-in-Err-clause-refused
+returns-in-Err-clause-refused g c clean said openable = never_unknown c.in-Err.fault (sym c.from.ensures ∙ said)
+
+pub returns-in-Err-clause-known : goal.returns-in-Err-clause-known
+returns-in-Err-clause-known g c clean is_open s left said = never_unknown c.in-Err.fault (sym c.from.ensures ∙ said)
+
+pub returns-in-Err-clause-mode : goal.returns-in-Err-clause-mode
+returns-in-Err-clause-mode g c = c.in-Err.ensures.mode
 
 pub returns-in_err-schema : goal.returns-in_err-schema
 returns-in_err-schema g c =

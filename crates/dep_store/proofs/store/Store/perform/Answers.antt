@@ -8,7 +8,7 @@ use Rattle.dep_answers.specs.declared.performed.Performed.{Performed}
 use Rattle.dep_fields.specs.Fit.{AreFit}
 use Rattle.dep_tables.specs.Tables.{Tables}
 use Rattle.dep_tables.proofs.Results.{if_failed}
-use Rattle.std.proofs.Common.{◌≡◌, ◌∙◌, Option, Some, rules, sym, subst}
+use Rattle.std.proofs.Common.{IsTrue, ◌≡◌, ◌∙◌, Option, Some, rules, sym, subst}
 use Rattle.std.specs.Prelude.{IfSome}
 use Rattle.sqlite.proofs.StateLemmas.{clean_if_open}
 use Rattle.dep_answers.specs.declared.performed.StoredFile.{StoredFile}
@@ -20,7 +20,8 @@ use Rattle.dep_schema.proofs.Transacting.{stood_before}
 use Rattle.dep_schema.proofs.Transacting.{unmoved}
 use Rattle.dep_store.specs.declared.remembering.Remembered.{Remembered}
 use Rattle.dep_store.proofs.Remembered.{known_still, service_made}
-use Rattle.dep_store.proofs.Tries.{tries_over}
+use Rattle.dep_store.proofs.Tries.{busy_tries, busy_fails, tries_over}
+use Rattle.dep_store.proofs.ShutLemmas.{under_way}
 use Rattle.dep_store.proofs.store.Store.perform.Goals as goal
 
 module _ (config : Config) (op : Operation) where
@@ -93,3 +94,9 @@ invariant_of-self-2 g c =
             λ clean. given.opened clean,
           ),
     )
+
+pub returns-then-not-is_autocommit : goal.returns-then-not-is_autocommit
+returns-then-not-is_autocommit g c =
+    let d = state g.S.Store c.args.self.now in
+    let busy : IsTrue d.in_transaction = rw c.self.view_is at (under_way c.self.inside.connection.in_transaction c.if-not-is_autocommit.ensures.value) in
+    record { does = busy_tries d busy; unchanged = λ clean s given running nothing. tt; shut = busy_fails d busy }

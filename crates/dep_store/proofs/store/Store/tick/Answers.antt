@@ -1,4 +1,4 @@
-use Rattle.std.proofs.Common.{◌∙◌, ℕ, Result, Ok, min, sym, ap}
+use Rattle.std.proofs.Common.{IsTrue, ◌∙◌, ℕ, Result, Ok, min, sym, ap}
 use Rattle.sqlite.specs.Held.{state}
 use Rattle.sqlite.proofs.StateLemmas.{clean_if_open}
 use Rattle.dep_types.specs.Limits.{greatest_moment}
@@ -7,8 +7,8 @@ use Rattle.dep_schema.specs.Transactions.{Transacts}
 use Rattle.dep_schema.proofs.Transacting.{unmoved, after_back, fails_back}
 use Rattle.dep_store.specs.Shut.{FailsIfShut}
 use Rattle.dep_store.proofs.Remembered.{clock_made}
-use Rattle.dep_store.proofs.ShutLemmas.{fails_still, was_open_then}
-use Rattle.dep_store.proofs.Tries.{Clocked, ticks_over}
+use Rattle.dep_store.proofs.ShutLemmas.{under_way, fails_still, was_open_then}
+use Rattle.dep_store.proofs.Tries.{busy_tries, busy_fails, Clocked, ticks_over}
 use Rattle.dep_store.proofs.store.Store.tick.Goals as goal
 
 abbrev told : ℕ → Result ℕ StoreFault
@@ -67,13 +67,13 @@ pub returns-in-None : goal.returns-in-None
 returns-in-None g c =
     let old = state g.S.Store c.self.inside.connection in
     let mid = state g.S.Store c.look.new.connection in
-    let new = state g.S.Store c.move_clock.new.connection in
+    let new = state g.S.Store c.transact.new.connection in
     let store = c.look.new.connection.store in
     let finds = c.in_ok-found.ensures.finds in
-    let moved : Transacts old new c.move_clock.result (Clocked c.args.config.now c.secs-secs.result) = after_back old mid new _ _ (λ is_open trees h. g.met.S.Store.settled c.self.inside.connection.store trees is_open h)
-    (clean_if_open (g.S.Store.view store) (g.met.S.Store.shut_if_dirty store)) finds.restored.back finds.restored.survives finds.opened c.move_clock.ensures in
-    let shut : FailsIfShut old new c.move_clock.result = was_open_then old new c.move_clock.result
-    (λ clean. (finds.restored.back (finds.opened (c.move_clock.ensures.honest clean))).0) in
+    let moved : Transacts old new c.transact.result (Clocked c.args.config.now c.secs-secs.result) = after_back old mid new _ _ (λ is_open trees h. g.met.S.Store.settled c.self.inside.connection.store trees is_open h)
+    (clean_if_open (g.S.Store.view store) (g.met.S.Store.shut_if_dirty store)) finds.restored.back finds.restored.survives finds.opened c.transact.ensures.transacts in
+    let shut : FailsIfShut old new c.transact.result = was_open_then old new c.transact.result
+    (λ clean. (finds.restored.back (finds.opened (c.transact.ensures.transacts.honest clean))).0) in
     record {
       does = ticks_over _ _ _ c.args.config.now _ _ c.secs-secs.ensures.seconds (rw c.self.view_is at moved);
       shut = rw c.self.view_is at shut;
@@ -82,3 +82,9 @@ returns-in-None g c =
 -- what was read is remembered
 pub invariant_of-self-in-Some-found : goal.invariant_of-self-in-Some-found
 invariant_of-self-in-Some-found g c = (λ m is s stands. c.in_ok-found.ensures.recalls m (c.in-Some-found.is ∙ is) s stands, λ m is clean. c.in_ok-found.ensures.finds.opened clean, λ it is. absurd (cc))
+
+pub returns-then-not-is_autocommit : goal.returns-then-not-is_autocommit
+returns-then-not-is_autocommit g c =
+    let d = state g.S.Store c.args.self.now in
+    let busy : IsTrue d.in_transaction = rw c.self.view_is at (under_way c.self.inside.connection.in_transaction c.if-not-is_autocommit.ensures.value) in
+    record { does = busy_tries d busy; shut = busy_fails d busy }

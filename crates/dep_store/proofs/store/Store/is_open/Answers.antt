@@ -1,0 +1,27 @@
+use Rattle.std.proofs.Common.{inl, refl}
+use Rattle.sqlite.specs.Held.{state}
+use Rattle.dep_store.proofs.ShutLemmas.{under_way}
+use Rattle.dep_store.proofs.Tries.{keeps_back, keeps_same, leaves_only}
+use Rattle.dep_store.proofs.store.Store.is_open.Goals as goal
+
+pub returns-in-Some : goal.returns-in-Some
+returns-in-Some g c =
+    let known = c.self.invariant.1 c.in-Some.field-0 c.in-Some.is in
+    record { told = rw c.self.view_is at known; cause = λ clean. tt; rests = keeps_same (state g.S.Store c.args.self.now); left = λ clean trees h. h }
+
+pub returns-then-not-is_autocommit : goal.returns-then-not-is_autocommit
+returns-then-not-is_autocommit g c =
+    let busy = under_way c.self.inside.connection.in_transaction c.if-not-is_autocommit.ensures.value in
+    record { told = tt; cause = λ clean. inl (rw c.self.view_is at busy, refl); rests = keeps_same (state g.S.Store c.args.self.now); left = λ clean trees h. h }
+
+pub returns-else-not-is_autocommit : goal.returns-else-not-is_autocommit
+returns-else-not-is_autocommit g c =
+    let old = state g.S.Store c.self.inside.connection in
+    let new = state g.S.Store c.tell_open.new.connection in
+    let asked = c.tell_open.ensures in
+    record {
+      told = asked.told;
+      cause = rw c.self.view_is at asked.cause;
+      rests = rw c.self.view_is at (keeps_back old new asked.restored);
+      left = rw c.self.view_is at (leaves_only old new asked.restored.survives);
+    }
