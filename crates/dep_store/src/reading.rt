@@ -22,7 +22,8 @@ impl Task for ViewObject {
 
     type Answer = Option<ObjectView>;
 
-    ghost makes = { λ asked. OnlyTells (λ t found. (s : State) → TablesStandFor t s → found ≡ view_at s asked.object) };
+    ghost makes = { λ asked. OnlyTells (λ t found. (s : State) → TablesStandFor t s
+        → found ≡ view_at s asked.object) };
 
     fn run<T: Statements>(&self, tx: &mut T) -> Result<Option<ObjectView>, StoreFault> {
         load_object_view(tx, self.alloc, self.object)

@@ -26,7 +26,8 @@ impl<'a> Task for MoveClock<'a> {
 
     type Answer = Moment;
 
-    ghost makes = { λ asked. OverStates (λ s clock. clock ≡ (tick asked.config.now s asked.moment).clock)
+    ghost makes = { λ asked. OverStates
+        (λ s clock. clock ≡ (tick asked.config.now s asked.moment).clock)
         (λ s. tick asked.config.now s asked.moment) };
 
     fn run<T: Statements>(&self, tx: &mut T) -> Result<Moment, StoreFault> {

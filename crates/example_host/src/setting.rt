@@ -73,7 +73,7 @@ fn seated<A: Archive + Drop>(
 
 // The configuration in the lines, which have the limits too.
 fn configured(alloc: Global, lines: &str, limits: &mut Limits) -> Result<Config, Trouble> {
-    let mut settings = Settings::new(alloc)?;
+    let mut settings = Settings::new(alloc);
     let config = set_all(alloc, lines, &mut settings, limits);
     drop(settings);
     config

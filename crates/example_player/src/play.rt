@@ -47,7 +47,7 @@ impl<T: ExampleTables> Play<T> {
     /// Before its first line: the archive is made once it is needed. It fails for want of memory alone.
     pub fn new(alloc: Global, cut: Cut) -> Result<Play<T>, Trouble> {
         let page = Page::new(alloc)?;
-        let settings = Settings::new(alloc)?;
+        let settings = Settings::new(alloc);
         Ok(Play {
             alloc,
             settings,

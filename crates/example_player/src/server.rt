@@ -151,7 +151,7 @@ fn served_word(served: Served) -> &'static str {
 
 /// A hub over a new archive, by the configuration of the examples.
 pub fn new_hub<T: ExampleTables>(alloc: Global) -> Result<Hub<T::Archive>, Trouble> {
-    let settings = Settings::new(alloc)?;
+    let settings = Settings::new(alloc);
     let hub = new_archive::<T>(alloc).and_then(|archive| opened(alloc, &settings, archive));
     drop(settings);
     hub

@@ -28,10 +28,10 @@ pub struct Settings {
 
 impl Settings {
     /// That of the program `swordd`.
-    pub fn new(alloc: Global) -> Result<Settings, AllocError> {
-        Ok(Settings {
+    pub fn new(alloc: Global) -> Settings {
+        Settings {
             parts: Words::new(alloc),
-        })
+        }
     }
 
     /// The configuration, anew.
