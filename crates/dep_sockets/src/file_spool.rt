@@ -1,5 +1,5 @@
 //! A spool in a file without a name.
-ghost use Rattle.std.specs.Prelude.{◌≡◌, ◌≤◌, ◌<◌, ◌+◌, ◌-◌, length, OnOk, OnErr, vec_len};
+ghost use Rattle.std.specs.Prelude.{◌≡◌, ◌≤◌, ◌<◌, ◌+◌, ◌-◌, OnOk, OnErr, vec_len};
 ghost use Rattle.dep_sockets.specs.Totals.{HoldsTheSame};
 
 use crate::spools::Spools;

@@ -1,5 +1,5 @@
 //! When the system was asked last which sockets are ready.
-ghost use Rattle.std.specs.Prelude.{◌≡◌, ◌<◌, ◌≤◌, ◌+◌, ◌-◌, true, false};
+ghost use Rattle.std.specs.Prelude.{◌≡◌, ◌<◌, ◌+◌, ◌-◌, true, false};
 
 /// For so many microseconds a look serves.
 const MOST_MICROSECONDS: u128 = 1_000;
