@@ -6,14 +6,11 @@ ghost use Rattle.dep_archive.specs.LogCopies.{writes_much, is_accepted, after_ca
 use dep_answers::Performed;
 use dep_decisions::Operation;
 use dep_fields::{Field, Kind};
+use dep_hub::ROUNDS_TO_REPLY;
 use dep_types::Method;
 
 /// A content of so many octets makes the log long: it fills 1,024 of its pages, and a log of 1,000 is copied.
 const LONG_CONTENT: usize = 4_194_304;
-
-/// So many calls behind such a request are left out: who waited through it is answered meanwhile, in the rounds that
-/// share its moment.
-const CALLS_LEFT_OUT: u32 = 3;
 
 /// When the log is to be copied, counted in calls that work ahead.
 #[derive(Clone, Copy)]
@@ -43,13 +40,14 @@ fn is_accepted(performed: &Performed) -> bool
 impl LogCopy {
     ghost use Rattle.dep_archive.specs.declared.log_copy.LogCopy.TheVariants.{DueAfter};
 
-    /// Notes a request that was answered so. One that was refused has written next to nothing.
+    /// Notes a request that was answered so. One that was refused has written next to nothing. Who waited through it is
+    /// answered first, in the calls that are left out.
     pub fn note(&mut self, operation: &Operation<'_>, performed: &Performed)
         ensures { self.new ≡ (if writes_much operation.now && is_accepted performed.now
             then DueAfter 3 else self.old) }
     {
         if writes_much(operation) && is_accepted(performed) {
-            *self = LogCopy::DueAfter(CALLS_LEFT_OUT);
+            *self = LogCopy::DueAfter(ROUNDS_TO_REPLY);
         }
     }
 

@@ -17,7 +17,7 @@ mod site;
 mod step;
 
 pub use access_log::{AccessLog, NoLog};
-pub use archive::Archive;
+pub use archive::{Archive, ROUNDS_TO_REPLY};
 pub use arrived::Arrived;
 pub use connection::{Served, serve_connection};
 pub use connections::ConnId;

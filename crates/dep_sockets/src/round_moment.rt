@@ -1,14 +1,11 @@
 //! At which moments rounds are played.
 ghost use Rattle.std.specs.Prelude.{◌≡◌, ◌≤◌, ◌<◌, ◌+◌};
 
+use dep_hub::ROUNDS_TO_REPLY;
 use dep_moment::Moment;
 
 /// A round that takes so many milliseconds holds up who comes meanwhile.
 const LONG: u128 = 20;
-
-/// In so many rounds behind it those are answered: one ends the last exchange of a client, or lets a new one in, the
-/// next reads its request, and the third answers it.
-const SHARED: u32 = 3;
 
 /// A long round among so many first ones at a moment holds it, and none behind them.
 const MOST_ROUNDS: u32 = 4;
@@ -47,7 +44,7 @@ impl RoundMoment {
         ensures later { 4 < self.old.rounds → self.new ≡ self.old }
     {
         if took >= LONG && 0 < self.rounds && self.rounds <= MOST_ROUNDS {
-            self.last = self.rounds + SHARED;
+            self.last = self.rounds + ROUNDS_TO_REPLY;
         }
     }
 

@@ -55,8 +55,8 @@ fn play_named_file<T: ExampleTables>(
     }
 }
 
-/// Whether the examples of a file are played by a host, which its first line says.
-pub fn is_of_a_host(text: &str) -> bool
+// Whether the examples of a file are played by a host, which its first line says.
+fn is_of_a_host(text: &str) -> bool
     ensures { result ≡ starts_with nat_eq text.now (codes "host\n") }
 {
     text.starts_with("host\n")

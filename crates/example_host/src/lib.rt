@@ -11,4 +11,4 @@ mod setting;
 mod socket;
 mod spool;
 
-pub use file::{is_of_a_host, play_files};
+pub use file::play_files;

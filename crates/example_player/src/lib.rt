@@ -12,7 +12,7 @@ mod tables;
 mod verdict;
 
 pub use file::play_file;
-pub use server::{new_archive, new_hub};
+pub use server::new_archive;
 pub use shelf::Shelf;
 pub use tables::ExampleTables;
 pub use verdict::Verdict;

@@ -149,14 +149,6 @@ fn served_word(served: Served) -> &'static str {
     }
 }
 
-/// A hub over a new archive, by the configuration of the examples.
-pub fn new_hub<T: ExampleTables>(alloc: Global) -> Result<Hub<T::Archive>, Trouble> {
-    let settings = Settings::new(alloc);
-    let hub = new_archive::<T>(alloc).and_then(|archive| opened(alloc, &settings, archive));
-    drop(settings);
-    hub
-}
-
 /// A new archive.
 pub fn new_archive<T: ExampleTables>(alloc: Global) -> Result<T::Archive, Trouble> {
     T::made(alloc, "")?.opened(alloc)

@@ -5,10 +5,8 @@
 mod calls;
 mod database;
 mod files;
-mod sockets;
 
 use crate::database::Database;
-use crate::sockets::play_socket;
 use dep_program::words;
 use example_host::play_files;
 use example_player::{ExampleTables, Verdict};
@@ -22,7 +20,7 @@ fn main(rt: HostRuntime) -> io::Result<ExitCode> {
     Ok(verdict.status())
 }
 
-// Plays the files that the arguments name, and then what is played over a socket.
+// Plays the files that the arguments name.
 fn all_played<T: ExampleTables>(rt: &HostRuntime) -> io::Result<Verdict> {
     let Ok(names) = words(rt) else {
         return Ok(Verdict::Unknown);
@@ -32,8 +30,5 @@ fn all_played<T: ExampleTables>(rt: &HostRuntime) -> io::Result<Verdict> {
         return Ok(Verdict::Otherwise);
     }
     let mut texts = Words::new(rt.alloc());
-    match play_files::<T>(rt, rt.alloc(), &mut texts, names.as_slice())? {
-        Verdict::Unknown => Ok(Verdict::Unknown),
-        verdict => Ok(verdict.and(play_socket::<T>(rt, &texts)?)),
-    }
+    play_files::<T>(rt, rt.alloc(), &mut texts, names.as_slice())
 }

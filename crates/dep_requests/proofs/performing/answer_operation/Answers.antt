@@ -44,4 +44,4 @@ returns-clause-unchanged g c none clean ours =
     let before = clean_before c.in_ok-performed.ensures.map.keeps.stays clean in
     let same = c.in_ok-ruled.ensures.map.keeps.same before ours in
     let more = c.in_ok-performed.ensures.unchanged (c.lets_change-has_changes.ensures.0 none) same.0.is_open clean (subst HasOurTables (sym same.0.now_is) ours) in
-    unchanged_then old mid (g.T.Statements.state c.follow.new.tx) same more
+    unchanged_then old mid (g.T.Statements.state c.follow-performed.new.tx) same more
