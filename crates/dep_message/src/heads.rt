@@ -26,7 +26,7 @@ pub fn closes(head: &Head) -> bool
 fn asks_to_close(head: &Head) -> bool
     ensures { result ≡ spec.asks_to_close head.now }
 {
-    head.values("Connection").any(|value| names_close(value))
+    head.values("Connection").any(names_close)
 }
 
 fn names_close(value: &[u8]) -> bool
