@@ -10,7 +10,7 @@ use Rattle.dep_staging.proofs.comparing.has_block.Goals as goal
 pub returns-in-Some : goal.returns-in-Some
 returns-in-Some g c = record {
   does = record {
-    map = λ clean ours s are. 
+    map = λ clean ours s are.
         c.eq.ensures ∙ ap (λ stored. bytes_eq stored c.args.block.now) c.as_slice.ensures.value ∙ ap (λ o. option_map_or (λ stored. bytes_eq stored c.args.block.now) o false)
         (ap (option_map (λ (bytes : Vec ℕ). bytes.items)) (sym c.in-Some.is) ∙ c.in_ok-stored.ensures.does.map clean ours s are);
     numbers = λ great. never_failed _ _ (c.in_ok-stored.ensures.does.numbers great).0;
@@ -22,7 +22,7 @@ returns-in-Some g c = record {
 pub returns-in-None : goal.returns-in-None
 returns-in-None g c = record {
   does = record {
-    map = λ clean ours s are. 
+    map = λ clean ours s are.
         ap (λ o. option_map_or (λ stored. bytes_eq stored c.args.block.now) o false)
         (ap (option_map (λ (bytes : Vec ℕ). bytes.items)) (sym c.in-None.is) ∙ c.in_ok-stored.ensures.does.map clean ours s are);
     numbers = λ great. never_failed _ _ (c.in_ok-stored.ensures.does.numbers great).0;
