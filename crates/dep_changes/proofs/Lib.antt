@@ -2,6 +2,7 @@ pub mod Steps
 pub mod Staged
 pub mod Added
 pub mod Assembled
+pub mod SeenWhole
 pub mod Filled
 pub mod Accepted
 pub mod Carried

@@ -56,7 +56,7 @@ known_row s content view d = view.object >>= row_left s content d
 
 -- a deposit with a number for each of its files is known
 abbrev pub TellsNumbered : NumberedDeposit → State → Type 0
-TellsNumbered d s = TellsDeposit d.change s d.deposit.now
+TellsNumbered d s = TellsDeposit d.change.now s d.deposit.now
 
 -- an object that has this deposit alone, as it is shown
 abbrev pub IsFilledView : State → Change → Deposit → (n : ℕ) → (ingested : Bool) → ObjectView → Type 0

@@ -75,7 +75,6 @@ fn change_maps<T: Statements>(
     ensures untouched { decision.now ≡ Show → (result ≡ Ok tt) × (tx.new ≡ tx.old) }
     ensures cause { FailsCarryingMaps T.state tx.old tx.new result change.now decision.now }
 {
-    let change = *change;
     match decision {
         Decision::Show => Ok(()),
         Decision::Create { deposit, ingests } => {
@@ -91,17 +90,17 @@ fn change_maps<T: Statements>(
             ingests,
             ..
         } => replace(tx, &NumberedDeposit { change, deposit }, *ingests),
-        Decision::Complete { .. } => complete(tx, &change),
-        Decision::SetMetadata { metadata, .. } => set_texts(tx, &change, metadata),
+        Decision::Complete { .. } => complete(tx, change),
+        Decision::SetMetadata { metadata, .. } => set_texts(tx, change, metadata),
         Decision::SetFiles { files, .. } => {
             let files = files.as_slice();
             set_files(tx, &NumberedFiles { change, files })
         }
-        Decision::SetFile { file, new, .. } => set_file(tx, &change, *file, new),
-        Decision::DropFile { file, .. } => drop_file(tx, &change, *file),
+        Decision::SetFile { file, new, .. } => set_file(tx, change, *file, new),
+        Decision::DropFile { file, .. } => drop_file(tx, change, *file),
         Decision::DropObject { object } => drop_object(tx, change.alloc, *object),
-        Decision::Open(opening) => open(tx, &change, opening),
-        Decision::Receive { segment, .. } => receive(tx, &change, *segment),
+        Decision::Open(opening) => open(tx, change, opening),
+        Decision::Receive { segment, .. } => receive(tx, change, *segment),
         Decision::DropUpload { upload } => drop_upload(tx, *upload),
     }
 }

@@ -21,17 +21,17 @@ pub(crate) struct Change<'a> {
 /// New files of an object, with a number for each.
 #[derive(Clone, Copy)]
 pub(crate) struct NumberedFiles<'a> {
-    pub(crate) change: Change<'a>,
+    pub(crate) change: &'a Change<'a>,
     pub(crate) files: &'a [NewFile],
-    ghost room: { IsTrue (has_room change.view.now.next.file (length files.now)) },
+    ghost room: { IsTrue (has_room change.now.view.now.next.file (length files.now)) },
 }
 
 /// A deposit, with a number for each of its files.
 #[derive(Clone, Copy)]
 pub(crate) struct NumberedDeposit<'a> {
-    pub(crate) change: Change<'a>,
+    pub(crate) change: &'a Change<'a>,
     pub(crate) deposit: &'a Deposit,
-    ghost room: { IsTrue (has_room change.view.now.next.file (count_of deposit.now)) },
+    ghost room: { IsTrue (has_room change.now.view.now.next.file (count_of deposit.now)) },
 }
 
 /// The object that is touched. That none is there is a fault of the store, as the rules let no such request through.

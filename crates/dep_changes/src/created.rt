@@ -57,13 +57,13 @@ fn row_of(
 
 // The rows of the files of a new object, under the next numbers in their order.
 fn new_rows(numbered: &NumberedFiles<'_>, object: u64) -> Result<FileRows, StoreFault>
-    ensures told { (s : State) → TellsDeposit numbered.now.change s (Files numbered.now.files.now)
+    ensures told { (s : State) → TellsDeposit numbered.now.change.now s (Files numbered.now.files.now)
         → IfOk result (λ rows.
-        rows ≡ new_rows s numbered.now.change.content.now object numbered.now.files.now) }
-    ensures cause { (s : State) → HasItsSources s numbered.now.change (Files numbered.now.files.now)
+        rows ≡ new_rows s numbered.now.change.now.content.now object numbered.now.files.now) }
+    ensures cause { (s : State) → HasItsSources s numbered.now.change.now (Files numbered.now.files.now)
         → IfErr result (λ fault. (numbered.now.files.now ≢ []) × (fault ≡ Memory)) }
 {
-    let change = &numbered.change;
+    let change = numbered.change;
     let files = numbered.files;
     let mut rows = Vec::new(change.alloc);
     'files: for (index, new) in files.iter().enumerate() {
@@ -84,8 +84,8 @@ pub(crate) fn filled_view(
 ) -> Result<ObjectView, StoreFault>
     ensures told { (s : State) (n : ℕ) (ingested : Bool)
         → TellsNumbered numbered.now s → row ≡ object_row n (blank s ingested)
-        → IfOk result (IsFilledView s numbered.now.change numbered.now.deposit.now n ingested) }
-    ensures cause { (s : State) → HasItsSources s numbered.now.change numbered.now.deposit.now
+        → IfOk result (IsFilledView s numbered.now.change.now numbered.now.deposit.now n ingested) }
+    ensures cause { (s : State) → HasItsSources s numbered.now.change.now numbered.now.deposit.now
         → IfErr result (λ fault. HasCopies numbered.now.deposit.now × (fault ≡ Memory)) }
 {
     let change = numbered.change;

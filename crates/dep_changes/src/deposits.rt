@@ -66,10 +66,10 @@ fn fill<T: Statements>(
     numbered: &NumberedDeposit<'_>,
     object: u64,
 ) -> Result<(), StoreFault>
-    ensures map { PutsIn T.lenders T.state tx.old tx.new result numbered.now.change object
+    ensures map { PutsIn T.lenders T.state tx.old tx.new result numbered.now.change.now object
         numbered.now.deposit.now }
     ensures cause { FailsByOne T.state tx.old tx.new result
-        (IsStorableAt numbered.now.change object numbered.now.deposit.now)
+        (IsStorableAt numbered.now.change.now object numbered.now.deposit.now)
         (FailsHolding (HasCopies numbered.now.deposit.now)) }
 {
     let change = numbered.change;
@@ -88,12 +88,12 @@ pub(crate) fn create<T: Statements>(
     numbered: &NumberedDeposit<'_>,
     ingests: bool,
 ) -> Result<(), StoreFault>
-    ensures map { CarriesOut T.lenders T.state tx.old tx.new result numbered.now.change
+    ensures map { CarriesOut T.lenders T.state tx.old tx.new result numbered.now.change.now
         (Create numbered.now.deposit.now ingests) }
-    ensures cause { FailsCarrying T.state tx.old tx.new result numbered.now.change
+    ensures cause { FailsCarrying T.state tx.old tx.new result numbered.now.change.now
         (Create numbered.now.deposit.now ingests) }
 {
-    let change = &numbered.change;
+    let change = numbered.change;
     let object = change.view.next.object;
     add_object(tx, &blank_row(change.view, object, ingests))?;
     fill(tx, numbered, object)
@@ -115,12 +115,12 @@ pub(crate) fn replace<T: Statements>(
     numbered: &NumberedDeposit<'_>,
     ingests: bool,
 ) -> Result<(), StoreFault>
-    ensures map { (n : ℕ) → CarriesOut T.lenders T.state tx.old tx.new result numbered.now.change
+    ensures map { (n : ℕ) → CarriesOut T.lenders T.state tx.old tx.new result numbered.now.change.now
         (Replace n numbered.now.deposit.now ingests) }
-    ensures cause { (n : ℕ) → FailsCarryingMaps T.state tx.old tx.new result numbered.now.change
+    ensures cause { (n : ℕ) → FailsCarryingMaps T.state tx.old tx.new result numbered.now.change.now
         (Replace n numbered.now.deposit.now ingests) }
 {
-    let change = &numbered.change;
+    let change = numbered.change;
     let row = ingested_by(touched_object(change.view)?, ingests);
     delete_files(tx, change.alloc, row.object)?;
     clear_metadata(tx, change.alloc, row.object)?;
@@ -133,10 +133,10 @@ fn append_files<T: Statements>(
     numbered: &NumberedFiles<'_>,
     row: ObjectRow,
 ) -> Result<(), StoreFault>
-    ensures map { Appends T.lenders T.state tx.old tx.new result numbered.now.change row
+    ensures map { Appends T.lenders T.state tx.old tx.new result numbered.now.change.now row
         (Deposit.Files numbered.now.files.now) }
     ensures cause { FailsByOne T.state tx.old tx.new result
-        (IsStorableBeside numbered.now.change row map.empty (Deposit.Files numbered.now.files.now))
+        (IsStorableBeside numbered.now.change.now row map.empty (Deposit.Files numbered.now.files.now))
         (FailsHolding (numbered.now.files.now ≢ [])) }
 {
     write_row(tx, &files_changed(numbered.change.view, row))?;
@@ -164,9 +164,9 @@ pub(crate) fn append<T: Statements>(
     numbered: &NumberedDeposit<'_>,
     ingests: bool,
 ) -> Result<(), StoreFault>
-    ensures map { (n : ℕ) → CarriesOut T.lenders T.state tx.old tx.new result numbered.now.change
+    ensures map { (n : ℕ) → CarriesOut T.lenders T.state tx.old tx.new result numbered.now.change.now
         (Append n numbered.now.deposit.now ingests) }
-    ensures cause { (n : ℕ) → FailsCarryingMaps T.state tx.old tx.new result numbered.now.change
+    ensures cause { (n : ℕ) → FailsCarryingMaps T.state tx.old tx.new result numbered.now.change.now
         (Append n numbered.now.deposit.now ingests) }
 {
     let change = numbered.change;
@@ -176,6 +176,6 @@ pub(crate) fn append<T: Statements>(
             let files = files.as_slice();
             append_files(tx, &NumberedFiles { change, files }, row)
         }
-        Deposit::Metadata(metadata) => append_texts(tx, &change, row, metadata),
+        Deposit::Metadata(metadata) => append_texts(tx, change, row, metadata),
     }
 }

@@ -34,7 +34,7 @@ pub fn known_after(
     ensures cause { (s : State) → IsAccepted s view.now content.now decision.now
         → IfErr result (λ fault. CopiesKnown decision.now × (fault ≡ Memory)) }
 {
-    let change = Change {
+    let change = &Change {
         alloc,
         view,
         content,
@@ -64,7 +64,7 @@ pub fn known_after(
             Ok(Some(Shown::ObjectRow(files_changed(view, row))))
         }
         Decision::SetFile { file, new, .. } => {
-            let replaced = replaced_file(&change, *file, new)?;
+            let replaced = replaced_file(change, *file, new)?;
             Ok(Some(Shown::File(replaced)))
         }
         _ => Ok(None),

@@ -181,13 +181,13 @@ pub(crate) fn put_new_files<T: Statements>(
     numbered: &NumberedFiles<'_>,
     object: u64,
 ) -> Result<(), StoreFault>
-    ensures map { PutsIn T.lenders T.state tx.old tx.new result numbered.now.change object
+    ensures map { PutsIn T.lenders T.state tx.old tx.new result numbered.now.change.now object
         (Files numbered.now.files.now) }
     ensures cause { FailsByOne T.state tx.old tx.new result
-        (IsStorableAt numbered.now.change object (Files numbered.now.files.now))
+        (IsStorableAt numbered.now.change.now object (Files numbered.now.files.now))
         (FailsHolding (numbered.now.files.now ≢ [])) }
 {
-    let change = &numbered.change;
+    let change = numbered.change;
     let files = numbered.files;
     'files: for (index, new) in files.iter().enumerate() {
         let numbers = FileNumbers {
@@ -204,12 +204,12 @@ pub(crate) fn set_files<T: Statements>(
     tx: &mut T,
     numbered: &NumberedFiles<'_>,
 ) -> Result<(), StoreFault>
-    ensures map { (n : ℕ) → CarriesOut T.lenders T.state tx.old tx.new result numbered.now.change
+    ensures map { (n : ℕ) → CarriesOut T.lenders T.state tx.old tx.new result numbered.now.change.now
         (SetFiles n numbered.now.files.now) }
-    ensures cause { (n : ℕ) → FailsCarryingMaps T.state tx.old tx.new result numbered.now.change
+    ensures cause { (n : ℕ) → FailsCarryingMaps T.state tx.old tx.new result numbered.now.change.now
         (SetFiles n numbered.now.files.now) }
 {
-    let change = &numbered.change;
+    let change = numbered.change;
     let row = touched_object(change.view)?;
     delete_files(tx, change.alloc, row.object)?;
     write_row(tx, &files_changed(change.view, row))?;

@@ -12,11 +12,11 @@ use Rattle.dep_changes.proofs.NewObject.{no_rows, rows_added, rows_more}
 use Rattle.dep_changes.proofs.created.new_rows.Goals as goal
 
 pub files-init : goal.files-init
-files-init c s numbers sources = c.new-rows.ensures.items ∙ no_rows s c.args.numbered.now.change.content.now c.args.object s.next.file
+files-init c s numbers sources = c.new-rows.ensures.items ∙ no_rows s c.args.numbered.now.change.now.content.now c.args.object s.next.file
 
 pub files-preserved : goal.files-preserved
 files-preserved c s numbers sources =
-    let content = c.args.numbered.now.change.content.now in
+    let content = c.args.numbered.now.change.now.content.now in
     let files = c.args.numbered.now.files.now in
     let i = c.files.index in
     let x = c.index-files-index.result in
@@ -36,7 +36,7 @@ pub returns-clause-told : goal.returns-clause-told
 returns-clause-told c s told =
     c.new.ensures
     ∙ c.files.invariant s told.0 told.1
-    ∙ ap (rows_added s c.args.numbered.now.change.content.now c.args.object s.next.file) (take_all c.files.index c.args.numbered.now.files.now c.files-test.false)
+    ∙ ap (rows_added s c.args.numbered.now.change.now.content.now c.args.object s.next.file) (take_all c.files.index c.args.numbered.now.files.now c.files-test.false)
 
 pub returns-in_err-row-clause-cause : goal.returns-in_err-row-clause-cause
 returns-in_err-row-clause-cause c s sources =

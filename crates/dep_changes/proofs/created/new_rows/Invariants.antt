@@ -7,5 +7,5 @@ use Rattle.dep_changes.proofs.created.new_rows.Given as goal
 -- the rows are those of the files so far
 abbrev pub invariant-files : goal.invariant-files
 invariant-files l =
-    (s : State) → TellsNumbers l.numbered.change.view.now s → AreSources s l.numbered.change.content.now l.numbered.change.view.now.uploads l.numbered.files.now
-    → l.rows.items ≡ rows_added s l.numbered.change.content.now l.object s.next.file (take l.index l.numbered.files.now)
+    (s : State) → TellsNumbers l.numbered.change.now.view.now s → AreSources s l.numbered.change.now.content.now l.numbered.change.now.view.now.uploads l.numbered.files.now
+    → l.rows.items ≡ rows_added s l.numbered.change.now.content.now l.object s.next.file (take l.index l.numbered.files.now)

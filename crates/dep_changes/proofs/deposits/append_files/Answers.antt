@@ -21,7 +21,7 @@ use Rattle.dep_changes.proofs.deposits.append_files.Goals as goal
 pub returns-clause-map : goal.returns-clause-map
 returns-clause-map g c = record {
   done = λ it clean inside ours s are told.
-      let view = c.args.numbered.now.change.view.now in
+      let view = c.args.numbered.now.change.now.view.now in
       let mid = g.T.Statements.state c.write_row.new.tx in
       let new = g.T.Statements.state c.put_new_files.new.tx in
       let before = clean_before c.put_new_files.ensures.map.keeps.stays clean in
@@ -36,13 +36,13 @@ returns-clause-map g c = record {
       let one : State = with_object s n mark in
       ok_then c.put_new_files.result
       (c.put_new_files.ensures.map.done mark clean (c.in_ok-write_row.ensures.map.keeps.stays.inside before inside) (c.in_ok-write_row.ensures.map.keeps.ours before inside ours) one put ((numbers, told.0.1), get_here s.objects n mark))
-      (λ added. new_files_again (tables_of new) s c.args.numbered.now.change.content.now n n mark mark c.args.numbered.now.files.now refl added);
+      (λ added. new_files_again (tables_of new) s c.args.numbered.now.change.now.content.now n n mark mark c.args.numbered.now.files.now refl added);
   keeps = changes_then c.in_ok-write_row.ensures.map.keeps c.put_new_files.ensures.map.keeps;
 }
 
 pub returns-in_err-write_row-clause-cause : goal.returns-in_err-write_row-clause-cause
 returns-in_err-write_row-clause-cause g c storable clean inside =
-    let view = c.args.numbered.now.change.view.now in
+    let view = c.args.numbered.now.change.now.view.now in
     let held = c.args.numbered.now.files.now ≢ [] in
     let fits = files_fit view storable.0 c.args.row c.files_changed.result storable.1 c.files_changed.ensures in
     if_err_is _ c.from_residual.result c.in_err-write_row.field-0.0 c.from_residual.ensures.1

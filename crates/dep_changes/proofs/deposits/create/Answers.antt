@@ -22,9 +22,9 @@ use Rattle.dep_changes.proofs.deposits.create.Goals as goal
 pub returns-clause-map : goal.returns-clause-map
 returns-clause-map g c = record {
   done = λ clean inside ours s are told.
-      let view = c.args.numbered.now.change.view.now in
+      let view = c.args.numbered.now.change.now.view.now in
       let numbers = told.0 in
-      let content = c.args.numbered.now.change.content.now in
+      let content = c.args.numbered.now.change.now.content.now in
       let mid = g.T.Statements.state c.add_object.new.tx in
       let new = g.T.Statements.state c.fill.new.tx in
       let before = clean_before c.fill.ensures.map.keeps.stays clean in
@@ -46,7 +46,7 @@ returns-clause-map g c = record {
 
 pub returns-in_err-add_object-clause-cause : goal.returns-in_err-add_object-clause-cause
 returns-in_err-add_object-clause-cause g c s storable clean inside =
-    let view = c.args.numbered.now.change.view.now in
+    let view = c.args.numbered.now.change.now.view.now in
     let held = HasCopies c.args.numbered.now.deposit.now in
     let fits = blank_fits view storable.0 c.blank_row.result _ _ storable.0.object c.blank_row.ensures in
     if_err_is _ c.from_residual.result c.in_err-add_object.field-0.0 c.from_residual.ensures.1

@@ -23,11 +23,11 @@ use Rattle.dep_changes.proofs.deposits.replace.Goals as goal
 pub returns-clause-map : goal.returns-clause-map
 returns-clause-map g c n = record {
   done = λ clean inside ours s are told.
-      let view = c.args.numbered.now.change.view.now in
+      let view = c.args.numbered.now.change.now.view.now in
       let numbers = told.0 in
       let o = told.1.0 in
       let object = told.1.1 in
-      let content = c.args.numbered.now.change.content.now in
+      let content = c.args.numbered.now.change.now.content.now in
       let one = g.T.Statements.state c.delete_files.new.tx in
       let two = g.T.Statements.state c.clear_metadata.new.tx in
       let three = g.T.Statements.state c.write_row.new.tx in
@@ -78,11 +78,11 @@ returns-in_err-write_row-clause-map g c n = record {
 }
 
 pub returns-in_err-touched_object-clause-cause : goal.returns-in_err-touched_object-clause-cause
-returns-in_err-touched_object-clause-cause g c n clean inside ours s are storable = never_absent c.args.numbered.now.change.view.now storable.1 c.in_err-touched_object.ensures.absent
+returns-in_err-touched_object-clause-cause g c n clean inside ours s are storable = never_absent c.args.numbered.now.change.now.view.now storable.1 c.in_err-touched_object.ensures.absent
 
 pub returns-in_err-delete_files-clause-cause : goal.returns-in_err-delete_files-clause-cause
 returns-in_err-delete_files-clause-cause g c n clean inside ours s are storable =
-    let view = c.args.numbered.now.change.view.now in
+    let view = c.args.numbered.now.change.now.view.now in
     let told = storable.1 in
     let held = HasCopies c.args.numbered.now.deposit.now in
     let row = ingested_fits c.in_ok-touched_object.field-0 c.ingested_by-row.result c.args.ingests (found_fits view told c.in_ok-touched_object.field-0 c.in_ok-touched_object.ensures.told) c.ingested_by-row.ensures in
@@ -91,7 +91,7 @@ returns-in_err-delete_files-clause-cause g c n clean inside ours s are storable 
 
 pub returns-in_err-clear_metadata-clause-cause : goal.returns-in_err-clear_metadata-clause-cause
 returns-in_err-clear_metadata-clause-cause g c n clean inside ours s are storable =
-    let view = c.args.numbered.now.change.view.now in
+    let view = c.args.numbered.now.change.now.view.now in
     let told = storable.1 in
     let held = HasCopies c.args.numbered.now.deposit.now in
     let before = clean_before c.clear_metadata.ensures.map.keeps.stays clean in
@@ -102,7 +102,7 @@ returns-in_err-clear_metadata-clause-cause g c n clean inside ours s are storabl
 
 pub returns-in_err-write_row-clause-cause : goal.returns-in_err-write_row-clause-cause
 returns-in_err-write_row-clause-cause g c n clean inside ours s are storable =
-    let view = c.args.numbered.now.change.view.now in
+    let view = c.args.numbered.now.change.now.view.now in
     let told = storable.1 in
     let held = HasCopies c.args.numbered.now.deposit.now in
     let two = stays_then c.in_ok-delete_files.ensures.does.keeps.stays c.in_ok-clear_metadata.ensures.map.keeps.stays in
@@ -114,7 +114,7 @@ returns-in_err-write_row-clause-cause g c n clean inside ours s are storable =
 
 pub returns-clause-cause : goal.returns-clause-cause
 returns-clause-cause g c n clean inside ours s are storable =
-    let view = c.args.numbered.now.change.view.now in
+    let view = c.args.numbered.now.change.now.view.now in
     let told = storable.1 in
     let held = HasCopies c.args.numbered.now.deposit.now in
     let three = stays_then (stays_then c.in_ok-delete_files.ensures.does.keeps.stays c.in_ok-clear_metadata.ensures.map.keeps.stays) c.in_ok-write_row.ensures.map.keeps.stays in

@@ -26,8 +26,8 @@ files-preserved g c =
       stays_ok (stays_then {r = Ok tt} inv.0 c.in_ok-put_new_file.ensures.map.keeps.stays),
       λ clean inside ours. c.in_ok-put_new_file.ensures.map.keeps.ours clean (inv.0.inside (clean_mid clean) inside) (inv.1 (clean_mid clean) inside ours),
       λ clean inside ours s are o numbers there sources.
-          let content = c.args.numbered.now.change.content.now in
-          let seen = c.args.numbered.now.change.view.now.uploads in
+          let content = c.args.numbered.now.change.now.content.now in
+          let seen = c.args.numbered.now.change.now.view.now.uploads in
           let files = c.args.numbered.now.files.now in
           let i = c.files.index in
           let x = c.index-files-index.result in
@@ -35,7 +35,7 @@ files-preserved g c =
           let within : i < length files = omega arith in
           let at : slice_get files i ≡ Some x = slice_get_read files (length files) i x refl within c.index-files-index.is in
           let so_far = inv.2 (clean_mid clean) inside ours s are o numbers there sources in
-          one_more s content seen n o files i x at sources (tables_of new) (c.args.numbered.now.change.view.now.next.file + i) (ap (λ (k : Counters). k.file + i) numbers.1)
+          one_more s content seen n o files i x at sources (tables_of new) (c.args.numbered.now.change.now.view.now.next.file + i) (ap (λ (k : Counters). k.file + i) numbers.1)
           (c.in_ok-put_new_file.ensures.map.done (object_before s content seen n o files i x at sources) clean (inv.0.inside (clean_mid clean) inside) (inv.1 (clean_mid clean) inside ours)
           (state_before s content seen n o files i x at sources) so_far ((numbers, its_source s content seen n o files i x at sources), get_here s.objects n _)),
     )
@@ -50,14 +50,14 @@ pub files-init : goal.files-init
 files-init g c = (
   stays_put g.T.Statements.lenders g.T.Statements.state c.args.tx.now _,
   λ clean inside ours. ours,
-  λ clean inside ours s are o numbers there sources. none_yet (tables_of (g.T.Statements.state c.args.tx.now)) s c.args.numbered.now.change.content.now c.args.object o there are,
+  λ clean inside ours s are o numbers there sources. none_yet (tables_of (g.T.Statements.state c.args.tx.now)) s c.args.numbered.now.change.now.content.now c.args.object o there are,
 )
 
 pub returns-clause-map : goal.returns-clause-map
 returns-clause-map g c = record {
   done = λ o clean inside ours s are told.
       let now = g.T.Statements.state c.files.tx in
-      subst (λ (new : List NewFile). TablesAre (tables_of now) (with_new_files s c.args.numbered.now.change.content.now c.args.object o new)) (take_all c.files.index c.args.numbered.now.files.now c.files-test.false)
+      subst (λ (new : List NewFile). TablesAre (tables_of now) (with_new_files s c.args.numbered.now.change.now.content.now c.args.object o new)) (take_all c.files.index c.args.numbered.now.files.now c.files-test.false)
       (c.files.invariant.2 clean inside ours s are o told.0.0 told.1 told.0.1);
   keeps = record { stays = stays_ok c.files.invariant.0; ours = c.files.invariant.1 };
 }
@@ -73,4 +73,4 @@ returns-in_err-put_new_file-clause-cause g c storable clean inside =
     let before = clean_before c.put_new_file.ensures.map.keeps.stays clean in
     if_err_is _ c.from_residual.result c.in_err-put_new_file.field-0.0 c.from_residual.ensures.1
     (fails_later g.T.Statements.state c.args.tx.now c.files.tx c.put_new_file.new.tx inv.0.survives (FailsHolding ⊤) (FailsHolding (files ≢ [])) (holding_more (λ _. has_some files i within)) _
-    (c.in_err-put_new_file.ensures.cause (storable.0, storable.1, room_below c.args.numbered.now.change.view.now.next.file (length files) i c.args.numbered.now.room within, storable.2 i x at) clean (inv.0.inside before inside)))
+    (c.in_err-put_new_file.ensures.cause (storable.0, storable.1, room_below c.args.numbered.now.change.now.view.now.next.file (length files) i c.args.numbered.now.room within, storable.2 i x at) clean (inv.0.inside before inside)))

@@ -16,6 +16,6 @@ invariant-files g l =
     Stays g.T.Statements.lenders g.T.Statements.state l.fn.tx l.tx
     × (HasCleanDisk now → IsTrue old.in_transaction → IsOurs old → IsOurs now)
     × (HasCleanDisk now → IsTrue old.in_transaction → IsOurs old
-    → (s : State) → SeesState old s → (o : Object) → TellsNumbers l.numbered.change.view.now s → map.get s.objects l.object ≡ Some o
-    → AreSources s l.numbered.change.content.now l.numbered.change.view.now.uploads l.numbered.files.now
-    → SeesState now (with_new_files s l.numbered.change.content.now l.object o (take l.index l.numbered.files.now)))
+    → (s : State) → SeesState old s → (o : Object) → TellsNumbers l.numbered.change.now.view.now s → map.get s.objects l.object ≡ Some o
+    → AreSources s l.numbered.change.now.content.now l.numbered.change.now.view.now.uploads l.numbered.files.now
+    → SeesState now (with_new_files s l.numbered.change.now.content.now l.object o (take l.index l.numbered.files.now)))

@@ -23,8 +23,8 @@ use Rattle.dep_changes.proofs.new_files.set_files.Goals as goal
 pub returns-clause-map : goal.returns-clause-map
 returns-clause-map g c n = record {
   done = λ clean inside ours s are told.
-      let view = c.args.numbered.now.change.view.now in
-      let content = c.args.numbered.now.change.content.now in
+      let view = c.args.numbered.now.change.now.view.now in
+      let content = c.args.numbered.now.change.now.content.now in
       let one = g.T.Statements.state c.delete_files.new.tx in
       let two = g.T.Statements.state c.write_row.new.tx in
       let new = g.T.Statements.state c.put_new_files.new.tx in
@@ -61,11 +61,11 @@ returns-in_err-write_row-clause-map g c n = record {
 }
 
 pub returns-in_err-row-clause-cause : goal.returns-in_err-row-clause-cause
-returns-in_err-row-clause-cause g c n clean inside ours s are storable = never_absent c.args.numbered.now.change.view.now storable.1 c.in_err-row.ensures.absent
+returns-in_err-row-clause-cause g c n clean inside ours s are storable = never_absent c.args.numbered.now.change.now.view.now storable.1 c.in_err-row.ensures.absent
 
 pub returns-in_err-delete_files-clause-cause : goal.returns-in_err-delete_files-clause-cause
 returns-in_err-delete_files-clause-cause g c n clean inside ours s are storable =
-    let view = c.args.numbered.now.change.view.now in
+    let view = c.args.numbered.now.change.now.view.now in
     let told = storable.1 in
     let held = c.args.numbered.now.files.now ≢ [] in
     let fits = found_fits view told c.in_ok-row.row c.in_ok-row.ensures.told in
@@ -74,7 +74,7 @@ returns-in_err-delete_files-clause-cause g c n clean inside ours s are storable 
 
 pub returns-in_err-write_row-clause-cause : goal.returns-in_err-write_row-clause-cause
 returns-in_err-write_row-clause-cause g c n clean inside ours s are storable =
-    let view = c.args.numbered.now.change.view.now in
+    let view = c.args.numbered.now.change.now.view.now in
     let told = storable.1 in
     let held = c.args.numbered.now.files.now ≢ [] in
     let before = clean_before c.write_row.ensures.map.keeps.stays clean in
@@ -86,7 +86,7 @@ returns-in_err-write_row-clause-cause g c n clean inside ours s are storable =
 
 pub returns-clause-cause : goal.returns-clause-cause
 returns-clause-cause g c n clean inside ours s are storable =
-    let view = c.args.numbered.now.change.view.now in
+    let view = c.args.numbered.now.change.now.view.now in
     let told = storable.1 in
     let held = c.args.numbered.now.files.now ≢ [] in
     let two = stays_then c.in_ok-delete_files.ensures.does.keeps.stays c.in_ok-write_row.ensures.map.keeps.stays in
