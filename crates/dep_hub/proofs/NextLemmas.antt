@@ -1,5 +1,5 @@
 -- What answering the next item comes to, and how an arrival goes on with it.
-use Rattle.std.proofs.Common.{◌≡◌, ◌≢◌, ◌⊎◌, inl, inr, ℕ, List, [], Option, refl, sym, ap, subst, ◌∙◌}
+use Rattle.std.proofs.Common.{◌≡◌, ◌≢◌, ◌⊎◌, inl, inr, ℕ, Bool, true, false, List, [], Option, refl, sym, ap, subst, ◌∙◌}
 use Rattle.std.proofs.lemmas.List.{append-nil}
 use Rattle.std.specs.Io.KnownBytes.{Appends}
 use Rattle.dep_types.specs.declared.config.Config.{Config}
@@ -7,10 +7,11 @@ use Rattle.dep_types.specs.Conditions.{Condition}
 use Rattle.dep_types.specs.Writing.{HasRisen}
 use Rattle.dep_message.specs.Places.{Place, Open, Shut, Reading, IsOpen, HasBytes, shut_reading}
 use Rattle.dep_message.specs.Stream.{Item, FirstAt, Waits}
+use Rattle.dep_message.specs.Giving.{Takes}
 use Rattle.dep_hub.specs.Machine.{state_after, answer_at_place, SendsUpTo, want_of_memory}
 use Rattle.dep_hub.specs.Sending.{Outside, Passes, outside}
 use Rattle.dep_hub.specs.Serving.{Arrival, Answers, IsDeadIfShut, Progress, ServesOver, answer_after}
-use Rattle.dep_hub.specs.Nexts.{Stays, Rests, RunsOut, IsLast, IsDead, Ends, GoesOn, IsWaiting, AnswersNext, ended_as}
+use Rattle.dep_hub.specs.Nexts.{Stays, Rests, RunsOut, IsLast, IsDead, Ends, GoesOn, IsWaiting, AnswersNext, TakesNext, ended_as, next_behind, reading_behind}
 use Rattle.dep_hub.specs.Shut.{EndsFixed, waits, has_ended}
 use Rattle.dep_hub.specs.declared.arrived.Arrived.{Arrived}
 use Rattle.dep_hub.specs.declared.arrived.Arrived.TheVariants.{Open as StaysOpen, Closed, Cut, NoSuch}
@@ -55,7 +56,7 @@ never_more Cut n q e = cut_more (sym q ∙ e)
 never_more NoSuch n q e = closed_more (sym q ∙ e)
 
 -- what is not shut is open
-pub is_there : (at : Place) → (at ≡ Shut → ⊥) → IsOpen at
+is_there : (at : Place) → (at ≡ Shut → ⊥) → IsOpen at
 is_there (Open continued rest) never = tt
 is_there Shut never = never refl
 
@@ -88,7 +89,7 @@ module _ (config : Config) (reading : Reading) (moment : ℕ) (old new : Outside
   ends_by CutShort v = (shut, inl v)
 
   -- an item was the last
-  pub ends_last : (item : Item) (next : Place) (how : Answered) → FirstAt reading.limit reading.place item next → (how ≡ Sent → next ≡ Shut)
+  ends_last : (item : Item) (next : Place) (how : Answered) → FirstAt reading.limit reading.place item next → (how ≡ Sent → next ≡ Shut)
       → Answers config old new item moment how → (ended : Arrived) → ended ≡ answer_after how → (n : Next) → n ≡ ended_as ended
       → AnswersNext config reading moment old new at n
   ends_last item next how f e a ended r n q =
@@ -101,6 +102,35 @@ module _ (config : Config) (reading : Reading) (moment : ℕ) (old new : Outside
   ends_out Closed o n q = subst (λ x. AnswersNext config reading moment old new at x) (sym q) (shut, inr (inl o))
   ends_out Cut o n q = subst (λ x. AnswersNext config reading moment old new at x) (sym q) (shut, inr (inl o))
   ends_out NoSuch o n q = absurd (there_sent o.sends refl)
+
+-- an item was answered: another follows, or it was the last
+module _ (config : Config) (reading mid : Reading) (moment : ℕ) (old new : Outside) (item : Item) (taken : Takes reading mid item) where
+  ends_behind : (how : Answered) → (how ≡ Sent → mid.place ≡ Shut) → Answers config old new item moment how → (ended : Arrived) → ended ≡ answer_after how
+      → TakesNext config reading (shut_reading mid) moment old new (ended_as ended)
+  ends_behind how closes a ended e = record {
+    answers = ends_last config reading moment old new Shut refl item mid.place how taken.first closes a ended e (ended_as ended) refl;
+    keeps = record { limit = taken.limit; dead = λ dead. ends_dead mid (shut_reading mid) refl };
+    less = λ m. absurd (never_more ended (ended_as ended) refl m);
+  }
+
+  behind : (how : Answered) (is_last : Bool) → (is_last ≡ true → mid.place ≡ Shut) → (is_last ≡ false → mid.place ≡ Shut → ⊥)
+      → Answers config old new item moment how → TakesNext config reading (reading_behind mid how is_last) moment old new (next_behind how is_last)
+  behind Sent false closes goes a = record {
+    answers = record { item = item; first = taken.first; is_open = is_there mid.place (goes refl); answers = a };
+    keeps = record { limit = taken.limit; dead = λ dead shut. absurd (goes refl shut) };
+    less = λ m. taken.less;
+  }
+  behind Sent true closes goes a = ends_behind Sent (λ sent. closes refl) a Closed refl
+  behind GaveUp is_last closes goes a = ends_behind GaveUp (λ sent. cc) a Closed refl
+  behind CutShort is_last closes goes a = ends_behind CutShort (λ sent. cc) a Cut refl
+
+  pub takes_next : (how : Answered) (is_last : Bool) → (is_last ≡ true → mid.place ≡ Shut) → (is_last ≡ false → mid.place ≡ Shut → ⊥)
+      → Answers config old new item moment how → (now : Reading) → now ≡ reading_behind mid how is_last → (n : Next) → n ≡ next_behind how is_last
+      → TakesNext config reading now moment old new n
+  takes_next how is_last closes goes a now stands n e =
+      subst (λ (r : Reading). TakesNext config reading r moment old new n) (sym stands)
+      (subst (λ (x : Next). TakesNext config reading (reading_behind mid how is_last) moment old new x) (sym e)
+      (behind how is_last closes goes a))
 
 -- nothing was read any more
 pub dead_ends : (config : Config) (reading : Reading) (moment : ℕ) (old : Outside) (now : Reading) → now ≡ reading → reading.place ≡ Shut

@@ -1,5 +1,5 @@
 -- The next item of an intake, answered.
-use Rattle.std.specs.Prelude.{◌≡◌, ◌⊎◌, ◌<◌, ℕ, false, List, [], Option}
+use Rattle.std.specs.Prelude.{◌≡◌, ◌⊎◌, ◌<◌, ℕ, Bool, true, false, List, [], Option}
 use Rattle.std.specs.Io.KnownBytes.{Appends}
 use Rattle.dep_types.specs.State.{State}
 use Rattle.dep_types.specs.Writing.{HasRisen}
@@ -16,7 +16,7 @@ use Rattle.dep_hub.specs.declared.arrived.Arrived.TheVariants as came
 use Rattle.dep_hub.specs.declared.next.Next.{Next}
 use Rattle.dep_hub.specs.declared.next.Next.TheVariants.{More, Waiting, Closed, Cut, NoSuch}
 use Rattle.dep_hub.specs.declared.sending.Answered.{Answered}
-use Rattle.dep_hub.specs.declared.sending.Answered.TheVariants.{Sent}
+use Rattle.dep_hub.specs.declared.sending.Answered.TheVariants.{Sent, GaveUp, CutShort}
 
 -- these bytes were sent, and nothing was asked of the store
 pub record Stays (old new : Outside) (sent : List ℕ) : Type 0 where
@@ -107,3 +107,17 @@ ended_as came.Cut = Cut
 ended_as came.Open = Closed
 ended_as came.Closed = Closed
 ended_as came.NoSuch = Closed
+
+-- what comes after an item that was answered so
+abbrev pub next_behind : Answered → (is_last : Bool) → Next
+next_behind Sent false = More
+next_behind Sent true = Closed
+next_behind GaveUp is_last = Closed
+next_behind CutShort is_last = Cut
+
+-- and how the intake then stands
+abbrev pub reading_behind : Reading → Answered → (is_last : Bool) → Reading
+reading_behind reading Sent false = reading
+reading_behind reading Sent true = shut_reading reading
+reading_behind reading GaveUp is_last = shut_reading reading
+reading_behind reading CutShort is_last = shut_reading reading

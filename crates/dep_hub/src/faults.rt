@@ -49,10 +49,10 @@ impl ConnectFault {
 
 impl fmt::Display for HubFault {
     fn fmt<W: fmt::Write>(&self, f: &mut fmt::Formatter<W>) -> fmt::Result {
-        match self {
-            HubFault::Config => write!(f, "the configuration breaks a rule"),
-            HubFault::Memory => write!(f, "out of memory"),
-        }
+        f.write_str(match self {
+            HubFault::Config => "the configuration breaks a rule",
+            HubFault::Memory => "out of memory",
+        })
     }
 }
 
@@ -60,10 +60,10 @@ impl Error for HubFault {}
 
 impl fmt::Display for ConnectFault {
     fn fmt<W: fmt::Write>(&self, f: &mut fmt::Formatter<W>) -> fmt::Result {
-        match self {
-            ConnectFault::Full => write!(f, "no more connections can be opened"),
-            ConnectFault::Memory => write!(f, "out of memory"),
-        }
+        f.write_str(match self {
+            ConnectFault::Full => "no more connections can be opened",
+            ConnectFault::Memory => "out of memory",
+        })
     }
 }
 

@@ -3,7 +3,7 @@ ghost use Rattle.std.specs.Prelude.{◌≡◌, ◌≢◌};
 ghost use Rattle.dep_message.specs.Places.{shut_reading};
 ghost use Rattle.dep_hub.specs.Sending.{outside_of};
 ghost use Rattle.dep_hub.specs.Serving.{ServesOver, KeepsIntake, arrival_with, answer_after};
-ghost use Rattle.dep_hub.specs.Nexts.{TakesNext, TellsWant, ended_as};
+ghost use Rattle.dep_hub.specs.Nexts.{TakesNext, TellsWant, ended_as, next_behind, reading_behind};
 
 use crate::access_log::{AccessLog, NoLog};
 use crate::archive::Archive;
@@ -76,25 +76,28 @@ pub(crate) fn answer_next<A: Archive, O: Outlet, L: AccessLog>(
         Ok(Step::Refused(refusal, is_bare)) => {
             let fault = StreamRefusal { refusal, is_bare };
             let answer = answer_fault(context, store, fault, out, log);
-            last(end(intake, answer))
+            next_after(intake, answer, true)
         }
-        Ok(Step::Continue100) => match answer_continue(store, out, log) {
-            Answered::Sent => Next::More,
-            answer => last(end(intake, answer)),
-        },
+        Ok(Step::Continue100) => {
+            let answer = answer_continue(store, out, log);
+            next_after(intake, answer, false)
+        }
         Ok(Step::Message(message)) => {
             let is_last = closes(&message.head);
-            match answer_message(context, store, message, out, log) {
-                Answered::Sent => {
-                    if is_last {
-                        last(end(intake, Answered::Sent))
-                    } else {
-                        Next::More
-                    }
-                }
-                answer => last(end(intake, answer)),
-            }
+            let answer = answer_message(context, store, message, out, log);
+            next_after(intake, answer, is_last)
         }
+    }
+}
+
+// What comes after an item. Another follows where the whole reply was sent, and the item isn't the last.
+fn next_after(intake: &mut Intake, answer: Answered, is_last: bool) -> Next
+    ensures next { result ≡ next_behind answer is_last }
+    ensures read { intake.new ≡ reading_behind intake.old answer is_last }
+{
+    match answer {
+        Answered::Sent if !is_last => Next::More,
+        _ => last(end(intake, answer)),
     }
 }
 

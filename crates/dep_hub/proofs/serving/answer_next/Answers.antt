@@ -1,12 +1,10 @@
-use Rattle.std.proofs.Common.{◌≡◌, true, false, sym, ap, subst, ◌∙◌}
-use Rattle.dep_message.specs.Heads.{closes}
+use Rattle.std.proofs.Common.{true, false, sym, ap, subst, ◌∙◌}
 use Rattle.dep_message.specs.Places.{Reading}
-use Rattle.dep_message.specs.Stream.{Item, Fault, Continue, Request}
+use Rattle.dep_message.specs.Stream.{Fault, Continue, Request}
 use Rattle.dep_hub.specs.Sending.{outside}
 use Rattle.dep_hub.specs.Serving.{IsDeadIfShut}
-use Rattle.dep_hub.specs.declared.sending.Answered.TheVariants.{Sent}
 use Rattle.dep_hub.proofs.ServingLemmas.{continue_goes_on, request_shuts, request_goes_on, fault_shuts}
-use Rattle.dep_hub.proofs.NextLemmas.{waiting_more, closed_more, never_more, is_there, ends_dead, rests_same, runs_out, ends_out, ends_last, dead_ends}
+use Rattle.dep_hub.proofs.NextLemmas.{waiting_more, closed_more, never_more, ends_dead, rests_same, runs_out, ends_out, dead_ends, takes_next}
 use Rattle.dep_hub.proofs.serving.answer_next.Goals as goal
 
 pub returns-in-Err : goal.returns-in-Err
@@ -61,110 +59,31 @@ returns-in-Ok-Dead g c =
 pub returns-in-Ok-Refused : goal.returns-in-Ok-Refused
 returns-in-Ok-Refused g c =
     let h = rw c.in-Ok-Refused.field-0-is at c.in-Ok-Refused.ensures in
-    let item : Item = Fault c.in-Ok-Refused.refusal c.in-Ok-Refused.is_bare in
-    record {
-      answers = ends_last c.args.context.now.site.now c.args.intake.now c.args.context.now.moment
-          (outside (g.O.Outlet.taken c.args.out.now) (g.O.Outlet.failures c.args.out.now) (g.A.Archive.condition c.args.store.now))
-          (outside (g.O.Outlet.taken c.answer_fault-answer.new.out) (g.O.Outlet.failures c.answer_fault-answer.new.out) (g.A.Archive.condition c.answer_fault-answer.new.store))
-          c.end.new.intake.place (ap (λ (r : Reading). r.place) c.end.ensures.shut) item c.next.new.self.place c.answer_fault-answer.result h.first
-          (λ _. fault_shuts _ _ _ _ _ h.first) c.answer_fault-answer.ensures c.end.result c.end.ensures.answer c.last-in-Ok-Refused.result c.last-in-Ok-Refused.ensures;
-      keeps = record {
-        limit = ap (λ (r : Reading). r.limit) c.end.ensures.shut ∙ h.limit;
-        dead = λ dead. ends_dead c.next.new.self c.end.new.intake c.end.ensures.shut;
-      };
-      less = λ m. absurd (never_more c.end.result c.last-in-Ok-Refused.result c.last-in-Ok-Refused.ensures m);
-    }
+    takes_next c.args.context.now.site.now c.args.intake.now c.next.new.self c.args.context.now.moment
+    (outside (g.O.Outlet.taken c.args.out.now) (g.O.Outlet.failures c.args.out.now) (g.A.Archive.condition c.args.store.now))
+    (outside (g.O.Outlet.taken c.answer_fault-answer.new.out) (g.O.Outlet.failures c.answer_fault-answer.new.out) (g.A.Archive.condition c.answer_fault-answer.new.store))
+    (Fault c.in-Ok-Refused.refusal c.in-Ok-Refused.is_bare) h c.answer_fault-answer.result true
+    (λ _. fault_shuts _ _ _ _ _ h.first) (λ e. cc) c.answer_fault-answer.ensures
+    c.next_after.new.intake c.next_after.ensures.read c.next_after.result c.next_after.ensures.next
 
-pub returns-in-Sent : goal.returns-in-Sent
-returns-in-Sent g c =
-    let h = rw c.in-Ok-Continue100.field-0-is at c.in-Ok-Continue100.ensures in
-    record {
-      answers = record {
-        item = Continue;
-        first = h.first;
-        is_open = is_there c.next.new.self.place (continue_goes_on _ _ _ h.first);
-        answers = c.in-Sent.ensures c.args.context.now.site.now c.args.context.now.moment;
-      };
-      keeps = record {
-        limit = h.limit;
-        dead = λ dead shut. absurd (continue_goes_on _ _ _ h.first shut);
-      };
-      less = λ m. h.less;
-    }
-
-pub returns-in_default : goal.returns-in_default
-returns-in_default g c =
+pub returns-in-Ok-Continue100 : goal.returns-in-Ok-Continue100
+returns-in-Ok-Continue100 g c =
     let h = rw c.in-Ok-Continue100.field-0-is at c.in-Ok-Continue100.ensures in
     let store = g.A.Archive.condition c.args.store.now in
-    let shut = c.end-in_default.ensures.shut in
-    record {
-      answers = ends_last c.args.context.now.site.now c.args.intake.now c.args.context.now.moment
-          (outside (g.O.Outlet.taken c.args.out.now) (g.O.Outlet.failures c.args.out.now) store)
-          (outside (g.O.Outlet.taken c.answer_continue.new.out) (g.O.Outlet.failures c.answer_continue.new.out) store)
-          c.end-in_default.new.intake.place (ap (λ (r : Reading). r.place) shut) Continue c.next.new.self.place c.answer_continue.result h.first
-          (λ sent. absurd (c.in_default.not-Sent sent)) (c.answer_continue.ensures c.args.context.now.site.now c.args.context.now.moment)
-          c.end-in_default.result c.end-in_default.ensures.answer
-          c.last-in_default.result c.last-in_default.ensures;
-      keeps = record {
-        limit = ap (λ (r : Reading). r.limit) shut ∙ h.limit;
-        dead = λ dead. ends_dead c.next.new.self c.end-in_default.new.intake shut;
-      };
-      less = λ m. absurd (never_more c.end-in_default.result c.last-in_default.result c.last-in_default.ensures m);
-    }
+    takes_next c.args.context.now.site.now c.args.intake.now c.next.new.self c.args.context.now.moment
+    (outside (g.O.Outlet.taken c.args.out.now) (g.O.Outlet.failures c.args.out.now) store)
+    (outside (g.O.Outlet.taken c.answer_continue-answer.new.out) (g.O.Outlet.failures c.answer_continue-answer.new.out) store)
+    Continue h c.answer_continue-answer.result false
+    (λ e. cc) (λ _. continue_goes_on _ _ _ h.first) (c.answer_continue-answer.ensures c.args.context.now.site.now c.args.context.now.moment)
+    c.next_after-in-Ok-Continue100.new.intake c.next_after-in-Ok-Continue100.ensures.read c.next_after-in-Ok-Continue100.result c.next_after-in-Ok-Continue100.ensures.next
 
-pub returns-then-is_last : goal.returns-then-is_last
-returns-then-is_last g c =
+pub returns-in-Ok-Message : goal.returns-in-Ok-Message
+returns-in-Ok-Message g c =
     let h = rw c.in-Ok-Message.field-0-is at c.in-Ok-Message.ensures in
-    let ends : closes c.in-Ok-Message.message.head ≡ true = sym c.closes-is_last.ensures ∙ c.if-is_last.true in
-    let shut = c.end-then-is_last.ensures.shut in
-    record {
-      answers = ends_last c.args.context.now.site.now c.args.intake.now c.args.context.now.moment
-          (outside (g.O.Outlet.taken c.args.out.now) (g.O.Outlet.failures c.args.out.now) (g.A.Archive.condition c.args.store.now))
-          (outside (g.O.Outlet.taken c.answer_message.new.out) (g.O.Outlet.failures c.answer_message.new.out) (g.A.Archive.condition c.answer_message.new.store))
-          c.end-then-is_last.new.intake.place (ap (λ (r : Reading). r.place) shut) (Request c.in-Ok-Message.message) c.next.new.self.place Sent h.first
-          (λ sent. request_shuts _ _ _ c.in-Ok-Message.message ends h.first) c.in-Sent-answer_message.ensures
-          c.end-then-is_last.result c.end-then-is_last.ensures.answer c.last-then-is_last.result c.last-then-is_last.ensures;
-      keeps = record {
-        limit = ap (λ (r : Reading). r.limit) shut ∙ h.limit;
-        dead = λ dead. ends_dead c.next.new.self c.end-then-is_last.new.intake shut;
-      };
-      less = λ m. absurd (never_more c.end-then-is_last.result c.last-then-is_last.result c.last-then-is_last.ensures m);
-    }
-
-pub returns-else-is_last : goal.returns-else-is_last
-returns-else-is_last g c =
-    let h = rw c.in-Ok-Message.field-0-is at c.in-Ok-Message.ensures in
-    let goes : closes c.in-Ok-Message.message.head ≡ false = sym c.closes-is_last.ensures ∙ c.if-is_last.false in
-    record {
-      answers = record {
-        item = Request c.in-Ok-Message.message;
-        first = h.first;
-        is_open = is_there c.next.new.self.place (request_goes_on _ _ _ c.in-Ok-Message.message goes h.first);
-        answers = c.in-Sent-answer_message.ensures;
-      };
-      keeps = record {
-        limit = h.limit;
-        dead = λ dead shut. absurd (request_goes_on _ _ _ c.in-Ok-Message.message goes h.first shut);
-      };
-      less = λ m. h.less;
-    }
-
-pub returns-in_default-answer_message : goal.returns-in_default-answer_message
-returns-in_default-answer_message g c =
-    let h = rw c.in-Ok-Message.field-0-is at c.in-Ok-Message.ensures in
-    let shut = c.end-in_default-answer_message.ensures.shut in
-    record {
-      answers = ends_last c.args.context.now.site.now c.args.intake.now c.args.context.now.moment
-          (outside (g.O.Outlet.taken c.args.out.now) (g.O.Outlet.failures c.args.out.now) (g.A.Archive.condition c.args.store.now))
-          (outside (g.O.Outlet.taken c.answer_message.new.out) (g.O.Outlet.failures c.answer_message.new.out) (g.A.Archive.condition c.answer_message.new.store))
-          c.end-in_default-answer_message.new.intake.place (ap (λ (r : Reading). r.place) shut)
-          (Request c.in-Ok-Message.message) c.next.new.self.place c.answer_message.result h.first
-          (λ sent. absurd (c.in_default-answer_message.not-Sent sent)) c.answer_message.ensures
-          c.end-in_default-answer_message.result c.end-in_default-answer_message.ensures.answer
-          c.last-in_default-answer_message.result c.last-in_default-answer_message.ensures;
-      keeps = record {
-        limit = ap (λ (r : Reading). r.limit) shut ∙ h.limit;
-        dead = λ dead. ends_dead c.next.new.self c.end-in_default-answer_message.new.intake shut;
-      };
-      less = λ m. absurd (never_more c.end-in_default-answer_message.result c.last-in_default-answer_message.result c.last-in_default-answer_message.ensures m);
-    }
+    takes_next c.args.context.now.site.now c.args.intake.now c.next.new.self c.args.context.now.moment
+    (outside (g.O.Outlet.taken c.args.out.now) (g.O.Outlet.failures c.args.out.now) (g.A.Archive.condition c.args.store.now))
+    (outside (g.O.Outlet.taken c.answer_message-answer.new.out) (g.O.Outlet.failures c.answer_message-answer.new.out) (g.A.Archive.condition c.answer_message-answer.new.store))
+    (Request c.in-Ok-Message.message) h c.answer_message-answer.result c.closes-is_last.result
+    (λ e. request_shuts _ _ _ c.in-Ok-Message.message (sym c.closes-is_last.ensures ∙ e) h.first)
+    (λ e. request_goes_on _ _ _ c.in-Ok-Message.message (sym c.closes-is_last.ensures ∙ e) h.first) c.answer_message-answer.ensures
+    c.next_after-in-Ok-Message.new.intake c.next_after-in-Ok-Message.ensures.read c.next_after-in-Ok-Message.result c.next_after-in-Ok-Message.ensures.next

@@ -7,45 +7,36 @@ use Rattle.dep_hub.proofs.HoldingLemmas.{comes_next}
 use Rattle.dep_hub.proofs.NextLemmas.{next_there, next_passes}
 use Rattle.dep_hub.proofs.hub.Hub.answer.Goals as goal
 
-pub returns-in_default-clause-answers : goal.returns-in_default-clause-answers
-returns-in_default-clause-answers g c = record {
-  absent = index_none c.args.connection c.args.self.now.connections.items ((λ i. index_of (sym c.number.ensures i) (sym c.as_slice.ensures.value i)) ∙ (sym c.index_among.ensures.value ∙ c.in_default.is));
-  same = same_hub c.args.self.now _;
-  sends_nothing = keeps_same (g.O.Outlet.taken c.args.out.now);
-}
+-- there is no such connection
+pub returns-in_default : goal.returns-in_default
+returns-in_default g c =
+    let none = index_none c.args.connection c.args.self.now.connections.items ((λ i. index_of (sym c.number.ensures i) (sym c.as_slice.ensures.value i)) ∙ (sym c.index_among.ensures.value ∙ c.in_default.is)) in
+    record {
+      goes = record { config = refl; next = refl; clean = λ is_open. is_open; honest = λ honest. honest };
+      absent = λ _. refl;
+      there = λ there. absurd (none_there _ none there);
+      answers = record { absent = none; same = same_hub c.args.self.now _; sends_nothing = keeps_same (g.O.Outlet.taken c.args.out.now) };
+    }
 
-pub returns-clause-answers : goal.returns-clause-answers
-returns-clause-answers g c =
-    comes_next g.A.Archive.condition c.args.self.now _ c.args.connection c.in-Some.i c.index_mut-kept.result.now c.answer_next.new.intake
-    ((λ i. index_of (sym c.number.ensures i) (sym c.as_slice.ensures.value i)) ∙ sym c.in-Some.ensures.value)
-    c.index_mut-kept.ensures.value refl refl
-    (g.met.A.Archive.settled c.answer_next.new.store)
-    (g.O.Outlet.taken c.args.out.now) (g.O.Outlet.taken c.answer_next.new.out) (g.O.Outlet.failures c.args.out.now) (g.O.Outlet.failures c.answer_next.new.out)
-    c.args.moment c.answer_next.ensures.keeps.limit c.answer_next.ensures.keeps.dead c.answer_next.result c.answer_next.ensures.answers
-
-pub returns-clause-goes : goal.returns-clause-goes
-returns-clause-goes g c =
-    let passes = (next_passes c.args.self.now.config c.index_mut-kept.result.now.intake c.args.moment (outside (g.O.Outlet.taken c.args.out.now) (g.O.Outlet.failures c.args.out.now) (g.A.Archive.condition c.args.self.now.store))
-    (outside (g.O.Outlet.taken c.answer_next.new.out) (g.O.Outlet.failures c.answer_next.new.out) (g.A.Archive.condition c.answer_next.new.store)) c.answer_next.new.intake.place c.answer_next.result c.answer_next.ensures.answers).1 in
-    record { config = refl; next = refl; clean = passes.clean; honest = passes.honest }
-
-pub returns-in_default-clause-there : goal.returns-in_default-clause-there
-returns-in_default-clause-there g c = λ there.
-    absurd (none_there _ (index_none c.args.connection c.args.self.now.connections.items ((λ i. index_of (sym c.number.ensures i) (sym c.as_slice.ensures.value i)) ∙ (sym c.index_among.ensures.value ∙ c.in_default.is))) there)
-
-pub returns-clause-there : goal.returns-clause-there
-returns-clause-there g c = λ there. (
-  next_there c.args.self.now.config c.index_mut-kept.result.now.intake c.args.moment (outside (g.O.Outlet.taken c.args.out.now) (g.O.Outlet.failures c.args.out.now) (g.A.Archive.condition c.args.self.now.store)) (outside (g.O.Outlet.taken c.answer_next.new.out) (g.O.Outlet.failures c.answer_next.new.out) (g.A.Archive.condition c.answer_next.new.store)) c.answer_next.new.intake.place c.answer_next.result c.answer_next.ensures.answers,
-  stays_there c.args.connection c.in-Some.i c.args.self.now.connections.items c.index_mut-kept.result.now
-      ((λ i. index_of (sym c.number.ensures i) (sym c.as_slice.ensures.value i)) ∙ sym c.in-Some.ensures.value)
-      c.index_mut-kept.ensures.value c.answer_next.new.intake,
-)
-
-pub returns-clause-absent : goal.returns-clause-absent
-returns-clause-absent g c = λ none.
-    absurd (not_absent c.args.connection c.in-Some.i c.args.self.now.connections.items c.index_mut-kept.result.now
-    ((λ i. index_of (sym c.number.ensures i) (sym c.as_slice.ensures.value i)) ∙ sym c.in-Some.ensures.value)
-    c.index_mut-kept.ensures.value none)
+-- its next item was answered
+pub returns : goal.returns
+returns g c =
+    let index = (λ i. index_of (sym c.number.ensures i) (sym c.as_slice.ensures.value i)) ∙ sym c.in-Some.ensures.value in
+    let old = outside (g.O.Outlet.taken c.args.out.now) (g.O.Outlet.failures c.args.out.now) (g.A.Archive.condition c.args.self.now.store) in
+    let new = outside (g.O.Outlet.taken c.answer_next.new.out) (g.O.Outlet.failures c.answer_next.new.out) (g.A.Archive.condition c.answer_next.new.store) in
+    let passes = (next_passes c.args.self.now.config c.index_mut-kept.result.now.intake c.args.moment old new c.answer_next.new.intake.place c.answer_next.result c.answer_next.ensures.answers).1 in
+    record {
+      goes = record { config = refl; next = refl; clean = passes.clean; honest = passes.honest };
+      absent = λ none. absurd (not_absent c.args.connection c.in-Some.i c.args.self.now.connections.items c.index_mut-kept.result.now index c.index_mut-kept.ensures.value none);
+      there = λ there. (
+        next_there c.args.self.now.config c.index_mut-kept.result.now.intake c.args.moment old new c.answer_next.new.intake.place c.answer_next.result c.answer_next.ensures.answers,
+        stays_there c.args.connection c.in-Some.i c.args.self.now.connections.items c.index_mut-kept.result.now index c.index_mut-kept.ensures.value c.answer_next.new.intake,
+      );
+      answers = comes_next g.A.Archive.condition c.args.self.now _ c.args.connection c.in-Some.i c.index_mut-kept.result.now c.answer_next.new.intake
+          index c.index_mut-kept.ensures.value refl refl (g.met.A.Archive.settled c.answer_next.new.store)
+          (g.O.Outlet.taken c.args.out.now) (g.O.Outlet.taken c.answer_next.new.out) (g.O.Outlet.failures c.args.out.now) (g.O.Outlet.failures c.answer_next.new.out)
+          c.args.moment c.answer_next.ensures.keeps.limit c.answer_next.ensures.keeps.dead c.answer_next.result c.answer_next.ensures.answers;
+    }
 
 pub invariant_of-self-2 : goal.invariant_of-self-2
 invariant_of-self-2 g c = record {

@@ -1,4 +1,4 @@
-use Rattle.std.proofs.Common.{refl, sym, subst, List, [], arith}
+use Rattle.std.proofs.Common.{rules, refl, sym, subst, List, [], arith}
 use Rattle.dep_hub.specs.Numbers.{Ascends}
 use Rattle.dep_types.specs.declared.config.Config.{Config}
 use Rattle.dep_hub.specs.Records.{Line, Run, begins, first_world}
@@ -6,78 +6,74 @@ use Rattle.dep_hub.specs.Standing.{IsKeptAs, intake_of}
 use Rattle.dep_hub.specs.declared.connections.Connection.{Connection}
 use Rattle.dep_hub.proofs.hub.Hub.new.Goals as goal
 
-pub returns-clause-again : goal.returns-clause-again
-returns-clause-again g c = λ first records w run absent e. record {
-  world = w;
-  run = subst (λ (x : Config). Run x first records w) (sym c.in-Ok-new.ensures) run;
-  at = record {
-    state = e;
-    kept = λ n. subst (λ (cs : List Connection). IsKeptAs c.in-Ok-new.config.max_upload (w.line n) (intake_of cs n)) (sym c.new-2.ensures.items)
-        (subst (λ (l : Line). IsKeptAs c.in-Ok-new.config.max_upload l (intake_of [] n)) (sym (absent n)) tt);
-  };
+-- there is no memory for the check
+pub returns-in-Err-Memory : goal.returns-in-Err-Memory
+returns-in-Err-Memory g c = record {
+  stands = tt;
+  again = tt;
+  config = tt;
+  kept = tt;
+  checked = tt;
+  refused = λ e. cc;
+  next = tt;
+  store = refl;
 }
 
-pub returns-clause-stands : goal.returns-clause-stands
-returns-clause-stands g c = λ first e. returns-clause-again g c first [] (first_world first) begins (λ n. refl) e
+-- it is no configuration
+pub returns-in-Err-Base : goal.returns-in-Err-Base
+returns-in-Err-Base g c = record {
+  stands = tt;
+  again = tt;
+  config = tt;
+  kept = tt;
+  checked = tt;
+  refused = search rules;
+  next = tt;
+  store = refl;
+}
+
+-- there is no memory for the site
+pub returns-in_default : goal.returns-in_default
+returns-in_default g c = record {
+  stands = tt;
+  again = tt;
+  config = tt;
+  kept = tt;
+  checked = tt;
+  refused = λ e. cc;
+  next = tt;
+  store = refl;
+}
+
+-- no connection is there yet
+pub returns : goal.returns
+returns g c = record {
+  stands = λ first e. record {
+    world = first_world first;
+    run = begins;
+    at = record {
+      state = e;
+      kept = λ n. subst (λ (cs : List Connection). IsKeptAs c.in-Ok-new.config.max_upload ((first_world first).line n) (intake_of cs n)) (sym c.new-2.ensures.items) tt;
+    };
+  };
+  again = λ first records w run absent e. record {
+    world = w;
+    run = subst (λ (x : Config). Run x first records w) (sym c.in-Ok-new.ensures) run;
+    at = record {
+      state = e;
+      kept = λ n. subst (λ (cs : List Connection). IsKeptAs c.in-Ok-new.config.max_upload (w.line n) (intake_of cs n)) (sym c.new-2.ensures.items)
+          (subst (λ (l : Line). IsKeptAs c.in-Ok-new.config.max_upload l (intake_of [] n)) (sym (absent n)) tt);
+    };
+  };
+  config = c.in-Ok-new.ensures;
+  kept = refl;
+  checked = search rules;
+  refused = tt;
+  next = refl;
+  store = tt;
+}
 
 pub invariant_of-result : goal.invariant_of-result
 invariant_of-result g c = record {
   ascends = subst (λ (cs : List Connection). Ascends 0 cs 0) (sym c.new-2.ensures.items) (omega arith);
 }
-
-pub returns-in-Err-Memory-clause-stands : goal.returns-in-Err-Memory-clause-stands
-returns-in-Err-Memory-clause-stands g c = tt
-
-pub returns-in-Err-Memory-clause-again : goal.returns-in-Err-Memory-clause-again
-returns-in-Err-Memory-clause-again g c = tt
-
-pub returns-in-Err-Memory-clause-config : goal.returns-in-Err-Memory-clause-config
-returns-in-Err-Memory-clause-config g c = tt
-
-pub returns-in-Err-Memory-clause-kept : goal.returns-in-Err-Memory-clause-kept
-returns-in-Err-Memory-clause-kept g c = tt
-
-pub returns-in-Err-Memory-clause-checked : goal.returns-in-Err-Memory-clause-checked
-returns-in-Err-Memory-clause-checked g c = tt
-
-pub returns-in-Err-Memory-clause-next : goal.returns-in-Err-Memory-clause-next
-returns-in-Err-Memory-clause-next g c = tt
-
-pub returns-in-Err-Memory-clause-store : goal.returns-in-Err-Memory-clause-store
-returns-in-Err-Memory-clause-store g c = refl
-
-pub returns-in_default-clause-stands : goal.returns-in_default-clause-stands
-returns-in_default-clause-stands g c = tt
-
-pub returns-in_default-clause-again : goal.returns-in_default-clause-again
-returns-in_default-clause-again g c = tt
-
-pub returns-in_default-clause-config : goal.returns-in_default-clause-config
-returns-in_default-clause-config g c = tt
-
-pub returns-in_default-clause-kept : goal.returns-in_default-clause-kept
-returns-in_default-clause-kept g c = tt
-
-pub returns-in_default-clause-checked : goal.returns-in_default-clause-checked
-returns-in_default-clause-checked g c = tt
-
-pub returns-in_default-clause-next : goal.returns-in_default-clause-next
-returns-in_default-clause-next g c = tt
-
-pub returns-in_default-clause-store : goal.returns-in_default-clause-store
-returns-in_default-clause-store g c = refl
-
-pub returns-clause-config : goal.returns-clause-config
-returns-clause-config g c = c.in-Ok-new.ensures
-
-pub returns-clause-kept : goal.returns-clause-kept
-returns-clause-kept g c = refl
-
-pub returns-clause-next : goal.returns-clause-next
-returns-clause-next g c = refl
-
-pub returns-clause-refused : goal.returns-clause-refused
-returns-clause-refused g c = tt
-
-pub returns-clause-store : goal.returns-clause-store
-returns-clause-store g c = tt

@@ -8,64 +8,55 @@ use Rattle.dep_hub.proofs.NextLemmas.{open_there, runs_out}
 use Rattle.dep_hub.proofs.ShutLemmas.{there_sent}
 use Rattle.dep_hub.proofs.hub.Hub.offer.Goals as goal
 
-pub returns-in_default-clause-offers : goal.returns-in_default-clause-offers
-returns-in_default-clause-offers g c = record {
-  absent = index_none c.args.connection c.args.self.now.connections.items ((λ i. index_of (sym c.number.ensures i) (sym c.as_slice.ensures.value i)) ∙ (sym c.index_among.ensures.value ∙ c.in_default.is));
-  same = same_hub c.args.self.now _;
-  sends_nothing = keeps_same (g.O.Outlet.taken c.args.out.now);
-}
+-- there is no such connection
+pub returns-in_default : goal.returns-in_default
+returns-in_default g c =
+    let none = index_none c.args.connection c.args.self.now.connections.items ((λ i. index_of (sym c.number.ensures i) (sym c.as_slice.ensures.value i)) ∙ (sym c.index_among.ensures.value ∙ c.in_default.is)) in
+    record {
+      kept = record { config = refl; next = refl; store = refl };
+      absent = λ _. refl;
+      there = λ there. absurd (none_there _ none there);
+      offers = record { absent = none; same = same_hub c.args.self.now _; sends_nothing = keeps_same (g.O.Outlet.taken c.args.out.now) };
+    }
 
-pub returns-in_default-clause-there : goal.returns-in_default-clause-there
-returns-in_default-clause-there g c = λ there.
-    absurd (none_there _ (index_none c.args.connection c.args.self.now.connections.items ((λ i. index_of (sym c.number.ensures i) (sym c.as_slice.ensures.value i)) ∙ (sym c.index_among.ensures.value ∙ c.in_default.is))) there)
+-- the piece was taken
+pub returns-in-Ok : goal.returns-in-Ok
+returns-in-Ok g c =
+    let index = (λ i. index_of (sym c.number.ensures i) (sym c.as_slice.ensures.value i)) ∙ sym c.in-Some.ensures.value in
+    record {
+      kept = record { config = refl; next = refl; store = refl };
+      absent = λ none. absurd (not_absent c.args.connection c.in-Some.i c.args.self.now.connections.items c.index_mut-kept.result.now index c.index_mut-kept.ensures.value none);
+      there = λ there. (
+        open_there,
+        stays_there c.args.connection c.in-Some.i c.args.self.now.connections.items c.index_mut-kept.result.now index c.index_mut-kept.ensures.value c.feed.new.self,
+      );
+      offers = record {
+        holds = held_fed c.args.self.now.config.max_upload c.args.connection c.in-Some.i c.args.self.now.connections.items c.index_mut-kept.result.now c.feed.new.self
+            index c.index_mut-kept.ensures.value c.args.piece.now c.in-Ok.ensures.ok;
+        sends_nothing = keeps_same (g.O.Outlet.taken c.args.out.now);
+        same_failures = refl;
+      };
+    }
 
-pub returns-in-Ok-clause-offers : goal.returns-in-Ok-clause-offers
-returns-in-Ok-clause-offers g c = record {
-  holds = held_fed c.args.self.now.config.max_upload c.args.connection c.in-Some.i c.args.self.now.connections.items c.index_mut-kept.result.now c.feed.new.self
-      ((λ i. index_of (sym c.number.ensures i) (sym c.as_slice.ensures.value i)) ∙ sym c.in-Some.ensures.value)
-      c.index_mut-kept.ensures.value c.args.piece.now c.in-Ok.ensures.ok;
-  sends_nothing = keeps_same (g.O.Outlet.taken c.args.out.now);
-  same_failures = refl;
-}
-
-pub returns-in-Ok-clause-there : goal.returns-in-Ok-clause-there
-returns-in-Ok-clause-there g c = λ there. (
-  open_there,
-  stays_there c.args.connection c.in-Some.i c.args.self.now.connections.items c.index_mut-kept.result.now
-      ((λ i. index_of (sym c.number.ensures i) (sym c.as_slice.ensures.value i)) ∙ sym c.in-Some.ensures.value)
-      c.index_mut-kept.ensures.value c.feed.new.self,
-)
-
-pub returns-in-Ok-clause-absent : goal.returns-in-Ok-clause-absent
-returns-in-Ok-clause-absent g c = λ none.
-    absurd (not_absent c.args.connection c.in-Some.i c.args.self.now.connections.items c.index_mut-kept.result.now
-    ((λ i. index_of (sym c.number.ensures i) (sym c.as_slice.ensures.value i)) ∙ sym c.in-Some.ensures.value)
-    c.index_mut-kept.ensures.value none)
-
-pub returns-in-Err-clause-offers : goal.returns-in-Err-clause-offers
-returns-in-Err-clause-offers g c =
+-- memory ran out
+pub returns-in-Err : goal.returns-in-Err
+returns-in-Err g c =
+    let index = (λ i. index_of (sym c.number.ensures i) (sym c.as_slice.ensures.value i)) ∙ sym c.in-Some.ensures.value in
     let e = c.in-Err.ensures.err in
-    refuses g.A.Archive.condition c.args.self.now _ c.args.connection c.in-Some.i c.index_mut-kept.result.now c.give_up.new.intake
-    ((λ i. index_of (sym c.number.ensures i) (sym c.as_slice.ensures.value i)) ∙ sym c.in-Some.ensures.value)
-    c.index_mut-kept.ensures.value refl refl (g.met.A.Archive.settled c.args.self.now.store)
-    (g.O.Outlet.taken c.args.out.now) (g.O.Outlet.taken c.give_up.new.out) (g.O.Outlet.failures c.args.out.now) (g.O.Outlet.failures c.give_up.new.out) c.args.piece.now c.give_up.result
-    (runs_out (place_with c.index_mut-kept.result.now.intake.place c.args.piece.now) (g.O.Outlet.taken c.args.out.now) (g.O.Outlet.taken c.give_up.new.out)
-    (g.O.Outlet.failures c.args.out.now) (g.O.Outlet.failures c.give_up.new.out) (g.A.Archive.condition c.args.self.now.store) c.give_up.result e.1 c.give_up.ensures.sent c.give_up.ensures.cause)
-    (there_sent c.give_up.ensures.sent.2) (c.give_up.ensures.shut ∙ ap shut_reading e.0)
-
-pub returns-in-Err-clause-there : goal.returns-in-Err-clause-there
-returns-in-Err-clause-there g c = λ there. (
-  there_sent c.give_up.ensures.sent.2,
-  stays_there c.args.connection c.in-Some.i c.args.self.now.connections.items c.index_mut-kept.result.now
-      ((λ i. index_of (sym c.number.ensures i) (sym c.as_slice.ensures.value i)) ∙ sym c.in-Some.ensures.value)
-      c.index_mut-kept.ensures.value c.give_up.new.intake,
-)
-
-pub returns-in-Err-clause-absent : goal.returns-in-Err-clause-absent
-returns-in-Err-clause-absent g c = λ none.
-    absurd (not_absent c.args.connection c.in-Some.i c.args.self.now.connections.items c.index_mut-kept.result.now
-    ((λ i. index_of (sym c.number.ensures i) (sym c.as_slice.ensures.value i)) ∙ sym c.in-Some.ensures.value)
-    c.index_mut-kept.ensures.value none)
+    record {
+      kept = record { config = refl; next = refl; store = refl };
+      absent = λ none. absurd (not_absent c.args.connection c.in-Some.i c.args.self.now.connections.items c.index_mut-kept.result.now index c.index_mut-kept.ensures.value none);
+      there = λ there. (
+        there_sent c.give_up.ensures.sent.2,
+        stays_there c.args.connection c.in-Some.i c.args.self.now.connections.items c.index_mut-kept.result.now index c.index_mut-kept.ensures.value c.give_up.new.intake,
+      );
+      offers = refuses g.A.Archive.condition c.args.self.now _ c.args.connection c.in-Some.i c.index_mut-kept.result.now c.give_up.new.intake
+          index c.index_mut-kept.ensures.value refl refl (g.met.A.Archive.settled c.args.self.now.store)
+          (g.O.Outlet.taken c.args.out.now) (g.O.Outlet.taken c.give_up.new.out) (g.O.Outlet.failures c.args.out.now) (g.O.Outlet.failures c.give_up.new.out) c.args.piece.now c.give_up.result
+          (runs_out (place_with c.index_mut-kept.result.now.intake.place c.args.piece.now) (g.O.Outlet.taken c.args.out.now) (g.O.Outlet.taken c.give_up.new.out)
+          (g.O.Outlet.failures c.args.out.now) (g.O.Outlet.failures c.give_up.new.out) (g.A.Archive.condition c.args.self.now.store) c.give_up.result e.1 c.give_up.ensures.sent c.give_up.ensures.cause)
+          (there_sent c.give_up.ensures.sent.2) (c.give_up.ensures.shut ∙ ap shut_reading e.0);
+    }
 
 pub invariant_of-self : goal.invariant_of-self
 invariant_of-self g c = record {
