@@ -34,18 +34,18 @@ impl<'a, R: Files> FileSpool<'a, R> {
         }
     }
 
-    /// Writes the bytes behind those that it holds, which takes them once they are counted.
-    fn write_behind(&mut self, bytes: &[u8]) -> io::Result<()>
+    /// Writes the bytes behind those that it holds, which takes them once they are counted. It returns whether it
+    /// could.
+    fn write_behind(&mut self, bytes: &[u8]) -> bool
         ensures { HoldsTheSame self.old.begin self.old.end self.new.begin self.new.end }
     {
         if self.file.is_none() {
-            self.file = Some(self.spools.open()?);
+            self.file = self.spools.open().ok();
         }
         let Some(file) = &mut self.file else {
-            return Err(ErrorKind::NotFound.into());
+            return false;
         };
-        file.seek(SeekFrom::Start(self.end))?;
-        file.write_all(bytes)
+        file.seek(SeekFrom::Start(self.end)).is_ok() && file.write_all(bytes).is_ok()
     }
 
     /// Moves some of its first bytes behind those of the vector.
@@ -134,7 +134,7 @@ impl<R: Files> Spool for FileSpool<'_, R> {
         if !self.spools.charge(count) {
             return Err(SpoolFailed);
         }
-        if self.write_behind(bytes).is_err() {
+        if !self.write_behind(bytes) {
             self.spools.give_back(count);
             return Err(SpoolFailed);
         }

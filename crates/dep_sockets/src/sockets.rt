@@ -172,32 +172,29 @@ impl<'a, R: Files + Net + Clock> Sockets<'a, R> {
 
     /// The next client that waits, if there is a vacancy.
     fn let_in(&mut self, vacancy: Option<usize>, count: usize) -> Option<SocketClient<'a, R>> {
-        let at = vacancy?;
-        if !self.is_waited_for || self.remaining == 0 || count >= MOST_SEATS {
-            return None;
+        match vacancy {
+            Some(at) if self.is_waited_for && self.remaining > 0 && count < MOST_SEATS => {
+                let (stream, address) = self.accept()?;
+                self.stage = Stage::LettingIn(count + 1);
+                self.remaining = self.remaining.saturating_sub(1);
+                let (source, sink) = self.seat(stream, at)?;
+                let wire = Wire::new(self.alloc, sink, FileSpool::new(self.spools));
+                Some(Client::new(source, wire, address.ip()))
+            }
+            _ => None,
         }
-        let (stream, address) = self.accept()?;
-        self.stage = Stage::LettingIn(count + 1);
-        self.remaining = self.remaining.saturating_sub(1);
-        self.client(stream, address, at).ok()
     }
 
-    /// The connection of a client that is seated there.
-    fn client(
-        &self,
-        mut stream: TcpStream,
-        address: SocketAddr,
-        at: usize,
-    ) -> io::Result<SocketClient<'a, R>> {
+    /// The halves of the socket of a client that is seated there, if the system has room for it.
+    fn seat(&self, mut stream: TcpStream, at: usize) -> Option<(SocketSource, SocketSink)> {
         // Else a short content would wait until its client has acknowledged the head.
         let _ = stream.set_nodelay(true);
         let interest = Interest::READABLE | Interest::WRITABLE;
-        self.poll
-            .registry()
-            .register(&mut stream, Token(at), interest)?;
-        let (source, sink) = halves(self.alloc, stream, &self.open)?;
-        let wire = Wire::new(self.alloc, sink, FileSpool::new(self.spools));
-        Ok(Client::new(source, wire, address.ip()))
+        let registry = self.poll.registry();
+        if registry.register(&mut stream, Token(at), interest).is_err() {
+            return None;
+        }
+        halves(self.alloc, stream, &self.open).ok()
     }
 
     /// The next client that waits. Where the system gives none, as for want of descriptors, it is asked again in
