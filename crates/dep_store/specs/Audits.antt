@@ -31,8 +31,7 @@ two_numbers before first between second =
     before ++ decimal first ++ between ++ decimal second ++ codes "\n"
 
 abbrev pub damaged_line : (object file : ℕ) → List ℕ
-damaged_line object file =
-    codes "damaged " ++ decimal object ++ codes " " ++ decimal file ++ codes "\n"
+damaged_line object file = two_numbers (codes "damaged ") object (codes " ") file
 
 abbrev pub damaged_lines : Audited → List ℕ
 damaged_lines a = flat_map (damaged_line a.object) a.audit.damaged.items
@@ -48,8 +47,7 @@ abbrev pub damaged_in : List Audited → ℕ
 damaged_in found = sum_by (λ a. length a.audit.damaged.items) found
 
 abbrev pub count_line : (checked damaged : ℕ) → List ℕ
-count_line checked damaged =
-    codes "files " ++ decimal checked ++ codes " damaged " ++ decimal damaged ++ codes "\n"
+count_line checked damaged = two_numbers (codes "files ") checked (codes " damaged ") damaged
 
 abbrev pub audit_text : List Audited → List ℕ
 audit_text found = lines_of found ++ count_line (checked_in found) (damaged_in found)

@@ -7,10 +7,11 @@ use Rattle.dep_tables.specs.Tables.{Tables, tables_of, IsOurs}
 use Rattle.dep_schema.specs.Transactions.{Transacts}
 
 -- inside a transaction over our tables an Ok makes this of them, and they are ours still
-pub record Makes {T L A E : Type 0} (lenders : T → L) (state : T → db.State) (old new : T) (result : Result A E)
-    (this : Tables → A → Tables → Type 0) : Type 0 where
+pub record Makes {T L A E : Type 0} (lenders : T → L) (state : T → db.State) (old new : T)
+    (result : Result A E) (this : Tables → A → Tables → Type 0) : Type 0 where
   pub made : HasCleanDisk (state new) → IsTrue (state old).in_transaction → IsOurs (state old)
-      → IfOk result (λ answer. IsOurs (state new) × this (tables_of (state old)) answer (tables_of (state new)))
+      → IfOk result (λ answer. IsOurs (state new)
+      × this (tables_of (state old)) answer (tables_of (state new)))
   pub stays : StaysWithin lenders state old new result
 
 -- an Ok has committed this, and found the store open
