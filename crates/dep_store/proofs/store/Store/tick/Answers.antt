@@ -6,7 +6,7 @@ use Rattle.dep_types.specs.declared.store_fault.StoreFault.{StoreFault}
 use Rattle.dep_schema.specs.Transactions.{Transacts}
 use Rattle.dep_schema.proofs.Transacting.{unmoved, after_back, fails_back}
 use Rattle.dep_store.specs.Shut.{FailsIfShut}
-use Rattle.dep_store.proofs.Remembered.{clock_made}
+use Rattle.dep_store.proofs.Remembered.{clock_made, forgotten}
 use Rattle.dep_store.proofs.ShutLemmas.{under_way, fails_still, was_open_then}
 use Rattle.dep_store.proofs.Tries.{busy_tries, busy_fails, Clocked, ticks_over}
 use Rattle.dep_store.proofs.store.Store.tick.Goals as goal
@@ -88,3 +88,6 @@ returns-then-not-is_autocommit g c =
     let d = state g.S.Store c.args.self.now in
     let busy : IsTrue d.in_transaction = rw c.self.view_is at (under_way c.self.inside.connection.in_transaction c.if-not-is_autocommit.ensures.value) in
     record { does = busy_tries d busy; shut = busy_fails d busy }
+
+pub invariant_of-self : goal.invariant_of-self
+invariant_of-self g c = forgotten (state g.S.Store c.look.new.connection)
