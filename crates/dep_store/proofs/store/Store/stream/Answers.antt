@@ -2,7 +2,7 @@ use Rattle.std.proofs.Common.{rules}
 use Rattle.std.proofs.lemmas.Result.{err_from_is_err_and}
 use Rattle.sqlite.specs.Held.{state}
 use Rattle.dep_schema.proofs.Transacting.{stood_before}
-use Rattle.dep_store.proofs.Remembered.{forgotten}
+use Rattle.dep_store.proofs.Remembered.{forgotten, none_is}
 use Rattle.dep_store.proofs.store.Store.stream.Goals as goal
 
 -- what was remembered is so still, since all is as it was
@@ -12,7 +12,7 @@ invariant_of-self-2 g c = (
       c.self.invariant.0 m is s
       (stood_before (state g.S.Store c.self.inside.connection) (state g.S.Store c.stream_known.new.connection) c.in_ok-stream_known.ensures.sends.stays.back (search rules) s stands),
   λ m is clean. c.in_ok-stream_known.ensures.sends.stays.opened clean,
-  λ it is. absurd (cc),
+  λ it is. absurd (none_is is),
 )
 
 pub stream_known-requires-clause-there : goal.stream_known-requires-clause-there
