@@ -1,11 +1,12 @@
 -- What is written of lines, one after another.
-use Rattle.std.proofs.Common.{◌≡◌, ℕ, ◌<◌, List, ◌∷◌, ◌++◌, length, get_or, take, drop, flat_map, ◌+◌, Result, Ok, Err, sym, ap, subst, ◌∙◌, append_assoc, add-one, take-append-drop, drop-cons}
+use Rattle.std.proofs.Common.{◌≡◌, ℕ, ◌<◌, List, [], ◌∷◌, ◌++◌, length, get_or, take, drop, flat_map, ◌+◌, Option, Result, Ok, Err, refl, sym, ap, subst, ◌∙◌, append_assoc, add-one, take-append-drop, drop-cons}
 use Rattle.std.specs.Prelude.{IsErrAnd, ◌≢◌}
+use Rattle.std.proofs.KnownBytes.{Appends-nil}
 use Rattle.std.proofs.lemmas.Grind.{flat_map-append}
 use Rattle.dep_tables.proofs.Results.{if_ok}
 use Rattle.dep_types.specs.Sinks.{IsFront}
 use Rattle.dep_types.specs.Writing.{HasRisen}
-use Rattle.dep_store.specs.Reporting.{IsWritten, BlamesWriter}
+use Rattle.dep_store.specs.Reporting.{IsWritten, BlamesWriter, WritesTo}
 use Rattle.dep_store.specs.declared.audit_fault.AuditFault.{AuditFault}
 use Rattle.dep_store.specs.declared.audit_fault.AuditFault.TheVariants.{Store, Writer}
 
@@ -46,4 +47,17 @@ blame_passed before mid after same fault it (Err e) err = record {
   count = tt;
   quiet = λ is. let told : e ≡ Store = cc is in it.quiet (ap Err (sym err ∙ told)) ∙ same;
   cause = λ is. let told : e ≡ Writer = cc is in subst (λ n. HasRisen n after) same (it.cause (ap Err (sym err ∙ told)));
+}
+
+-- it was not asked for anything
+pub none_written : {W X : Type 0} (taken : W → Option (List ℕ)) (failures : W → ℕ) (out : W) (whole : List ℕ) (r : Result X AuditFault)
+    → IsErrAnd r (λ x. x ≡ Store) → WritesTo taken failures out out whole r
+none_written taken failures out whole (Ok x) err = absurd err
+none_written taken failures out whole (Err e) err = record {
+  writes = ([], Appends-nil (taken out), record { rest = whole; joined = refl });
+  blames = record {
+    count = tt;
+    quiet = λ is. refl;
+    cause = λ is. let told : e ≡ Writer = cc is in absurd (let other = sym err ∙ told in cc other);
+  };
 }

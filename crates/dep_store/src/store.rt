@@ -43,7 +43,6 @@ use dep_types::{Config, ObjectView, Outlet, StoreFault, StreamFault};
 use sqlite::{Alter, Connection};
 use std::alloc::Global;
 use std::marker::Model;
-use std::mem;
 
 /// The archive in the tables of a database. Contracts see it as the connection to them.
 #[derive(Drop)]
@@ -195,7 +194,8 @@ impl<S: Alter> Store<S> {
         if let Some(it) = recalled(&self.remembered, operation) {
             return show_service(self.alloc, service, operation, &it);
         }
-        let remembered = mem::replace(&mut self.remembered, None);
+        let remembered = self.remembered;
+        self.remembered = None;
         self.shown = None;
         let done = perform_if_open(
             &mut self.connection,
@@ -245,8 +245,10 @@ impl<S: Alter> Store<S> {
         if !self.connection.is_autocommit() {
             return Err(StreamFault::Store);
         }
-        let remembered = mem::replace(&mut self.remembered, None);
-        let shown = mem::replace(&mut self.shown, None);
+        let remembered = self.remembered;
+        let shown = self.shown;
+        self.remembered = None;
+        self.shown = None;
         stream_known(&mut self.connection, shown, file, out)?;
         self.remembered = remembered;
         Ok(())

@@ -1,7 +1,8 @@
 use Rattle.std.proofs.Common.{◌++◌}
 use Rattle.std.proofs.KnownBytes.{Appends-trans}
+use Rattle.std.proofs.lemmas.List.{take_all}
 use Rattle.dep_store.specs.Audits.{damaged_line}
-use Rattle.dep_store.proofs.LineLemmas.{line_fails, blame_passed}
+use Rattle.dep_store.proofs.LineLemmas.{line_fails, blame_none, blame_passed}
 use Rattle.dep_store.proofs.lines.write_damaged.Goals as goal
 
 pub returns-in_err-write_file : goal.returns-in_err-write_file
@@ -15,4 +16,11 @@ returns-in_err-write_file g c =
             _ c.from_residual.result c.from_residual.ensures.1,
       );
       blames = blame_passed _ _ _ c.files.invariant.count c.in_err-write_file.field-0.0 c.in_err-write_file.ensures.blames c.from_residual.result c.from_residual.ensures.1;
+    }
+
+pub returns : goal.returns
+returns g c =
+    let so_far = c.files.invariant in record {
+      writes = rw (take_all c.files.file-index c.args.files.now c.files-test.false) at so_far.writes;
+      blames = blame_none _ _ _ so_far.count (λ is. cc is);
     }

@@ -15,6 +15,7 @@ use Rattle.dep_schema.specs.Standing.{Stands}
 use Rattle.dep_schema.proofs.Transacting.{ok_tells, still_tells, left_tells, left_still}
 use Rattle.dep_store.proofs.ShutLemmas.{under_way}
 use Rattle.dep_store.proofs.Tries.{busy_tells}
+use Rattle.dep_store.proofs.Remembered.{forgotten}
 use Rattle.dep_store.proofs.store.Store.audit.Goals as goal
 
 pub returns-in_err-files : goal.returns-in_err-files
@@ -63,3 +64,9 @@ returns-then-not-is_autocommit g c =
     let d = state g.S.Store c.args.self.now in
     let busy : IsTrue d.in_transaction = rw c.self.view_is at (under_way c.self.inside.connection.in_transaction c.if-not-is_autocommit.ensures.value) in
     busy_tells d busy
+
+pub invariant_of-self : goal.invariant_of-self
+invariant_of-self g c = forgotten (state g.S.Store c.transact.new.connection)
+
+pub invariant_of-self-2 : goal.invariant_of-self-2
+invariant_of-self-2 g c = forgotten (state g.S.Store c.audit_files.new.connection)

@@ -1,4 +1,4 @@
-use Rattle.std.proofs.Common.{inl, refl}
+use Rattle.std.proofs.Common.{◌∙◌, inl, refl, sym}
 use Rattle.sqlite.specs.Held.{state}
 use Rattle.dep_store.proofs.ShutLemmas.{under_way}
 use Rattle.dep_store.proofs.Tries.{keeps_back, keeps_same, leaves_only}
@@ -25,3 +25,8 @@ returns-else-not-is_autocommit g c =
       rests = rw c.self.view_is at (keeps_back old new asked.restored);
       left = rw c.self.view_is at (leaves_only old new asked.restored.survives);
     }
+
+pub invariant_of-self : goal.invariant_of-self
+invariant_of-self g c =
+    let none = sym c.in-None.is in
+    (λ m is. absurd (let it = none ∙ is in cc it), λ m is. absurd (let it = none ∙ is in cc it), λ it is. absurd (cc is))

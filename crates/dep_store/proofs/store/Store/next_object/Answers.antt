@@ -7,6 +7,7 @@ use Rattle.dep_row_maps.specs.Keyed.{next_entry}
 use Rattle.dep_row_maps.proofs.Readings.{next_object_read}
 use Rattle.dep_store.proofs.Tries.{busy_tries, busy_tells, tells_over, tells_tables}
 use Rattle.dep_store.proofs.ShutLemmas.{under_way}
+use Rattle.dep_store.proofs.Remembered.{forgotten}
 use Rattle.dep_store.proofs.store.Store.next_object.Goals as goal
 
 pub returns-clause-does : goal.returns-clause-does
@@ -29,3 +30,6 @@ returns-then-not-is_autocommit g c =
     let d = state g.S.Store c.args.self.now in
     let busy : IsTrue d.in_transaction = rw c.self.view_is at (under_way c.self.inside.connection.in_transaction c.if-not-is_autocommit.ensures.value) in
     record { does = busy_tries d busy; rows = busy_tells d busy; opened = λ clean. tt }
+
+pub invariant_of-self : goal.invariant_of-self
+invariant_of-self g c = forgotten (state g.S.Store c.transact.new.connection)

@@ -19,9 +19,10 @@ use Rattle.dep_schema.specs.Transactions.{OverStates, Transacts, IsGivenBack}
 use Rattle.dep_schema.proofs.Transacting.{stood_before}
 use Rattle.dep_schema.proofs.Transacting.{unmoved}
 use Rattle.dep_store.specs.declared.remembering.Remembered.{Remembered}
-use Rattle.dep_store.proofs.Remembered.{known_still, service_made}
+use Rattle.dep_store.proofs.Remembered.{forgotten, known_still, service_made}
 use Rattle.dep_store.proofs.Tries.{busy_tries, busy_fails, tries_over}
-use Rattle.dep_store.proofs.ShutLemmas.{under_way}
+use Rattle.dep_store.specs.Shut.{FailsIfShut}
+use Rattle.dep_store.proofs.ShutLemmas.{under_way, was_open_then}
 use Rattle.dep_store.proofs.store.Store.perform.Goals as goal
 
 module _ (config : Config) (op : Operation) where
@@ -78,10 +79,9 @@ returns-clause-unchanged g c clean s given running nothing =
 
 pub invariant_of-self-2 : goal.invariant_of-self-2
 invariant_of-self-2 g c =
-    let known = λ (m : Remembered) (is : c.still_known-self-inside.result ≡ Some m). known_still c.in_ok-done.done.has_changes c.replace-remembered.result m (sym c.still_known-self-inside.ensures ∙ is) in (
+    let known = λ (m : Remembered) (is : c.still_known-self-inside.result ≡ Some m). known_still c.in_ok-done.done.has_changes c.self.inside.remembered m (sym c.still_known-self-inside.ensures ∙ is) in (
       λ m is s stands.
-          let was : c.self.inside.remembered ≡ c.replace-remembered.result = search rules in
-          c.self.invariant.0 m (was ∙ (known m is).0) s (stood_before (state g.S.Store c.self.inside.connection) (state g.S.Store c.perform_if_open.new.connection) (c.in_ok-done.ensures.back (known m is).1).back (search rules) s stands),
+          c.self.invariant.0 m (known m is).0 s (stood_before (state g.S.Store c.self.inside.connection) (state g.S.Store c.perform_if_open.new.connection) (c.in_ok-done.ensures.back (known m is).1).back (search rules) s stands),
       λ m is clean. (c.in_ok-done.ensures.back (known m is).1).opened clean,
       λ it is.
           let shown = c.file_shown-self-inside.ensures it is in
@@ -100,3 +100,29 @@ returns-then-not-is_autocommit g c =
     let d = state g.S.Store c.args.self.now in
     let busy : IsTrue d.in_transaction = rw c.self.view_is at (under_way c.self.inside.connection.in_transaction c.if-not-is_autocommit.ensures.value) in
     record { does = busy_tries d busy; unchanged = λ clean s given running nothing. tt; shut = busy_fails d busy }
+
+pub invariant_of-self : goal.invariant_of-self
+invariant_of-self g c = forgotten (state g.S.Store c.perform_if_open.new.connection)
+
+pub returns-in-Some-clause-shut : goal.returns-in-Some-clause-shut
+returns-in-Some-clause-shut g c =
+    let d = state g.S.Store c.self.inside.connection in
+    let shut : FailsIfShut d d c.show_service.result = was_open_then d d _ (c.self.invariant.1 c.in-Some.it (c.recalled.ensures c.in-Some.it c.in-Some.is).0) in
+    rw c.self.view_is at shut
+
+pub returns-in_err-done-clause-unchanged : goal.returns-in_err-done-clause-unchanged
+returns-in_err-done-clause-unchanged g c clean s given running nothing = IfOk-from_err c.from_residual.result _ c.from_residual.ensures.0
+
+pub returns-in_err-done-clause-shut : goal.returns-in_err-done-clause-shut
+returns-in_err-done-clause-shut g c =
+    let d = state g.S.Store c.self.inside.connection in
+    let shut : FailsIfShut d (state g.S.Store c.perform_if_open.new.connection) c.from_residual.result = record {
+      opened = λ clean. IfOk-from_err c.from_residual.result (λ _. IsTrue d.is_open) c.from_residual.ensures.0;
+      left = c.in_err-done.ensures.shut.left;
+    } in
+    rw c.self.view_is at shut
+
+pub returns-clause-shut : goal.returns-clause-shut
+returns-clause-shut g c =
+    let shut = rw c.self.view_is at c.in_ok-done.ensures.shut in
+    record { opened = shut.opened; left = shut.left }

@@ -1,24 +1,22 @@
-use Rattle.std.proofs.Common.{◌≡◌, ◌∙◌, rules}
+use Rattle.std.proofs.Common.{rules}
 use Rattle.std.proofs.lemmas.Result.{err_from_is_err_and}
 use Rattle.sqlite.specs.Held.{state}
 use Rattle.dep_schema.proofs.Transacting.{stood_before}
+use Rattle.dep_store.proofs.Remembered.{forgotten, none_is}
 use Rattle.dep_store.proofs.store.Store.stream.Goals as goal
 
 -- what was remembered is so still, since all is as it was
 pub invariant_of-self-2 : goal.invariant_of-self-2
 invariant_of-self-2 g c = (
   λ m is s stands.
-      let was : c.self.inside.remembered ≡ c.replace-remembered.result = search rules in
-      c.self.invariant.0 m (was ∙ is) s
+      c.self.invariant.0 m is s
       (stood_before (state g.S.Store c.self.inside.connection) (state g.S.Store c.stream_known.new.connection) c.in_ok-stream_known.ensures.sends.stays.back (search rules) s stands),
   λ m is clean. c.in_ok-stream_known.ensures.sends.stays.opened clean,
-  λ it is. absurd (cc),
+  λ it is. absurd (none_is is),
 )
 
 pub stream_known-requires-clause-there : goal.stream_known-requires-clause-there
-stream_known-requires-clause-there g c =
-    let was : c.self.inside.shown ≡ c.replace-shown.result = search rules in
-    λ it is. c.self.invariant.2 it (was ∙ is)
+stream_known-requires-clause-there g c = c.self.invariant.2
 
 pub returns-in_err-stream_known : goal.returns-in_err-stream_known
 returns-in_err-stream_known g c =
@@ -27,3 +25,6 @@ returns-in_err-stream_known g c =
 
 pub returns : goal.returns
 returns g c = rw c.self.view_is at c.in_ok-stream_known.ensures.sends
+
+pub invariant_of-self : goal.invariant_of-self
+invariant_of-self g c = forgotten (state g.S.Store c.stream_known.new.connection)

@@ -6,7 +6,7 @@ use Rattle.dep_types.specs.declared.store_fault.StoreFault.{StoreFault}
 use Rattle.dep_schema.specs.Transactions.{Transacts}
 use Rattle.dep_schema.proofs.Transacting.{unmoved, after_back, fails_back}
 use Rattle.dep_store.specs.Shut.{FailsIfShut}
-use Rattle.dep_store.proofs.Remembered.{clock_made}
+use Rattle.dep_store.proofs.Remembered.{clock_made, forgotten, none_is}
 use Rattle.dep_store.proofs.ShutLemmas.{under_way, fails_still, was_open_then}
 use Rattle.dep_store.proofs.Tries.{busy_tries, busy_fails, Clocked, ticks_over}
 use Rattle.dep_store.proofs.store.Store.tick.Goals as goal
@@ -81,10 +81,13 @@ returns-in-None g c =
 
 -- what was read is remembered
 pub invariant_of-self-in-Some-found : goal.invariant_of-self-in-Some-found
-invariant_of-self-in-Some-found g c = (λ m is s stands. c.in_ok-found.ensures.recalls m (c.in-Some-found.is ∙ is) s stands, λ m is clean. c.in_ok-found.ensures.finds.opened clean, λ it is. absurd (cc))
+invariant_of-self-in-Some-found g c = (λ m is s stands. c.in_ok-found.ensures.recalls m (c.in-Some-found.is ∙ is) s stands, λ m is clean. c.in_ok-found.ensures.finds.opened clean, λ it is. absurd (none_is is))
 
 pub returns-then-not-is_autocommit : goal.returns-then-not-is_autocommit
 returns-then-not-is_autocommit g c =
     let d = state g.S.Store c.args.self.now in
     let busy : IsTrue d.in_transaction = rw c.self.view_is at (under_way c.self.inside.connection.in_transaction c.if-not-is_autocommit.ensures.value) in
     record { does = busy_tries d busy; shut = busy_fails d busy }
+
+pub invariant_of-self : goal.invariant_of-self
+invariant_of-self g c = forgotten (state g.S.Store c.look.new.connection)

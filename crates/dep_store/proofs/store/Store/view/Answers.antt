@@ -7,6 +7,7 @@ use Rattle.dep_bag.specs.Source.{view_at}
 use Rattle.dep_schema.proofs.Transacting.{still_tells}
 use Rattle.dep_store.proofs.Tries.{busy_tries, tells_over}
 use Rattle.dep_store.proofs.ShutLemmas.{under_way}
+use Rattle.dep_store.proofs.Remembered.{forgotten}
 use Rattle.dep_store.proofs.store.Store.view.Goals as goal
 
 pub returns-clause-does : goal.returns-clause-does
@@ -24,3 +25,6 @@ returns-then-not-is_autocommit g c =
     let d = state g.S.Store c.args.self.now in
     let busy : IsTrue d.in_transaction = rw c.self.view_is at (under_way c.self.inside.connection.in_transaction c.if-not-is_autocommit.ensures.value) in
     record { does = busy_tries d busy; still = λ is_open t given. given }
+
+pub invariant_of-self : goal.invariant_of-self
+invariant_of-self g c = forgotten (state g.S.Store c.transact.new.connection)
