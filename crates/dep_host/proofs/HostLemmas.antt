@@ -97,13 +97,13 @@ each_sheds {X = X} P old new at none all before stays place = elim (stays place)
 ]
 
 -- who sits at a place is closed for a reason, or has time left
-pub closes_there : {A R K S : Type 0} (p : Position A R K S) (at second : ℕ) (seat : Seat R K S) (reason : Closing) → slot at p.seats ≡ Some seat → Some reason ≡ why seat.course second p.limits
-    → MayGo p second reason (slot at p.seats)
-closes_there {R = R} {K = K} {S = S} p at second seat reason sat e = subst (λ (o : Option (Seat R K S)). MayGo p second reason o) (sym sat) (inl (sym e))
+pub closes_there : {A R K S : Type 0} (p : Position A R K S) (at second : ℕ) (seat : Seat R K S) (told : Option Closing) (reason : Closing) → slot at p.seats ≡ Some seat → told ≡ why seat.course second p.limits
+    → told ≡ Some reason → MayGo p second reason (slot at p.seats)
+closes_there {R = R} {K = K} {S = S} p at second seat told reason sat e is = subst (λ (o : Option (Seat R K S)). MayGo p second reason o) (sym sat) (inl (sym e ∙ is))
 
-pub time_there : {R K S : Type 0} (seats : List (Option (Seat R K S))) (at second : ℕ) (limits : Limits) (seat : Seat R K S) → slot at seats ≡ Some seat → None ≡ why seat.course second limits
-    → HasTime second limits (slot at seats)
-time_there {R = R} {K = K} {S = S} seats at second limits seat sat e = subst (λ (o : Option (Seat R K S)). HasTime second limits o) (sym sat) (sym e)
+pub time_there : {R K S : Type 0} (seats : List (Option (Seat R K S))) (at second : ℕ) (limits : Limits) (seat : Seat R K S) (told : Option Closing) → slot at seats ≡ Some seat → told ≡ why seat.course second limits
+    → told ≡ None → HasTime second limits (slot at seats)
+time_there {R = R} {K = K} {S = S} seats at second limits seat told sat e is = subst (λ (o : Option (Seat R K S)). HasTime second limits o) (sym sat) (sym e ∙ is)
 
 pub none_there : {R K S : Type 0} (seats : List (Option (Seat R K S))) (at second : ℕ) (limits : Limits) → slot at seats ≡ None → HasTime second limits (slot at seats)
 none_there {R = R} {K = K} {S = S} seats at second limits free = subst (λ (o : Option (Seat R K S)). HasTime second limits o) (sym free) tt

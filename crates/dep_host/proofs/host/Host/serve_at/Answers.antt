@@ -1,4 +1,4 @@
-use Rattle.std.proofs.Common.{None, refl, sym, ◌∙◌}
+use Rattle.std.proofs.Common.{None, refl, ◌∙◌}
 use Rattle.std.proofs.lemmas.List.{get_or-set_same, get_or-set_other}
 use Rattle.dep_host.proofs.HostLemmas.{there_still, within_still, free_once_left, free_where_sat, slot_read, closes_there, time_there, none_there, none_waits, waits_there, stays_after, stays_set}
 use Rattle.dep_host.proofs.ServeLemmas.{served, served_none, closes_served}
@@ -16,7 +16,7 @@ returns-clause-goes g c =
 
 pub returns-clause-here : goal.returns-clause-here
 returns-clause-here g c =
-    time_there _ c.args.at c.args.turn.now.time.second c.args.self.now.limits c.take_turn.new.self (get_or-set_same _ c.args.at _ None c.requires.there) (sym c.in_default-closing.is ∙ c.closing-closing.ensures)
+    time_there _ c.args.at c.args.turn.now.time.second c.args.self.now.limits c.take_turn.new.self c.closing-closing.result (get_or-set_same _ c.args.at _ None c.requires.there) c.closing-closing.ensures c.in_default-closing.is
 
 pub returns-clause-others : goal.returns-clause-others
 returns-clause-others g c = λ place ne. get_or-set_other _ c.args.at place _ None ne
@@ -29,13 +29,13 @@ close-requires-clause-there g c = there_still _ c.args.at _ c.requires.there
 
 pub close-requires-clause-done : goal.close-requires-clause-done
 close-requires-clause-done g c =
-    closes_there _ c.args.at c.args.turn.now.time.second c.take_turn.new.self c.in-Some-closing.closing (get_or-set_same _ c.args.at _ None c.requires.there) (sym c.in-Some-closing.is ∙ c.closing-closing.ensures)
+    closes_there _ c.args.at c.args.turn.now.time.second c.take_turn.new.self c.closing-closing.result c.in-Some-closing.closing (get_or-set_same _ c.args.at _ None c.requires.there) c.closing-closing.ensures c.in-Some-closing.is
 
 pub returns-in-Some-closing-clause-goes : goal.returns-in-Some-closing-clause-goes
 returns-in-Some-closing-clause-goes g c =
     let begins = c.begin_turn.ensures in
     closes_served g.A.Archive.condition g.R.Source.unread g.K.Sink.taken g.S.Spool.held g.S.Spool.size _ _ _ c.args.at c.args.turn.now.time c.args.turn.now.is_full c.in-Some-closing.closing _ c.close.ensures.goes
-    (closes_there _ c.args.at c.args.turn.now.time.second c.take_turn.new.self c.in-Some-closing.closing (get_or-set_same _ c.args.at _ None c.requires.there) (sym c.in-Some-closing.is ∙ c.closing-closing.ensures))
+    (closes_there _ c.args.at c.args.turn.now.time.second c.take_turn.new.self c.closing-closing.result c.in-Some-closing.closing (get_or-set_same _ c.args.at _ None c.requires.there) c.closing-closing.ensures c.in-Some-closing.is)
     (served g.A.Archive.condition g.R.Source.unread g.K.Sink.taken g.S.Spool.held g.S.Spool.size _ _ c.args.at c.args.turn.now.time c.args.turn.now.is_full c.args.turn.now.is_shut c.in-Some.seat c.begin_turn.new.self c.take_turn.new.self
     c.requires.there (slot_read _ _ _ c.requires.there c.index_mut.ensures.value ∙ c.in-Some.is) refl refl refl begins.same begins.opens begins.ended begins.unfinished begins.phase begins.readable begins.writable c.requires.shut c.take_turn.ensures.turn)
 
