@@ -39,12 +39,12 @@ impl ExportFault {
 
 impl fmt::Display for ExportFault {
     fn fmt<W: fmt::Write>(&self, f: &mut fmt::Formatter<W>) -> fmt::Result {
-        match self {
-            ExportFault::NoSuchObject => write!(f, "no such object"),
-            ExportFault::Sink => write!(f, "the sink failed"),
-            ExportFault::Store => write!(f, "the store failed"),
-            ExportFault::Memory => write!(f, "out of memory"),
-        }
+        f.write_str(match self {
+            ExportFault::NoSuchObject => "no such object",
+            ExportFault::Sink => "the sink failed",
+            ExportFault::Store => "the store failed",
+            ExportFault::Memory => "out of memory",
+        })
     }
 }
 

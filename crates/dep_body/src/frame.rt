@@ -39,10 +39,10 @@ impl FrameFault {
 
 impl fmt::Display for FrameFault {
     fn fmt<W: fmt::Write>(&self, f: &mut fmt::Formatter<W>) -> fmt::Result {
-        match self {
-            FrameFault::Bad => write!(f, "the body is malformed"),
-            FrameFault::TooLarge => write!(f, "the body is too large"),
-        }
+        f.write_str(match self {
+            FrameFault::Bad => "the body is malformed",
+            FrameFault::TooLarge => "the body is too large",
+        })
     }
 }
 

@@ -33,10 +33,10 @@ impl DocFault {
 
 impl fmt::Display for DocFault {
     fn fmt<W: fmt::Write>(&self, f: &mut fmt::Formatter<W>) -> fmt::Result {
-        match self {
-            DocFault::Malformed => write!(f, "the content is no such document"),
-            DocFault::Memory => write!(f, "out of memory"),
-        }
+        f.write_str(match self {
+            DocFault::Malformed => "the content is no such document",
+            DocFault::Memory => "out of memory",
+        })
     }
 }
 

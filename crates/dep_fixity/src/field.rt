@@ -63,9 +63,9 @@ impl DigestFault {
 
 impl fmt::Display for DigestFault {
     fn fmt<W: fmt::Write>(&self, f: &mut fmt::Formatter<W>) -> fmt::Result {
-        match self {
-            DigestFault::Unreadable => write!(f, "the digests could not be read"),
-        }
+        f.write_str(match self {
+            DigestFault::Unreadable => "the digests could not be read",
+        })
     }
 }
 

@@ -41,10 +41,10 @@ impl HeadFault {
 
 impl fmt::Display for HeadFault {
     fn fmt<W: fmt::Write>(&self, f: &mut fmt::Formatter<W>) -> fmt::Result {
-        match self {
-            HeadFault::NotAHead => write!(f, "the text is no head of a request"),
-            HeadFault::Memory => write!(f, "out of memory"),
-        }
+        f.write_str(match self {
+            HeadFault::NotAHead => "the text is no head of a request",
+            HeadFault::Memory => "out of memory",
+        })
     }
 }
 

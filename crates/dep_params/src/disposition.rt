@@ -37,12 +37,12 @@ impl ParamFault {
 
 impl fmt::Display for ParamFault {
     fn fmt<W: fmt::Write>(&self, f: &mut fmt::Formatter<W>) -> fmt::Result {
-        match self {
-            ParamFault::Malformed => write!(f, "the text is no disposition"),
-            ParamFault::Repeated => write!(f, "two parameters have one name"),
-            ParamFault::NoName => write!(f, "there is no file name that may stand"),
-            ParamFault::Memory => write!(f, "out of memory"),
-        }
+        f.write_str(match self {
+            ParamFault::Malformed => "the text is no disposition",
+            ParamFault::Repeated => "two parameters have one name",
+            ParamFault::NoName => "there is no file name that may stand",
+            ParamFault::Memory => "out of memory",
+        })
     }
 }
 

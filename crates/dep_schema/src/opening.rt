@@ -63,11 +63,11 @@ impl OpenFault {
 
 impl fmt::Display for OpenFault {
     fn fmt<W: fmt::Write>(&self, f: &mut fmt::Formatter<W>) -> fmt::Result {
-        match self {
-            OpenFault::UnknownVersion => write!(f, "the version of the tables is not known"),
-            OpenFault::Store => write!(f, "the store failed"),
-            OpenFault::Memory => write!(f, "out of memory"),
-        }
+        f.write_str(match self {
+            OpenFault::UnknownVersion => "the version of the tables is not known",
+            OpenFault::Store => "the store failed",
+            OpenFault::Memory => "out of memory",
+        })
     }
 }
 

@@ -14,7 +14,7 @@ pub struct SinkFailed;
 
 impl fmt::Display for SinkFailed {
     fn fmt<W: fmt::Write>(&self, f: &mut fmt::Formatter<W>) -> fmt::Result {
-        write!(f, "the sink failed")
+        f.write_str("the sink failed")
     }
 }
 

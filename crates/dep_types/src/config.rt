@@ -74,11 +74,11 @@ impl ConfigFault {
 
 impl fmt::Display for ConfigFault {
     fn fmt<W: fmt::Write>(&self, f: &mut fmt::Formatter<W>) -> fmt::Result {
-        match self {
-            ConfigFault::Base => write!(f, "the base is not the URL of a server"),
-            ConfigFault::Limit => write!(f, "a limit is not in its range"),
-            ConfigFault::Memory => write!(f, "out of memory"),
-        }
+        f.write_str(match self {
+            ConfigFault::Base => "the base is not the URL of a server",
+            ConfigFault::Limit => "a limit is not in its range",
+            ConfigFault::Memory => "out of memory",
+        })
     }
 }
 

@@ -15,7 +15,7 @@ pub struct ReadFailed;
 
 impl fmt::Display for ReadFailed {
     fn fmt<W: fmt::Write>(&self, f: &mut fmt::Formatter<W>) -> fmt::Result {
-        write!(f, "a read failed")
+        f.write_str("a read failed")
     }
 }
 

@@ -12,7 +12,7 @@ pub struct WriteFailed;
 
 impl fmt::Display for WriteFailed {
     fn fmt<W: fmt::Write>(&self, f: &mut fmt::Formatter<W>) -> fmt::Result {
-        write!(f, "a write failed")
+        f.write_str("a write failed")
     }
 }
 

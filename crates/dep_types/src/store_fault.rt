@@ -29,10 +29,10 @@ impl StoreFault {
 
 impl fmt::Display for StoreFault {
     fn fmt<W: fmt::Write>(&self, f: &mut fmt::Formatter<W>) -> fmt::Result {
-        match self {
-            StoreFault::Store => write!(f, "the store failed"),
-            StoreFault::Memory => write!(f, "out of memory"),
-        }
+        f.write_str(match self {
+            StoreFault::Store => "the store failed",
+            StoreFault::Memory => "out of memory",
+        })
     }
 }
 

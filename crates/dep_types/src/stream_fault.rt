@@ -36,12 +36,12 @@ impl StreamFault {
 
 impl fmt::Display for StreamFault {
     fn fmt<W: fmt::Write>(&self, f: &mut fmt::Formatter<W>) -> fmt::Result {
-        match self {
-            StreamFault::Writer => write!(f, "the outlet failed"),
-            StreamFault::Store => write!(f, "the store failed"),
-            StreamFault::Memory => write!(f, "out of memory"),
-            StreamFault::NoSuchFile => write!(f, "no such file"),
-        }
+        f.write_str(match self {
+            StreamFault::Writer => "the outlet failed",
+            StreamFault::Store => "the store failed",
+            StreamFault::Memory => "out of memory",
+            StreamFault::NoSuchFile => "no such file",
+        })
     }
 }
 
