@@ -90,9 +90,7 @@ fn target_rule(references: &[Reference]) -> Option<Refusal>
 fn some_points_elsewhere(references: &[Reference]) -> bool
     ensures { result ≡ list_any points_elsewhere references.now }
 {
-    references
-        .iter()
-        .any(|reference| points_elsewhere(reference))
+    references.iter().any(points_elsewhere)
 }
 
 fn points_elsewhere(reference: &Reference) -> bool
@@ -118,9 +116,7 @@ fn packaging_rule(references: &[Reference]) -> Option<Refusal>
 fn some_is_other_packaging(references: &[Reference]) -> bool
     ensures { result ≡ list_any is_other_packaging references.now }
 {
-    references
-        .iter()
-        .any(|reference| is_other_packaging(reference))
+    references.iter().any(is_other_packaging)
 }
 
 fn is_other_packaging(reference: &Reference) -> bool

@@ -26,12 +26,13 @@ pub fn touches(
     ensures err { OnErr result (TouchTakesMemory operation.now) }
 {
     let resource = &operation.target.resource;
+    let path = path_in(alloc, resource)?;
     let references = references_in(alloc, config, operation)?;
     let uploads = uploads_in(alloc, resource, references.as_ref())?;
     Ok(Touched {
         object: object_in(resource),
         file: file_in(resource),
-        path: path_in(alloc, resource)?,
+        path,
         uploads,
         segment: segment_in(resource, content_purpose(operation)),
         references,
