@@ -2,8 +2,6 @@
 ghost use Rattle.std.specs.Prelude.{◌≡◌, ◌∷◌, [], false, IfOk, OnErr, IsTrue, Some, None, is_some};
 ghost use Rattle.std.specs.Option.{option_copied};
 ghost use Rattle.dep_docs_in.specs.Documents.{references_read};
-ghost use Rattle.dep_decisions.specs.ContentRules.{purpose_in};
-ghost use Rattle.dep_decisions.specs.Decisions.{references_in};
 ghost use Rattle.dep_decisions.specs.declared.purpose.Purpose.TheVariants as of;
 ghost use Rattle.dep_operations.specs.Memory.{TouchTakesMemory, is_noted};
 ghost use Rattle.dep_operations.specs.Rules.{references_for};
@@ -26,29 +24,18 @@ pub fn touches(
     ensures err { OnErr result (TouchTakesMemory operation.now) }
 {
     let resource = &operation.target.resource;
+    let purpose = content_purpose(operation);
     let path = path_in(alloc, resource)?;
-    let references = references_in(alloc, config, operation)?;
+    let references = references_for(alloc, config, operation, purpose)?;
     let uploads = uploads_in(alloc, resource, references.as_ref())?;
     Ok(Touched {
         object: object_in(resource),
         file: file_in(resource),
         path,
         uploads,
-        segment: segment_in(resource, content_purpose(operation)),
+        segment: segment_in(resource, purpose),
         references,
     })
-}
-
-// What the content refers to, where it is a document of references that can be read.
-fn references_in(
-    alloc: Global,
-    config: &Config,
-    operation: &Operation<'_>,
-) -> Result<Option<References>, AllocError>
-    ensures ok { IfOk result (λ references. references ≡ references_in config.now operation.now) }
-    ensures err { OnErr result (purpose_in operation.now ≡ Some of.References) }
-{
-    references_for(alloc, config, operation, content_purpose(operation))
 }
 
 // The references in a content of this purpose, where it is a document of them that can be read.
