@@ -139,16 +139,10 @@ fn metadata_of(
         → metadata ≡ metadata_read operation.now.content) }
     ensures err { OnErr result (purpose ≡ Some of.Metadata) }
 {
-    match purpose {
-        Some(Purpose::Metadata) => read(alloc, operation.content.as_slice()),
-        _ => Ok(None),
-    }
-}
-
-fn read(alloc: Global, content: &[u8]) -> Result<Option<Metadata>, AllocError>
-    ensures { IfOk result (λ metadata. metadata ≡ metadata_read content.now) }
-{
-    match read_metadata(alloc, content) {
+    let Some(Purpose::Metadata) = purpose else {
+        return Ok(None);
+    };
+    match read_metadata(alloc, operation.content.as_slice()) {
         Ok(metadata) => Ok(Some(metadata)),
         Err(DocFault::Malformed) => Ok(None),
         Err(DocFault::Memory) => Err(AllocError),

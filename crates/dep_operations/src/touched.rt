@@ -1,7 +1,6 @@
 //! What a request touches of the archive.
 ghost use Rattle.std.specs.Prelude.{◌≡◌, ◌∷◌, [], false, IfOk, OnErr, IsTrue, Some, None, is_some};
 ghost use Rattle.std.specs.Option.{option_copied};
-ghost use Rattle.dep_docs_in.specs.Documents.{references_read};
 ghost use Rattle.dep_decisions.specs.declared.purpose.Purpose.TheVariants as of;
 ghost use Rattle.dep_operations.specs.Memory.{TouchTakesMemory, is_noted};
 ghost use Rattle.dep_operations.specs.Rules.{references_for};
@@ -49,16 +48,10 @@ fn references_for(
     ensures ok { IfOk result (λ references. references ≡ references_for config.now operation.now purpose) }
     ensures err { OnErr result (purpose ≡ Some of.References) }
 {
-    match purpose {
-        Some(Purpose::References) => read(alloc, config, operation.content.as_slice()),
-        _ => Ok(None),
-    }
-}
-
-fn read(alloc: Global, config: &Config, content: &[u8]) -> Result<Option<References>, AllocError>
-    ensures { IfOk result (λ references. references ≡ references_read config.now content.now) }
-{
-    match read_references(alloc, config, content) {
+    let Some(Purpose::References) = purpose else {
+        return Ok(None);
+    };
+    match read_references(alloc, config, operation.content.as_slice()) {
         Ok(references) => Ok(Some(references)),
         Err(DocFault::Malformed) => Ok(None),
         Err(DocFault::Memory) => Err(AllocError),
