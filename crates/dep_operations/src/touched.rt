@@ -116,18 +116,10 @@ fn uploads_in(
         → IsTrue (is_noted resource.now None)) }
 {
     match (resource, references) {
-        (Resource::Upload(upload), _) => one(alloc, *upload),
+        (Resource::Upload(upload), _) => Ok(Numbers::from_vec(vec![in alloc; *upload]?)),
         (_, Some(references)) => uploads_named(alloc, references.as_slice()),
         (_, None) => Ok(Numbers::from_vec(Vec::new(alloc))),
     }
-}
-
-fn one(alloc: Global, number: u64) -> Result<Numbers, AllocError>
-    ensures { IfOk result (λ numbers. numbers ≡ number ∷ []) }
-{
-    let mut numbers = Vec::new(alloc);
-    numbers.push(number)?;
-    Ok(Numbers::from_vec(numbers))
 }
 
 // The uploads that the entries point at, in their order.
