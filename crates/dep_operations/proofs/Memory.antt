@@ -88,7 +88,7 @@ when-none : (b : Bool) (r : Refusal) → when b r ≡ None → b ≡ false
 when-none true r e = absurd (cc)
 when-none false r e = refl
 
-neither : (a b : Bool) → a ≡ false → b ≡ false → (not a && not b) ≡ true
+pub neither : (a b : Bool) → a ≡ false → b ≡ false → (not a && not b) ≡ true
 neither false false p q = refl
 neither false true p q = absurd (cc)
 neither true b p q = absurd (cc)

@@ -18,7 +18,7 @@ use Rattle.dep_docs_in.specs.declared.reference.Pointed.TheVariants.{Upload as A
 use Rattle.dep_decisions.specs.Decisions.{upload_number}
 use Rattle.dep_decisions.specs.Rules.{each, has_digests, has_length, is_binary, entries_refusal, passes, stands_twice, unless, upload_refusal, when}
 use Rattle.dep_operations.specs.Views.{live_upload, upload_state, upload_view, uploads_named}
-use Rattle.dep_operations.specs.Walks.{at_entry, entries_seen, has_digests_seen, if_live, packaging_refusal, twice_refusal, rule_of, target_refusal, walk}
+use Rattle.dep_operations.specs.Walks.{at_entry, entries_seen, has_digests_seen, if_live, is_other_packaging, packaging_refusal, points_elsewhere, twice_refusal, rule_of, target_refusal, walk}
 use Rattle.dep_operations.specs.declared.references.UploadRule.TheVariants.{IsThere, IsWhole, HasLength, HasDigests}
 use Rattle.dep_operations.specs.declared.view.LiveUpload.{LiveUpload}
 use Rattle.dep_operations.specs.declared.view.UploadView.{UploadView}
@@ -26,7 +26,7 @@ use Rattle.dep_operations.specs.declared.view.UploadState.{UploadState}
 use Rattle.dep_operations.specs.declared.view.UploadState.TheVariants.{Unknown, TimedOut, Live}
 use Rattle.dep_operations.proofs.Presence.{state_is}
 
-one : (m : Option Refusal) → first_of (m ∷ []) ≡ m
+pub one : (m : Option Refusal) → first_of (m ∷ []) ≡ m
 one None = refl
 one (Some r) = refl
 
@@ -56,6 +56,16 @@ guarded None None None (Some r) q m d e f = refl
 guarded None None None None (Some r) m d e f = refl
 guarded None None None None None (Some r) d e f = refl
 guarded None None None None None None d e f = ap (λ x. first_of (x ∷ [])) (f refl)
+
+-- ---- what each rule on references says, in their order
+
+pub entries_told : (views : List UploadView) (refs : List Reference) (elsewhere other twice : Bool) (there whole long same : Option Refusal)
+    → elsewhere ≡ list_any points_elsewhere refs → other ≡ list_any is_other_packaging refs → twice ≡ stands_twice (map (λ v. v.upload) views)
+    → there ≡ walk (rule_of IsThere) refs views → whole ≡ walk (rule_of IsWhole) refs views → long ≡ walk (rule_of HasLength) refs views → same ≡ walk (rule_of HasDigests) refs views
+    → first_of (when elsewhere ByReferenceNotAllowed ∷ when other PackagingFormatNotAcceptable ∷ when twice BadRequest ∷ there ∷ whole ∷ long ∷ same ∷ []) ≡ entries_seen views refs
+unfolding entries_seen target_refusal packaging_refusal twice_refusal
+entries_told views refs elsewhere other twice there whole long same a b c d e f g =
+    (λ i. first_of (when (a i) ByReferenceNotAllowed ∷ when (b i) PackagingFormatNotAcceptable ∷ when (c i) BadRequest ∷ d i ∷ e i ∷ f i ∷ g i ∷ []))
 
 -- ---- the rules on an entry alone
 

@@ -4,7 +4,7 @@ ghost use Rattle.dep_decisions.specs.Asked.{IsRead};
 ghost use Rattle.dep_decisions.specs.declared.purpose.Purpose.TheVariants as of;
 ghost use Rattle.dep_docs_in.specs.Documents.{metadata_read};
 ghost use Rattle.dep_decisions.specs.Memory.{MakesFiles};
-ghost use Rattle.dep_operations.specs.Checks.{HoldsContent, IsChecked, IsCheckedBy, IsRoomRuling};
+ghost use Rattle.dep_operations.specs.Checks.{HoldsContent, IsChecked, IsRoomRuling};
 ghost use Rattle.dep_operations.specs.Memory.{RulingTakesMemory, is_held};
 ghost use Rattle.dep_operations.specs.Rules.{access_refusal, document_by, has_content, reads_alone};
 ghost use Rattle.dep_operations.specs.Rulings.{HasRoomFor, RulesBy};
@@ -82,7 +82,8 @@ fn reads_alone(target: &Target) -> bool
     }
 }
 
-// Rules 8 to 14, for the methods that have a content.
+// Rules 8 to 14, for the methods that have a content. Nothing is hashed or read before the rules that
+// don't need it have passed.
 fn check_content(
     alloc: Global,
     config: &Config,
@@ -92,27 +93,12 @@ fn check_content(
     ensures ok { IfOk result (IsChecked config.now view.now operation.now) }
     ensures err { OnErr result (HoldsContent view.now operation.now) }
 {
-    if has_content(operation.target.method) {
-        check_rules(alloc, config, view, operation)
-    } else {
-        Ok(Checked::Passed(ReadContent {
+    if !has_content(operation.target.method) {
+        return Ok(Checked::Passed(ReadContent {
             metadata: None,
             digests: None,
-        }))
+        }));
     }
-}
-
-// Rules 8 to 14. Nothing is hashed or read before the rules that don't need it have passed.
-#[tactic(auto, unfolding(crate::specs::Rules::content_by))]
-fn check_rules(
-    alloc: Global,
-    config: &Config,
-    view: &View,
-    operation: &Operation<'_>,
-) -> Result<Checked, AllocError>
-    ensures ok { IfOk result (IsCheckedBy config.now view.now operation.now) }
-    ensures err { OnErr result (HoldsContent view.now operation.now) }
-{
     let purpose = content_purpose(operation);
     if let Some(refusal) = fields_rule(operation) {
         return Ok(Checked::Refused(refusal));
@@ -153,16 +139,10 @@ fn metadata_of(
         → metadata ≡ metadata_read operation.now.content) }
     ensures err { OnErr result (purpose ≡ Some of.Metadata) }
 {
-    match purpose {
-        Some(Purpose::Metadata) => read(alloc, operation.content.as_slice()),
-        _ => Ok(None),
-    }
-}
-
-fn read(alloc: Global, content: &[u8]) -> Result<Option<Metadata>, AllocError>
-    ensures { IfOk result (λ metadata. metadata ≡ metadata_read content.now) }
-{
-    match read_metadata(alloc, content) {
+    let Some(Purpose::Metadata) = purpose else {
+        return Ok(None);
+    };
+    match read_metadata(alloc, operation.content.as_slice()) {
         Ok(metadata) => Ok(Some(metadata)),
         Err(DocFault::Malformed) => Ok(None),
         Err(DocFault::Memory) => Err(AllocError),

@@ -6,7 +6,7 @@ ghost use Rattle.dep_decisions.specs.Rules.{stands_twice};
 ghost use Rattle.dep_decisions.specs.declared.purpose.Purpose.TheVariants as of;
 ghost use Rattle.dep_operations.specs.Memory.{are_taken, is_held};
 ghost use Rattle.dep_operations.specs.Seen.{state_refusal};
-ghost use Rattle.dep_operations.specs.Walks.{upload_digest_rule, entries_seen, is_other_packaging, upload_length_rule, packaging_refusal, points_elsewhere, promised_in, references_seen, twice_refusal, rule_of, target_refusal, walk, whole_upload_rule};
+ghost use Rattle.dep_operations.specs.Walks.{upload_digest_rule, entries_seen, is_other_packaging, upload_length_rule, points_elsewhere, promised_in, references_seen, rule_of, walk, whole_upload_rule};
 
 use crate::view::{UploadState, UploadView};
 use dep_decisions::is_binary;
@@ -46,7 +46,6 @@ pub(crate) fn references_rule(
     }
 }
 
-#[tactic(auto, unfolding(crate::specs::Walks::entries_seen))]
 fn entries_rule(
     alloc: Global,
     views: &[UploadView],
@@ -55,14 +54,14 @@ fn entries_rule(
     ensures ok { IfOk result (λ refusal. refusal ≡ entries_seen views.now references.now) }
     ensures err { OnErr result (IsTrue (are_taken references.now)) }
 {
-    if let Some(refusal) = target_rule(references) {
-        return Ok(Some(refusal));
+    if some_points_elsewhere(references) {
+        return Ok(Some(Refusal::ByReferenceNotAllowed));
     }
-    if let Some(refusal) = packaging_rule(references) {
-        return Ok(Some(refusal));
+    if some_is_other_packaging(references) {
+        return Ok(Some(Refusal::PackagingFormatNotAcceptable));
     }
-    if let Some(refusal) = twice_rule(alloc, views)? {
-        return Ok(Some(refusal));
+    if stands_twice(alloc, views)? {
+        return Ok(Some(Refusal::BadRequest));
     }
     if let Some(refusal) = first_refused(UploadRule::IsThere, references, views) {
         return Ok(Some(refusal));
@@ -76,23 +75,10 @@ fn entries_rule(
     Ok(first_refused(UploadRule::HasDigests, references, views))
 }
 
-#[tactic(auto, unfolding(crate::specs::Walks::target_refusal))]
-fn target_rule(references: &[Reference]) -> Option<Refusal>
-    ensures { result ≡ target_refusal references.now }
-{
-    if some_points_elsewhere(references) {
-        Some(Refusal::ByReferenceNotAllowed)
-    } else {
-        None
-    }
-}
-
 fn some_points_elsewhere(references: &[Reference]) -> bool
     ensures { result ≡ list_any points_elsewhere references.now }
 {
-    references
-        .iter()
-        .any(|reference| points_elsewhere(reference))
+    references.iter().any(points_elsewhere)
 }
 
 fn points_elsewhere(reference: &Reference) -> bool
@@ -104,23 +90,10 @@ fn points_elsewhere(reference: &Reference) -> bool
     }
 }
 
-#[tactic(auto, unfolding(crate::specs::Walks::packaging_refusal))]
-fn packaging_rule(references: &[Reference]) -> Option<Refusal>
-    ensures { result ≡ packaging_refusal references.now }
-{
-    if some_is_other_packaging(references) {
-        Some(Refusal::PackagingFormatNotAcceptable)
-    } else {
-        None
-    }
-}
-
 fn some_is_other_packaging(references: &[Reference]) -> bool
     ensures { result ≡ list_any is_other_packaging references.now }
 {
-    references
-        .iter()
-        .any(|reference| is_other_packaging(reference))
+    references.iter().any(is_other_packaging)
 }
 
 fn is_other_packaging(reference: &Reference) -> bool
@@ -129,17 +102,6 @@ fn is_other_packaging(reference: &Reference) -> bool
     match &reference.packaging {
         Some(packaging) => !is_binary(packaging.as_str().as_bytes()),
         None => false,
-    }
-}
-
-#[tactic(auto, unfolding(crate::specs::Walks::twice_refusal))]
-fn twice_rule(alloc: Global, views: &[UploadView]) -> Result<Option<Refusal>, AllocError>
-    ensures { IfOk result (λ refusal. refusal ≡ twice_refusal views.now) }
-{
-    if stands_twice(alloc, views)? {
-        Ok(Some(Refusal::BadRequest))
-    } else {
-        Ok(None)
     }
 }
 

@@ -82,14 +82,11 @@ pub(crate) fn tag_rule(
 pub(crate) fn seen_tag(view: &View, resource: &Resource) -> Option<u64>
     ensures { result ≡ tag_seen view.now resource.now }
 {
-    match *resource {
-        Resource::Object(_) => Some(view.object?.object_tag),
-        Resource::Metadata(_) => Some(view.object?.metadata_tag),
-        Resource::FileSet(_) => Some(view.object?.files_tag),
-        Resource::File(_, _) => match &view.file {
-            Some(file) => Some(file.tag),
-            None => None,
-        },
+    match (resource, &view.object, &view.file) {
+        (Resource::Object(_), Some(object), _) => Some(object.object_tag),
+        (Resource::Metadata(_), Some(object), _) => Some(object.metadata_tag),
+        (Resource::FileSet(_), Some(object), _) => Some(object.files_tag),
+        (Resource::File(_, _), _, Some(file)) => Some(file.tag),
         _ => None,
     }
 }

@@ -1,9 +1,6 @@
 //! What a request touches of the archive.
 ghost use Rattle.std.specs.Prelude.{◌≡◌, ◌∷◌, [], false, IfOk, OnErr, IsTrue, Some, None, is_some};
 ghost use Rattle.std.specs.Option.{option_copied};
-ghost use Rattle.dep_docs_in.specs.Documents.{references_read};
-ghost use Rattle.dep_decisions.specs.ContentRules.{purpose_in};
-ghost use Rattle.dep_decisions.specs.Decisions.{references_in};
 ghost use Rattle.dep_decisions.specs.declared.purpose.Purpose.TheVariants as of;
 ghost use Rattle.dep_operations.specs.Memory.{TouchTakesMemory, is_noted};
 ghost use Rattle.dep_operations.specs.Rules.{references_for};
@@ -26,28 +23,18 @@ pub fn touches(
     ensures err { OnErr result (TouchTakesMemory operation.now) }
 {
     let resource = &operation.target.resource;
-    let references = references_in(alloc, config, operation)?;
+    let purpose = content_purpose(operation);
+    let path = path_in(alloc, resource)?;
+    let references = references_for(alloc, config, operation, purpose)?;
     let uploads = uploads_in(alloc, resource, references.as_ref())?;
     Ok(Touched {
         object: object_in(resource),
         file: file_in(resource),
-        path: path_in(alloc, resource)?,
+        path,
         uploads,
-        segment: segment_in(resource, content_purpose(operation)),
+        segment: segment_in(resource, purpose),
         references,
     })
-}
-
-// What the content refers to, where it is a document of references that can be read.
-fn references_in(
-    alloc: Global,
-    config: &Config,
-    operation: &Operation<'_>,
-) -> Result<Option<References>, AllocError>
-    ensures ok { IfOk result (λ references. references ≡ references_in config.now operation.now) }
-    ensures err { OnErr result (purpose_in operation.now ≡ Some of.References) }
-{
-    references_for(alloc, config, operation, content_purpose(operation))
 }
 
 // The references in a content of this purpose, where it is a document of them that can be read.
@@ -61,16 +48,10 @@ fn references_for(
     ensures ok { IfOk result (λ references. references ≡ references_for config.now operation.now purpose) }
     ensures err { OnErr result (purpose ≡ Some of.References) }
 {
-    match purpose {
-        Some(Purpose::References) => read(alloc, config, operation.content.as_slice()),
-        _ => Ok(None),
-    }
-}
-
-fn read(alloc: Global, config: &Config, content: &[u8]) -> Result<Option<References>, AllocError>
-    ensures { IfOk result (λ references. references ≡ references_read config.now content.now) }
-{
-    match read_references(alloc, config, content) {
+    let Some(Purpose::References) = purpose else {
+        return Ok(None);
+    };
+    match read_references(alloc, config, operation.content.as_slice()) {
         Ok(references) => Ok(Some(references)),
         Err(DocFault::Malformed) => Ok(None),
         Err(DocFault::Memory) => Err(AllocError),
@@ -135,18 +116,10 @@ fn uploads_in(
         → IsTrue (is_noted resource.now None)) }
 {
     match (resource, references) {
-        (Resource::Upload(upload), _) => one(alloc, *upload),
+        (Resource::Upload(upload), _) => Ok(Numbers::from_vec(vec![in alloc; *upload]?)),
         (_, Some(references)) => uploads_named(alloc, references.as_slice()),
         (_, None) => Ok(Numbers::from_vec(Vec::new(alloc))),
     }
-}
-
-fn one(alloc: Global, number: u64) -> Result<Numbers, AllocError>
-    ensures { IfOk result (λ numbers. numbers ≡ number ∷ []) }
-{
-    let mut numbers = Vec::new(alloc);
-    numbers.push(number)?;
-    Ok(Numbers::from_vec(numbers))
 }
 
 // The uploads that the entries point at, in their order.
