@@ -49,11 +49,11 @@ pub(crate) fn next_file<S: Alter>(
     if after >= LIMIT {
         return Err(StoreFault::Store);
     }
-    let rows = connection
-        .query_all(
-            "SELECT file FROM files WHERE file > ?1 ORDER BY file LIMIT 1",
-            &after_param(after),
-        )
-        .map_err(|error| fault_of(error))?;
-    only(rows.as_slice())
+    match connection.query_all(
+        "SELECT file FROM files WHERE file > ?1 ORDER BY file LIMIT 1",
+        &after_param(after),
+    ) {
+        Ok(rows) => only(rows.as_slice()),
+        Err(error) => Err(fault_of(error)),
+    }
 }

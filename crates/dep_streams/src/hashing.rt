@@ -57,8 +57,10 @@ fn hash_rows<S: Alter, W: Watch>(
         Err(error) => return Err(fault_of(error)),
     };
     'rows: for _ in 0..u64::MAX {
-        let Some(row) = rows.next().map_err(|error| fault_of(error))? else {
-            return Ok(hasher.finish());
+        let row = match rows.next() {
+            Ok(Some(row)) => row,
+            Ok(None) => return Ok(hasher.finish()),
+            Err(error) => return Err(fault_of(error)),
         };
         hash_row(row, &mut hasher, watch)?;
     }

@@ -59,8 +59,10 @@ pub(crate) fn stream_sized<S: Alter, O: Outlet>(
         Err(error) => return Err(StreamFault::from(fault_of(error))),
     };
     'rows: for _ in 0..u64::MAX {
-        let Some(row) = rows.next().map_err(|error| fault_of(error))? else {
-            return Err(StreamFault::Store);
+        let row = match rows.next() {
+            Ok(Some(row)) => row,
+            Ok(None) => return Err(StreamFault::Store),
+            Err(error) => return Err(StreamFault::from(fault_of(error))),
         };
         left -= give_sized(row, left, out)?;
         if left == 0 {

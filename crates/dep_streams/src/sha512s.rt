@@ -56,11 +56,11 @@ pub(crate) fn find_sha512<S: Alter>(
     if !is_storable_owner(owner) {
         return Err(StoreFault::Store);
     }
-    let rows = connection
-        .query_all(
-            "SELECT value FROM sha512s WHERE kind = ?1 AND owner = ?2",
-            &owner_params(owner),
-        )
-        .map_err(|error| fault_of(error))?;
-    only(rows.as_slice())
+    match connection.query_all(
+        "SELECT value FROM sha512s WHERE kind = ?1 AND owner = ?2",
+        &owner_params(owner),
+    ) {
+        Ok(rows) => only(rows.as_slice()),
+        Err(error) => Err(fault_of(error)),
+    }
 }

@@ -68,11 +68,11 @@ pub(crate) fn find_size<S: Alter>(
     if file >= LIMIT {
         return Err(StoreFault::Store);
     }
-    let rows = connection
-        .query_all(
-            "SELECT object, size FROM files WHERE file = ?1",
-            &key_param(file),
-        )
-        .map_err(|error| fault_of(error))?;
-    only(rows.as_slice())
+    match connection.query_all(
+        "SELECT object, size FROM files WHERE file = ?1",
+        &key_param(file),
+    ) {
+        Ok(rows) => only(rows.as_slice()),
+        Err(error) => Err(fault_of(error)),
+    }
 }

@@ -4,7 +4,7 @@ use Rattle.dep_types.specs.declared.stream_fault.StreamFault.TheVariants.{Store}
 use Rattle.dep_streams.proofs.NextRow.{answered}
 use Rattle.dep_streams.proofs.RowsSent.{EndsSending, not_begun, none_sent, one_more, ends_failed, ends_short, ends_cut, ends_whole, ends_uncounted}
 use Rattle.dep_types.specs.StoreFaults.{stream_fault_for}
-use Rattle.dep_streams.proofs.Told.{IsToldAs, was_error, passed_on}
+use Rattle.dep_streams.proofs.Told.{passed_on}
 use Rattle.dep_streams.proofs.sending.stream_sized.Goals as goal
 
 pub returns-in-Err : goal.returns-in-Err
@@ -27,42 +27,39 @@ rows-preserved g c =
     let gave = c.in_ok-left.ensures in (
       moved.same_reference ∙ c.rows.invariant.0,
       one_more c.rows.rows c.next.follows.lender-at-none c.next.result moved c.rows.invariant.1
-          c.in-Some.row (answered c.next.result c.in_ok-row.field-0 (Some c.in-Some.row) (search rules) c.in-Some.is)
+          c.in-Ok-Some.row (answered c.next.result c.in-Ok-Some.field-0 (Some c.in-Ok-Some.row) c.in-Ok-Some.is c.in-Ok-Some.field-0-is)
           (g.O.Outlet.taken c.give_sized.new.out) (g.O.Outlet.failures c.give_sized.new.out)
           c.in_ok-left.field-0 gave.gives gave.fits gave.outlet.kept (search rules),
     )
 
-pub returns-in_err-row : goal.returns-in_err-row
-returns-in_err-row g c =
+pub returns-in-Ok-None : goal.returns-in-Ok-None
+returns-in-Ok-None g c =
     let moved = c.next.follows.holds-at-none in
     let now = c.next.follows.lender-at-none in
     let names = sym (moved.same_reference ∙ c.rows.invariant.0 ∙ c.in-Ok.ensures.same_reference) in
-    let back = sym (c.connection-in_err-row-1.given.1 names ∙ c.drop-rows.ensures) in
-    let fault = c.in_err-row.field-0.0 in
-    let told : IsToldAs c.next.result fault = search rules in
-    let failed = was_error c.next.result fault told in
-    let it = subst
-    (λ h. EndsSending g.S.Store c.args.sql.now (bound c.args.params.now) c.args.connection.now h c.args.size
-    (g.O.Outlet.taken c.args.out.now) (g.O.Outlet.taken c.rows.out) (g.O.Outlet.failures c.args.out.now) (g.O.Outlet.failures c.rows.out)
-    (Err (stream_fault_for fault)))
-    back
-    (ends_failed c.rows.rows now c.next.result moved c.rows.invariant.1 failed.0 failed.1 fault failed.2) in
-    let passed = passed_on c.from_residual.result (stream_fault_for fault) c.from_residual.ensures.1 in
-    rw passed record { streams = it.streams; why = it.why; reads = it.reads; outlet = it.outlet; there = it.there }
-
-pub returns-in_default : goal.returns-in_default
-returns-in_default g c =
-    let moved = c.next.follows.holds-at-none in
-    let now = c.next.follows.lender-at-none in
-    let names = sym (moved.same_reference ∙ c.rows.invariant.0 ∙ c.in-Ok.ensures.same_reference) in
-    let back = sym (c.connection-in_default-1.given.1 names ∙ c.drop-rows-in_default.ensures) in
+    let back = sym (c.connection-in-Ok-None-1.given.1 names ∙ c.drop-rows.ensures) in
     let it = subst
     (λ h. EndsSending g.S.Store c.args.sql.now (bound c.args.params.now) c.args.connection.now h c.args.size
     (g.O.Outlet.taken c.args.out.now) (g.O.Outlet.taken c.rows.out) (g.O.Outlet.failures c.args.out.now) (g.O.Outlet.failures c.rows.out)
     (Err Store))
     back
-    (ends_short c.rows.rows now c.next.result moved c.rows.invariant.1 (answered c.next.result c.in_ok-row.field-0 None (search rules) c.in_default.is)) in
+    (ends_short c.rows.rows now c.next.result moved c.rows.invariant.1 (answered c.next.result c.in-Ok-None.field-0 None c.in-Ok-None.is c.in-Ok-None.field-0-is)) in
     record { streams = it.streams; why = it.why; reads = it.reads; outlet = it.outlet; there = it.there }
+
+pub returns-in-Err-next : goal.returns-in-Err-next
+returns-in-Err-next g c =
+    let moved = c.next.follows.holds-at-none in
+    let now = c.next.follows.lender-at-none in
+    let names = sym (moved.same_reference ∙ c.rows.invariant.0 ∙ c.in-Ok.ensures.same_reference) in
+    let back = sym (c.connection-in-Err-next-1.given.1 names ∙ c.drop-rows-in-Err-next.ensures) in
+    let fault = c.fault_of-in-Err-next.result in
+    let it = subst
+    (λ h. EndsSending g.S.Store c.args.sql.now (bound c.args.params.now) c.args.connection.now h c.args.size
+    (g.O.Outlet.taken c.args.out.now) (g.O.Outlet.taken c.rows.out) (g.O.Outlet.failures c.args.out.now) (g.O.Outlet.failures c.rows.out)
+    (Err (stream_fault_for fault)))
+    back
+    (ends_failed c.rows.rows now c.next.result moved c.rows.invariant.1 c.in-Err-next.error c.in-Err-next.is fault c.fault_of-in-Err-next.ensures) in
+    rw c.from-in-Err-next.ensures record { streams = it.streams; why = it.why; reads = it.reads; outlet = it.outlet; there = it.there }
 
 pub returns-in_err-left : goal.returns-in_err-left
 returns-in_err-left g c =
@@ -78,10 +75,10 @@ returns-in_err-left g c =
     (Err fault))
     back
     (ends_cut c.rows.rows now c.next.result moved c.rows.invariant.1
-    c.in-Some.row (answered c.next.result c.in_ok-row.field-0 (Some c.in-Some.row) (search rules) c.in-Some.is)
+    c.in-Ok-Some.row (answered c.next.result c.in-Ok-Some.field-0 (Some c.in-Ok-Some.row) c.in-Ok-Some.is c.in-Ok-Some.field-0-is)
     (g.O.Outlet.taken c.give_sized.new.out) (g.O.Outlet.failures c.give_sized.new.out)
     fault gave.gives gave.refused gave.outlet) in
-    let passed = passed_on c.from_residual-in_err-left.result fault c.from_residual-in_err-left.ensures.1 in
+    let passed = passed_on c.from_residual.result fault c.from_residual.ensures.1 in
     rw passed record { streams = it.streams; why = it.why; reads = it.reads; outlet = it.outlet; there = it.there }
 
 pub returns-then-left-eq0 : goal.returns-then-left-eq0
@@ -97,7 +94,7 @@ returns-then-left-eq0 g c =
     (Ok tt))
     back
     (ends_whole c.rows.rows now c.next.result moved c.rows.invariant.1
-    c.in-Some.row (answered c.next.result c.in_ok-row.field-0 (Some c.in-Some.row) (search rules) c.in-Some.is)
+    c.in-Ok-Some.row (answered c.next.result c.in-Ok-Some.field-0 (Some c.in-Ok-Some.row) c.in-Ok-Some.is c.in-Ok-Some.field-0-is)
     (g.O.Outlet.taken c.give_sized.new.out) (g.O.Outlet.failures c.give_sized.new.out)
     c.in_ok-left.field-0 gave.gives gave.fits gave.outlet.kept c.if-left-eq0.true) in
     record { streams = it.streams; why = it.why; reads = it.reads; outlet = it.outlet; there = it.there }
