@@ -34,7 +34,7 @@ kinds-smaller c = search rules
 pub kinds-preserved : goal.kinds-preserved
 kinds-preserved c =
     let this = subst (IsOfKind _) c.in-Ok.ensures.ok.1 (c.is_of_kind.ensures.0 c.if-is_of_kind.true) in
-    one_more (λ i kind. IsOfKind kind (column c.args.row.now i)) c.args.kinds.now c.kinds.at _ (search rules) c.kinds.invariant this
+    one_more (λ i kind. IsOfKind kind (column c.args.row.now i)) c.args.kinds.now c.kinds.at _ c.kinds-test.true c.kinds.invariant this
 
 pub returns : goal.returns
 returns c = search rules
