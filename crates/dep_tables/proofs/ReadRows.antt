@@ -1,5 +1,5 @@
 -- What is told of rows that are read one after another.
-use Rattle.std.proofs.Common.{◌≡◌, ◌<◌, ◌≤◌, ◌+◌, ℕ, Bool, true, List, [], ◌∷◌, ◌++◌, map, take, get_or, length, if◌then◌else◌, refl, ap, sym, ◌∙◌, arith}
+use Rattle.std.proofs.Common.{◌≡◌, ◌<◌, ◌≤◌, ◌+◌, ℕ, Bool, true, false, Result, Ok, Err, IfOk, MatchResult, is_ok, List, [], ◌∷◌, ◌++◌, map, take, get_or, length, if◌then◌else◌, refl, ap, subst, sym, ◌∙◌, arith}
 use Rattle.std.proofs.lemmas.List.{map_more, map_push}
 
 -- one row more is read, and kept
@@ -23,3 +23,9 @@ pub of_one : {Row Told : Type 0} {told : Told} (columns : Row → Told) (rows : 
 of_one columns [] row some one is same = absurd (omega (arith, some))
 of_one columns (first ∷ []) row some one is same = ap (λ t. t ∷ []) (same ∙ ap columns is)
 of_one columns (first ∷ second ∷ rows) row some one is same = absurd (omega (arith, one))
+
+-- what is told of a value holds of it where the error beside it is mapped
+pub mapped_ok : {A E F : Type 0} (P : A → Type 0) (Q : E → Type 0) (r : Result A E) (s : Result A F) (x : A)
+    → MatchResult r (λ y. s ≡ Ok y) Q → is_ok s ≡ is_ok r → s ≡ Ok x → IfOk r P → P x
+mapped_ok P Q (Ok y) s x gives variant was told = let both : Ok y ≡ Ok x = sym gives ∙ was in let same : y ≡ x = cc both in subst P same told
+mapped_ok P Q (Err e) s x gives variant was told = let never : false ≡ true = sym variant ∙ ap is_ok was in absurd (cc)
