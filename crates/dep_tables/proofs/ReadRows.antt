@@ -1,5 +1,5 @@
 -- What is told of rows that are read one after another.
-use Rattle.std.proofs.Common.{◌≡◌, ◌<◌, ◌≤◌, ◌+◌, ℕ, Bool, true, false, Result, Ok, Err, IfOk, MatchResult, is_ok, List, [], ◌∷◌, ◌++◌, map, take, get_or, length, if◌then◌else◌, refl, ap, subst, sym, ◌∙◌, arith}
+use Rattle.std.proofs.Common.{◌≡◌, ◌<◌, ◌+◌, ℕ, Bool, true, false, Result, Ok, Err, IfOk, MatchResult, is_ok, List, [], ◌∷◌, ◌++◌, map, take, get_or, length, if◌then◌else◌, ap, subst, sym, ◌∙◌}
 use Rattle.std.proofs.lemmas.List.{map_more, map_push}
 
 -- one row more is read, and kept
@@ -11,18 +11,6 @@ told_more told columns rows i row before after read is_kept so_far inside is sam
     let grown : after ≡ before ++ read ∷ [] = pushed ∙ ap (λ (b : Bool). if b then before ++ read ∷ [] else before) kept in
     let last : told read ≡ columns (get_or rows i row) = same ∙ ap columns is in
     ap (map told) grown ∙ (map_push told before read ∙ ((λ j. so_far j ++ last j ∷ []) ∙ sym (map_more columns rows i row inside)))
-
--- nothing is told of no row
-pub of_none : {Row Told : Type 0} (columns : Row → Told) (rows : List Row) → length rows < 1 → [] ≡ map columns rows
-of_none columns [] none = refl
-of_none columns (row ∷ rows) none = absurd (omega (arith, none))
-
--- and of one row what it has
-pub of_one : {Row Told : Type 0} {told : Told} (columns : Row → Told) (rows : List Row) (row : Row) → 1 ≤ length rows → length rows < 2
-    → row ≡ get_or rows 0 row → told ≡ columns row → told ∷ [] ≡ map columns rows
-of_one columns [] row some one is same = absurd (omega (arith, some))
-of_one columns (first ∷ []) row some one is same = ap (λ t. t ∷ []) (same ∙ ap columns is)
-of_one columns (first ∷ second ∷ rows) row some one is same = absurd (omega (arith, one))
 
 -- what is told of a value holds of it where the error beside it is mapped
 pub mapped_ok : {A E F : Type 0} (P : A → Type 0) (Q : E → Type 0) (r : Result A E) (s : Result A F) (x : A)
