@@ -48,7 +48,7 @@ returns g c =
     (clean_if_open (g.S.Store.view new.store) (g.met.S.Store.shut_if_dirty new.store)) in
     let same : new ≡ c.connection-2-1.given.0 = sym (c.connection-2-1.given.1 (lent_connection g.S.Store c.in_ok-upgrade_tables.ensures.works.stays left c.transaction-tx.ensures.same_reference)) in
     let end = ended g.S.Store c.args.values.now old new c.connection-2-1.given.0 _ c.upgrade_tables.new.tx c.tx-2-1.given.0 c.transaction-tx.ensures.begun left same
-        c.commit.result told.works.stays work worked c.commit.ensures.ok c.commit.ensures.err c.commit.ensures.survives in
+    c.commit.result told.works.stays work worked c.commit.ensures.ok c.commit.ensures.err c.commit.ensures.survives in
     record {
       mode = subst (λ (h : Held g.row.S.Denot). (state g.S.Store h).in_transaction ≡ false) same c.commit.ensures.ended;
       upgrades = end.upgrades;
