@@ -189,7 +189,7 @@ module _ {S : Type 0} (g : Ghosts S) (values : List FileSha512) (old : Held S) (
       )
 
   -- its commit failed
-  pub commit_failed : {A E : Type 0} {x : A} (new : Held S) (fault : StoreFault) → LentStays {A = A} {E = E} g first inside (Ok x) → HasCleanDisk (state g last.conn.now)
+  commit_failed : {A E : Type 0} {x : A} (new : Held S) (fault : StoreFault) → LentStays {A = A} {E = E} g first inside (Ok x) → HasCleanDisk (state g last.conn.now)
       → AreNewNamesFree (state g old).now.schema → FailsToEnd (state g last.conn.now) (state g new) fault → FailsToUpgrade g old new values fault
   commit_failed new fault stays clean free failed =
       let since = subst (λ (h : Held S). CommitsNothing (state g h) (state g last.conn.now)) is (subst (λ (tx : Transaction S). CommitsNothing (state g first.tx.now.conn.now) (state g tx.conn.now)) left stays.survives) in
@@ -217,7 +217,7 @@ module _ {S : Type 0} (g : Ghosts S) (old inside new : Held S) (work : Works g o
       (λ is_open. back g old inside new work.kept survives.clean undone (work.shut is_open) is_open)
 
   -- a commit that failed has ended so too
-  pub commit_back : (fault : StoreFault) → Survives (state g inside) (state g new) (λ trees. trees ≡ (state g inside).now.trees) → (HasCleanDisk (state g inside) → IsTrue (state g inside).in_transaction)
+  commit_back : (fault : StoreFault) → Survives (state g inside) (state g new) (λ trees. trees ≡ (state g inside).now.trees) → (HasCleanDisk (state g inside) → IsTrue (state g inside).in_transaction)
       → (HasCleanDisk (state g new) → FailsToEnd (state g inside) (state g new) fault) → IsTrue (state g last).is_open → IsBack (state g old) (state g last)
   commit_back fault survives goes_on fails = subst (λ (h : Held S). IsTrue (state g h).is_open → IsBack (state g old) (state g h)) same
       (λ is_open. back g old inside new work.kept survives.clean (λ clean. undone_by_commit (state g inside) (state g new) (fails clean).0 (goes_on (clean_last (state g inside) (state g new) _ survives clean)) (fails clean).1) (work.shut is_open) is_open)
