@@ -10,7 +10,7 @@ use Rattle.sqlite.specs.Table.{Table}
 use Rattle.sqlite.specs.Listing.{understood, listing_schema, misses_table, if_select}
 use Rattle.sqlite.specs.Command.{Command}
 use Rattle.sqlite.specs.Command.TheVariants.{CreateTable, Nothing}
-use Rattle.sqlite.specs.State.{State, HasCleanDisk, ExecutesInside}
+use Rattle.sqlite.specs.State.{State, HasCleanDisk, ExecutesInside, text_of}
 use Rattle.std.specs.Borrow.{Bor}
 use Rattle.sqlite.proofs.Callers.{IsPlain, command_of, statement_of}
 use Rattle.sqlite_schema.specs.Names.{table_named, index_named, view_named}
@@ -53,19 +53,21 @@ understood_by has read listed = if misses_table (compiled_by has read) then if_s
 abbrev IsMakingText : List ℕ → Checked Compiled → Type 0
 IsMakingText text r = (command_of r ≡ CreateTable) × IsPlain r × (statement_of text r ≡ text)
 
--- where nothing is in its way, the text makes a table
+abbrev making_of : Parsed → Compiled
+making_of p = with_command p ([], (CreateTable, None))
+
+-- where nothing is in its way, the text makes a table: all of it is one statement
 abbrev Makes : List ℕ → Checked Parsed → Type 0
-Makes text (Ok p) = IsMakingText text (Ok (with_command p ([], (CreateTable, None))))
-Makes text (Err e) = ⊥
+Makes text read = and_then read (λ p. Ok (text_of text (making_of p))) ≡ Ok text
 
 only_makes : (text : List ℕ) (read : Checked Parsed) (listed : Checked Compiled) → Makes text read → (a : Bool) (t v i : Option ℕ) (c : Compiled) → understood_by (having a t v i) read listed ≡ Ok c → IsMakingText text (understood_by (having a t v i) read listed)
-only_makes text (Err e) listed makes a t v i c h = absurd makes
+only_makes text (Err e) listed makes a t v i c h = absurd (cc)
 only_makes text (Ok p) listed makes true t v i c h = absurd (cc)
 only_makes text (Ok p) listed makes false (Some t) v (Some i) c h = absurd (cc)
 only_makes text (Ok p) listed makes false None v (Some i) c h = absurd (cc)
 only_makes text (Ok p) listed makes false (Some t) v None c h = absurd (cc)
 only_makes text (Ok p) listed makes false None (Some v) None c h = absurd (cc)
-only_makes text (Ok p) listed makes false None None None c h = makes
+only_makes text (Ok p) listed makes false None None None c h = (refl, (refl, refl), cc)
 
 -- the text makes this table, wherever nothing is in its way
 record MakesTable (text : List ℕ) (table : Table) : Type 0 where
@@ -94,43 +96,43 @@ adds_table text table is old new count h =
 
 format_made : MakesTable create_format_text format_table
 unfolding understood everything
-format_made = record { name = codes "format"; by = λ schema. refl; makes = (refl, (refl, refl), refl); defined = refl; uncounted = refl }
+format_made = record { name = codes "format"; by = λ schema. refl; makes = refl; defined = refl; uncounted = refl }
 
 state_made : MakesTable create_state_text state_table
 unfolding understood everything
-state_made = record { name = codes "state"; by = λ schema. refl; makes = (refl, (refl, refl), refl); defined = refl; uncounted = refl }
+state_made = record { name = codes "state"; by = λ schema. refl; makes = refl; defined = refl; uncounted = refl }
 
 objects_made : MakesTable create_objects_text objects_table
 unfolding understood everything
-objects_made = record { name = codes "objects"; by = λ schema. refl; makes = (refl, (refl, refl), refl); defined = refl; uncounted = refl }
+objects_made = record { name = codes "objects"; by = λ schema. refl; makes = refl; defined = refl; uncounted = refl }
 
 metadata_made : MakesTable create_metadata_text metadata_table
 unfolding understood everything
-metadata_made = record { name = codes "metadata"; by = λ schema. refl; makes = (refl, (refl, refl), refl); defined = refl; uncounted = refl }
+metadata_made = record { name = codes "metadata"; by = λ schema. refl; makes = refl; defined = refl; uncounted = refl }
 
 files_made : MakesTable create_files_text files_table
 unfolding understood everything
-files_made = record { name = codes "files"; by = λ schema. refl; makes = (refl, (refl, refl), refl); defined = refl; uncounted = refl }
+files_made = record { name = codes "files"; by = λ schema. refl; makes = refl; defined = refl; uncounted = refl }
 
 uploads_made : MakesTable create_uploads_text uploads_table
 unfolding understood everything
-uploads_made = record { name = codes "uploads"; by = λ schema. refl; makes = (refl, (refl, refl), refl); defined = refl; uncounted = refl }
+uploads_made = record { name = codes "uploads"; by = λ schema. refl; makes = refl; defined = refl; uncounted = refl }
 
 segments_made : MakesTable create_segments_text segments_table
 unfolding understood everything
-segments_made = record { name = codes "segments"; by = λ schema. refl; makes = (refl, (refl, refl), refl); defined = refl; uncounted = refl }
+segments_made = record { name = codes "segments"; by = λ schema. refl; makes = refl; defined = refl; uncounted = refl }
 
 timed_out_made : MakesTable create_timed_out_text timed_out_table
 unfolding understood everything
-timed_out_made = record { name = codes "timed_out"; by = λ schema. refl; makes = (refl, (refl, refl), refl); defined = refl; uncounted = refl }
+timed_out_made = record { name = codes "timed_out"; by = λ schema. refl; makes = refl; defined = refl; uncounted = refl }
 
 blocks_made : MakesTable create_blocks_text blocks_table
 unfolding understood everything
-blocks_made = record { name = codes "blocks"; by = λ schema. refl; makes = (refl, (refl, refl), refl); defined = refl; uncounted = refl }
+blocks_made = record { name = codes "blocks"; by = λ schema. refl; makes = refl; defined = refl; uncounted = refl }
 
 sha512s_made : MakesTable create_sha512s_text sha512s_table
 unfolding understood everything
-sha512s_made = record { name = codes "sha512s"; by = λ schema. refl; makes = (refl, (refl, refl), refl); defined = refl; uncounted = refl }
+sha512s_made = record { name = codes "sha512s"; by = λ schema. refl; makes = refl; defined = refl; uncounted = refl }
 
 -- the text of the tenth table makes it, wherever nothing is in its way
 pub adds_sha512s : (old new : State) (count : ℕ) → ExecutesInside 0 create_sha512s_text [] old new (Ok count) → Adds sha512s_table old.now new.now

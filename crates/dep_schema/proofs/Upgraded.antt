@@ -1,5 +1,6 @@
 -- What the statements of an upgrade make of the tables of version 1.
-use Rattle.std.proofs.Common.{◌≡◌, inl, inr, ◌<◌, ◌+◌, ◌^◌, ℕ, true, false, IsTrue, List, [], ◌∷◌, ◌++◌, take, get_or, length, Result, Ok, Err, refl, sym, ap, subst, ◌∙◌}
+use Rattle.std.proofs.Common.{◌≡◌, inl, inr, ◌<◌, ◌+◌, ◌^◌, ℕ, true, false, IsTrue, List, [], ◌∷◌, ◌++◌, take, get_or, length, Result, Ok, Err, IfErr, refl, sym, ap, subst, ◌∙◌}
+use Rattle.std.specs.Prelude.{⊤, OnOk, OnErr}
 use Rattle.std.proofs.Math.Decide.{dec_lt}
 use Rattle.std.proofs.lemmas.List.{take_more, map-append}
 use Rattle.std.proofs.lemmas.List.Elements.{Contains-get_or}
@@ -7,7 +8,7 @@ use Rattle.sqlite_tied.specs.Compute.{everything}
 use Rattle.sqlite.specs.Order.{Row}
 use Rattle.sqlite.specs.Schema.{Schema}
 use Rattle.sqlite.specs.Effect.{Database}
-use Rattle.sqlite.specs.State.{State, HasCleanDisk, IsRolledBack, Survives}
+use Rattle.sqlite.specs.State.{State, HasCleanDisk, IsRolledBack, Survives, Commits}
 use Rattle.sqlite.specs.Tree.{Trees}
 use Rattle.sqlite.specs.Held.{Held, state}
 use Rattle.sqlite.specs.declared.transaction.Transaction.{Transaction}
@@ -34,14 +35,14 @@ use Rattle.dep_row_maps.specs.Sha512s.{upgraded, value_rows}
 use Rattle.dep_schema.specs.Beside.{with_tables, AddsIndexes, AreNewNamesFree}
 use Rattle.dep_schema.specs.Standing.{Sees, IsBack, no_schema}
 use Rattle.dep_schema.specs.OpenFaults.{begun}
-use Rattle.dep_schema.specs.Transactions.{FailsToEnd}
+use Rattle.dep_schema.specs.Transactions.{FailsToEnd, TransactsTo}
 use Rattle.dep_schema.specs.Upgrading.{with_no_sha512s, with_sha512s, FailsToPut, FailsToRewrite, FailsToUpgrade}
 use Rattle.dep_schema.specs.Upgrading.FailsToPut.{no_number, not_put}
 use Rattle.dep_schema.specs.declared.lending.Lent.{Lent}
 use Rattle.dep_schema.proofs.Asking.{LentStays}
 use Rattle.dep_schema.proofs.Prepared.{left as back}
 use Rattle.dep_schema.proofs.Refusing.{failed_only, clean_last}
-use Rattle.dep_schema.proofs.Transacting.{still_inside, Works, undone_by_commit}
+use Rattle.dep_schema.proofs.Transacting.{still_inside, Works, undone_by_commit, committed, uncommitted}
 use Rattle.dep_schema.proofs.Transactions.{commits}
 use Rattle.dep_schema.proofs.Placed.{indexed_schema, indexed_sound, indexed_rows, free_indexes}
 use Rattle.dep_schema.proofs.BesideRows.{empty_ours}
@@ -188,7 +189,7 @@ module _ {S : Type 0} (g : Ghosts S) (values : List FileSha512) (old : Held S) (
       )
 
   -- its commit failed
-  pub commit_failed : {A E : Type 0} {x : A} (new : Held S) (fault : StoreFault) → LentStays {A = A} {E = E} g first inside (Ok x) → HasCleanDisk (state g last.conn.now)
+  commit_failed : {A E : Type 0} {x : A} (new : Held S) (fault : StoreFault) → LentStays {A = A} {E = E} g first inside (Ok x) → HasCleanDisk (state g last.conn.now)
       → AreNewNamesFree (state g old).now.schema → FailsToEnd (state g last.conn.now) (state g new) fault → FailsToUpgrade g old new values fault
   commit_failed new fault stays clean free failed =
       let since = subst (λ (h : Held S). CommitsNothing (state g h) (state g last.conn.now)) is (subst (λ (tx : Transaction S). CommitsNothing (state g first.tx.now.conn.now) (state g tx.conn.now)) left stays.survives) in
@@ -216,7 +217,7 @@ module _ {S : Type 0} (g : Ghosts S) (old inside new : Held S) (work : Works g o
       (λ is_open. back g old inside new work.kept survives.clean undone (work.shut is_open) is_open)
 
   -- a commit that failed has ended so too
-  pub commit_back : (fault : StoreFault) → Survives (state g inside) (state g new) (λ trees. trees ≡ (state g inside).now.trees) → (HasCleanDisk (state g inside) → IsTrue (state g inside).in_transaction)
+  commit_back : (fault : StoreFault) → Survives (state g inside) (state g new) (λ trees. trees ≡ (state g inside).now.trees) → (HasCleanDisk (state g inside) → IsTrue (state g inside).in_transaction)
       → (HasCleanDisk (state g new) → FailsToEnd (state g inside) (state g new) fault) → IsTrue (state g last).is_open → IsBack (state g old) (state g last)
   commit_back fault survives goes_on fails = subst (λ (h : Held S). IsTrue (state g h).is_open → IsBack (state g old) (state g h)) same
       (λ is_open. back g old inside new work.kept survives.clean (λ clean. undone_by_commit (state g inside) (state g new) (fails clean).0 (goes_on (clean_last (state g inside) (state g new) _ survives clean)) (fails clean).1) (work.shut is_open) is_open)
@@ -230,3 +231,31 @@ module _ {S : Type 0} (g : Ghosts S) (old inside new : Held S) (work : Works g o
   pub crash_committing : (P : Trees → Type 0) → Survives (state g inside) (state g new) (λ trees. trees ≡ (state g inside).now.trees) → (HasCleanDisk (state g inside) → P (state g inside).now.trees)
       → Survives (state g old) (state g last) P
   crash_committing P survives made = subst (λ (h : Held S). Survives (state g old) (state g h) P) same (commits g old (state g inside) (state g new) P work.survives survives made)
+
+-- what it leaves once it has committed, or has failed to
+pub record IsEnded {S : Type 0} (g : Ghosts S) (values : List FileSha512) (old last : Held S) (result : Result ⊤ StoreFault) : Type 0 where
+  pub upgrades : TransactsTo older_schema our_schema (state g old) (state g last) result (λ t _ after. after ≡ upgraded values t)
+  pub free : HasCleanDisk (state g last) → OnOk result (AreNewNamesFree (state g old).now.schema)
+  pub cause : HasCleanDisk (state g last) → IfErr result (FailsToUpgrade g old last values)
+  pub left : IsTrue (state g last).is_open → OnErr result (IsBack (state g old) (state g last))
+
+module _ {S : Type 0} (g : Ghosts S) (values : List FileSha512) (old new last : Held S) (first inside : Lent S) (tx : Transaction S) (is : first.tx.now.conn.now ≡ begun old) (left : inside.tx.now ≡ tx) (same : new ≡ last) where
+  pub ended : {A E : Type 0} {x : A} (result : Result ⊤ StoreFault) → LentStays {A = A} {E = E} g first inside (Ok x) → Works g old tx.conn.now new → IsRewritten (state g (begun old)) (state g tx.conn.now) values
+      → (HasCleanDisk (state g new) → OnOk result (Commits (state g tx.conn.now) (state g new))) → (HasCleanDisk (state g new) → IfErr result (FailsToEnd (state g tx.conn.now) (state g new)))
+      → Survives (state g tx.conn.now) (state g new) (λ trees. trees ≡ (state g tx.conn.now).now.trees) → IsEnded g values old last result
+  ended (Ok done) stays work worked commits fails survives = record {
+    upgrades = committed g old tx.conn.now new _ done work (λ clean older. let sees = worked.ok clean refl older in (sees.ours, sees.rows)) commits survives last same;
+    free = subst (λ (h : Held S). HasCleanDisk (state g h) → AreNewNamesFree (state g old).now.schema) same
+        (λ clean. worked.free (clean_last (state g tx.conn.now) (state g new) _ survives clean) refl);
+    cause = λ clean. tt;
+    left = λ is_open. tt;
+  }
+  ended (Err fault) stays work worked commits fails survives = record {
+    upgrades = uncommitted g old tx.conn.now new _ tt fault work (λ clean older. let sees = worked.ok clean refl older in (sees.ours, sees.rows)) (still_inside g old stays is left) fails survives last same;
+    free = λ clean. tt;
+    cause = subst (λ (h : Held S). HasCleanDisk (state g h) → FailsToUpgrade g old h values fault) same
+        (λ clean.
+        let before = clean_last (state g tx.conn.now) (state g new) _ survives clean in
+        commit_failed g values old first inside tx is left new fault stays before (worked.free before refl) (fails clean));
+    left = commit_back g old tx.conn.now new work last same fault survives (still_inside g old stays is left) fails;
+  }

@@ -98,6 +98,5 @@ pub fn upgrade<S: Alter>(
 {
     let mut tx = connection.transaction();
     upgrade_tables(&mut Lent { tx: &mut tx }, values)?;
-    commit(tx)?;
-    Ok(())
+    commit(tx)
 }

@@ -1,23 +1,16 @@
-use Rattle.std.proofs.Common.{false, ◌≡◌, ◌∙◌, IsTrue, Result, Err, IfErr, refl, sym, ap, subst}
-use Rattle.std.specs.Prelude.{⊤}
+use Rattle.std.proofs.Common.{false, ◌≡◌, IsTrue, IfErr, refl, sym, subst}
 use Rattle.sqlite.specs.Held.{Held, state}
 use Rattle.sqlite.specs.State.{HasCleanDisk}
 use Rattle.sqlite.specs.declared.transaction.Transaction.{Transaction}
 use Rattle.sqlite.proofs.StateLemmas.{clean_if_open}
-use Rattle.std.proofs.lemmas.Result.{IfOk-from_err, err_from_is_err_and}
+use Rattle.std.proofs.lemmas.Result.{IfOk-from_err}
 use Rattle.dep_schema.proofs.Asking.{lent_connection, lent_name}
-use Rattle.dep_schema.proofs.Transacting.{gave_up, committed, uncommitted, works_within, still_inside}
+use Rattle.dep_schema.proofs.Transacting.{gave_up, works_within}
 use Rattle.dep_tables.proofs.Chains.{was_clean}
 use Rattle.dep_tables.proofs.Results.{if_failed}
 use Rattle.dep_row_maps.proofs.Causes.{if_err_is}
-use Rattle.dep_schema.specs.Beside.{AreNewNamesFree}
-use Rattle.dep_schema.specs.Transactions.{TransactsTo}
 use Rattle.dep_schema.specs.Upgrading.{FailsToUpgrade}
-use Rattle.dep_tables.specs.Schema.{older_schema, our_schema}
-use Rattle.dep_row_maps.specs.Sha512s.{upgraded}
-use Rattle.dep_types.specs.declared.store_fault.StoreFault.{StoreFault}
-use Rattle.dep_schema.proofs.Refusing.{clean_last}
-use Rattle.dep_schema.proofs.Upgraded.{rewritten_within, statement_failed, commit_failed, upgrade_back, commit_back, crash_given_up, crash_committing}
+use Rattle.dep_schema.proofs.Upgraded.{rewritten_within, statement_failed, upgrade_back, ended, crash_given_up, crash_committing}
 use Rattle.dep_schema.proofs.upgrading.upgrade.Goals as goal
 
 pub returns-in_err-upgrade_tables : goal.returns-in_err-upgrade_tables
@@ -54,49 +47,13 @@ returns g c =
     let work = works_within g.S.Store old new told.works.stays c.transaction-tx.ensures.begun left (λ is_open trees h. g.met.S.Store.settled old.store trees is_open h)
     (clean_if_open (g.S.Store.view new.store) (g.met.S.Store.shut_if_dirty new.store)) in
     let same : new ≡ c.connection-2-1.given.0 = sym (c.connection-2-1.given.1 (lent_connection g.S.Store c.in_ok-upgrade_tables.ensures.works.stays left c.transaction-tx.ensures.same_reference)) in
+    let end = ended g.S.Store c.args.values.now old new c.connection-2-1.given.0 _ c.upgrade_tables.new.tx c.tx-2-1.given.0 c.transaction-tx.ensures.begun left same
+    c.commit.result told.works.stays work worked c.commit.ensures.ok c.commit.ensures.err c.commit.ensures.survives in
     record {
       mode = subst (λ (h : Held g.row.S.Denot). (state g.S.Store h).in_transaction ≡ false) same c.commit.ensures.ended;
-      upgrades = committed g.S.Store old inside new _ _ work
-          (λ clean older. let sees = worked.ok clean refl older in (sees.ours, sees.rows))
-          c.in_ok-commit.ensures.ok c.commit.ensures.survives _ same;
-      free = subst (λ (h : Held g.row.S.Denot). HasCleanDisk (state g.S.Store h) → AreNewNamesFree (state g.S.Store old).now.schema) same
-          (λ clean. worked.free (clean_last (state g.S.Store inside) (state g.S.Store new) _ c.commit.ensures.survives clean) refl);
-      cause = λ clean. tt;
-      left = λ is_open. tt;
-      crash = crash_committing g.S.Store old inside new work _ same _ c.commit.ensures.survives (λ clean. worked.free clean refl);
-    }
-
-pub returns-in_err-commit : goal.returns-in_err-commit
-returns-in_err-commit g c =
-    let old = c.args.connection.now in
-    let left : c.upgrade_tables.new.tx.tx.now ≡ c.tx-2-1.given.0 = sym (c.tx-2-1.given.1 (lent_name g.S.Store c.in_ok-upgrade_tables.ensures.works.stays)) in
-    let inside = c.tx-2-1.given.0.conn.now in
-    let new = c.commit.new.tx.0 in
-    let told = c.in_ok-upgrade_tables.ensures in
-    let worked = rewritten_within g.S.Store old c.args.values.now told.works.stays c.transaction-tx.ensures.begun left (record { ok = told.ok; free = told.free }) in
-    let work = works_within g.S.Store old new told.works.stays c.transaction-tx.ensures.begun left (λ is_open trees h. g.met.S.Store.settled old.store trees is_open h)
-    (clean_if_open (g.S.Store.view new.store) (g.met.S.Store.shut_if_dirty new.store)) in
-    let last = c.connection-2-1.given.0 in
-    let same : new ≡ last = sym (c.connection-2-1.given.1 (lent_connection g.S.Store c.in_ok-upgrade_tables.ensures.works.stays left c.transaction-tx.ensures.same_reference)) in
-    let fault = c.in_err-commit.field-0.0 in
-    let result = c.from_residual-in_err-commit.result in
-    let is_err = c.from_residual-in_err-commit.ensures.0 in
-    let passed = err_from_is_err_and result c.from_residual-in_err-commit.ensures.1 in
-    let is : result ≡ Err fault = passed.1 ∙ ap Err passed.2 in
-    let within = still_inside g.S.Store old told.works.stays c.transaction-tx.ensures.begun left in
-    record {
-      mode = subst (λ (h : Held g.row.S.Denot). (state g.S.Store h).in_transaction ≡ false) same c.commit.ensures.ended;
-      upgrades = subst (λ (r : Result ⊤ StoreFault). TransactsTo older_schema our_schema (state g.S.Store old) (state g.S.Store last) r (λ t _ after. after ≡ upgraded c.args.values.now t)) (sym is)
-          (uncommitted g.S.Store old inside new _ tt fault work
-          (λ clean older. let sees = worked.ok clean refl older in (sees.ours, sees.rows))
-          within c.in_err-commit.ensures.err c.commit.ensures.survives _ same);
-      free = λ clean. IfOk-from_err result _ is_err;
-      cause = subst (λ (h : Held g.row.S.Denot). HasCleanDisk (state g.S.Store h) → IfErr result (FailsToUpgrade g.S.Store old h c.args.values.now)) same
-          (λ clean.
-          let before = clean_last (state g.S.Store inside) (state g.S.Store new) _ c.commit.ensures.survives clean in
-          if_err_is _ result fault c.from_residual-in_err-commit.ensures.1
-          (commit_failed g.S.Store c.args.values.now old _ c.upgrade_tables.new.tx c.tx-2-1.given.0 c.transaction-tx.ensures.begun left new fault told.works.stays
-          before (worked.free before refl) (c.in_err-commit.ensures.err clean)));
-      left = λ is_open. if_failed result (commit_back g.S.Store old inside new work _ same fault c.commit.ensures.survives within c.in_err-commit.ensures.err is_open);
+      upgrades = end.upgrades;
+      free = end.free;
+      cause = end.cause;
+      left = end.left;
       crash = crash_committing g.S.Store old inside new work _ same _ c.commit.ensures.survives (λ clean. worked.free clean refl);
     }
