@@ -18,7 +18,7 @@ ghost use Rattle.dep_changes.specs.Told.{whole_view};
 use crate::change::{Change, NumberedFiles, touched_object};
 use crate::objects::{files_changed, write_row};
 use dep_decisions::{NewFile, Source};
-use dep_files::{delete_file, delete_files, put_file};
+use dep_objects::{delete_file, delete_files, put_file};
 use dep_fixity::Digests;
 use dep_operations::{UploadState, UploadView, View};
 use dep_staging::assemble;

@@ -4,3 +4,9 @@ pub mod Named
 pub mod Appending
 pub mod Following
 pub mod Places
+pub mod Cuts
+pub mod Written
+pub mod FileCalls
+pub mod Results
+pub mod Storable
+pub mod Causes

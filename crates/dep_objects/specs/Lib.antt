@@ -1,2 +1,4 @@
 pub mod Objects
 pub mod Texts
+pub mod Causes
+pub mod Edits

@@ -13,7 +13,7 @@ use Rattle.dep_types.specs.declared.store_fault.StoreFault.{StoreFault}
 use Rattle.dep_types.specs.declared.store_fault.StoreFault.TheVariants.{Store}
 use Rattle.dep_types.specs.Sound.{IsSound}
 use Rattle.dep_types.specs.State.{State, Upload}
-use Rattle.dep_files.proofs.Cuts.{one_block_more, all_blocks}
+use Rattle.dep_objects.proofs.Cuts.{one_block_more, all_blocks}
 use Rattle.dep_row_maps.specs.Laws.{HasSegmentsWithin}
 use Rattle.dep_row_maps.specs.Stored.{blocks_of}
 use Rattle.dep_row_maps.proofs.Whole.{segments_there}

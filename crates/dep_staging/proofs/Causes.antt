@@ -11,7 +11,7 @@ use Rattle.dep_tables.specs.declared.segments.SegmentRow.{SegmentRow}
 use Rattle.dep_row_maps.specs.Causes.{FailsByStatement}
 use Rattle.dep_row_maps.specs.Causes.FailsByStatement.{state_read, state_written, timed_out_added, upload_added, upload_left, upload_deleted, segments_deleted, block_read, sha512_added, sha512_deleted}
 use Rattle.dep_tables.specs.declared.owner.BlockOwner.TheVariants as owner
-use Rattle.dep_files.proofs.Causes.{deletes_among}
+use Rattle.dep_objects.proofs.Causes.{deletes_among}
 use Rattle.dep_staging.specs.Causes.{FailsToDrop, FailsToOpen, FailsToExpire, FailsToExpireAll, FailsToTick, FailsToHash, FailsToReadBlock}
 use Rattle.dep_staging.specs.Causes.FailsToDrop.{blocks, promise, segments, row}
 use Rattle.dep_staging.specs.Causes.FailsToOpen.{row as columns, promise as promised}

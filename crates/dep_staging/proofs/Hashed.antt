@@ -11,7 +11,7 @@ use Rattle.dep_types.specs.State.{State, Upload}
 use Rattle.dep_tables.specs.declared.segments.SegmentRow.{SegmentRow}
 use Rattle.dep_row_maps.specs.Stored.{segment_row, blocks_of}
 use Rattle.dep_row_maps.proofs.Whole.{segments_there}
-use Rattle.dep_files.proofs.Cuts.{block_count}
+use Rattle.dep_objects.proofs.Cuts.{block_count}
 use Rattle.dep_staging.specs.Causes.{AreStorableKeys, HasStorableSegments}
 use Rattle.dep_staging.specs.Comparing.{stored_bytes}
 use Rattle.dep_staging.specs.Hashing.{IsSegmentOf}

@@ -14,7 +14,7 @@ use Rattle.dep_row_maps.specs.Laws.{without_upload_rows}
 use Rattle.dep_row_maps.specs.TablesAre.{TablesAre, files_at}
 use Rattle.dep_row_maps.proofs.Files.{free_file}
 use Rattle.dep_row_maps.proofs.Whole.{file_assembled}
-use Rattle.dep_files.proofs.FileCalls.{file_is}
+use Rattle.dep_objects.proofs.FileCalls.{file_is}
 use Rattle.dep_staging.specs.Assembling.{HasItsSegments, deposited}
 
 module _ (a b c d e f now : Tables) (upload : UploadRow) (row : FileRow)

@@ -16,7 +16,7 @@ use Rattle.dep_tables.specs.Texts.{delete_segments_text, delete_sha512_text, del
 use Rattle.dep_tables.specs.declared.owner.BlockOwner.TheVariants as owner
 use Rattle.dep_tables.specs.declared.segments.SegmentRow.{SegmentRow}
 use Rattle.dep_row_maps.specs.Stored.{block_key, state_row}
-use Rattle.dep_files.specs.Causes.{FailsToDeleteBlocks}
+use Rattle.dep_objects.specs.Causes.{FailsToDeleteBlocks}
 
 -- the numbers of the uploads are SQL's
 abbrev pub HasStorableNumbers : Numbered Upload → Type 0

@@ -9,7 +9,7 @@ ghost use Rattle.dep_row_maps.specs.Clauses.{ChangesMaps, FromMaps};
 ghost use Rattle.dep_staging.specs.Causes.{FailsToDrop, FailsToOpen};
 ghost use Rattle.dep_staging.specs.Changing.{Opens};
 
-use dep_files::delete_blocks;
+use dep_objects::delete_blocks;
 use dep_tables::{
     BlockOwner, Statements, UploadColumns, delete_segments, delete_sha512, delete_upload,
     insert_sha512, insert_upload,

@@ -28,7 +28,8 @@ use Rattle.dep_schema.specs.Performing.{StepsOver}
 use Rattle.dep_schema.specs.States.{StandsFor}
 use Rattle.dep_schema.specs.Transactions.{Transacts}
 use Rattle.dep_streams.proofs.Streams.{IsSized}
-use Rattle.dep_store.specs.Remembering.{IsOfSize, has_value, is_plain_read}
+use Rattle.dep_requests.specs.Remembering.{has_value, is_plain_read}
+use Rattle.dep_store.specs.Remembering.{IsOfSize}
 
 -- ---- a request that only reads, and tells of no content
 

@@ -12,3 +12,5 @@ pub mod ShutLemmas
 pub mod Tries
 pub mod KnownFiles
 pub mod Copied
+pub mod KeepingLemmas
+pub mod StartingLemmas

@@ -11,3 +11,6 @@ pub mod Reporting
 pub mod Working
 pub mod Copying
 pub mod Tasks
+pub mod HashingStores
+pub mod LogCopies
+pub mod Starting

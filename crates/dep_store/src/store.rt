@@ -28,14 +28,17 @@ ghost use Rattle.dep_store.specs.Staying.{TablesStay, TellsTables, LeavesOnly, H
 use crate::hashing::hash_running;
 use crate::opening::open_tables;
 use crate::reading::{ListFiles, NextObject, ViewObject};
-use crate::remembering::{Remembered, look, still_known, tell_open};
+use crate::remembering::{look, tell_open};
 use crate::sending::stream_known;
-use crate::showing::{file_shown, perform_if_open, recalled, show_service};
+use crate::showing::perform_if_open;
 use crate::tasks::transact;
-use crate::ticking::{MoveClock, clock_still, copy_log};
+use crate::ticking::{MoveClock, copy_log};
 use dep_answers::{Performed, Service, StoredFile};
 use dep_decisions::Operation;
 use dep_moment::Moment;
+use dep_requests::{
+    Remembered, clock_still, file_shown, recalled, show_service, still_known,
+};
 use dep_schema::OpenFault;
 use dep_staging::RunningHashes;
 use dep_streams::{Audit, Watch, audit_files};

@@ -1,10 +1,9 @@
 //! The clock.
 
-ghost use Rattle.std.specs.Prelude.{◌≡◌, ◌≤◌, ℕ, false, Some};
+ghost use Rattle.std.specs.Prelude.{◌≡◌, false};
 ghost use Rattle.sqlite.specs.Held.{state};
 ghost use Rattle.dep_store.specs.Copying.{CopiesLog};
 
-use crate::remembering::Remembered;
 use crate::tasks::{Task, transact};
 use dep_moment::Moment;
 use dep_schema::check_open;
@@ -62,25 +61,4 @@ pub(crate) fn copy_log<S: Alter>(connection: &mut Connection<S>) -> Result<(), S
 {
     check_open(connection)?;
     transact(connection, &WriteClock)
-}
-
-/// The clock that is remembered, where a tick at this moment changes nothing.
-pub(crate) fn clock_still(
-    remembered: &Option<Remembered>,
-    config: &Config,
-    moment: u64,
-) -> Option<u64>
-    ensures { (clock : ℕ) → result ≡ Some clock → (m : Remembered) × (remembered.now ≡ Some m)
-        × (clock ≡ m.clock) × (moment ≤ m.clock) × (config.now.staging_max_idle ≡ m.max_idle) }
-{
-    match remembered {
-        Some(it) => {
-            if it.covers(config, moment) {
-                Some(it.clock)
-            } else {
-                None
-            }
-        }
-        None => None,
-    }
 }

@@ -36,8 +36,8 @@ use Rattle.dep_tables.specs.declared.owner.BlockOwner.{BlockOwner}
 use Rattle.dep_streams.specs.Causes.{FailsToGiveBlocks}
 use Rattle.dep_streams.specs.Causes.FailsToGiveBlocks.{no_owner, not_given}
 use Rattle.dep_streams.proofs.SendingLemmas.{gives_from}
-use Rattle.dep_files.proofs.Cuts.{blocks_join}
-use Rattle.dep_files.proofs.FileCalls.{file_is}
+use Rattle.dep_objects.proofs.Cuts.{blocks_join}
+use Rattle.dep_objects.proofs.FileCalls.{file_is}
 
 -- ---- the blocks of a file, in order, are its content
 

@@ -12,8 +12,7 @@ ghost use Rattle.dep_row_maps.specs.TablesAre.{metadata_at};
 ghost use Rattle.dep_objects.specs.Objects.{HasRow};
 ghost use Rattle.dep_views.specs.Shown.{IsViewOf};
 
-use dep_files::load_files;
-use dep_objects::{describe, find_object};
+use dep_objects::{describe, find_object, load_files};
 use dep_tables::Statements;
 use dep_types::{ObjectRow, ObjectView, StoreFault};
 use std::alloc::Global;

@@ -2,9 +2,8 @@
 
 use crate::calls::answered;
 use crate::files::CountedFiles;
-use dep_archive::HashingStore;
 use dep_schema::OpenFault;
-use dep_store::{Store, Unwatched};
+use dep_store::{HashingStore, Store, Unwatched};
 use example_player::ExampleTables;
 use example_text::{ArchiveCall, Page, Trouble};
 use sqlite::{Alter, Connection, Error, ErrorCode, MemStore};

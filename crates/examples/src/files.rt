@@ -1,8 +1,7 @@
 //! The files of an archive, in memory.
 
 use crate::database::change;
-use dep_archive::HashingStore;
-use dep_store::{Store, Unwatched};
+use dep_store::{HashingStore, Store, Unwatched};
 use example_faults::{Fault, FaultPlay, FaultyFile, FaultyFiles};
 use example_text::Trouble;
 use sqlite::{Alter, Connection, FileStore, Files, Options};

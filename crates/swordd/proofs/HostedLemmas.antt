@@ -13,11 +13,11 @@ use Rattle.dep_schema.specs.States.{StandsFor, IsLeftAs}
 use Rattle.dep_schema.specs.declared.opening.OpenFault.{OpenFault}
 use Rattle.dep_schema.proofs.Transacting.{IsSettled, leaves_as_was}
 use Rattle.dep_store.specs.Migrating.{Keeps}
-use Rattle.dep_archive.specs.Archive.{account_of, condition_of}
-use Rattle.dep_archive.specs.declared.archive.HashingStore.{HashingStore}
-use Rattle.dep_archive.specs.Starting.{OpeningLeaves, outcome_of_start}
-use Rattle.dep_archive.specs.declared.starting.StartFault.{StartFault}
-use Rattle.dep_archive.specs.declared.starting.StartFault.TheVariants as fault
+use Rattle.dep_store.specs.HashingStores.{account_of, condition_of}
+use Rattle.dep_store.specs.declared.archive.HashingStore.{HashingStore}
+use Rattle.dep_store.specs.Starting.{OpeningLeaves, outcome_of_start}
+use Rattle.dep_store.specs.declared.starting.StartFault.{StartFault}
+use Rattle.dep_store.specs.declared.starting.StartFault.TheVariants as fault
 use Rattle.dep_hub.specs.declared.faults.HubFault.{HubFault}
 use Rattle.dep_hub.specs.declared.faults.HubFault.TheVariants as refused_by
 use Rattle.dep_hub.specs.Records.{Record, Run, stops, stopped, first_world}

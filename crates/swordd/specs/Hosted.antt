@@ -9,9 +9,9 @@ use Rattle.dep_types.specs.declared.config.Config.{Config}
 use Rattle.dep_schema.specs.Standing.{HoldsNone}
 use Rattle.dep_schema.specs.States.{StandsFor, IsLeftAs, Leaves}
 use Rattle.dep_store.specs.Migrating.{Keeps}
-use Rattle.dep_archive.specs.Archive.{account_of, condition_of}
-use Rattle.dep_archive.specs.declared.archive.HashingStore.{HashingStore}
-use Rattle.dep_archive.specs.Starting.{OpeningLeaves}
+use Rattle.dep_store.specs.HashingStores.{account_of, condition_of}
+use Rattle.dep_store.specs.declared.archive.HashingStore.{HashingStore}
+use Rattle.dep_store.specs.Starting.{OpeningLeaves}
 use Rattle.dep_hub.specs.Records.{World, Record, Run, first_world, stopped}
 use Rattle.dep_hub.specs.declared.hub.Hub.{Hub}
 use Rattle.dep_host.specs.Hosting.{Deed}

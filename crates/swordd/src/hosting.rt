@@ -5,13 +5,12 @@ ghost use Rattle.dep_sockets.specs.Doors.{doorway};
 ghost use Rattle.swordd.specs.Hosted.{HostsDatabase, host_limits};
 
 use crate::host_log::StandardErrorLog;
-use dep_archive::open_hub;
 use dep_configuration::{Configuration, Limits};
 use dep_host::HostLog;
 use dep_outbox::{Sink, Source, Spool};
 use dep_program::Outcome;
 use dep_sockets::{Door, SocketDoor, Spools, serve_hub};
-use dep_store::{Unwatched, Work, work_on_file};
+use dep_store::{Unwatched, Work, open_hub, work_on_file};
 use dep_types::{Config, Text};
 use sqlite::{Alter, Connection};
 use std::net::SocketAddr;

@@ -5,9 +5,8 @@ ghost use Rattle.sqlite.specs.State.{HasCleanDisk};
 ghost use Rattle.dep_program.specs.Setup.{program_config, base_at};
 ghost use Rattle.swordd.specs.Databases.{ServesDatabase};
 
-use dep_archive::open_hub;
 use dep_program::{Door, Outcome, configuration_at, serve_at};
-use dep_store::Watch;
+use dep_store::{Watch, open_hub};
 use sqlite::{Alter, Connection};
 use std::alloc::Global;
 use std::net::{Net, TcpListener, TcpStream};

@@ -2,7 +2,7 @@ use Rattle.std.proofs.lemmas.Result.{IfOk-from_err}
 use Rattle.dep_tables.proofs.Chains.{clean_before}
 use Rattle.dep_tables.specs.Tables.{tables_of}
 use Rattle.dep_tables.proofs.Results.{ok_then}
-use Rattle.dep_files.specs.Edits.{without_files}
+use Rattle.dep_objects.specs.Edits.{without_files}
 use Rattle.dep_changes.proofs.Steps.{emptied, gone_after}
 use Rattle.dep_row_maps.specs.Causes.{FailsByStatement, FailsHolding}
 use Rattle.dep_row_maps.proofs.Causes.{fails_among, if_err_is}

@@ -3,7 +3,7 @@ use Rattle.dep_tables.specs.Tables.{tables_of}
 use Rattle.dep_row_maps.specs.Causes.{FailsByStatement}
 use Rattle.dep_row_maps.specs.Causes.FailsByStatement.{file_added, segments_deleted, sha512_added, sha512_deleted, upload_deleted}
 use Rattle.dep_row_maps.proofs.Causes.{fails_then, if_err_then}
-use Rattle.dep_files.proofs.Results.{ok_both}
+use Rattle.dep_objects.proofs.Results.{ok_both}
 use Rattle.dep_staging.proofs.Moved.{made, file_was_free}
 use Rattle.dep_row_maps.proofs.Changing.{by_leads, by_sees, changes_then}
 use Rattle.dep_row_maps.proofs.Calling.{changes_failed}

@@ -6,7 +6,7 @@ use Rattle.dep_tables.proofs.Results.{ok_then}
 use Rattle.dep_tables.proofs.Chains.{clean_before, stays_then, stays_ok, still_ours, stays_put}
 use Rattle.dep_row_maps.proofs.Causes.{fails_then, if_err_then}
 use Rattle.dep_row_maps.proofs.Runs.{one_run_moved, all_moved}
-use Rattle.dep_files.proofs.Results.{same_tables}
+use Rattle.dep_objects.proofs.Results.{same_tables}
 use Rattle.dep_tables.specs.declared.owner.BlockOwner.TheVariants as owner
 use Rattle.dep_row_maps.specs.Causes.{FailsByStatement}
 use Rattle.dep_row_maps.specs.Causes.FailsByStatement.{block_found, blocks_moved, run_moved}

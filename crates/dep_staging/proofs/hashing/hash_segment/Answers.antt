@@ -4,8 +4,8 @@ use Rattle.dep_tables.proofs.Chains.{clean_before, may_then, may_err, may_read, 
 use Rattle.dep_tables.specs.Tables.{Tables}
 use Rattle.dep_row_maps.specs.Stored.{blocks_of}
 use Rattle.dep_row_maps.specs.TablesAre.{TablesAre}
-use Rattle.dep_files.proofs.Results.{same_tables}
-use Rattle.dep_files.proofs.Cuts.{one_block_more, all_blocks, few_blocks}
+use Rattle.dep_objects.proofs.Results.{same_tables}
+use Rattle.dep_objects.proofs.Cuts.{one_block_more, all_blocks, few_blocks}
 use Rattle.dep_staging.specs.Causes.{FailsToReadBlock}
 use Rattle.dep_row_maps.proofs.Causes.{fails_then}
 use Rattle.dep_staging.proofs.Hashed.{counted}

@@ -11,7 +11,7 @@ use Rattle.dep_tables.specs.declared.segments.SegmentRow.{SegmentRow}
 use Rattle.dep_row_maps.specs.TablesAre.{TablesAre}
 use Rattle.dep_row_maps.proofs.Causes.{fails_later, if_err_is}
 use Rattle.dep_row_maps.proofs.Pieces.{assembled-joined}
-use Rattle.dep_files.proofs.Results.{same_tables}
+use Rattle.dep_objects.proofs.Results.{same_tables}
 use Rattle.dep_staging.specs.Causes.{FailsToHash, FailsToReadBlock}
 use Rattle.dep_staging.specs.Found.{segment_rows_of}
 use Rattle.dep_staging.specs.HashedAhead.{first_blocks}

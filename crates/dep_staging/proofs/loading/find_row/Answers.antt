@@ -4,7 +4,7 @@ use Rattle.dep_tables.proofs.Chains.{clean_before, reads_ok, reads_then, still_o
 use Rattle.dep_row_maps.specs.Causes.{FailsByStatement}
 use Rattle.dep_row_maps.specs.Causes.FailsByStatement.{sha512_found, upload_found}
 use Rattle.dep_row_maps.proofs.Causes.{fails_first, fails_then, never_failed}
-use Rattle.dep_files.proofs.Results.{same_tables}
+use Rattle.dep_objects.proofs.Results.{same_tables}
 use Rattle.dep_staging.proofs.Loaded.{none_found, row_found}
 use Rattle.dep_row_maps.proofs.Calling.{reads_failed}
 use Rattle.dep_staging.proofs.loading.find_row.Goals as goal

@@ -6,7 +6,7 @@ use Rattle.dep_row_maps.specs.TablesAre.{TablesAre}
 use Rattle.dep_row_maps.specs.Causes.{FailsByStatement}
 use Rattle.dep_row_maps.specs.Causes.FailsByStatement.{segments_read}
 use Rattle.dep_row_maps.proofs.Causes.{fails_then, never_failed}
-use Rattle.dep_files.proofs.Results.{same_tables}
+use Rattle.dep_objects.proofs.Results.{same_tables}
 use Rattle.dep_staging.proofs.Loaded.{found_live}
 use Rattle.dep_row_maps.proofs.Calling.{reads_failed}
 use Rattle.dep_staging.proofs.loading.load_upload.Goals as goal

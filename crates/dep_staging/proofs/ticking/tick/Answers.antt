@@ -5,7 +5,7 @@ use Rattle.dep_tables.specs.declared.state.StateRow.{StateRow}
 use Rattle.dep_row_maps.specs.Stored.{state_row}
 use Rattle.dep_row_maps.specs.TablesAre.{TablesAre}
 use Rattle.dep_row_maps.proofs.Readings.{state_read}
-use Rattle.dep_files.proofs.Results.{same_tables}
+use Rattle.dep_objects.proofs.Results.{same_tables}
 use Rattle.dep_staging.proofs.Expired.{tick_is, ticked_clock, ticked_row, storable_tick, storable_uploads}
 use Rattle.dep_tables.proofs.Chains.{clean_before, stays_then, still_ours}
 use Rattle.dep_tables.specs.Clauses.{FailsToRun}

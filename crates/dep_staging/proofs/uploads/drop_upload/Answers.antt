@@ -2,7 +2,7 @@ use Rattle.dep_tables.specs.Tables.{tables_of}
 use Rattle.dep_tables.proofs.Results.{ok_then}
 use Rattle.dep_tables.proofs.Chains.{clean_before, stays_then}
 use Rattle.dep_tables.specs.declared.owner.BlockOwner.TheVariants as owner
-use Rattle.dep_files.specs.Causes.{FailsToDeleteBlocks}
+use Rattle.dep_objects.specs.Causes.{FailsToDeleteBlocks}
 use Rattle.dep_staging.proofs.UploadCalls.{dropped}
 use Rattle.dep_staging.specs.Causes.{FailsToDrop}
 use Rattle.dep_staging.specs.Causes.FailsToDrop.{blocks, promise, segments, row}

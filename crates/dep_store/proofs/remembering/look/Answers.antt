@@ -5,8 +5,8 @@ use Rattle.sqlite.specs.Held.{state}
 use Rattle.sqlite.proofs.StateLemmas.{clean_if_open}
 use Rattle.dep_tables.proofs.Chains.{was_clean}
 use Rattle.dep_schema.proofs.Transacting.{back_by_rollback, back_then, none_by_rollback, none_then, stood_before, works_within}
-use Rattle.dep_store.specs.declared.remembering.Remembered.{Remembered}
-use Rattle.dep_store.specs.Remembering.{Recalls}
+use Rattle.dep_requests.specs.declared.remembering.Remembered.{Remembered}
+use Rattle.dep_requests.specs.Remembering.{Recalls}
 use Rattle.dep_store.proofs.Carrying.{told_then}
 use Rattle.dep_store.proofs.remembering.look.Goals as goal
 

@@ -4,7 +4,7 @@ use Rattle.sqlite.proofs.StateLemmas.{clean_if_open}
 use Rattle.std.proofs.lemmas.Result.{IfOk-from_err, IfOk-weaker}
 use Rattle.dep_requests.specs.declared.performing.Done.{Done}
 use Rattle.dep_schema.proofs.Transacting.{after_back, fails_back, given_back_then}
-use Rattle.dep_store.specs.Remembering.{is_plain_read}
+use Rattle.dep_requests.specs.Remembering.{is_plain_read}
 use Rattle.dep_store.proofs.KnownFiles.{need_of, none_needed, shows_file, transacts_with}
 use Rattle.dep_store.proofs.ShutLemmas.{fails_still, state_back, was_open_then}
 use Rattle.dep_store.proofs.showing.perform_if_open.Goals as goal

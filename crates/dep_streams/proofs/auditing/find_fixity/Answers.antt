@@ -2,7 +2,7 @@ use Rattle.std.proofs.Common.{None, subst}
 use Rattle.sqlite.specs.Held.{state}
 use Rattle.sqlite.specs.State.{State, IsUnchanged}
 use Rattle.sqlite.proofs.Callers.{unchanged_then}
-use Rattle.dep_files.proofs.Results.{same_tables}
+use Rattle.dep_objects.proofs.Results.{same_tables}
 use Rattle.dep_tables.specs.Tables.{Tables, IsOurs, IsKnown}
 use Rattle.dep_tables.specs.declared.owner.BlockOwner.TheVariants as owner
 use Rattle.dep_streams.specs.Causes.FailsToFindFixity.{no_sha512, no_blocks}

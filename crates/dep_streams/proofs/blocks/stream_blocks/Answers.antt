@@ -15,7 +15,7 @@ use Rattle.dep_streams.proofs.FaultsTold.{none_failed, store_stopped, store_ther
 use Rattle.dep_streams.proofs.OrderedBlocks.{sends_owner, owner_is}
 use Rattle.dep_streams.proofs.Queries.{blocks_read}
 use Rattle.dep_streams.proofs.Stills.{stays_itself}
-use Rattle.dep_files.proofs.Results.{some_where}
+use Rattle.dep_objects.proofs.Results.{some_where}
 use Rattle.dep_streams.proofs.blocks.stream_blocks.Goals as goal
 
 shows : (s : State) → IsOurs s → OnlyShows blocks_of_text s

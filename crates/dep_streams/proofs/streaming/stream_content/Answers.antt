@@ -16,7 +16,7 @@ use Rattle.dep_streams.proofs.OrderedBlocks.{owner_is}
 use Rattle.dep_streams.proofs.Stills.{stays_then, still_left, still_same}
 use Rattle.dep_streams.proofs.FaultsTold.{no_file_failed, asked_failed, none_streamed, told_for, stopped_then}
 use Rattle.dep_streams.proofs.Told.{passed_on}
-use Rattle.dep_files.proofs.Results.{same_tables}
+use Rattle.dep_objects.proofs.Results.{same_tables}
 use Rattle.dep_streams.proofs.Streams.{SizeTold, size_told, streamed, blocks_from}
 use Rattle.dep_tables.proofs.Chains.{still_ours}
 use Rattle.dep_streams.proofs.streaming.stream_content.Goals as goal

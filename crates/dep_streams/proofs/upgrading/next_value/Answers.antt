@@ -1,7 +1,7 @@
 use Rattle.std.proofs.Common.{None, refl, subst}
 use Rattle.sqlite.specs.Held.{state}
 use Rattle.sqlite.proofs.Callers.{unchanged_then}
-use Rattle.dep_files.proofs.Results.{same_tables}
+use Rattle.dep_objects.proofs.Results.{same_tables}
 use Rattle.dep_tables.specs.Tables.{Tables, tables_of}
 use Rattle.dep_tables.specs.declared.owner.BlockOwner.TheVariants as owner
 use Rattle.dep_streams.specs.Causes.FailsToHashNext.{no_file, no_blocks}

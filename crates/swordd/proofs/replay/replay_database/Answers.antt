@@ -1,8 +1,8 @@
 use Rattle.std.proofs.Common.{◌≡◌, ◌∙◌, ap, refl, sym, subst, of_calls}
 use Rattle.sqlite.specs.Held.{Held, state}
 use Rattle.sqlite.specs.State.{HasCleanDisk}
-use Rattle.dep_archive.specs.Archive.{condition_of}
-use Rattle.dep_archive.specs.declared.archive.HashingStore.{HashingStore}
+use Rattle.dep_store.specs.HashingStores.{condition_of}
+use Rattle.dep_store.specs.declared.archive.HashingStore.{HashingStore}
 use Rattle.dep_hub.specs.Conversation.{wire, session}
 use Rattle.dep_hub.specs.Standing.{IsHonest}
 use Rattle.swordd.specs.Replays.{Replays}

@@ -1,7 +1,7 @@
 use Rattle.std.proofs.Common.{◌≡◌, ℕ, ◌∙◌, ap, sym, subst, rules, arith}
 use Rattle.sqlite.specs.Held.{state}
 use Rattle.sqlite.proofs.StateLemmas.{clean_if_open}
-use Rattle.dep_archive.specs.declared.archive.HashingStore.{HashingStore}
+use Rattle.dep_store.specs.declared.archive.HashingStore.{HashingStore}
 use Rattle.dep_types.specs.declared.config.Config.{Config}
 use Rattle.dep_program.specs.Setup.{program_config, base_at}
 use Rattle.dep_program.specs.declared.outcome.Outcome.{Outcome}

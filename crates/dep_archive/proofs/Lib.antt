@@ -1,2 +1,0 @@
-pub mod StartingLemmas
-pub mod KeepingLemmas

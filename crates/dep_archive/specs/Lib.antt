@@ -1,3 +1,0 @@
-pub mod Archive
-pub mod Starting
-pub mod LogCopies

@@ -1,6 +1,0 @@
-pub mod Cuts
-pub mod Written
-pub mod FileCalls
-pub mod Results
-pub mod Storable
-pub mod Causes

@@ -1,0 +1,108 @@
+//! What may be remembered of the archive between requests, so that one for the service document asks no tables.
+
+ghost use Rattle.std.specs.Prelude.{◌≡◌, ◌≤◌, ℕ, Some, None, if◌then◌else◌, IsTrue, IfOk, ◌↔◌};
+ghost use Rattle.dep_types.specs.State.{State};
+ghost use Rattle.dep_types.specs.Sound.{IsSound};
+ghost use Rattle.dep_tables.specs.Clauses.{StaysWithin};
+ghost use Rattle.dep_row_maps.specs.Clauses.{FromMaps};
+ghost use Rattle.dep_requests.specs.Remembering.{Recalls, Covers, ReadsService};
+
+use crate::showing::reads_service;
+use dep_decisions::Operation;
+use dep_objects::counters;
+use dep_tables::{Statements, left_before};
+use dep_types::{Config, Counters, StoreFault};
+
+/// The clock and the counters, at which no upload is idle.
+#[derive(Clone, Copy)]
+pub struct Remembered {
+    pub clock: u64,
+    pub next: Counters,
+    /// The greatest idle time that was looked at.
+    pub max_idle: u64,
+}
+
+impl Remembered {
+    /// Whether a tick at this moment changes nothing.
+    pub fn covers(&self, config: &Config, moment: u64) -> bool
+        ensures { IsTrue result
+            ↔ ((moment ≤ self.now.clock) × (config.now.staging_max_idle ≡ self.now.max_idle)) }
+    {
+        moment <= self.clock && config.staging_max_idle == self.max_idle
+    }
+}
+
+/// What is remembered still behind a request: all of it, unless something was changed.
+pub fn still_known(remembered: Option<Remembered>, has_changes: bool) -> Option<Remembered>
+    ensures { result ≡ (if has_changes then None else remembered) }
+{
+    if has_changes { None } else { remembered }
+}
+
+/// What may be remembered, where a tick at this moment changes nothing.
+pub fn read_still<T: Statements>(
+    tx: &mut T,
+    config: &Config,
+    moment: u64,
+) -> Result<Option<Remembered>, StoreFault>
+    ensures map { FromMaps (T.state tx.old) (T.state tx.new)
+        (λ s. IsSound s → IfOk result (λ found. (m : Remembered) → found ≡ Some m → Recalls m s)) }
+    ensures covers { IfOk result (Covers config.now moment) }
+    ensures stays { StaysWithin T.lenders T.state tx.old tx.new result }
+{
+    let row = counters(tx)?;
+    if row.clock < moment {
+        return Ok(None);
+    }
+    let oldest = row.clock.saturating_sub(config.staging_max_idle);
+    let left = left_before(tx, oldest)?;
+    if left.is_some() {
+        return Ok(None);
+    }
+    Ok(Some(Remembered {
+        clock: row.clock,
+        next: row.next,
+        max_idle: config.staging_max_idle,
+    }))
+}
+
+/// The clock that is remembered, where a tick at this moment changes nothing.
+pub fn clock_still(
+    remembered: &Option<Remembered>,
+    config: &Config,
+    moment: u64,
+) -> Option<u64>
+    ensures { (clock : ℕ) → result ≡ Some clock → (m : Remembered) × (remembered.now ≡ Some m)
+        × (clock ≡ m.clock) × (moment ≤ m.clock) × (config.now.staging_max_idle ≡ m.max_idle) }
+{
+    match remembered {
+        Some(it) => {
+            if it.covers(config, moment) {
+                Some(it.clock)
+            } else {
+                None
+            }
+        }
+        None => None,
+    }
+}
+
+/// What is remembered, where the request reads the service document.
+pub fn recalled(
+    remembered: &Option<Remembered>,
+    operation: &Operation<'_>,
+) -> Option<Remembered>
+    ensures { (m : Remembered) → result ≡ Some m
+        → (remembered.now ≡ Some m) × ReadsService operation.now }
+{
+    match remembered {
+        Some(it) => {
+            if reads_service(operation) {
+                Some(*it)
+            } else {
+                None
+            }
+        }
+        None => None,
+    }
+}

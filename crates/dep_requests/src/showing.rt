@@ -1,0 +1,118 @@
+//! Requests that are answered by what is remembered, and what the reply to one that only reads lets be remembered.
+
+ghost use Rattle.std.specs.Prelude.{◌≡◌, false, if◌then◌else◌, Some, IsTrue, IfOk};
+ghost use Rattle.dep_types.specs.State.{State};
+ghost use Rattle.dep_types.specs.Sound.{IsSound};
+ghost use Rattle.dep_fields.specs.Fit.{AreFit};
+ghost use Rattle.dep_operations.specs.Rulings.{IsRuling};
+ghost use Rattle.dep_requests.specs.Remembering.{Recalls, ReadsService, service_view, IsShown, is_plain_read};
+
+use crate::performing::{Done, accept, delivery_at, refuse};
+use crate::remembering::Remembered;
+use dep_answers::{Performed, Service, Shown, StoredFile};
+use dep_decisions::Operation;
+use dep_fields::Field;
+use dep_operations::{Ruling, UploadViews, View, decide};
+use dep_staging::RunningHashes;
+use dep_types::{Method, Resource, StoreFault};
+use std::alloc::Global;
+
+/// Whether the request reads the service document.
+pub(crate) fn reads_service(operation: &Operation<'_>) -> bool
+    ensures { IsTrue result → ReadsService operation.now }
+{
+    matches!(operation.target.resource, Resource::Service)
+        && matches!(operation.target.method, Method::Get | Method::Head)
+}
+
+/// What such a request touches of the archive: the clock and the counters.
+fn view_service(alloc: Global, remembered: &Remembered) -> View
+    ensures { result ≡ service_view remembered.now.clock remembered.now.next }
+{
+    View {
+        clock: remembered.clock,
+        next: remembered.next,
+        object: None,
+        file: None,
+        has_path: false,
+        uploads: UploadViews::from_vec(Vec::new(alloc)),
+        repeats: None,
+        references: None,
+    }
+}
+
+/// Spells the reply to such a request.
+fn reply_service(
+    alloc: Global,
+    service: &Service,
+    operation: &Operation<'_>,
+    remembered: &Remembered,
+    ruling: &Ruling,
+) -> Result<Performed, StoreFault>
+    requires { ReadsService operation.now }
+    ensures { AreFit operation.now.fields → (s : State) → IsSound s → Recalls remembered.now s
+        → IsRuling service.now s operation.now ruling.now
+        → IfOk result (IsShown service.now operation.now s) }
+{
+    let delivery = delivery_at(remembered.clock, operation);
+    match ruling {
+        Ruling::Refuse(refusal) => refuse(alloc, *refusal, delivery),
+        Ruling::Do(_) => accept(alloc, service, operation, &Shown::Nothing, delivery),
+    }
+}
+
+/// Returns the reply to a request that reads the service document.
+pub fn show_service(
+    alloc: Global,
+    service: &Service,
+    operation: &Operation<'_>,
+    remembered: &Remembered,
+) -> Result<Performed, StoreFault>
+    requires { ReadsService operation.now }
+    ensures { AreFit operation.now.fields → (s : State) → IsSound s → Recalls remembered.now s
+        → IfOk result (IsShown service.now operation.now s) }
+{
+    let view = view_service(alloc, remembered);
+    let decided = decide(alloc, service.config(), &view, operation);
+    drop(view);
+    let ruling = decided?;
+    let performed = reply_service(alloc, service, operation, remembered, &ruling);
+    drop(ruling);
+    performed
+}
+
+/// Whether the request only reads, and its head speaks of no content that would be kept.
+fn is_plain_read(operation: &Operation<'_>) -> bool
+    ensures { result ≡ is_plain_read operation.now }
+{
+    matches!(operation.target.method, Method::Get | Method::Head)
+        && matches!(operation.fields.disposition, Field::Absent | Field::Bad)
+        && matches!(operation.fields.content_type, Field::Absent | Field::Bad)
+}
+
+/// The file whose content the reply has, where the request only reads.
+pub fn file_shown(operation: &Operation<'_>, done: &Done) -> Option<StoredFile>
+    ensures { (it : StoredFile) → result ≡ Some it → IsTrue (is_plain_read operation.now)
+        × (done.now.has_changes ≡ false) × (done.now.performed.stored ≡ Some it) }
+{
+    if !done.has_changes && is_plain_read(operation) {
+        done.performed.stored
+    } else {
+        None
+    }
+}
+
+/// How far uploads were hashed, for a request that may need it.
+pub fn hashes_for<'a>(
+    running: &'a RunningHashes,
+    none: &'a RunningHashes,
+    operation: &Operation<'_>,
+) -> &'a RunningHashes
+    ensures { result.now ≡ (if is_plain_read operation.now then none.now else running.now) }
+{
+    if is_plain_read(operation) {
+        none
+    } else {
+        running
+    }
+}

@@ -1,0 +1,131 @@
+-- What was hashed of uploads is what was received of them, as the state goes on.
+use Rattle.std.proofs.Common.{◌≢◌, inl, inr, Result, Ok, Err, IsErr, IfOk, OnErr, IsTrue, arith, get_or, refl, sym, subst}
+use Rattle.std.proofs.lemmas.Result.{IfOk-weaker, on_err_weaker}
+use Rattle.sqlite.specs.State as db
+use Rattle.sqlite.specs.declared.error.ErrorCode.TheVariants as code
+use Rattle.sqlite.specs.declared.error.Error.{Error}
+use Rattle.sqlite.specs.declared.error.Error.TheVariants.{SqliteFailure}
+use Rattle.sqlite_trees.specs.declared.error.StoreError.{StoreError}
+use Rattle.sqlite_trees.specs.declared.error.StoreError.TheVariants.{OutOfMemory, Io, Corrupt, Full, Broken, Unstorable}
+use Rattle.dep_types.specs.declared.store_fault.StoreFault.{StoreFault}
+use Rattle.dep_tables.specs.Faults.{fault_for}
+use Rattle.dep_hub.specs.Errands.{FailsToTell}
+use Rattle.dep_types.specs.State.{State}
+use Rattle.dep_decisions.specs.Laws.{KeepsSegments}
+use Rattle.dep_staging.specs.HashedAhead.{AreRunning, IsRunning}
+use Rattle.dep_staging.specs.declared.running.RunningHash.{RunningHash}
+use Rattle.dep_staging.specs.declared.running.RunningHashes.{RunningHashes}
+use Rattle.dep_staging.proofs.AheadLemmas.{still_hashed}
+use Rattle.dep_schema.specs.States.{StandsFor}
+use Rattle.dep_types.specs.Conditions.{Condition, StandsFor as StandsAs, HasCleanDisk}
+use Rattle.dep_hub.specs.Archives.{TriesTo, KeepsState, KeepsAll, KeepsEachState, FailsIfShut}
+use Rattle.dep_hub.proofs.Leaving.{Settles, leaves_before, leaves_once}
+use Rattle.dep_store.specs.Archive as store
+use Rattle.dep_store.specs.Shut as db_shut
+use Rattle.dep_store.specs.HashingStores.{Keeps, shown_by, told_by}
+
+-- what was hashed of one upload
+still_running : (s t : State) (run : RunningHash) → KeepsSegments s t → IsRunning s run → IsRunning t run
+still_running s t run keeps (inl fresh) = inl fresh
+still_running s t run keeps (inr begun) = inr (record {
+  given = omega (arith, begun.given, keeps.next);
+  hashed = λ after there.
+      let before = keeps.segments run.upload after there begun.given in
+      still_hashed before.0.segments after.segments run before.2 (begun.hashed before.0 before.1);
+})
+
+pub are_running_still : (s t : State) (runs : RunningHashes) → KeepsSegments s t → AreRunning s runs → AreRunning t runs
+are_running_still s t runs keeps are k d within = still_running s t (get_or runs.uploads.items k d) keeps (are k d within)
+
+-- ---- what a call leaves, as what was hashed is what was received
+
+module _ (d d' : db.State) (runs runs' : RunningHashes) where
+  -- a call of the store, from each state for which that holds
+  pub tries_hashed : {A E : Type 0} (holds given : State → Type 0) (told : State → A → Type 0) (next : State → State) (r : Result A E)
+      → ((s : State) → given s → AreRunning s runs → holds s) → ((s : State) → AreRunning s runs → AreRunning s runs') → ((s : State) → AreRunning s runs → AreRunning (next s) runs')
+      → TriesTo (store.shown_by d) (store.shown_by d') holds told next r → TriesTo (shown_by d runs) (shown_by d' runs') given told next r
+  tries_hashed {A} {E} holds given told next r knows stay go it = record {
+    ok = λ clean s keeps its. IfOk-weaker r (λ answer. told s answer × StandsFor d' (next s)) (λ answer. told s answer × Keeps d' runs' (next s))
+        (λ answer h. (h.0, record { stands = h.1; hashed = go s keeps.hashed })) (it.ok clean s keeps.stands (knows s its keeps.hashed));
+    err = λ is_open s keeps. on_err_weaker r (λ (stands : StandsFor d' s). record { stands = stands; hashed = stay s keeps.hashed }) (it.err is_open s keeps.stands);
+    honest = it.honest;
+    was_open = it.was_open;
+    stop = λ clean s keeps its. it.stop clean s keeps.stands (knows s its keeps.hashed);
+  }
+
+  -- a call that asks for nothing that the store keeps
+  pub keeps_hashed : (IsTrue d'.is_open → (s : State) → StandsFor d s → AreRunning s runs → AreRunning s runs') → KeepsAll (store.shown_by d) (store.shown_by d')
+      → KeepsAll (shown_by d runs) (shown_by d' runs')
+  keeps_hashed hashed it = record {
+    kept = λ is_open s keeps. record { stands = it.kept is_open s keeps.stands; hashed = hashed is_open s keeps.stands keeps.hashed };
+    honest = it.honest;
+    was_open = it.was_open;
+    left = it.left;
+  }
+
+  pub shut_hashed : {A E : Type 0} (r : Result A E) → db_shut.FailsIfShut d d' r → FailsIfShut (shown_by d runs) (shown_by d' runs') r
+  shut_hashed r it = record { opened = it.opened; left = λ clean shut image h. (image, it.left clean shut image h, λ s. (λ x. x, λ x. x)) }
+
+-- it failed as another call did
+pub tries_failed : {A E F : Type 0} (old new : Condition) (holds : State → Type 0) (told : State → A → Type 0) (next : State → State) (fault : F) (r : Result A E) → IsErr r
+    → TriesTo old new holds told next (Err fault) → TriesTo old new holds told next r
+tries_failed old new holds told next fault (Ok answer) failed it = cc failed
+tries_failed old new holds told next fault (Err e) failed it =
+    record { ok = λ clean s at its. tt; err = it.err; honest = it.honest; was_open = it.was_open; stop = it.stop }
+
+pub fails_failed : {A E F : Type 0} (old new : Condition) (fault : F) (r : Result A E) → IsErr r → FailsIfShut {A = A} old new (Err fault) → FailsIfShut old new r
+fails_failed old new fault (Ok answer) failed it = cc failed
+fails_failed old new fault (Err e) failed it = record { opened = λ clean. tt; left = it.left }
+
+-- ---- what work ahead keeps
+
+-- a call that asks for nothing that is kept
+pub keeps_each : (old new : Condition) → Settles old → KeepsAll old new → KeepsEachState old new
+keeps_each old new settles it = record {
+  kept = it.kept;
+  honest = it.honest;
+  was_open = it.was_open;
+  stop = λ clean s at. leaves_before old new _ (it.left clean) (settles s at);
+  left = λ clean shut. it.left clean;
+}
+
+-- where nothing was asked
+pub keeps_itself : (c : Condition) → Settles c → KeepsEachState c c
+keeps_itself c settles = keeps_each c c settles (record {
+  kept = λ is_open s at. at;
+  honest = λ clean. clean;
+  was_open = λ is_open. is_open;
+  left = λ clean image h. (image, h, λ s. (λ x. x, λ x. x));
+})
+
+-- and one that keeps the state, whatever it returns
+pub keeps_either : {A E : Type 0} (old new : Condition) (r : Result A E) → (IsTrue new.is_open → HasCleanDisk new) → KeepsState old new r → FailsIfShut old new r → KeepsEachState old new
+keeps_either {A} {E} old new r clean it shut = record {
+  kept = λ is_open s at. each r s (it.ok (clean is_open) s at tt) (it.err is_open s at);
+  honest = it.honest;
+  was_open = it.was_open;
+  stop = λ disk s at. leaves_once new s (it.stop disk s at tt);
+  left = shut.left;
+}
+  where
+    each : (r : Result A E) (s : State) → IfOk r (λ answer. Unit {0} × StandsAs new s) → OnErr r (StandsAs new s) → StandsAs new s
+    each (Ok answer) s h none = h.1
+    each (Err e) s none h = h
+
+-- ---- why it isn't told whether it is open
+
+by_cause : (old new : db.State) (cause : StoreError) → db.HasCause old new ⊥ cause → db.store_error cause ≢ SqliteFailure code.Closed
+    → FailsToTell (told_by old) (told_by new) (fault_for (db.store_error cause))
+by_cause old new OutOfMemory has other = tt
+by_cause old new Io has other = inr has
+by_cause old new Corrupt has other = inr has
+by_cause old new Full has other = inr has
+by_cause old new Broken has other = absurd (other refl)
+by_cause old new Unstorable has other = absurd has
+
+-- as its database fails to tell it
+pub fails_to_tell : (old new : db.State) (fault : StoreFault) → db_shut.FailsToTell old new fault → FailsToTell (told_by old) (told_by new) fault
+fails_to_tell old new fault (inl (busy, same)) = subst (λ (f : StoreFault). FailsToTell (told_by old) (told_by new) f) (sym same) (inl busy)
+fails_to_tell old new fault (inr (e, (cause, is, has, rolled, told), other, same)) =
+    subst (λ (f : StoreFault). FailsToTell (told_by old) (told_by new) f) (sym same)
+    (subst (λ (x : Error). x ≢ SqliteFailure code.Closed → FailsToTell (told_by old) (told_by new) (fault_for x)) (sym is) (by_cause old new cause has) other)

@@ -1,0 +1,47 @@
+-- How a store that hashes segments ahead stands, as those who serve it see it.
+use Rattle.std.specs.Prelude.{◌≡◌, None}
+use Rattle.sqlite.specs.State as db
+use Rattle.sqlite.specs.Held.{state}
+use Rattle.sqlite.specs.Tree.{Trees}
+use Rattle.sqlite_trees.specs.declared.store.Store.{Ghosts}
+use Rattle.dep_types.specs.Conditions.{Condition}
+use Rattle.dep_types.specs.State.{State}
+use Rattle.dep_staging.specs.HashedAhead.{AreRunning}
+use Rattle.dep_staging.specs.declared.running.RunningHashes.{RunningHashes}
+use Rattle.dep_schema.specs.States.{StandsFor, IsLeftAs}
+use Rattle.dep_hub.specs.Errands.{Account}
+use Rattle.dep_store.specs.declared.archive.HashingStore.{HashingStore}
+
+-- the database stands for the state, and what was hashed is what was received there
+pub record Keeps (d : db.State) (running : RunningHashes) (s : State) : Type 0 where
+  pub stands : StandsFor d s
+  pub hashed : AreRunning s running
+
+-- what its database shows, beside what was hashed
+abbrev pub shown_by : db.State → RunningHashes → Condition
+shown_by d running = record {
+  is_open = d.is_open;
+  is_honest = db.HasCleanDisk d;
+  keeps = Keeps d running;
+  Image = Trees;
+  may_leave = d.may_leave;
+  is_left_as = IsLeftAs;
+  open_if_kept = λ s keeps. keeps.stands.stands.is_open;
+  sound_if_kept = λ s keeps. keeps.stands.means.sound;
+}
+
+-- how the store stands, with what was hashed
+abbrev pub condition_of : {S : Type 0} → (g : Ghosts S) → HashingStore S → Condition
+condition_of g archive = shown_by (state g archive.store) archive.running
+
+-- what was hashed is what was received, as it was before, and the store stays
+pub record NotesUpload {S : Type 0} (old new : HashingStore S) : Type 0 where
+  pub running : (s : State) → AreRunning s old.running → AreRunning s new.running
+  pub store : new.store ≡ old.store
+
+-- what its database says of its answers: it shows nothing of what it is asked for
+abbrev pub told_by : db.State → Account
+told_by d = record { errands = None; is_busy = d.in_transaction; faults = d.faults }
+
+abbrev pub account_of : {S : Type 0} → (g : Ghosts S) → HashingStore S → Account
+account_of g archive = told_by (state g archive.store)

@@ -1,0 +1,129 @@
+//! A store as an archive, which hashes the segments of uploads before a deposit names them, and has a long log copied
+//! before the next commit.
+
+ghost use Rattle.std.specs.Prelude.{◌≡◌};
+ghost use Rattle.sqlite.proofs.StateLemmas.{clean_if_open};
+ghost use Rattle.dep_types.specs.State.{State};
+ghost use Rattle.dep_staging.specs.HashedAhead.{AreRunning};
+ghost use Rattle.dep_schema.proofs.Transacting.{leaves_as_was};
+ghost use Rattle.dep_store.specs.HashingStores.{NotesUpload, account_of, condition_of};
+
+use crate::log_copy::LogCopy;
+use crate::store::Store;
+use dep_answers::{Performed, Service};
+use dep_decisions::Operation;
+use dep_hub::Archive;
+use dep_moment::Moment;
+use dep_staging::RunningHashes;
+use dep_types::{Config, Method, Outlet, Resource, StoreFault, StreamFault};
+use sqlite::Alter;
+use std::alloc::Global;
+
+/// An upload is hashed ahead once a segment of so many octets has come: the digests of smaller ones take little, and
+/// to read each for itself takes more.
+const LEAST_SEGMENT: usize = 4_096;
+
+/// A store, with how far the uploads were hashed to which segments came last.
+#[derive(Drop)]
+pub struct HashingStore<S: Alter> {
+    store: Store<S>,
+    running: RunningHashes,
+    /// Whether a block may be left that can be hashed.
+    is_due: bool,
+    log_copy: LogCopy,
+}
+
+impl<S: Alter> HashingStore<S> {
+    /// A store of whose uploads nothing is hashed yet.
+    pub fn new(alloc: Global, store: Store<S>) -> HashingStore<S>
+        ensures store { result.store ≡ store }
+        ensures running { (s : State) → AreRunning s result.running }
+    {
+        HashingStore {
+            store,
+            running: RunningHashes::new(alloc),
+            is_due: false,
+            log_copy: LogCopy::NotDue,
+        }
+    }
+
+    /// The store, for calls that no request makes, as an audit.
+    pub fn store_mut(&mut self) -> &mut Store<S> {
+        &mut self.store
+    }
+
+    /// Hands back the store.
+    pub fn into_store(self) -> Store<S>
+        ensures { result ≡ self.store }
+    {
+        self.store
+    }
+
+    /// Notes the upload to which the request sent a segment, if it sent one that is large enough.
+    fn note(&mut self, operation: &Operation<'_>)
+        ensures { NotesUpload self.old self.new }
+    {
+        if operation.content.as_slice().len() < LEAST_SEGMENT {
+            return;
+        }
+        if let (Method::Post, Resource::Upload(upload)) = (
+            operation.target.method,
+            &operation.target.resource,
+        ) {
+            self.running.note(*upload);
+            self.is_due = true;
+        }
+    }
+}
+
+impl<S: Alter> Archive for HashingStore<S> {
+    ghost condition = { condition_of S.Store };
+
+    ghost account = { account_of S.Store };
+
+    fn tick(&mut self, config: &Config, moment: Moment) -> Result<Moment, StoreFault> {
+        self.store.tick(config, moment)
+    }
+
+    fn perform(
+        &mut self,
+        service: &Service,
+        operation: &Operation<'_>,
+    ) -> Result<Performed, StoreFault> {
+        let performed = self.store.perform(&self.running, service, operation)?;
+        self.note(operation);
+        self.log_copy.note(operation, &performed);
+        Ok(performed)
+    }
+
+    fn stream<O: Outlet>(&mut self, file: u64, out: &mut O) -> Result<(), StreamFault> {
+        self.store.stream(file, out)
+    }
+
+    fn is_open(&mut self) -> Result<bool, StoreFault> {
+        self.store.is_open()
+    }
+
+    fn work_ahead(&mut self) -> bool {
+        if self.log_copy.count() {
+            // Where it fails, the next commit has the log copied.
+            let _copied = self.store.copy_log();
+            return self.is_due;
+        }
+        // Who waited through the request is answered first.
+        let waits = self.log_copy.is_left();
+        if waits | !self.is_due {
+            return waits;
+        }
+        self.is_due = matches!(self.store.hash_ahead(&mut self.running), Ok(true));
+        self.is_due
+    }
+
+    ghost honest_if_open = { λ archive is_open.
+        clean_if_open (S.Store.view archive.store.store)
+        (S.Store.shut_if_dirty archive.store.store) is_open };
+
+    ghost settled = { λ archive s keeps. leaves_as_was _ s
+        (λ trees h. S.Store.settled archive.store.store trees keeps.stands.stands.is_open h)
+        keeps.stands };
+}

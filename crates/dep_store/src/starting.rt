@@ -1,0 +1,110 @@
+//! A hub over a database, also over what a stop left.
+ghost use Rattle.std.specs.Prelude.{◌≡◌, [], false, IfOk, IfErr, IsTrue, MatchResult};
+ghost use Rattle.sqlite.specs.Held.{state};
+ghost use Rattle.sqlite.specs.State.{HasCleanDisk};
+ghost use Rattle.dep_types.specs.State.{empty_state};
+ghost use Rattle.dep_types.specs.Config.{IsChecked};
+ghost use Rattle.dep_schema.specs.Standing.{HoldsNone, IsOpenable};
+ghost use Rattle.dep_store.specs.Migrating.{Keeps};
+ghost use Rattle.dep_store.specs.Starting.{GoesOnFromStop, IsStore, OpeningLeaves, outcome_of_start};
+ghost use Rattle.dep_hub.specs.Standing.{StandsAfter, IsClean, IsHonest};
+ghost use Rattle.dep_store.specs.HashingStores.{condition_of};
+
+use crate::archive::HashingStore;
+use crate::store::Store;
+use dep_hub::{Hub, HubFault};
+use dep_program::Outcome;
+use dep_schema::OpenFault;
+use dep_streams::Watch;
+use dep_types::Config;
+use sqlite::{Alter, Connection};
+use std::alloc::Global;
+use std::error::Error;
+use std::fmt;
+
+/// Why no hub was made over a database.
+#[derive(Clone, Copy, Debug, PartialEq, Eq)]
+pub enum StartFault {
+    /// The database was not opened as a store.
+    Open(OpenFault),
+    /// The hub was refused.
+    Hub(HubFault),
+}
+
+impl fmt::Display for StartFault {
+    fn fmt<W: fmt::Write>(&self, f: &mut fmt::Formatter<W>) -> fmt::Result {
+        match self {
+            StartFault::Open(fault) => write!(f, "the database was not opened: {fault}"),
+            StartFault::Hub(fault) => write!(f, "the server was refused: {fault}"),
+        }
+    }
+}
+
+impl Error for StartFault {}
+
+impl StartFault {
+    /// How a run of a program ends that needs the hub.
+    pub fn outcome(self) -> Outcome
+        ensures { result ≡ outcome_of_start self }
+    {
+        match self {
+            StartFault::Hub(HubFault::Config) => Outcome::Usage,
+            StartFault::Hub(HubFault::Memory) | StartFault::Open(_) => Outcome::StoreFault,
+        }
+    }
+}
+
+/// Opens the database as a store, and makes a hub over it, without connections. A refusal hands
+/// the connection back. The watch is told of what is read where version 1 becomes version 2.
+pub fn open_hub<S: Alter, W: Watch>(
+    alloc: Global,
+    config: Config,
+    connection: Connection<S>,
+    watch: &mut W,
+) -> Result<Hub<HashingStore<S>>, (StartFault, Connection<S>)>
+    requires settled { (state S.Store connection).in_transaction ≡ false }
+    ensures fresh { IfOk result (λ hub. IsHonest (condition_of S.Store) hub
+        → HoldsNone (state S.Store connection).now.trees
+        → StandsAfter (condition_of S.Store) hub empty_state []) }
+    // Over what a stop left it goes on from the records before it, for each state that the stop
+    // may have left.
+    ensures again { IfOk result (GoesOnFromStop S.Store config (state S.Store connection)) }
+    ensures config { IfOk result (λ hub. hub.config ≡ config) }
+    ensures checked { IfOk result (λ _. IsChecked config) }
+    ensures next { IfOk result (λ hub. hub.next ≡ 0) }
+    // A database that is not opened is handed back as it was, in the version that it had, unless version 1 is shown of other
+    // tables than ours.
+    ensures left { IfErr result (λ e. (fault : OpenFault) → e.0 ≡ StartFault.Open fault
+        → IsTrue (state S.Store e.1).is_open
+        → Keeps (state S.Store connection) (state S.Store e.1)) }
+    // What a store left is opened, and never refused as of a version that is not known.
+    ensures known { IfErr result (λ e. HasCleanDisk (state S.Store e.1)
+        → e.0 ≡ StartFault.Open OpenFault.UnknownVersion → IsOpenable (state S.Store connection)
+        → ⊥) }
+    // One that is opened for a hub which is refused is handed back as a store.
+    ensures kept { IfErr result (λ e. (fault : HubFault) → e.0 ≡ StartFault.Hub fault
+        → IsStore (state S.Store connection) (state S.Store e.1)) }
+    ensures refused { IfErr result (λ e. e.0 ≡ StartFault.Hub HubFault.Config
+        → ¬ IsChecked config) }
+    ensures honest { MatchResult result
+        (λ hub. IsHonest (condition_of S.Store) hub → HasCleanDisk (state S.Store connection))
+        (λ e. HasCleanDisk (state S.Store e.1) → HasCleanDisk (state S.Store connection)) }
+    ensures clean { MatchResult result
+        (λ hub. IsClean (condition_of S.Store) hub → IsTrue (state S.Store connection).is_open)
+        (λ e. IsTrue (state S.Store e.1).is_open → IsTrue (state S.Store connection).is_open) }
+    // What a stop now leaves, whether a hub was made or not.
+    ensures stop { MatchResult result
+        (λ hub. OpeningLeaves config (state S.Store connection) (state S.Store hub.store.store))
+        (λ e. OpeningLeaves config (state S.Store connection) (state S.Store e.1)) }
+{
+    match Store::open(alloc, connection, watch) {
+        Ok(store) => match Hub::new(alloc, config, HashingStore::new(alloc, store)) {
+            Ok(hub) => Ok(hub),
+            Err((fault, archive)) => Err((StartFault::Hub(fault), archive.into_store().close())),
+        },
+        Err((fault, connection)) => {
+            drop(config);
+            Err((StartFault::Open(fault), connection))
+        }
+    }
+}
