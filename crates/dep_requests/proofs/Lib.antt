@@ -1,3 +1,3 @@
 pub mod Stepping
 pub mod Known
-pub mod Remembered
+pub mod Recalling

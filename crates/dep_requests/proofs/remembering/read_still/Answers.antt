@@ -5,7 +5,7 @@ use Rattle.dep_tables.specs.Edits.{IsLeftBefore}
 use Rattle.dep_row_maps.specs.TablesAre.{TablesAre}
 use Rattle.std.proofs.lemmas.Result.{IfOk-from_err}
 use Rattle.dep_tables.proofs.Chains.{clean_before, stays_then, stays_ok, stays_err}
-use Rattle.dep_requests.proofs.Remembered.{none_is, none_was_left, read_recalled}
+use Rattle.dep_requests.proofs.Recalling.{none_is, none_was_left, read_recalled}
 use Rattle.dep_requests.proofs.remembering.read_still.Goals as goal
 
 pub returns-clause-map : goal.returns-clause-map

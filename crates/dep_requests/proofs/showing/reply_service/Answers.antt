@@ -5,7 +5,7 @@ use Rattle.dep_operations.specs.declared.ruling.Ruling.{Ruling}
 use Rattle.dep_answers.specs.Subjects.{shown_at, subject_of}
 use Rattle.dep_decisions.proofs.ReadAlone.{reads_keep}
 use Rattle.dep_answers.specs.declared.subject.Shown.TheVariants as shown
-use Rattle.dep_requests.proofs.Remembered.{shows_nothing}
+use Rattle.dep_requests.proofs.Recalling.{shows_nothing}
 use Rattle.dep_requests.proofs.Stepping.{delivered, refused_then, accepted_then}
 use Rattle.dep_requests.proofs.showing.reply_service.Goals as goal
 

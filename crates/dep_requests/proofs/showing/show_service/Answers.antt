@@ -1,6 +1,6 @@
 use Rattle.std.proofs.Common.{◌≡◌, ◌∙◌}
 use Rattle.dep_operations.specs.Views.{true_view}
-use Rattle.dep_requests.proofs.Remembered.{service_seen}
+use Rattle.dep_requests.proofs.Recalling.{service_seen}
 use Rattle.dep_requests.proofs.showing.show_service.Goals as goal
 
 pub returns : goal.returns

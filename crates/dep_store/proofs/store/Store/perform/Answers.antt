@@ -19,7 +19,7 @@ use Rattle.dep_schema.specs.Transactions.{OverStates, Transacts, IsGivenBack}
 use Rattle.dep_schema.proofs.Transacting.{stood_before}
 use Rattle.dep_schema.proofs.Transacting.{unmoved}
 use Rattle.dep_requests.specs.declared.remembering.Remembered.{Remembered}
-use Rattle.dep_requests.proofs.Remembered.{known_still}
+use Rattle.dep_requests.proofs.Recalling.{known_still}
 use Rattle.dep_store.proofs.Remembered.{forgotten, service_made}
 use Rattle.dep_store.proofs.Tries.{busy_tries, busy_fails, tries_over}
 use Rattle.dep_store.specs.Shut.{FailsIfShut}

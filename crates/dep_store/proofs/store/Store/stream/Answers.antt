@@ -2,7 +2,7 @@ use Rattle.std.proofs.Common.{rules}
 use Rattle.std.proofs.lemmas.Result.{err_from_is_err_and}
 use Rattle.sqlite.specs.Held.{state}
 use Rattle.dep_schema.proofs.Transacting.{stood_before}
-use Rattle.dep_requests.proofs.Remembered.{none_is}
+use Rattle.dep_requests.proofs.Recalling.{none_is}
 use Rattle.dep_store.proofs.Remembered.{forgotten}
 use Rattle.dep_store.proofs.store.Store.stream.Goals as goal
 

@@ -6,7 +6,7 @@ use Rattle.dep_types.specs.declared.store_fault.StoreFault.{StoreFault}
 use Rattle.dep_schema.specs.Transactions.{Transacts}
 use Rattle.dep_schema.proofs.Transacting.{unmoved, after_back, fails_back}
 use Rattle.dep_store.specs.Shut.{FailsIfShut}
-use Rattle.dep_requests.proofs.Remembered.{none_is}
+use Rattle.dep_requests.proofs.Recalling.{none_is}
 use Rattle.dep_store.proofs.Remembered.{clock_made, forgotten}
 use Rattle.dep_store.proofs.ShutLemmas.{under_way, fails_still, was_open_then}
 use Rattle.dep_store.proofs.Tries.{busy_tries, busy_fails, Clocked, ticks_over}

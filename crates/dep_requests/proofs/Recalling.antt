@@ -12,6 +12,7 @@ use Rattle.dep_types.specs.declared.target.Method.{Method}
 use Rattle.dep_types.specs.declared.target.Method.TheVariants.{Get, Head, Post, Put, Delete}
 use Rattle.dep_types.specs.declared.target.Resource.{Resource}
 use Rattle.dep_types.specs.declared.target.Resource.TheVariants.{Service}
+use Rattle.dep_types.proofs.TickLemmas.{get-unexpired, contains-expired}
 use Rattle.dep_fields.specs.declared.field.Field.{Field}
 use Rattle.dep_fields.specs.declared.field.Field.TheVariants.{Absent, Bad, Value}
 use Rattle.dep_fields.specs.declared.kind.Kind.{Kind}
