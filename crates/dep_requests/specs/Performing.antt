@@ -1,6 +1,6 @@
 -- What is ruled of a request, and what comes of it.
 use Rattle.sqlite.specs.State as db
-use Rattle.std.specs.Prelude.{◌≡◌, ◌≢◌, ◌⊎◌, ℕ, List, Option, Some, None, Result, IfOk, if◌then◌else◌}
+use Rattle.std.specs.Prelude.{◌≡◌, ◌≢◌, ◌↔◌, ◌⊎◌, ℕ, List, Option, Some, None, Result, IfOk, IsTrue, false, if◌then◌else◌}
 use Rattle.std.specs.Option.{option_or}
 use Rattle.dep_types.specs.State.{State}
 use Rattle.dep_types.specs.Sound.{IsSound}
@@ -18,7 +18,10 @@ use Rattle.dep_answers.specs.Answers.{Answer}
 use Rattle.dep_answers.specs.declared.performed.Performed.{Performed}
 use Rattle.dep_answers.specs.declared.subject.Shown.{Shown}
 use Rattle.dep_answers.specs.declared.subject.Shown.TheVariants.{Nothing}
+use Rattle.dep_tables.specs.Tables.{IsOurs}
 use Rattle.dep_row_maps.specs.Clauses.{FromMaps, SeesState}
+use Rattle.dep_staging.specs.HashedAhead.{AreRunning}
+use Rattle.dep_staging.specs.declared.running.RunningHashes.{RunningHashes}
 use Rattle.dep_decisions.specs.Effects.{effect}
 use Rattle.dep_decisions.specs.declared.decision.Decision.{Decision}
 use Rattle.dep_decisions.specs.Decisions.{decision}
@@ -88,9 +91,17 @@ abbrev pub IsStepped : Config → State → Operation → db.State → Performed
 IsStepped config s op new performed = IsReady (operation_step config s op) performed
     × SeesState new (operation_step config s op).state
 
--- so it is of what is done
-abbrev pub IsDone : Config → State → Operation → db.State → Done → Type 0
-IsDone config s op new done = IsStepped config s op new done.performed
+-- what was done for a request, in a transaction that showed the one database before and shows the other now
+pub record IsDone (old new : db.State) (config : Config) (op : Operation) (running : RunningHashes) (done : Done)
+    : Type 0 where
+  pub map : FromMaps old new (λ s. IsSound s → AreRunning s running → AreFit op.fields
+      → IsStepped config s op new done.performed)
+  -- nothing is changed just where it is refused, or only asks to be shown
+  pub changes : FromMaps old new (λ s. IsSound s → AreRunning s running
+      → done.has_changes ≡ false ↔ ChangesNothing config s op)
+  pub unchanged : done.has_changes ≡ false → db.HasCleanDisk new → IsOurs old
+      → db.IsUnchanged old new
+  pub ours : db.HasCleanDisk new → IsTrue old.in_transaction → IsOurs old → IsOurs new
 
 -- what was ruled rightly is followed
 abbrev pub Follows : (old new : db.State) → Config → Operation → Ruled → Result Performed StoreFault

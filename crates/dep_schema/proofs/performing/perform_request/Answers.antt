@@ -39,7 +39,7 @@ returns-then-performed g c =
     let new = c.commit.new.tx.0 in
     let told = c.in_ok-performed.ensures in
     let worked = worked_within g.S.Store old c.args.service.now c.args.operation.now c.args.running.now c.in_ok-performed.performed told.stays c.transaction-tx.ensures.begun left
-    (record { map = told.map; changes = told.changes; unchanged = told.unchanged; ours = told.ours }) in
+    told.does in
     let work = works_within g.S.Store old new told.stays c.transaction-tx.ensures.begun left (λ is_open trees h. g.met.S.Store.settled old.store trees is_open h)
     (clean_if_open (g.S.Store.view new.store) (g.met.S.Store.shut_if_dirty new.store)) in
     let same : new ≡ c.connection-then-performed-1.given.0 = sym (c.connection-then-performed-1.given.1 (lent_connection g.S.Store c.in_ok-performed.ensures.stays left c.transaction-tx.ensures.same_reference)) in
@@ -60,7 +60,7 @@ returns-in_err-commit g c =
     let new = c.commit.new.tx.0 in
     let told = c.in_ok-performed.ensures in
     let worked = worked_within g.S.Store old c.args.service.now c.args.operation.now c.args.running.now c.in_ok-performed.performed told.stays c.transaction-tx.ensures.begun left
-    (record { map = told.map; changes = told.changes; unchanged = told.unchanged; ours = told.ours }) in
+    told.does in
     let work = works_within g.S.Store old new told.stays c.transaction-tx.ensures.begun left (λ is_open trees h. g.met.S.Store.settled old.store trees is_open h)
     (clean_if_open (g.S.Store.view new.store) (g.met.S.Store.shut_if_dirty new.store)) in
     let last = c.connection-then-performed-1.given.0 in
@@ -112,7 +112,7 @@ returns g c =
     let new = c.check_open.new.connection in
     let told = c.in_ok-performed.ensures in
     let worked = worked_within g.S.Store old c.args.service.now c.args.operation.now c.args.running.now c.in_ok-performed.performed told.stays c.transaction-tx.ensures.begun left
-    (record { map = told.map; changes = told.changes; unchanged = told.unchanged; ours = told.ours }) in
+    told.does in
     let work = works_within g.S.Store old mid told.stays c.transaction-tx.ensures.begun left (λ is_open trees h. g.met.S.Store.settled old.store trees is_open h)
     (clean_if_open (g.S.Store.view mid.store) (g.met.S.Store.shut_if_dirty mid.store)) in
     let same : mid ≡ c.connection-2-1.given.0 = sym (c.connection-2-1.given.1 (lent_connection g.S.Store c.in_ok-performed.ensures.stays left c.transaction-tx.ensures.same_reference)) in
