@@ -14,8 +14,9 @@ use dep_decisions::Operation;
 use dep_moment::Moment;
 use dep_types::{Config, Outlet, StoreFault, StreamFault};
 
-/// A client that waited through a long round of all connections is answered in the third round behind it at the latest: in
-/// one its last exchange ends, or it is let in, in the next its request is read, and in the third it is answered.
+/// A client that waited through a long round of all connections, and whose request has come whole, is answered in the third
+/// round behind it at the latest: in one its last exchange ends, or it is let in, in the next its request is read, and in
+/// the third it is answered.
 pub const ROUNDS_TO_REPLY: u32 = 3;
 
 /// An archive that keeps a state of the machine, and does what one step after another asks of it.

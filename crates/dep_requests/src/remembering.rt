@@ -16,9 +16,11 @@ use dep_types::{Config, Counters, StoreFault};
 /// The clock and the counters, at which no upload is idle.
 #[derive(Clone, Copy)]
 pub struct Remembered {
+    /// The clock, in seconds since 1970.
     pub clock: u64,
+    /// The numbers that are given next.
     pub next: Counters,
-    /// The greatest idle time that was looked at.
+    /// The greatest idle time that was looked at, in seconds.
     pub max_idle: u64,
 }
 
