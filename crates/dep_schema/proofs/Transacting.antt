@@ -1,5 +1,6 @@
 -- One transaction from its beginning to its end, over whatever tables the store has.
 use Rattle.std.proofs.Common.{◌≡◌, ◌⊎◌, ℕ, List, inl, inr, true, false, Result, Ok, Err, IfOk, OnOk, OnErr, IsErr, IsTrue, refl, sym, ap, subst, ◌∙◌, arith}
+use Rattle.std.specs.Borrow.{GName, MutBor}
 use Rattle.sqlite.specs.Effect.{Database}
 use Rattle.sqlite.specs.Order.{Row}
 use Rattle.sqlite.specs.State.{IsNotRun, IsUnchanged, HasCleanDisk, IsRolledBack, Commits, Shows, Survives}
@@ -15,7 +16,7 @@ use Rattle.dep_types.specs.State.{State}
 use Rattle.dep_types.specs.declared.store_fault.StoreFault.{StoreFault}
 use Rattle.dep_tables.specs.Tables.{Tables, tables_in, tables_of, AreOf, HasTablesOf, HasOurTables, IsOf}
 use Rattle.dep_tables.specs.Clauses.{CommitsNothing, StaysInside}
-use Rattle.dep_schema.specs.Standing.{Holds, HoldsOf, Stands, StandsOf, EndsTransaction}
+use Rattle.dep_schema.specs.Standing.{Holds, HoldsOf, Stands, StandsOf, EndsTransaction, StaysOn}
 use Rattle.dep_schema.specs.declared.lending.Lent.{Lent}
 use Rattle.sqlite.proofs.Callers.{survives_begin}
 use Rattle.sqlite.proofs.StateLemmas.{survives_then}
@@ -229,6 +230,28 @@ module _ {S : Type 0} {begun inside : Lent S} {last : Transaction S} (g : Ghosts
       → HasCleanDisk (state g last.conn.now) → IsTrue (state g last.conn.now).in_transaction
   still_inside stays is left = subst (λ (tx : Transaction S). HasCleanDisk (state g tx.conn.now) → IsTrue (state g tx.conn.now).in_transaction) left
       (λ clean. stays.inside clean (subst (λ (h : Held S). IsTrue h.in_transaction) (sym is) refl))
+
+-- so does a call on the transaction that was begun
+module _ {S A E : Type 0} {begun inside : MutBor (Held S)} {r : Result A E} (g : Ghosts S) (old : Held S) where
+  pub works_on : (new : Held S) → StaysOn g begun inside r → begun.now ≡ record old { in_transaction = true }
+      → (IsTrue (state g old).is_open → IsSettled (state g old)) → (IsTrue (state g new).is_open → HasCleanDisk (state g new))
+      → Works g old inside.now new
+  works_on new stays is settled shut = record {
+    settled = settled;
+    shut = shut;
+    kept = subst (λ (h : Held S). StaysInside (state g h) (state g inside.now)) is stays.kept;
+    survives = subst (λ (h : Held S). CommitsNothing (state g h) (state g inside.now)) is stays.survives;
+  }
+
+-- and after an Ok the transaction goes on
+pub still_on : {S A E : Type 0} {begun inside : MutBor (Held S)} {x : A} (g : Ghosts S) (old : Held S) → StaysOn {A = A} {E = E} g begun inside (Ok x)
+    → begun.now ≡ record old { in_transaction = true } → HasCleanDisk (state g inside.now) → IsTrue (state g inside.now).in_transaction
+still_on g old stays is clean = stays.inside clean (subst (λ (h : Held _). IsTrue h.in_transaction) (sym is) refl)
+
+-- it is the connection that was lent to the transaction
+pub on_connection : {S A E : Type 0} {begun inside : MutBor (Held S)} {r : Result A E} {name : GName} (g : Ghosts S) → StaysOn g begun inside r
+    → begun.ghost_name ≡ name → name ≡ inside.ghost_name
+on_connection g stays is = sym is ∙ sym stays.same_reference
 
 -- ---- what it says of states
 

@@ -1,7 +1,9 @@
 //! What is done for a request, in a transaction of its own.
 
-ghost use Rattle.std.specs.Prelude.{◌≡◌, false};
+ghost use Rattle.std.specs.Prelude.{◌≡◌, false, IfOk};
 ghost use Rattle.sqlite.specs.Held.{state};
+ghost use Rattle.dep_requests.specs.Performing.{IsDone};
+ghost use Rattle.dep_schema.specs.Standing.{StaysOn};
 ghost use Rattle.dep_schema.specs.Performing.{StepsOver, TellsChanges, IsBackUnchanged};
 ghost use Rattle.dep_schema.specs.Transactions.{Transacts};
 
@@ -13,8 +15,23 @@ use dep_decisions::Operation;
 use dep_requests::{Done, answer_operation};
 use dep_staging::RunningHashes;
 use dep_types::StoreFault;
-use sqlite::{Alter, Connection};
+use sqlite::{Alter, Connection, Transaction};
 use std::alloc::Global;
+
+/// Does what a request asks for in the transaction, which goes on.
+fn answer_within<S: Alter>(
+    tx: &mut Transaction<'_, S>,
+    alloc: Global,
+    running: &RunningHashes,
+    service: &Service,
+    operation: &Operation<'_>,
+) -> Result<Done, StoreFault>
+    ensures does { IfOk result (IsDone (state S.Store tx.old.conn.now) (state S.Store tx.new.conn.now)
+        service.now operation.now running.now) }
+    ensures stays { StaysOn S.Store tx.old.conn tx.new.conn result }
+{
+    answer_operation(&mut Lent { tx }, alloc, running, service, operation)
+}
 
 /// Does what a request asks for. The reply is made before the commit. Where nothing was changed the transaction is given back.
 /// A fault of the store, also of the commit, and want of memory leave the tables as they were.
@@ -34,13 +51,7 @@ pub fn perform_request<S: Alter>(
 {
     let _between = connection.is_autocommit();
     let mut tx = connection.transaction();
-    let performed = answer_operation(
-        &mut Lent { tx: &mut tx },
-        alloc,
-        running,
-        service,
-        operation,
-    )?;
+    let performed = answer_within(&mut tx, alloc, running, service, operation)?;
     if performed.has_changes {
         commit(tx)?;
         return Ok(performed);

@@ -5,9 +5,8 @@ use Rattle.dep_types.specs.declared.store_fault.StoreFault.{StoreFault}
 use Rattle.dep_requests.specs.declared.performing.Done.{Done}
 use Rattle.dep_schema.specs.Transactions.{IsGivenBack, Transacts}
 use Rattle.sqlite.proofs.StateLemmas.{clean_if_open}
-use Rattle.dep_schema.proofs.Transacting.{back_by_rollback, back_then, fails_back, gave_up, committed, given_back, none_by_rollback, none_then, uncommitted, works_within, still_inside}
-use Rattle.dep_schema.proofs.Asking.{lent_connection, lent_name}
-use Rattle.dep_schema.proofs.Performed.{told_inside, worked_within, works, works_still}
+use Rattle.dep_schema.proofs.Transacting.{back_by_rollback, back_then, fails_back, gave_up, committed, given_back, none_by_rollback, none_then, on_connection, still_on, uncommitted, works_on}
+use Rattle.dep_schema.proofs.Performed.{told_inside, worked_on, works, works_still}
 use Rattle.dep_schema.specs.Performing.{StepsOver}
 use Rattle.sqlite.specs.Held.{state}
 use Rattle.dep_schema.proofs.performing.perform_request.Goals as goal
@@ -16,12 +15,11 @@ use Rattle.dep_schema.proofs.performing.perform_request.Goals as goal
 pub returns-in_err-performed : goal.returns-in_err-performed
 returns-in_err-performed g c =
     let old = c.args.connection.now in
-    let left : c.answer_operation.new.tx.tx.now ≡ c.tx-2-1.given.0 = sym (c.tx-2-1.given.1 (lent_name g.S.Store c.in_err-performed.ensures.stays)) in
-    let inside = c.tx-2-1.given.0.conn.now in
+    let inside = c.answer_within.new.tx.conn.now in
     let new = c.drop-tx.new.self.0 in
-    let work = works_within g.S.Store old new c.in_err-performed.ensures.stays c.transaction-tx.ensures.begun left (λ is_open trees h. g.met.S.Store.settled old.store trees is_open h)
+    let work = works_on g.S.Store old new c.in_err-performed.ensures.stays c.transaction-tx.ensures.begun (λ is_open trees h. g.met.S.Store.settled old.store trees is_open h)
     (clean_if_open (g.S.Store.view new.store) (g.met.S.Store.shut_if_dirty new.store)) in
-    let same : new ≡ c.connection-1.given.0 = sym (c.connection-1.given.1 (lent_connection g.S.Store c.in_err-performed.ensures.stays left c.transaction-tx.ensures.same_reference)) in
+    let same : new ≡ c.connection-1.given.0 = sym (c.connection-1.given.1 (on_connection g.S.Store c.in_err-performed.ensures.stays c.transaction-tx.ensures.same_reference)) in
     let result = c.from_residual.result in
     let is_err = c.from_residual.ensures.0 in
     record {
@@ -34,15 +32,13 @@ returns-in_err-performed g c =
 pub returns-then-performed : goal.returns-then-performed
 returns-then-performed g c =
     let old = c.args.connection.now in
-    let left : c.answer_operation.new.tx.tx.now ≡ c.tx-2-1.given.0 = sym (c.tx-2-1.given.1 (lent_name g.S.Store c.in_ok-performed.ensures.stays)) in
-    let inside = c.tx-2-1.given.0.conn.now in
+    let inside = c.answer_within.new.tx.conn.now in
     let new = c.commit.new.tx.0 in
     let told = c.in_ok-performed.ensures in
-    let worked = worked_within g.S.Store old c.args.service.now c.args.operation.now c.args.running.now c.in_ok-performed.performed told.stays c.transaction-tx.ensures.begun left
-    told.does in
-    let work = works_within g.S.Store old new told.stays c.transaction-tx.ensures.begun left (λ is_open trees h. g.met.S.Store.settled old.store trees is_open h)
+    let worked = worked_on g.S.Store old inside c.args.service.now c.args.operation.now c.args.running.now c.in_ok-performed.performed c.transaction-tx.ensures.begun told.does in
+    let work = works_on g.S.Store old new told.stays c.transaction-tx.ensures.begun (λ is_open trees h. g.met.S.Store.settled old.store trees is_open h)
     (clean_if_open (g.S.Store.view new.store) (g.met.S.Store.shut_if_dirty new.store)) in
-    let same : new ≡ c.connection-then-performed-1.given.0 = sym (c.connection-then-performed-1.given.1 (lent_connection g.S.Store c.in_ok-performed.ensures.stays left c.transaction-tx.ensures.same_reference)) in
+    let same : new ≡ c.connection-then-performed-1.given.0 = sym (c.connection-then-performed-1.given.1 (on_connection g.S.Store c.in_ok-performed.ensures.stays c.transaction-tx.ensures.same_reference)) in
     record {
       transacts = committed g.S.Store old inside new _ _ work
           (works g.S.Store old inside c.args.service.now c.args.operation.now c.args.running.now c.in_ok-performed.performed worked.map worked.ours)
@@ -55,16 +51,14 @@ returns-then-performed g c =
 pub returns-in_err-commit : goal.returns-in_err-commit
 returns-in_err-commit g c =
     let old = c.args.connection.now in
-    let left : c.answer_operation.new.tx.tx.now ≡ c.tx-2-1.given.0 = sym (c.tx-2-1.given.1 (lent_name g.S.Store c.in_ok-performed.ensures.stays)) in
-    let inside = c.tx-2-1.given.0.conn.now in
+    let inside = c.answer_within.new.tx.conn.now in
     let new = c.commit.new.tx.0 in
     let told = c.in_ok-performed.ensures in
-    let worked = worked_within g.S.Store old c.args.service.now c.args.operation.now c.args.running.now c.in_ok-performed.performed told.stays c.transaction-tx.ensures.begun left
-    told.does in
-    let work = works_within g.S.Store old new told.stays c.transaction-tx.ensures.begun left (λ is_open trees h. g.met.S.Store.settled old.store trees is_open h)
+    let worked = worked_on g.S.Store old inside c.args.service.now c.args.operation.now c.args.running.now c.in_ok-performed.performed c.transaction-tx.ensures.begun told.does in
+    let work = works_on g.S.Store old new told.stays c.transaction-tx.ensures.begun (λ is_open trees h. g.met.S.Store.settled old.store trees is_open h)
     (clean_if_open (g.S.Store.view new.store) (g.met.S.Store.shut_if_dirty new.store)) in
     let last = c.connection-then-performed-1.given.0 in
-    let same : new ≡ last = sym (c.connection-then-performed-1.given.1 (lent_connection g.S.Store c.in_ok-performed.ensures.stays left c.transaction-tx.ensures.same_reference)) in
+    let same : new ≡ last = sym (c.connection-then-performed-1.given.1 (on_connection g.S.Store c.in_ok-performed.ensures.stays c.transaction-tx.ensures.same_reference)) in
     let result = c.from_residual-in_err-commit.result in
     let is_err = c.from_residual-in_err-commit.ensures.0 in
     let passed = err_from_is_err_and result c.from_residual-in_err-commit.ensures.1 in
@@ -73,7 +67,7 @@ returns-in_err-commit g c =
       transacts = subst (λ (r : Result Done StoreFault). Transacts (state g.S.Store old) (state g.S.Store last) r (StepsOver c.args.service.now c.args.operation.now c.args.running.now)) (sym is)
           (uncommitted g.S.Store old inside new _ c.in_ok-performed.performed c.in_err-commit.field-0.0 work
           (works g.S.Store old inside c.args.service.now c.args.operation.now c.args.running.now c.in_ok-performed.performed worked.map worked.ours)
-          (still_inside g.S.Store old told.stays c.transaction-tx.ensures.begun left) c.in_err-commit.ensures.err c.commit.ensures.survives _ same);
+          (still_on g.S.Store old told.stays c.transaction-tx.ensures.begun) c.in_err-commit.ensures.err c.commit.ensures.survives _ same);
       changes = λ clean s stands running. IfOk-from_err result _ is_err;
       back = IfOk-from_err result _ is_err;
     }
@@ -82,13 +76,12 @@ returns-in_err-commit g c =
 pub returns-in_err-check_open : goal.returns-in_err-check_open
 returns-in_err-check_open g c =
     let old = c.args.connection.now in
-    let left : c.answer_operation.new.tx.tx.now ≡ c.tx-2-1.given.0 = sym (c.tx-2-1.given.1 (lent_name g.S.Store c.in_ok-performed.ensures.stays)) in
-    let inside = c.tx-2-1.given.0.conn.now in
+    let inside = c.answer_within.new.tx.conn.now in
     let mid = c.rollback.new.self.0 in
     let new = c.check_open.new.connection in
-    let work = works_within g.S.Store old mid c.in_ok-performed.ensures.stays c.transaction-tx.ensures.begun left (λ is_open trees h. g.met.S.Store.settled old.store trees is_open h)
+    let work = works_on g.S.Store old mid c.in_ok-performed.ensures.stays c.transaction-tx.ensures.begun (λ is_open trees h. g.met.S.Store.settled old.store trees is_open h)
     (clean_if_open (g.S.Store.view mid.store) (g.met.S.Store.shut_if_dirty mid.store)) in
-    let same : mid ≡ c.connection-2-1.given.0 = sym (c.connection-2-1.given.1 (lent_connection g.S.Store c.in_ok-performed.ensures.stays left c.transaction-tx.ensures.same_reference)) in
+    let same : mid ≡ c.connection-2-1.given.0 = sym (c.connection-2-1.given.1 (on_connection g.S.Store c.in_ok-performed.ensures.stays c.transaction-tx.ensures.same_reference)) in
     let after = state g.S.Store c.connection-2-1.given.0 in
     let first = back_by_rollback g.S.Store old inside mid work
     c.rollback.ensures.undone c.rollback.ensures.survives (c.is_autocommit-between.ensures.settled (c.is_autocommit-between.ensures.value ∙ ap not c.requires.settled)) _ same in
@@ -106,16 +99,14 @@ returns-in_err-check_open g c =
 pub returns : goal.returns
 returns g c =
     let old = c.args.connection.now in
-    let left : c.answer_operation.new.tx.tx.now ≡ c.tx-2-1.given.0 = sym (c.tx-2-1.given.1 (lent_name g.S.Store c.in_ok-performed.ensures.stays)) in
-    let inside = c.tx-2-1.given.0.conn.now in
+    let inside = c.answer_within.new.tx.conn.now in
     let mid = c.rollback.new.self.0 in
     let new = c.check_open.new.connection in
     let told = c.in_ok-performed.ensures in
-    let worked = worked_within g.S.Store old c.args.service.now c.args.operation.now c.args.running.now c.in_ok-performed.performed told.stays c.transaction-tx.ensures.begun left
-    told.does in
-    let work = works_within g.S.Store old mid told.stays c.transaction-tx.ensures.begun left (λ is_open trees h. g.met.S.Store.settled old.store trees is_open h)
+    let worked = worked_on g.S.Store old inside c.args.service.now c.args.operation.now c.args.running.now c.in_ok-performed.performed c.transaction-tx.ensures.begun told.does in
+    let work = works_on g.S.Store old mid told.stays c.transaction-tx.ensures.begun (λ is_open trees h. g.met.S.Store.settled old.store trees is_open h)
     (clean_if_open (g.S.Store.view mid.store) (g.met.S.Store.shut_if_dirty mid.store)) in
-    let same : mid ≡ c.connection-2-1.given.0 = sym (c.connection-2-1.given.1 (lent_connection g.S.Store c.in_ok-performed.ensures.stays left c.transaction-tx.ensures.same_reference)) in
+    let same : mid ≡ c.connection-2-1.given.0 = sym (c.connection-2-1.given.1 (on_connection g.S.Store c.in_ok-performed.ensures.stays c.transaction-tx.ensures.same_reference)) in
     let after = state g.S.Store c.connection-2-1.given.0 in
     let first = back_by_rollback g.S.Store old inside mid work
     c.rollback.ensures.undone c.rollback.ensures.survives (c.is_autocommit-between.ensures.settled (c.is_autocommit-between.ensures.value ∙ ap not c.requires.settled)) _ same in
