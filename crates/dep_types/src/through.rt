@@ -48,13 +48,12 @@ impl<W: Write> Outlet for Through<W> {
     fn write(&mut self, bytes: &[u8]) -> Result<(), WriteFailed> {
         let mut rest = bytes;
         while !rest.is_empty() {
-            match self.writer.write(rest) {
-                Ok(n) if n > 0 => rest = &rest[n..],
-                _ => {
-                    self.failures = self.failures.saturating_add(1);
-                    return Err(WriteFailed);
-                }
+            let taken = self.writer.write(rest).unwrap_or(0);
+            if taken == 0 {
+                self.failures = self.failures.saturating_add(1);
+                return Err(WriteFailed);
             }
+            rest = &rest[taken..];
         }
         Ok(())
     }
