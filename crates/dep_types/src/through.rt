@@ -48,12 +48,13 @@ impl<W: Write> Outlet for Through<W> {
     fn write(&mut self, bytes: &[u8]) -> Result<(), WriteFailed> {
         let mut rest = bytes;
         while !rest.is_empty() {
-            let taken = self.writer.write(rest).unwrap_or(0);
-            if taken == 0 {
-                self.failures = self.failures.saturating_add(1);
-                return Err(WriteFailed);
+            match self.writer.write(rest) {
+                Ok(n) if n > 0 => rest = &rest[n..],
+                _ => {
+                    self.failures = self.failures.saturating_add(1);
+                    return Err(WriteFailed);
+                }
             }
-            rest = &rest[taken..];
         }
         Ok(())
     }

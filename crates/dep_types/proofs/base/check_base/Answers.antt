@@ -1,4 +1,4 @@
-use Rattle.std.proofs.Common.{◌≡◌, ◌∙◌, ◌++◌, ◌∷◌, List, [], ℕ, sym, ap, rules, Bool, true, not, nat_eq, codes, Ok, None}
+use Rattle.std.proofs.Common.{◌≡◌, ◌∙◌, ◌++◌, ◌∷◌, List, [], ℕ, sym, ap, rules, refl, Bool, true, false, not, nat_eq, codes, Ok, None}
 use Rattle.std.specs.Cmp.Lexicographic.{pointwise}
 use Rattle.std.proofs.lemmas.List.{same_from_push}
 use Rattle.url.specs.Parser.{parse_url}
@@ -23,6 +23,25 @@ scheme_is text url h reads =
 -- what a test for other bytes tells
 other_bytes : (a b : List ℕ) (apart : Bool) → apart ≡ not (pointwise nat_eq a b) → apart ≡ true → a ≡ b → ⊥
 other_bytes a b apart test told = search rules
+
+same_bytes : (a b : List ℕ) (apart : Bool) → apart ≡ not (pointwise nat_eq a b) → apart ≡ false → a ≡ b
+same_bytes a b apart test told = search rules
+
+spelled_so : (text front serialized : List ℕ) (last : ℕ) → serialized ≡ front ++ last ∷ [] → last ≡ 47 → front ≡ text → serialized ≡ text ++ 47 ∷ []
+spelled_so text front serialized last spelled slash same = spelled ∙ rw (slash, same) refl
+
+pub returns-else-ne-2-clause-kept : goal.returns-else-ne-2-clause-kept
+returns-else-ne-2-clause-kept c =
+    let scheme = same_bytes c.scheme.result.now (codes "http") c.ne.result c.ne.ensures c.if-ne.false in
+    let front = same_bytes c.in-Some.front.now c.as_bytes-else-last-ne47.result.now c.ne-else-last-ne47.result c.ne-else-last-ne47.ensures c.if-ne-2.false in
+    record {
+      url = c.in-Ok.url;
+      reads = c.in-Ok.ensures;
+      scheme = sym c.scheme.ensures.value ∙ scheme;
+      spelled = spelled_so c.args.base.now c.in-Some.front.now (serialize c.in-Ok.url) c.in-Some.last.now
+          (sym c.as_str.ensures.value ∙ sym c.as_bytes.ensures.value ∙ c.in-Some.ensures.cases.0)
+          c.if-last-ne47.false (front ∙ c.as_bytes-else-last-ne47.ensures.value);
+    }
 
 pub returns-then-ne-clause-refused : goal.returns-then-ne-clause-refused
 returns-then-ne-clause-refused c = λ _ base.
