@@ -47,7 +47,7 @@ pub enum Refusal {
 }
 
 impl Refusal {
-    /// The number in the log of the error document, 1 to 19.
+    /// The number in the log of the error document, 1 to 19: the place of the refusal among them.
     pub fn number(self) -> u8
         ensures { result ≡ (facts_of self).number }
     {
