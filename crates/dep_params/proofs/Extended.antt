@@ -8,7 +8,8 @@ use Rattle.std.proofs.lemmas.List.Sums.{prefix_len_stops}
 use Rattle.std.specs.List.{prefix_len}
 use Rattle.std.specs.Str.{str_eq_ignore_ascii_case}
 use Rattle.percent_encoding.specs.Percent.{percent_decode}
-use Rattle.dep_params.specs.Names.{HasWholeEscapes, IsExtended, IsTold, has_no_apostrophe}
+use Rattle.dep_params.specs.Grammar.{DispositionValue, value_of}
+use Rattle.dep_params.specs.Names.{HasWholeEscapes, IsExtended, IsTold, IsToldName, has_no_apostrophe}
 use Rattle.dep_params.specs.Reading.{cut_at_apostrophe}
 use Rattle.dep_params.proofs.Runs.{prefix_len-stopped, run-passes}
 
@@ -99,6 +100,11 @@ cut_is text name first second is h k =
     (ap (λ p. p.0) one, ap (λ p. p.1) two)
 
 -- an extended value has a second apostrophe
+pub no_first : (text name : List ℕ) → IsExtended text name → cut_at_apostrophe text ≡ None → ⊥
+no_first text name is none =
+    let cut = cuts text name is in
+    cc (cut.first, none)
+
 pub no_second : (text name : List ℕ) (first : List ℕ × List ℕ) → IsExtended text name → cut_at_apostrophe text ≡ Some first → cut_at_apostrophe first.1 ≡ None → ⊥
 no_second text name first is h none =
     let cut = cuts text name is in
@@ -121,7 +127,10 @@ same_extended text a b is has =
     let escaped = (cut_is text b (left.charset, left.rest) (left.language, left.escaped) right left.first left.second).1 in
     left.told ∙ ap percent_decode escaped ∙ sym right.told
 
-pub same_told : (star plain : Option (List ℕ)) (a b : List ℕ) → IsTold star plain a → IsTold star plain b → a ≡ b
+same_told : (star plain : Option (List ℕ)) (a b : List ℕ) → IsTold star plain a → IsTold star plain b → a ≡ b
 same_told (Some text) plain a b is has = same_extended text a b is has
 same_told None (Some plain) a b is has = is ∙ sym has
 same_told None None a b is has = absurd is
+
+pub same_name : (reading : DispositionValue) (a b : List ℕ) → IsToldName reading a → IsToldName reading b → a ≡ b
+same_name reading a b is has = same_told (value_of (codes "filename*") reading) (value_of (codes "filename") reading) a b is has

@@ -10,6 +10,10 @@ pub and_both : (a b : Bool) → (a && b) ≡ true → (a ≡ true) × (b ≡ tru
 and_both true b h = (refl, h)
 and_both false b h = cc h
 
+pub not_both : (b : Bool) → b ≡ true → b ≡ false → ⊥
+not_both true h e = cc e
+not_both false h e = cc h
+
 pub not_is : (a : Bool) → not a ≡ true → a ≡ false
 not_is true h = cc h
 not_is false h = refl

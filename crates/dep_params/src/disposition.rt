@@ -9,7 +9,7 @@ use std::fmt;
 use std::marker::Model;
 
 /// Why a Content-Disposition field, or the file name in it, is refused.
-#[derive(Clone, Copy, Debug, PartialEq, Eq)]
+#[derive(Clone, Copy, Debug)]
 pub enum ParamFault {
     /// The text is no disposition.
     Malformed,

@@ -26,7 +26,10 @@ impl Disposition {
         if !is_good_name(&name) {
             return Err(ParamFault::NoName);
         }
-        String::from_utf8(name).map_err(|_| ParamFault::NoName)
+        match String::from_utf8(name) {
+            Ok(name) => Ok(name),
+            Err(_) => Err(ParamFault::NoName),
+        }
     }
 
     // The name that the parameters give, whether it may stand or not.

@@ -15,7 +15,7 @@ pub(crate) fn split_token(text: &[u8]) -> (&[u8], &[u8])
     while end < text.len() && is_token_octet(text[end]) {
         end += 1;
     }
-    (&text[..end], &text[end..])
+    text.split_at(end)
 }
 
 // The longest run of octets of a bare value at the front, and what follows it.
@@ -27,7 +27,7 @@ pub(crate) fn split_bare(text: &[u8]) -> (&[u8], &[u8])
     while end < text.len() && is_bare_octet(text[end]) {
         end += 1;
     }
-    (&text[..end], &text[end..])
+    text.split_at(end)
 }
 
 // The text behind the spaces and tabs at its front.

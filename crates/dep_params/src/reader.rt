@@ -1,9 +1,8 @@
 //! Reading a Content-Disposition field.
-ghost use Rattle.std.specs.Prelude.{◌≡◌, ◌≢◌, ◌⊎◌, List, not, map, bytes_eq, MatchResult, IfOk, IfErr};
+ghost use Rattle.std.specs.Prelude.{◌≡◌, ◌≢◌, ◌⊎◌, List, not, map, bytes_eq, IfOk, IfErr};
 ghost use Rattle.std.specs.Bool.{Decides};
 ghost use Rattle.std.specs.List.{IsDistinct};
 ghost use Rattle.std.specs.Option.{option_copied};
-ghost use Rattle.std.specs.Str.{str_to_ascii_lowercase};
 ghost use Rattle.dep_params.specs.Grammar.{AreParameters, HasDistinctNames, IsDisposition, NamedValue, DispositionValue};
 ghost use Rattle.dep_params.specs.Reading.{Gives, Refuses, behind_name, named, semicolon_read, value_read};
 ghost use Rattle.dep_params.specs.Stored.{names_in, view, views};
@@ -36,7 +35,7 @@ pub fn read_disposition(alloc: Global, text: &[u8]) -> Result<Disposition, Param
     if has_repeats(alloc, &parameters)? {
         return Err(ParamFault::Repeated);
     }
-    let form = lower_case(alloc, form)?;
+    let form = form.to_ascii_lowercase(alloc)?;
     Ok(Disposition::of(form, parameters))
 }
 
@@ -82,7 +81,7 @@ fn read_parameter<'a>(
         return Err(ParamFault::Malformed);
     };
     let (value, rest) = read_value(alloc, rest)?;
-    let name = lower_case(alloc, name)?;
+    let name = name.to_ascii_lowercase(alloc)?;
     Ok((Parameter { name, value }, rest))
 }
 
@@ -99,15 +98,6 @@ fn read_value(alloc: Global, text: &[u8]) -> Result<(Vec<u8>, &[u8]), ParamFault
         return Err(ParamFault::Malformed);
     }
     Ok((value.to_vec(alloc)?, rest))
-}
-
-fn lower_case(alloc: Global, text: &[u8]) -> Result<Vec<u8>, ParamFault>
-    ensures { MatchResult result (λ lower. lower.items ≡ str_to_ascii_lowercase text.now)
-        (λ e. e ≡ ParamFault.Memory) }
-{
-    let mut lower = text.to_vec(alloc)?;
-    lower.make_ascii_lowercase();
-    Ok(lower)
 }
 
 // Whether two parameters have one name.

@@ -9,7 +9,7 @@ ghost use Rattle.dep_router.specs.Targets.{target, segments, resource_of};
 
 use crate::bag_paths::decoded_from;
 use crate::methods::{Allow, method_at};
-use crate::pages::Page;
+use crate::pages::{PAGES, Page};
 use crate::reading::{Place, place_of_page};
 use dep_types::{Octets, Resource, Target};
 use matchit::{InsertError, Router};
@@ -49,8 +49,10 @@ impl Routes {
     /// The routes. Memory is taken here alone.
     pub fn new(alloc: Global) -> Result<Routes, AllocError> {
         let mut router = Router::new(alloc);
-        add_routes(&mut router).map_err(|_| AllocError)?;
-        Ok(Routes { router })
+        match add_routes(&mut router) {
+            Ok(()) => Ok(Routes { router }),
+            Err(_) => Err(AllocError),
+        }
     }
 
     /// The resource that a path names, whatever the method. The path has no query, and is compared byte by byte:
@@ -107,14 +109,8 @@ fn add_routes(router: &mut Router<Page>) -> Result<(), InsertError>
     ensures ok { OnOk result (router.new ≡ routes) }
     ensures err { IfErr result (λ e. e ≡ OutOfMemory) }
 {
-    router.insert("/service", Page::Service)?;
-    router.insert("/objects/{object}", Page::Object)?;
-    router.insert("/objects/{object}/metadata", Page::Metadata)?;
-    router.insert("/objects/{object}/files", Page::FileSet)?;
-    router.insert("/objects/{object}/files/{file}", Page::File)?;
-    router.insert("/objects/{object}/bag", Page::BagList)?;
-    router.insert("/objects/{object}/bag/{*path}", Page::BagFile)?;
-    router.insert("/staging", Page::Staging)?;
-    router.insert("/staging/{upload}", Page::Upload)?;
+    for page in &PAGES {
+        router.insert(page.route(), *page)?;
+    }
     Ok(())
 }

@@ -84,20 +84,18 @@ before : (e : MetadataEntry) (es : List MetadataEntry) (i : ℕ) (k : List ℕ) 
 before e es i k h lt is =
     turned e.name k Less (sym (alike_right nat_list_cmp_total (slice_index_or es i e).name k e.name (is e)) ∙ below_each e.name es (and_first _ _ h) i e lt)
 
-abbrev retold : MetadataEntry → List (List ℕ) → MetadataEntry
-retold e texts = record e { texts = texts }
-
-pub put_at : (es : List MetadataEntry) (i : ℕ) (k : List ℕ) (texts : List (List ℕ)) (d : MetadataEntry) → T (is_sorted names (map name_and_texts es)) → i < length es
-    → HoldsAt (λ e. names e.name k ≡ Equal) es i
-    → put names k texts (map name_and_texts es) ≡ map name_and_texts (slice_set es i (record (slice_index_or es i d) { texts = texts }))
-put_at [] i k texts d h lt is = absurd (omega (arith, lt))
-put_at (e ∷ es) zero k texts d h lt is =
-    ap (λ o. by_order o ((k, texts) ∷ name_and_texts e ∷ map name_and_texts es) ((e.name, texts) ∷ map name_and_texts es) (name_and_texts e ∷ put names k texts (map name_and_texts es)))
-    (turned e.name k Equal (is e))
-put_at (e ∷ es) (suc i) k texts d h lt is =
-    ap (λ o. by_order o ((k, texts) ∷ name_and_texts e ∷ map name_and_texts es) ((e.name, texts) ∷ map name_and_texts es) (name_and_texts e ∷ put names k texts (map name_and_texts es)))
-    (before e es i k h (omega (arith, lt)) is)
-    ∙ ap (λ es. name_and_texts e ∷ es) (put_at es i k texts d (and_second _ _ h) (omega (arith, lt)) is)
+pub put_at : (es : List MetadataEntry) (i : ℕ) (new : MetadataEntry) → T (is_sorted names (map name_and_texts es)) → i < length es
+    → HoldsAt (λ e. names e.name new.name ≡ Equal) es i
+    → put names new.name new.texts (map name_and_texts es) ≡ map name_and_texts (slice_set es i new)
+put_at [] i new h lt is = absurd (omega (arith, lt))
+put_at (e ∷ es) zero new h lt is =
+    ap (λ o. by_order o (name_and_texts new ∷ name_and_texts e ∷ map name_and_texts es) ((e.name, new.texts) ∷ map name_and_texts es) (name_and_texts e ∷ put names new.name new.texts (map name_and_texts es)))
+    (turned e.name new.name Equal (is e))
+    ∙ ap (λ name. (name, new.texts) ∷ map name_and_texts es) (map.slice_cmp-IsAntisymmetric map.nat_cmp-IsAntisymmetric e.name new.name (is e))
+put_at (e ∷ es) (suc i) new h lt is =
+    ap (λ o. by_order o (name_and_texts new ∷ name_and_texts e ∷ map name_and_texts es) ((e.name, new.texts) ∷ map name_and_texts es) (name_and_texts e ∷ put names new.name new.texts (map name_and_texts es)))
+    (before e es i new.name h (omega (arith, lt)) is)
+    ∙ ap (λ es. name_and_texts e ∷ es) (put_at es i new (and_second _ _ h) (omega (arith, lt)) is)
 
 -- ---- what is found
 

@@ -9,7 +9,7 @@ use std::error::Error;
 use std::fmt;
 
 /// The sink took no more.
-#[derive(Clone, Copy, Debug, PartialEq, Eq)]
+#[derive(Clone, Copy, Debug)]
 pub struct SinkFailed;
 
 impl fmt::Display for SinkFailed {

@@ -15,16 +15,10 @@ pub(crate) fn check_base(alloc: Global, base: &str) -> Result<(), ConfigFault>
 {
     match Url::parse(alloc, base) {
         Ok(url) => {
-            if url.scheme() != "http" {
-                return Err(ConfigFault::Base);
-            }
             let Some((last, front)) = url.as_str().as_bytes().split_last() else {
                 return Err(ConfigFault::Base);
             };
-            if *last != b'/' {
-                return Err(ConfigFault::Base);
-            }
-            if front != base.as_bytes() {
+            if url.scheme() != "http" || *last != b'/' || front != base.as_bytes() {
                 return Err(ConfigFault::Base);
             }
             Ok(())

@@ -46,7 +46,7 @@ pub struct Config {
 }
 
 /// Why a configuration is refused.
-#[derive(Clone, Copy, Debug, PartialEq, Eq)]
+#[derive(Clone, Copy, Debug)]
 pub enum ConfigFault {
     /// The base is not an `http` URL whose own text is the base and a slash.
     Base,

@@ -10,7 +10,7 @@ use std::error::Error;
 use std::fmt;
 
 /// A read failed, and gave nothing.
-#[derive(Clone, Copy, Debug, PartialEq, Eq)]
+#[derive(Clone, Copy, Debug)]
 pub struct ReadFailed;
 
 impl fmt::Display for ReadFailed {
@@ -22,7 +22,7 @@ impl fmt::Display for ReadFailed {
 impl Error for ReadFailed {}
 
 /// How the last read of an inlet ended.
-#[derive(Clone, Copy, Debug, PartialEq, Eq)]
+#[derive(Clone, Copy, Debug)]
 pub enum LastRead {
     /// No read was made.
     NoneYet,

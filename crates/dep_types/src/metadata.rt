@@ -110,9 +110,10 @@ impl Metadata {
         ensures ok { OnOk result (self.new ≡ map.insert self.old name texts) }
         ensures err { OnErr result (self.new ≡ self.old) }
     {
-        match place_of(&self.entries, name.as_str()) {
-            Ok(place) => self.entries[place].texts = texts,
-            Err(place) => self.entries.insert(place, MetadataEntry { name, texts })?,
+        let entry = MetadataEntry { name, texts };
+        match place_of(&self.entries, entry.name.as_str()) {
+            Ok(place) => self.entries[place] = entry,
+            Err(place) => self.entries.insert(place, entry)?,
         }
         Ok(())
     }

@@ -54,23 +54,23 @@ fn is_utf8(text: &[u8]) -> bool
 fn has_name_bytes_alone(name: &[u8]) -> bool
     ensures { result ≡ list_all is_name_byte name.now }
 {
-    name.iter().all(|byte| is_name_byte(*byte))
+    name.iter().all(is_name_byte)
 }
 
-fn is_name_byte(byte: u8) -> bool
-    ensures { result ≡ is_name_byte byte }
+fn is_name_byte(byte: &u8) -> bool
+    ensures { result ≡ is_name_byte byte.now }
 {
-    b' ' <= byte && byte != 0x7f && byte != b'/' && byte != b'\\'
+    b' ' <= *byte && *byte != 0x7f && *byte != b'/' && *byte != b'\\'
 }
 
 fn has_media_bytes_alone(text: &[u8]) -> bool
     ensures { result ≡ list_all is_media_byte text.now }
 {
-    text.iter().all(|byte| is_media_byte(*byte))
+    text.iter().all(is_media_byte)
 }
 
-fn is_media_byte(byte: u8) -> bool
-    ensures { result ≡ is_media_byte byte }
+fn is_media_byte(byte: &u8) -> bool
+    ensures { result ≡ is_media_byte byte.now }
 {
-    b' ' <= byte && byte <= b'~'
+    b' ' <= *byte && *byte <= b'~'
 }

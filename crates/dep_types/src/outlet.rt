@@ -7,7 +7,7 @@ use std::error::Error;
 use std::fmt;
 
 /// A write failed, after a proper prefix of its bytes.
-#[derive(Clone, Copy, Debug, PartialEq, Eq)]
+#[derive(Clone, Copy, Debug)]
 pub struct WriteFailed;
 
 impl fmt::Display for WriteFailed {

@@ -52,19 +52,14 @@ impl<R: Read> Inlet for ReaderInlet<R> {
 
     fn read(&mut self, buffer: &mut [u8]) -> Result<usize, ReadFailed> {
         self.reads = self.reads.saturating_add(1);
-        match self.reader.read(buffer) {
-            Ok(0) => {
-                self.last = LastRead::Nothing;
-                Ok(0)
-            }
-            Ok(n) => {
-                self.last = LastRead::Bytes;
-                Ok(n)
-            }
-            Err(_) => {
-                self.last = LastRead::Failed;
-                Err(ReadFailed)
-            }
-        }
+        let Ok(count) = self.reader.read(buffer) else {
+            self.last = LastRead::Failed;
+            return Err(ReadFailed);
+        };
+        self.last = match count {
+            0 => LastRead::Nothing,
+            _ => LastRead::Bytes,
+        };
+        Ok(count)
     }
 }

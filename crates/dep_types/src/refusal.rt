@@ -4,7 +4,7 @@ ghost use Rattle.dep_types.specs.Refusals.{facts_of};
 
 /// Why a request is refused: each refusal has a number, a status of HTTP, a name and a text, which its error
 /// document shows (SWORD 3.0, error documents).
-#[derive(Clone, Copy, Debug, PartialEq, Eq)]
+#[derive(Clone, Copy, Debug)]
 pub enum Refusal {
     /// The request is malformed, or a field or a reference of it doesn't fit the operation.
     BadRequest,
@@ -47,31 +47,11 @@ pub enum Refusal {
 }
 
 impl Refusal {
-    /// The number in the log of the error document, 1 to 19.
+    /// The number in the log of the error document, 1 to 19: the place of the refusal among them.
     pub fn number(self) -> u8
         ensures { result ≡ (facts_of self).number }
     {
-        match self {
-            Refusal::BadRequest => 1,
-            Refusal::ContentMalformed => 2,
-            Refusal::InvalidSegmentSize => 3,
-            Refusal::UnexpectedSegment => 4,
-            Refusal::SegmentLimitExceeded => 5,
-            Refusal::MaxAssembledSizeExceeded => 6,
-            Refusal::NotFound => 7,
-            Refusal::MethodNotAllowed => 8,
-            Refusal::SegmentedUploadTimedOut => 9,
-            Refusal::DigestMismatch => 10,
-            Refusal::ETagNotMatched => 11,
-            Refusal::ETagRequired => 12,
-            Refusal::OnBehalfOfNotAllowed => 13,
-            Refusal::ByReferenceNotAllowed => 14,
-            Refusal::MaxUploadSizeExceeded => 15,
-            Refusal::ContentTypeNotAcceptable => 16,
-            Refusal::MetadataFormatNotAcceptable => 17,
-            Refusal::PackagingFormatNotAcceptable => 18,
-            Refusal::StoreFull => 19,
-        }
+        self as u8 + 1
     }
 
     /// The status of the reply (RFC 9110, section 15).

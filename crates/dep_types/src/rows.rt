@@ -6,7 +6,7 @@ use crate::text::Text;
 use std::marker::Model;
 
 /// An object, without its metadata and files.
-#[derive(Clone, Copy, Debug, PartialEq, Eq)]
+#[derive(Clone, Copy, Debug)]
 pub struct ObjectRow {
     /// The object's number.
     pub object: u64,
@@ -50,7 +50,7 @@ pub struct FileRow {
 }
 
 /// A staged upload, without its segments.
-#[derive(Clone, Copy, Debug, PartialEq, Eq)]
+#[derive(Clone, Copy, Debug)]
 pub struct UploadRow {
     /// The upload's number.
     pub upload: u64,

@@ -7,7 +7,7 @@ use std::error::Error;
 use std::fmt;
 
 /// Why the store did not do what it was asked.
-#[derive(Clone, Copy, Debug, PartialEq, Eq)]
+#[derive(Clone, Copy, Debug)]
 pub enum StoreFault {
     /// The database failed, or holds what this store does not write, or the statement was refused.
     Store,

@@ -1,10 +1,11 @@
 use Rattle.std.proofs.Common.{◌∙◌, refl, sym}
-use Rattle.dep_params.proofs.Extended.{cuts, extended, no_second, as_extended}
+use Rattle.dep_params.proofs.Extended.{extended, no_first, no_second, as_extended}
+use Rattle.dep_params.proofs.Runs.{not_both}
 use Rattle.dep_params.proofs.file_name.escaped_part.Goals as goal
 use Rattle.dep_params.proofs.file_name.escaped_part.Goals.{else-is_utf8_charset-via-then-is_utf8_charset+else-has_whole_escapes, else-is_utf8_charset-via-else-is_utf8_charset}
 
 pub returns-in_err-charset : goal.returns-in_err-charset
-returns-in_err-charset c = rw c.from_residual.ensures (λ name is. let cut = cuts _ name is in cc (cut.first, c.in_err-charset.ensures))
+returns-in_err-charset c = rw c.from_residual.ensures (λ name is. no_first c.args.text.now name is c.in_err-charset.ensures)
 
 pub returns-in_err-escaped : goal.returns-in_err-escaped
 returns-in_err-escaped c = rw c.from_residual-in_err-escaped.ensures (λ name is.
@@ -30,7 +31,6 @@ returns-else-is_utf8_charset c = λ name is.
     is c.in_ok-charset.ensures c.in_ok-escaped.ensures in
     elim c.else-is_utf8_charset.branch [
       | else-is_utf8_charset-via-then-is_utf8_charset+else-has_whole_escapes w ↦
-          let whole = w.has_whole_escapes.ensures.1 facts.1 in
-          cc (whole, w.if-has_whole_escapes.false)
-      | else-is_utf8_charset-via-else-is_utf8_charset w ↦ cc (facts.0, c.is_utf8_charset.ensures, w.if-is_utf8_charset.false)
+          not_both _ (w.has_whole_escapes.ensures.1 facts.1) w.if-has_whole_escapes.false
+      | else-is_utf8_charset-via-else-is_utf8_charset w ↦ not_both _ (c.is_utf8_charset.ensures ∙ facts.0) w.if-is_utf8_charset.false
     ]

@@ -1,5 +1,4 @@
-use Rattle.std.proofs.Common.{◌≡◌, ◌-◌, drop, length, arith, length-drop, take, refl}
-use Rattle.std.proofs.lemmas.List.{take_all}
+use Rattle.std.proofs.Common.{◌≡◌, drop, arith}
 use Rattle.std.proofs.lemmas.List.Sums.{prefix_len-drop_no, prefix_len-drop_all}
 use Rattle.std.specs.List.{prefix_len}
 use Rattle.dep_params.specs.Grammar.{is_bare_octet}
@@ -16,5 +15,4 @@ returns c =
       | else-loop-end-test w ↦ grind (arith, prefix_len-drop_all)
     ] in
     let end_is : prefix_len is_bare_octet text ≡ end = omega (arith, c.loop-end.invariant.1, none_after) in
-    let rest : take (length text - end) (drop end text) ≡ drop end text = take_all _ _ (omega (arith, length-drop end text)) in
-    record { run = rw end_is refl; rest = rw (rest, end_is) refl }
+    record { run = rw end_is c.split_at.ensures.front; rest = rw end_is c.split_at.ensures.back }

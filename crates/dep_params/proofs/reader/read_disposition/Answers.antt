@@ -55,7 +55,7 @@ returns-clause-read c =
     let named = is_named text _ _ c.split_token.ensures.token c.is_empty.ensures c.if-is_empty.false in
     let rest : AreParameters (drop (token_len text) text) (views ps) = subst (λ (t : List ℕ). AreParameters t (views ps)) c.split_token.ensures.rest c.in_ok-parameters.ensures.read in
     let parameters : AreParameters (drop (token_len text) text) c.of.result.parameters = subst (λ (l : List NamedValue). AreParameters (drop (token_len text) text) l) (sym c.of.ensures.parameters) rest in
-    let form : c.of.result.form ≡ str_to_ascii_lowercase (take (token_len text) text) = c.of.ensures.form ∙ c.in_ok-form.ensures ∙ ap str_to_ascii_lowercase c.split_token.ensures.token in
+    let form : c.of.result.form ≡ str_to_ascii_lowercase (take (token_len text) text) = c.of.ensures.form ∙ c.in_ok-form.ensures.ok ∙ ap str_to_ascii_lowercase c.split_token.ensures.token in
     let none : not c.in_ok-has_repeats.field-0 ≡ true = rw c.if-branch.false refl in
     let distinct = distinct_names ps c.deref.result.now c.deref.ensures.value (c.in_ok-has_repeats.ensures.read.0 none) in (
       joined text c.of.result (record { named = named; form = form; parameters = parameters }),

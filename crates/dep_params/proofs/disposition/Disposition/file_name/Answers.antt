@@ -1,10 +1,9 @@
 use Rattle.std.proofs.Common.{◌≡◌, ◌∙◌, ℕ, List, true, sym, ap}
 use Rattle.std.proofs.lemmas.Str.{IsUtf8-from_is_utf8}
 use Rattle.std.specs.Str.{is_utf8}
-use Rattle.std.specs.Result.{is_ok}
 use Rattle.dep_types.specs.Names.{is_good_name}
-use Rattle.dep_params.proofs.Runs.{and_both}
-use Rattle.dep_params.proofs.Extended.{same_told}
+use Rattle.dep_params.proofs.Runs.{and_both, not_both}
+use Rattle.dep_params.proofs.Extended.{same_name}
 use Rattle.dep_params.proofs.disposition.Disposition.file_name.Goals as goal
 
 utf8_of : (name : List ℕ) → is_good_name name ≡ true → is_utf8 name ≡ true
@@ -13,14 +12,13 @@ utf8_of name good = (and_both _ _ (and_both _ _ (and_both _ _ (and_both _ _ good
 pub returns-then-not-is_good_name-clause-unnamed : goal.returns-then-not-is_good_name-clause-unnamed
 returns-then-not-is_good_name-clause-unnamed c = λ h name is.
     let told = c.in_ok-name.name.items in
-    let same : name ≡ told = same_told _ _ name told is.told c.in_ok-name.ensures.told in
+    let same : name ≡ told = same_name c.args.self.now name told is.told c.in_ok-name.ensures.told in
     let good : is_good_name c.deref.result.now ≡ true = ap (λ (n : List ℕ). is_good_name n) (c.deref.ensures.value ∙ sym same) ∙ is.good in
-    let holds : c.is_good_name.result ≡ true = c.is_good_name.ensures ∙ good in
-    cc (holds, c.if-not-is_good_name.true)
+    not_both _ (c.is_good_name.ensures ∙ good) c.if-not-is_good_name.true
 
 pub returns-clause-unnamed : goal.returns-clause-unnamed
 returns-clause-unnamed c = λ h name is.
     let told = c.in_ok-name.name.items in
     let good : is_good_name told ≡ true = ap (λ (n : List ℕ). is_good_name n) (sym c.deref.ensures.value) ∙ sym c.is_good_name.ensures ∙ c.if-not-is_good_name.false in
-    let ok = c.from_utf8.ensures.succeeds (IsUtf8-from_is_utf8 told (utf8_of told good)) in
-    cc (sym (ap is_ok h) ∙ c.map_err.ensures.variant ∙ ok)
+    let ok = c.in-Err.ensures.succeeds (IsUtf8-from_is_utf8 told (utf8_of told good)) in
+    cc ok

@@ -1,20 +1,10 @@
-use Rattle.std.proofs.Common.{◌≡◌, sym, ap, ◌∙◌, map as each, nat_cmp, slice_set}
+use Rattle.std.proofs.Common.{◌≡◌, sym, ap, ◌∙◌, map as each, nat_cmp}
 use Rattle.std.specs.Cmp.Lexicographic.{slice_cmp}
 use Rattle.std.specs.FinMap.Entries.{put}
 use Rattle.std.specs.FinMap as map
 use Rattle.dep_types.specs.MetadataEntries.{name_and_texts}
-use Rattle.dep_types.specs.declared.metadata.MetadataEntry.{MetadataEntry}
 use Rattle.dep_types.proofs.Metadatas.{put_at, put_between, in_order, inserted}
 use Rattle.dep_types.proofs.metadata.Metadata.insert.Goals as goal
-
--- the entries once the texts of one are replaced
-replaced : (c : goal.After-drop-name-inside) → put (slice_cmp nat_cmp) c.args.name c.args.texts (each name_and_texts c.self.inside.entries.items)
-    ≡ each name_and_texts (slice_set c.self.inside.entries.items c.in-Ok.place (record { name = c.index_mut.result.now.name; texts = c.args.texts }))
-replaced c =
-    let is = rw (c.as_str.ensures, c.deref.ensures.value) at c.in-Ok.ensures.place in
-    let below = rw c.deref.ensures.value at c.in-Ok.ensures.range in
-    put_at c.self.inside.entries.items c.in-Ok.place c.args.name c.args.texts c.index_mut.result.now c.self.invariant below is
-    ∙ ap (λ (e : MetadataEntry). each name_and_texts (slice_set c.self.inside.entries.items c.in-Ok.place (record e { texts = c.args.texts }))) (sym c.index_mut.ensures.value)
 
 -- the entries with a new one
 added : (c : goal.In_ok-insert-in-Err) → put (slice_cmp nat_cmp) c.args.name c.args.texts (each name_and_texts c.self.inside.entries.items)
@@ -26,14 +16,21 @@ added c =
     ∙ ap (each name_and_texts) (sym c.in_ok-insert-in-Err.ensures.items)
 
 pub invariant_of-self : goal.invariant_of-self
-invariant_of-self c = in_order c.self.inside.entries.items _ c.args.name c.args.texts c.self.invariant (replaced c)
+invariant_of-self c =
+    let is = rw (c.as_str.ensures, c.deref.ensures.value) at c.in-Ok.ensures.place in
+    let below = rw c.deref.ensures.value at c.in-Ok.ensures.range in
+    let replaced = put_at c.self.inside.entries.items c.in-Ok.place (record { name = c.args.name; texts = c.args.texts }) c.self.invariant below is in
+    in_order c.self.inside.entries.items _ c.args.name c.args.texts c.self.invariant replaced
 
 pub invariant_of-self-in-Continue-1 : goal.invariant_of-self-in-Continue-1
 invariant_of-self-in-Continue-1 c = in_order c.self.inside.entries.items c.insert.new.self.items c.args.name c.args.texts c.self.invariant (added c)
 
 pub returns-in-Ok-clause-ok : goal.returns-in-Ok-clause-ok
 returns-in-Ok-clause-ok c =
-    inserted c.self.inside.entries.items _ c.args.name c.args.texts c.self.invariant (replaced c)
+    let is = rw (c.as_str.ensures, c.deref.ensures.value) at c.in-Ok.ensures.place in
+    let below = rw c.deref.ensures.value at c.in-Ok.ensures.range in
+    let replaced = put_at c.self.inside.entries.items c.in-Ok.place (record { name = c.args.name; texts = c.args.texts }) c.self.invariant below is in
+    inserted c.self.inside.entries.items _ c.args.name c.args.texts c.self.invariant replaced
     ∙ ap (λ m. map.insert m c.args.name c.args.texts) c.self.view_is
 
 pub returns-in_ok-insert-in-Err-clause-ok : goal.returns-in_ok-insert-in-Err-clause-ok
