@@ -1,5 +1,5 @@
--- A path is written byte after byte.
-use Rattle.std.proofs.Common.{◌≡◌, ◌≢◌, ℕ, ◌+◌, ◌<◌, ◌==◌, true, false, cond, List, [], ◌∷◌, ◌++◌, length, take, refl, sym, ap, ◌∙◌, codes}
+-- Texts that are written piece after piece.
+use Rattle.std.proofs.Common.{◌≡◌, ◌≢◌, ℕ, ◌+◌, ◌<◌, ◌==◌, true, false, cond, List, [], ◌∷◌, ◌++◌, length, take, append_assoc, refl, sym, ap, ◌∙◌, codes}
 use Rattle.std.specs.Prelude.{get_or}
 use Rattle.std.proofs.lemmas.Bool.{eqb-true}
 use Rattle.std.proofs.lemmas.List.{take_more, flat_map_more}
@@ -23,3 +23,12 @@ plain_byte b percent lf cr = elim (b == 37) as (λ t. (b == 37) ≡ t → cond t
     ] refl
   ] refl
 ] refl
+
+-- five pieces, written one after another
+pub five_pieces : (one two three four five v w x y z : List ℕ)
+    → one ≡ v → two ≡ one ++ w → three ≡ two ++ x → four ≡ three ++ y → five ≡ four ++ z → five ≡ v ++ (w ++ (x ++ (y ++ z)))
+five_pieces one two three four five v w x y z e f g h k =
+    k ∙ ap (λ l. l ++ z) (h ∙ ap (λ l. l ++ y) (g ∙ ap (λ l. l ++ x) (f ∙ ap (λ l. l ++ w) e))) ∙ regroup
+  where
+    regroup : (((v ++ w) ++ x) ++ y) ++ z ≡ v ++ (w ++ (x ++ (y ++ z)))
+    regroup = simp append_assoc
