@@ -16,3 +16,4 @@ pub mod Whole
 pub mod Tells
 pub mod Names
 pub mod TagFileParts
+pub mod TagPaths

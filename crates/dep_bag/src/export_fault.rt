@@ -9,7 +9,7 @@ use std::error::Error;
 use std::fmt;
 
 /// Why a bag was not exported whole.
-#[derive(Clone, Copy, Debug, PartialEq, Eq)]
+#[derive(Clone, Copy, Debug)]
 pub enum ExportFault {
     /// There is no such object. Nothing was given to the sink.
     NoSuchObject,

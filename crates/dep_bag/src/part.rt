@@ -23,7 +23,7 @@ pub enum BagPart {
 
 /// A file of a bag that is no payload.
 #[derive(Clone, Copy)]
-enum TagFile {
+pub(crate) enum TagFile {
     Declaration,
     Information,
     Manifest(Algorithm),
@@ -49,8 +49,8 @@ pub fn bag_file(
     }
 }
 
-// The tag file that stands at this path.
-fn tag_file(path: &[u8]) -> Option<TagFile>
+/// The tag file that stands at this path.
+pub(crate) fn tag_file(path: &[u8]) -> Option<TagFile>
     ensures { result ≡ tag_file_at path.now }
 {
     if is_at(path, BAGIT) {
@@ -96,8 +96,8 @@ fn tag_text(alloc: Global, view: &ObjectView, file: TagFile) -> Result<Vec<u8>, 
     }
 }
 
-// The payload file at this path.
-fn stored_file(rows: &[FileRow], path: &[u8]) -> Option<BagPart>
+/// The payload file at this path.
+pub(crate) fn stored_file(rows: &[FileRow], path: &[u8]) -> Option<BagPart>
     ensures { result ≡ part_at path.now (map stored_part rows.now) }
 {
     for row in rows {

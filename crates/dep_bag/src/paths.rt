@@ -1,16 +1,16 @@
 //! The paths of a bag.
-ghost use Rattle.std.specs.Prelude.{◌≡◌, ◌==◌, ◌++◌, ◌∷◌, [], IfOk, IfSome, OnOk, bytes_eq, map, position};
+ghost use Rattle.std.specs.Prelude.{◌≡◌, ◌==◌, ◌++◌, IfOk, IfSome, OnOk, bytes_eq, map, position};
 ghost use Rattle.std.specs.List.{before_first, list_any};
 ghost use Rattle.std.specs.Option.{option_copied};
 ghost use Rattle.dep_types.specs.BagPaths.{tag_paths};
 ghost use Rattle.dep_types.specs.Limits.{IsStorable};
-ghost use Rattle.dep_docs_out.specs.Made.{Makes};
 ghost use Rattle.dep_manifest.specs.Growing.{Grows};
 ghost use Rattle.dep_bag.specs.Fronts.{IsBehind};
 ghost use Rattle.dep_manifest.specs.Told.{row_path};
 ghost use Rattle.dep_bag.specs.Parts.{in_folder, told_paths};
 ghost use Rattle.dep_bag.specs.Numbered.{file_number, number_written};
 
+use crate::part::{stored_file, tag_file};
 use dep_manifest::{
     BAG_INFO, BAGIT, MANIFEST_SHA256, MANIFEST_SHA512, METADATA, TAG_MANIFEST_SHA256,
     TAG_MANIFEST_SHA512, payload_path,
@@ -20,6 +20,17 @@ use dep_types::{FileRow, ObjectView, Text, TextList};
 use itoa::Buffer;
 use std::alloc::{AllocError, Global};
 
+/// Where the tag files stand, in the order of a bag's list.
+const TAG_PATHS: [&str; 7] = [
+    BAGIT,
+    BAG_INFO,
+    MANIFEST_SHA256,
+    MANIFEST_SHA512,
+    METADATA,
+    TAG_MANIFEST_SHA256,
+    TAG_MANIFEST_SHA512,
+];
+
 /// The greatest number that a table can hold.
 const GREATEST_KEY: u64 = 9_223_372_036_854_775_807;
 
@@ -28,31 +39,20 @@ const GREATEST_KEY: u64 = 9_223_372_036_854_775_807;
 pub fn bag_paths(alloc: Global, view: &ObjectView) -> Result<TextList, AllocError>
     ensures { IfOk result (λ paths. paths ≡ told_paths view.now) }
 {
-    let mut paths = tag_file_paths(alloc)?;
+    let mut paths = Vec::new(alloc);
+    add_tag_paths(alloc, &mut paths)?;
     for row in view.files.as_slice() {
         paths.push(payload_path(alloc, row)?)?;
     }
     Ok(TextList::from_vec(paths))
 }
 
-fn tag_file_paths(alloc: Global) -> Result<Vec<Text>, AllocError>
-    ensures { Makes result tag_paths }
+fn add_tag_paths(alloc: Global, paths: &mut Vec<Text>) -> Result<(), AllocError>
+    ensures { OnOk result (Grows paths.old paths.new tag_paths) }
 {
-    let mut paths = Vec::new(alloc);
-    add_path(alloc, &mut paths, BAGIT)?;
-    add_path(alloc, &mut paths, BAG_INFO)?;
-    add_path(alloc, &mut paths, MANIFEST_SHA256)?;
-    add_path(alloc, &mut paths, MANIFEST_SHA512)?;
-    add_path(alloc, &mut paths, METADATA)?;
-    add_path(alloc, &mut paths, TAG_MANIFEST_SHA256)?;
-    add_path(alloc, &mut paths, TAG_MANIFEST_SHA512)?;
-    Ok(paths)
-}
-
-fn add_path(alloc: Global, paths: &mut Vec<Text>, path: &str) -> Result<(), AllocError>
-    ensures { OnOk result (Grows paths.old paths.new (path.now ∷ [])) }
-{
-    paths.push(Text::copied(alloc, path)?)?;
+    for path in &TAG_PATHS {
+        paths.push(Text::copied(alloc, path)?)?;
+    }
     Ok(())
 }
 
@@ -72,25 +72,7 @@ pub fn is_payload_path(path: &[u8], row: &FileRow) -> bool
 pub fn has_bag_path(files: &[FileRow], path: &[u8]) -> bool
     ensures { result ≡ list_any (bytes_eq path.now) (tag_paths ++ map row_path files.now) }
 {
-    is_tag_path(path) || has_payload_path(files, path)
-}
-
-fn is_tag_path(path: &[u8]) -> bool
-    ensures { result ≡ list_any (bytes_eq path.now) tag_paths }
-{
-    path == BAGIT.as_bytes()
-        || path == BAG_INFO.as_bytes()
-        || path == MANIFEST_SHA256.as_bytes()
-        || path == MANIFEST_SHA512.as_bytes()
-        || path == METADATA.as_bytes()
-        || path == TAG_MANIFEST_SHA256.as_bytes()
-        || path == TAG_MANIFEST_SHA512.as_bytes()
-}
-
-fn has_payload_path(files: &[FileRow], path: &[u8]) -> bool
-    ensures { result ≡ list_any (λ row. bytes_eq path.now (row_path row)) files.now }
-{
-    files.iter().any(|row| is_payload_path(path, row))
+    tag_file(path).is_some() || stored_file(files, path).is_some()
 }
 
 /// Returns the number of the one file that can stand at this path of a bag, if one can: that of a path

@@ -1,5 +1,5 @@
 -- What a reader was fed, and what its answer says.
-use Rattle.std.proofs.Common.{◌≡◌, ℕ, ◌+◌, ◌-◌, ◌≤◌, true, false, List, [], ◌++◌, length, take, drop, Option, Some, None, refl, sym, ap, subst, ◌∙◌, arith, append_assoc, append-nil, length-append, length-take, take_all, inl, inr}
+use Rattle.std.proofs.Common.{◌≡◌, ℕ, ◌+◌, ◌-◌, ◌<◌, ◌≤◌, true, false, List, [], ◌∷◌, ◌++◌, length, take, drop, Option, Some, None, refl, sym, ap, subst, ◌∙◌, arith, append_assoc, append-nil, length-append, length-take, take_all, slice_index_or, inl, inr}
 use Rattle.std.specs.Option.{option_to_list}
 use Rattle.std.proofs.lemmas.Bool.{cases_Bool}
 use Rattle.std.proofs.lemmas.List.{take-append-drop, take-append-le, length-take-le}
@@ -168,3 +168,8 @@ fault_front limit content piece fault h =
     let all : length piece ≡ length h.text + length h.behind = ap length h.stream_is ∙ length-append h.text h.behind in
     let front : take (length h.text) piece ≡ h.text = ap (take (length h.text)) h.stream_is ∙ take-append_seam h.text h.behind in
     (length h.text, omega arith, subst (λ t. IsBodyFault limit Chunked t fault) (sym front) (content, h.shown))
+
+-- the first byte is that of the first one taken
+pub after_one : (P : List ℕ → Type 0) (text rest : List ℕ) → 0 < length rest → P (text ++ slice_index_or rest 0 0 ∷ []) → P (text ++ take 1 rest)
+after_one P text [] some h = absurd (omega (arith, some))
+after_one P text (x ∷ rest) some h = h

@@ -17,7 +17,7 @@ pub enum Framing {
 }
 
 /// Why a body can't be read.
-#[derive(Clone, Copy, Debug, PartialEq, Eq)]
+#[derive(Clone, Copy, Debug)]
 pub enum FrameFault {
     /// The fields that frame the body, or its chunks, are malformed.
     Bad,

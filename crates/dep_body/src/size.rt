@@ -94,8 +94,12 @@ fn with_digit(value: Option<u64>, digit: u64, limit: u64) -> Option<u64>
     requires { digit < 16 }
     ensures { result ≡ with_digit limit value digit }
 {
-    let number = value?.checked_mul(16)?.checked_add(digit)?;
-    if number <= limit { Some(number) } else { None }
+    let number = u128::from(value?) * 16 + u128::from(digit);
+    if number <= u128::from(limit) {
+        Some(number as u64)
+    } else {
+        None
+    }
 }
 
 fn begins_extension(byte: u8) -> bool

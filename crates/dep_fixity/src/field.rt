@@ -13,7 +13,7 @@ use std::error::Error;
 use std::fmt;
 
 /// The digests that a request promises of its content, an algorithm each, where it promises one.
-#[derive(Clone, Copy, Debug, PartialEq, Eq)]
+#[derive(Clone, Copy, Debug)]
 pub struct DigestList {
     /// The SHA-256.
     pub sha256: Option<[u8; 32]>,
@@ -43,7 +43,7 @@ impl DigestList {
 }
 
 /// Why a Digest field is refused.
-#[derive(Clone, Copy, Debug, PartialEq, Eq)]
+#[derive(Clone, Copy, Debug)]
 pub enum DigestFault {
     /// A member has no `=`, a SHA-256 is neither 64 hexadecimal digits nor the base64 of 32 octets, a SHA-512 is
     /// neither 128 hexadecimal digits nor the base64 of 64 octets, or two members promise different ones.

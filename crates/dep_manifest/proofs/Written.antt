@@ -1,7 +1,6 @@
--- A path is written byte after byte.
-use Rattle.std.proofs.Common.{◌≡◌, ◌≢◌, ℕ, ◌+◌, ◌<◌, ◌==◌, true, false, cond, List, [], ◌∷◌, ◌++◌, length, take, refl, sym, ap, ◌∙◌, codes}
+-- Texts that are written piece after piece.
+use Rattle.std.proofs.Common.{◌≡◌, ℕ, ◌+◌, ◌<◌, List, [], ◌∷◌, ◌++◌, length, take, append_assoc, sym, ap, ◌∙◌}
 use Rattle.std.specs.Prelude.{get_or}
-use Rattle.std.proofs.lemmas.Bool.{eqb-true}
 use Rattle.std.proofs.lemmas.List.{take_more, flat_map_more}
 use Rattle.dep_manifest.specs.Manifest.{encoded_byte, encoded_path}
 
@@ -11,15 +10,11 @@ one_byte_more path before text new i byte within is so_far added =
     added ∙ (ap (λ (t : List ℕ). t ++ encoded_byte byte) so_far ∙ (flat_map_more encoded_byte before (take i path) byte
     ∙ ap (λ (xs : List ℕ). before ++ encoded_path xs) (sym (take_more path i 0 within ∙ ap (λ (b : ℕ). take i path ++ b ∷ []) is))))
 
--- any other byte stands as it is
-pub plain_byte : (b : ℕ) → b ≢ 37 → b ≢ 10 → b ≢ 13 → encoded_byte b ≡ b ∷ []
-plain_byte b percent lf cr = elim (b == 37) as (λ t. (b == 37) ≡ t → cond t (codes "%25") (cond (b == 10) (codes "%0A") (cond (b == 13) (codes "%0D") (b ∷ []))) ≡ b ∷ []) [
-  | true ↦ λ e. absurd (percent (eqb-true b 37 e))
-  | false ↦ λ _. elim (b == 10) as (λ t. (b == 10) ≡ t → cond t (codes "%0A") (cond (b == 13) (codes "%0D") (b ∷ [])) ≡ b ∷ []) [
-    | true ↦ λ e. absurd (lf (eqb-true b 10 e))
-    | false ↦ λ _. elim (b == 13) as (λ t. (b == 13) ≡ t → cond t (codes "%0D") (b ∷ []) ≡ b ∷ []) [
-      | true ↦ λ e. absurd (cr (eqb-true b 13 e))
-      | false ↦ λ _. refl
-    ] refl
-  ] refl
-] refl
+-- five pieces, written one after another
+pub five_pieces : (one two three four five v w x y z : List ℕ)
+    → one ≡ v → two ≡ one ++ w → three ≡ two ++ x → four ≡ three ++ y → five ≡ four ++ z → five ≡ v ++ (w ++ (x ++ (y ++ z)))
+five_pieces one two three four five v w x y z e f g h k =
+    k ∙ ap (λ l. l ++ z) (h ∙ ap (λ l. l ++ y) (g ∙ ap (λ l. l ++ x) (f ∙ ap (λ l. l ++ w) e))) ∙ regroup
+  where
+    regroup : (((v ++ w) ++ x) ++ y) ++ z ≡ v ++ (w ++ (x ++ (y ++ z)))
+    regroup = simp append_assoc

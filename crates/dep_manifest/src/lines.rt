@@ -1,12 +1,13 @@
 //! The line of a file.
-ghost use Rattle.std.specs.Prelude.{OnOk};
+ghost use Rattle.std.specs.Prelude.{◌≡◌, OnOk};
 ghost use Rattle.hex.specs.Hex.{encode_lower};
 ghost use Rattle.dep_manifest.specs.Growing.{Grows};
-ghost use Rattle.dep_manifest.specs.Manifest.{checksum_in, encoded_path, manifest_line, digest_in};
+ghost use Rattle.dep_manifest.specs.Manifest.{checksum_in, encoded_byte, encoded_path, manifest_line, digest_in};
 
 use crate::algorithm::Algorithm;
 use dep_fixity::{Digests, to_hex, to_hex512};
 use std::alloc::AllocError;
+use std::slice;
 
 /// Adds the line of a file: its digest by an algorithm in hexadecimal digits, two blanks, and its path (RFC
 /// 8493, section 2.1.3). It fails for want of memory alone.
@@ -41,12 +42,19 @@ fn add_encoded(text: &mut Vec<u8>, path: &[u8]) -> Result<(), AllocError>
     ensures { OnOk result (Grows text.old text.new (encoded_path path.now)) }
 {
     for byte in path {
-        match *byte {
-            b'%' => text.extend_from_slice(b"%25")?,
-            b'\n' => text.extend_from_slice(b"%0A")?,
-            b'\r' => text.extend_from_slice(b"%0D")?,
-            other => text.push(other)?,
-        }
+        text.extend_from_slice(encoded(byte))?;
     }
     Ok(())
+}
+
+// A byte as a manifest writes it.
+fn encoded(byte: &u8) -> &[u8]
+    ensures { result.now ≡ encoded_byte byte.now }
+{
+    match *byte {
+        b'%' => b"%25",
+        b'\n' => b"%0A",
+        b'\r' => b"%0D",
+        _ => slice::from_ref(byte),
+    }
 }

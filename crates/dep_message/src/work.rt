@@ -200,8 +200,8 @@ impl Work {
                 Ok(Found::Nothing)
             }
             Ok(Fed::Done(used)) => Ok(self.take(used, request.head, request.reader.content())),
-            Ok(Fed::Bad) => Ok(fault_of(request.head, FrameFault::Bad)),
-            Ok(Fed::TooLarge) => Ok(fault_of(request.head, FrameFault::TooLarge)),
+            Ok(Fed::Bad) => Ok(fault_of(request, FrameFault::Bad)),
+            Ok(Fed::TooLarge) => Ok(fault_of(request, FrameFault::TooLarge)),
         }
     }
 
@@ -224,10 +224,10 @@ impl Work {
     }
 }
 
-fn fault_of(head: Head, fault: FrameFault) -> Found
-    ensures { result ≡ Found.Fault (refusal_of fault) (is_bare head) }
+fn fault_of(request: ChunkedRequest, fault: FrameFault) -> Found
+    ensures { result ≡ Found.Fault (refusal_of fault) (is_bare request.head) }
 {
-    let bare = is_without_body(&head);
-    drop(head);
+    let bare = is_without_body(&request.head);
+    drop(request);
     Found::Fault(refusal_for(fault), bare)
 }

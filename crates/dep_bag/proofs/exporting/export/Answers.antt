@@ -2,7 +2,7 @@ use Rattle.std.proofs.Common.{[], ◌++◌, refl, sym, subst, ◌∙◌}
 use Rattle.std.proofs.KnownBytes.{Appends-nil, Appends-trans}
 use Rattle.dep_bag.specs.Bag.{payload}
 use Rattle.dep_bag.specs.Giving.{AreFilesOf}
-use Rattle.dep_bag.proofs.GivenParts.{cause_later, cause_passed}
+use Rattle.dep_bag.proofs.GivenParts.{cause_later, cause_passed, err_keeps}
 use Rattle.dep_bag.proofs.Still.{still_then}
 use Rattle.dep_bag.proofs.Exported.{found_view, none_found, are_payload, tags_exported, all_exported}
 use Rattle.dep_bag.proofs.exporting.export.Goals as goal
@@ -60,3 +60,19 @@ pub returns-clause-still : goal.returns-clause-still
 returns-clause-still g c =
     still_then (g.S.BagSource.condition c.args.source.now) (g.S.BagSource.condition c.view.new.self) (g.S.BagSource.condition c.give_payload.new.source)
     c.in_ok-view.ensures.kept c.in_ok-view.ensures.still c.give_payload.ensures.still
+
+pub returns-in_err-view-clause-still : goal.returns-in_err-view-clause-still
+returns-in_err-view-clause-still g c = c.in_err-view.ensures.still
+
+pub returns-in_default-clause-kept : goal.returns-in_default-clause-kept
+returns-in_default-clause-kept g c = λ clean s at. tt
+
+pub returns-in_default-clause-still : goal.returns-in_default-clause-still
+returns-in_default-clause-still g c = c.in_ok-view.ensures.still
+
+pub returns-in_err-give_tag_files-clause-kept : goal.returns-in_err-give_tag_files-clause-kept
+returns-in_err-give_tag_files-clause-kept g c = λ clean s at.
+    err_keeps c.from_residual-in_err-give_tag_files.result c.in_err-give_tag_files.field-0.0 _ c.from_residual-in_err-give_tag_files.ensures.1
+
+pub returns-in_err-give_tag_files-clause-still : goal.returns-in_err-give_tag_files-clause-still
+returns-in_err-give_tag_files-clause-still g c = c.in_ok-view.ensures.still

@@ -7,6 +7,12 @@ use Rattle.dep_message.proofs.Taking.{takes_continue, takes_fault, takes_message
 use Rattle.dep_message.proofs.intake.Intake.next.Goals as goal
 use Rattle.dep_message.proofs.intake.Intake.next.Goals.{then-closes, else-closes}
 
+pub invariant_of-self-in-Nothing : goal.invariant_of-self-in-Nothing
+invariant_of-self-in-Nothing c = let found = rw c.in-Nothing.is at c.in_ok-next.ensures in found.1.known
+
+pub invariant_of-self-in-Continue : goal.invariant_of-self-in-Continue
+invariant_of-self-in-Continue c = let found = rw c.in-Continue.is at c.in_ok-next.ensures in found.1.known
+
 pub returns-in-Continue : goal.returns-in-Continue
 returns-in-Continue c =
     let work = c.self.inside.work in
