@@ -1,6 +1,7 @@
 -- JSON data by plain lists, and the tokens that a writer gives it as.
-use Rattle.std.specs.Prelude.{◌≡◌, ℕ, List, [], ◌∷◌, ◌++◌, flat_map, map}
-use Rattle.json.specs.Token.{Token}
+use Rattle.std.specs.Prelude.{◌≡◌, ℕ, Bool, false, List, [], ◌∷◌, ◌++◌, flat_map, map, refl}
+use Rattle.std.specs.Coded.{Coded, code_by, coded×, coded_bool}
+use Rattle.json.specs.Token.{Token, tokens_code}
 use Rattle.json.specs.Tree.{json_tokens}
 use Rattle.serde_json.specs.Data.{Data, number, unsigned, string, array, object, Items, no_items, item, Members, no_members, member}
 use Rattle.serde_json.specs.Written.{outline}
@@ -50,18 +51,33 @@ member_tokens (m ∷ ms) = Token.key m.0 ∷ (value_tokens m.1 ++ member_tokens 
 abbrev pub item_tokens : List Data → List Token
 item_tokens ds = flat_map value_tokens ds
 
--- these tokens were written behind the old ones
-pub record Adds (old new added : List Token) : Type 0 where
-  pub is : new ≡ old ++ added
+-- a document that is being written: whether a part could not be written, and the tokens that were
+pub record Draft : Type 0 where
+  pub has_failed : Bool
+  pub tokens : List Token
+
+-- it is stored as the pair of its fields
+abbrev pub draft_code : Coded Draft
+draft_code = code_by (Bool × List Token) (coded× coded_bool tokens_code)
+    (λ d. (d.has_failed, d.tokens)) (λ p. record { has_failed = p.0; tokens = p.1 }) (λ _. refl)
+
+-- one in which nothing stands
+abbrev pub nothing : Draft
+nothing = record { has_failed = false; tokens = [] }
+
+-- where nothing has failed, these tokens were written behind the old ones
+pub record Adds (old new : Draft) (added : List Token) : Type 0 where
+  pub is : new.has_failed ≡ false
+      → (old.has_failed ≡ false) × (new.tokens ≡ old.tokens ++ added)
 
 -- these members of an object were
-pub record AddsMembers (old new : List Token) (ms : List (List ℕ × Data)) : Type 0 where
-  pub is : new ≡ old ++ member_tokens ms
+pub record AddsMembers (old new : Draft) (ms : List (List ℕ × Data)) : Type 0 where
+  pub is : Adds old new (member_tokens ms)
 
 -- this member of an object was
-abbrev pub AddsMember : (old new : List Token) (name : List ℕ) → Data → Type 0
+abbrev pub AddsMember : (old new : Draft) (name : List ℕ) → Data → Type 0
 AddsMember old new name d = AddsMembers old new ((name, d) ∷ [])
 
 -- these items of a list were
-pub record AddsItems (old new : List Token) (ds : List Data) : Type 0 where
-  pub is : new ≡ old ++ item_tokens ds
+pub record AddsItems (old new : Draft) (ds : List Data) : Type 0 where
+  pub is : Adds old new (item_tokens ds)

@@ -1,12 +1,12 @@
 //! A document of JSON that is being written.
-ghost use Rattle.std.specs.Prelude.{◌≡◌, ℕ, List, ◌∷◌, ◌++◌, [], IfOk, OnOk, decimal};
+ghost use Rattle.std.specs.Prelude.{◌≡◌, ◌∷◌, ◌++◌, [], ℕ, List, IfOk, decimal, false};
 ghost use Rattle.json.specs.Token.{begin_object, end_object, begin_array, end_array, key};
 ghost use Rattle.json.specs.Print.{print};
 ghost use Rattle.serde_json.specs.Data.{boolean};
 ghost use Rattle.dep_moment.specs.Civil.{rfc3339_text};
-ghost use Rattle.dep_docs_out.specs.Made.{Makes, MakesText};
+ghost use Rattle.dep_docs_out.specs.Made.{MakesText};
 ghost use Rattle.dep_docs_out.specs.Json as spec;
-ghost use Rattle.dep_docs_out.specs.Json.{Adds, AddsItems, AddsMember};
+ghost use Rattle.dep_docs_out.specs.Json.{Adds, AddsItems, AddsMember, nothing};
 
 use dep_moment::Moment;
 use itoa::Buffer;
@@ -17,21 +17,23 @@ use std::marker::Model;
 /// What the names in each document mean (JSON-LD 1.1, section 3.1).
 pub(crate) const CONTEXT: &str = "https://swordapp.github.io/swordv3/swordv3.jsonld";
 
-/// A document of JSON that is being written, of which only the text is kept. Contracts see the tokens so far.
+/// A document of JSON that is being written, of which only the text is kept. That a part could not be written, for want
+/// of memory, is told once it is ended. Contracts see the tokens so far, and whether one was not written.
 #[derive(Drop)]
 pub(crate) struct Document {
     out: Writer,
+    has_failed: bool,
 }
 
 impl Model for Document {
-    ghost use Rattle.std.specs.Prelude.{◌≡◌, List, []};
-    ghost use Rattle.json.specs.Token.{Token, tokens_code};
+    ghost use Rattle.std.specs.Prelude.{◌≡◌, []};
+    ghost use Rattle.dep_docs_out.specs.Json.{Draft, draft_code};
 
-    ghost Value = { List Token };
+    ghost Value = { Draft };
 
-    ghost coded = { tokens_code };
+    ghost coded = { draft_code };
 
-    ghost view = { λ d. d.out.tokens };
+    ghost view = { λ d. record { has_failed = d.has_failed; tokens = d.out.tokens } };
 
     ghost invariant = { λ d. d.out.before ≡ [] };
 }
@@ -39,136 +41,138 @@ impl Model for Document {
 impl Document {
     /// A document that begins with `{`.
     pub fn begun(alloc: Global) -> Result<Document, AllocError>
-        ensures { IfOk result (λ document. document ≡ begin_object ∷ []) }
+        ensures { IfOk result (λ document. Adds nothing document (begin_object ∷ [])) }
     {
         let mut document = Document {
             out: Writer::new(Vec::with_capacity(alloc, 1024)?),
+            has_failed: false,
         };
-        document.begin_object()?;
+        document.begin_object();
         Ok(document)
     }
 
     /// Begins an object.
-    pub fn begin_object(&mut self) -> Result<(), AllocError>
-        ensures { OnOk result (Adds self.old self.new (begin_object ∷ [])) }
+    pub fn begin_object(&mut self)
+        ensures { Adds self.old self.new (begin_object ∷ []) }
     {
-        self.out.begin_object()
+        self.has_failed |= self.out.begin_object().is_err();
     }
 
     /// Ends an object.
-    pub fn end_object(&mut self) -> Result<(), AllocError>
-        ensures { OnOk result (Adds self.old self.new (end_object ∷ [])) }
+    pub fn end_object(&mut self)
+        ensures { Adds self.old self.new (end_object ∷ []) }
     {
-        self.out.end_object()
+        self.has_failed |= self.out.end_object().is_err();
     }
 
     /// Begins a list.
-    pub fn begin_list(&mut self) -> Result<(), AllocError>
-        ensures { OnOk result (Adds self.old self.new (begin_array ∷ [])) }
+    pub fn begin_list(&mut self)
+        ensures { Adds self.old self.new (begin_array ∷ []) }
     {
-        self.out.begin_array()
+        self.has_failed |= self.out.begin_array().is_err();
     }
 
     /// Ends a list.
-    pub fn end_list(&mut self) -> Result<(), AllocError>
-        ensures { OnOk result (Adds self.old self.new (end_array ∷ [])) }
+    pub fn end_list(&mut self)
+        ensures { Adds self.old self.new (end_array ∷ []) }
     {
-        self.out.end_array()
+        self.has_failed |= self.out.end_array().is_err();
     }
 
     /// Adds the name of a member, whose value is to follow.
-    pub fn name(&mut self, name: &str) -> Result<(), AllocError>
-        ensures { OnOk result (Adds self.old self.new (key name.now ∷ [])) }
+    pub fn name(&mut self, name: &str)
+        ensures { Adds self.old self.new (key name.now ∷ []) }
     {
-        self.out.key(name)
+        self.has_failed |= self.out.key(name).is_err();
     }
 
     /// Adds a text, as an item of a list or as the value of a member.
-    pub fn text_item(&mut self, text: &str) -> Result<(), AllocError>
-        ensures { OnOk result (AddsItems self.old self.new (spec.text text.now ∷ [])) }
+    pub fn text_item(&mut self, text: &str)
+        ensures { AddsItems self.old self.new (spec.text text.now ∷ []) }
     {
-        self.out.string(text)
+        self.has_failed |= self.out.string(text).is_err();
     }
 
     /// Adds a whole number, as an item of a list or as the value of a member.
-    pub fn whole_number_item(&mut self, number: u64) -> Result<(), AllocError>
-        ensures { OnOk result (AddsItems self.old self.new (spec.whole_number number ∷ [])) }
+    pub fn whole_number_item(&mut self, number: u64)
+        ensures { AddsItems self.old self.new (spec.whole_number number ∷ []) }
     {
-        self.out.u64(number)
+        self.has_failed |= self.out.u64(number).is_err();
     }
 
     /// Adds a member that is a text.
-    pub fn text(&mut self, name: &str, text: &str) -> Result<(), AllocError>
-        ensures { OnOk result (AddsMember self.old self.new name.now (spec.text text.now)) }
+    pub fn text(&mut self, name: &str, text: &str)
+        ensures { AddsMember self.old self.new name.now (spec.text text.now) }
     {
-        self.name(name)?;
-        self.text_item(text)
+        self.name(name);
+        self.text_item(text);
     }
 
-    /// Adds a member that is a text. It fails where the text could not be made.
-    pub fn made_text(
-        &mut self,
-        name: &str,
-        made: Result<String, AllocError>,
-    ) -> Result<(), AllocError>
+    /// Adds a member that is a text, if the text could be made.
+    pub fn made_text(&mut self, name: &str, made: Result<String, AllocError>)
         ensures { (bytes : List ℕ) → MakesText made bytes
-            → OnOk result (AddsMember self.old self.new name.now (spec.text bytes)) }
+            → AddsMember self.old self.new name.now (spec.text bytes) }
     {
-        let text = made?;
-        self.text(name, text.as_str())
+        match made {
+            Ok(text) => self.text(name, text.as_str()),
+            Err(_) => self.has_failed = true,
+        }
     }
 
     /// Adds a member that is a text: the decimal digits of a number.
-    pub fn decimal(&mut self, name: &str, number: u64) -> Result<(), AllocError>
-        ensures { OnOk result (AddsMember self.old self.new name.now (spec.text (decimal number))) }
+    pub fn decimal(&mut self, name: &str, number: u64)
+        ensures { AddsMember self.old self.new name.now (spec.text (decimal number)) }
     {
         let mut digits = Buffer::new();
-        self.text(name, digits.format(number))
+        self.text(name, digits.format(number));
     }
 
     /// Adds a member that is a text: the day and the time of day of a moment in UTC (RFC 3339).
-    pub fn moment(&mut self, name: &str, moment: Moment) -> Result<(), AllocError>
-        ensures { OnOk result
-            (AddsMember self.old self.new name.now (spec.text (rfc3339_text moment))) }
+    pub fn moment(&mut self, name: &str, moment: Moment)
+        ensures { AddsMember self.old self.new name.now (spec.text (rfc3339_text moment)) }
     {
         let bytes = moment.rfc3339();
         let Ok(text) = str::from_utf8(&bytes) else {
             unreachable!();
         };
-        self.text(name, text)
+        self.text(name, text);
     }
 
     /// Adds a member that is a whole number.
-    pub fn whole_number(&mut self, name: &str, number: u64) -> Result<(), AllocError>
-        ensures { OnOk result (AddsMember self.old self.new name.now (spec.whole_number number)) }
+    pub fn whole_number(&mut self, name: &str, number: u64)
+        ensures { AddsMember self.old self.new name.now (spec.whole_number number) }
     {
-        self.name(name)?;
-        self.whole_number_item(number)
+        self.name(name);
+        self.whole_number_item(number);
     }
 
     /// Adds a member that is `true` or `false`.
-    pub fn flag(&mut self, name: &str, flag: bool) -> Result<(), AllocError>
-        ensures { OnOk result (AddsMember self.old self.new name.now (boolean flag)) }
+    pub fn flag(&mut self, name: &str, flag: bool)
+        ensures { AddsMember self.old self.new name.now (boolean flag) }
     {
-        self.name(name)?;
-        self.out.boolean(flag)
+        self.name(name);
+        self.has_failed |= self.out.boolean(flag).is_err();
     }
 
     /// Adds a member that is a list of one text.
-    pub fn only(&mut self, name: &str, text: &str) -> Result<(), AllocError>
-        ensures { OnOk result (AddsMember self.old self.new name.now (spec.only text.now)) }
+    pub fn only(&mut self, name: &str, text: &str)
+        ensures { AddsMember self.old self.new name.now (spec.only text.now) }
     {
-        self.name(name)?;
-        self.begin_list()?;
-        self.text_item(text)?;
-        self.end_list()
+        self.name(name);
+        self.begin_list();
+        self.text_item(text);
+        self.end_list();
     }
 
-    /// Ends the object that was begun first, and returns the bytes of the document.
+    /// Ends the object that was begun first, and returns the bytes of the document, if all of it was written.
     pub fn ended(mut self) -> Result<Vec<u8>, AllocError>
-        ensures { Makes result (print (self ++ end_object ∷ [])) }
+        ensures { IfOk result (λ bytes. (self.has_failed ≡ false)
+            × (bytes.items ≡ print (self.tokens ++ end_object ∷ []))) }
     {
-        self.end_object()?;
+        self.end_object();
+        if self.has_failed {
+            return Err(AllocError);
+        }
         Ok(self.out.into_inner())
     }
 }

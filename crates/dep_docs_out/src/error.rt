@@ -1,5 +1,4 @@
 //! The error document.
-ghost use Rattle.std.specs.Prelude.{OnOk};
 ghost use Rattle.dep_docs_out.specs.Made.{Makes, MakesText};
 ghost use Rattle.dep_docs_out.specs.Documents.{error_document, error_members, log_of};
 ghost use Rattle.dep_docs_out.specs.Json.{AddsMembers};
@@ -15,25 +14,19 @@ pub fn error_doc(alloc: Global, refusal: Refusal, clock: Moment) -> Result<Vec<u
     ensures { Makes result (error_document refusal clock) }
 {
     let mut document = Document::begun(alloc)?;
-    add_error(&mut document, alloc, refusal, clock)?;
+    add_error(&mut document, alloc, refusal, clock);
     document.ended()
 }
 
 // Why the request was refused, and its number in the log.
-fn add_error(
-    document: &mut Document,
-    alloc: Global,
-    refusal: Refusal,
-    clock: Moment,
-) -> Result<(), AllocError>
-    ensures { OnOk result
-        (AddsMembers document.old document.new (error_members refusal (log_of refusal) clock)) }
+fn add_error(document: &mut Document, alloc: Global, refusal: Refusal, clock: Moment)
+    ensures { AddsMembers document.old document.new (error_members refusal (log_of refusal) clock) }
 {
-    document.text("@context", CONTEXT)?;
-    document.text("@type", refusal.name())?;
-    document.text("error", refusal.text())?;
-    document.made_text("log", log_text(alloc, refusal))?;
-    document.moment("timestamp", clock)
+    document.text("@context", CONTEXT);
+    document.text("@type", refusal.name());
+    document.text("error", refusal.text());
+    document.made_text("log", log_text(alloc, refusal));
+    document.moment("timestamp", clock);
 }
 
 // The log: the number of the refusal.

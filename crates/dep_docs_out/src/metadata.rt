@@ -1,5 +1,4 @@
 //! The metadata document.
-ghost use Rattle.std.specs.Prelude.{OnOk};
 ghost use Rattle.dep_docs_out.specs.Made.{Makes};
 ghost use Rattle.dep_docs_out.specs.Documents.{bag_metadata_document, metadata_document, metadata_url, placed_metadata, texts_data, texts_members, unplaced_metadata};
 ghost use Rattle.dep_docs_out.specs.Json.{AddsMember, AddsMembers, text_list};
@@ -20,7 +19,7 @@ pub fn metadata_doc(
     ensures { Makes result (metadata_document config.now object metadata.now) }
 {
     let mut document = Document::begun(alloc)?;
-    add_placed(&mut document, alloc, config, object, metadata)?;
+    add_placed(&mut document, alloc, config, object, metadata);
     document.ended()
 }
 
@@ -31,14 +30,14 @@ fn add_placed(
     config: &Config,
     object: u64,
     metadata: &Metadata,
-) -> Result<(), AllocError>
-    ensures { OnOk result (AddsMembers document.old document.new
-        (placed_metadata (metadata_url config.now object) metadata.now)) }
+)
+    ensures { AddsMembers document.old document.new
+        (placed_metadata (metadata_url config.now object) metadata.now) }
 {
-    document.text("@context", CONTEXT)?;
-    document.made_text("@id", metadata_url(alloc, config, object))?;
-    document.text("@type", "Metadata")?;
-    add_metadata(document, metadata)
+    document.text("@context", CONTEXT);
+    document.made_text("@id", metadata_url(alloc, config, object));
+    document.text("@type", "Metadata");
+    add_metadata(document, metadata);
 }
 
 /// Returns the metadata document of an object as it stands in the object's bag, where it has no URL.
@@ -46,32 +45,28 @@ pub fn bag_metadata_doc(alloc: Global, metadata: &Metadata) -> Result<Vec<u8>, A
     ensures { Makes result (bag_metadata_document metadata.now) }
 {
     let mut document = Document::begun(alloc)?;
-    add_unplaced(&mut document, metadata)?;
+    add_unplaced(&mut document, metadata);
     document.ended()
 }
 
-fn add_unplaced(document: &mut Document, metadata: &Metadata) -> Result<(), AllocError>
-    ensures { OnOk result
-        (AddsMembers document.old document.new (unplaced_metadata metadata.now)) }
+fn add_unplaced(document: &mut Document, metadata: &Metadata)
+    ensures { AddsMembers document.old document.new (unplaced_metadata metadata.now) }
 {
-    document.text("@context", CONTEXT)?;
-    document.text("@type", "Metadata")?;
-    add_metadata(document, metadata)
+    document.text("@context", CONTEXT);
+    document.text("@type", "Metadata");
+    add_metadata(document, metadata);
 }
 
-fn add_metadata(document: &mut Document, metadata: &Metadata) -> Result<(), AllocError>
-    ensures { OnOk result
-        (AddsMembers document.old document.new (texts_members metadata.now)) }
+fn add_metadata(document: &mut Document, metadata: &Metadata)
+    ensures { AddsMembers document.old document.new (texts_members metadata.now) }
 {
     for entry in metadata.entries() {
-        add_entry(document, entry)?;
+        add_entry(document, entry);
     }
-    Ok(())
 }
 
-fn add_entry(document: &mut Document, entry: &MetadataEntry) -> Result<(), AllocError>
-    ensures { OnOk result
-        (AddsMember document.old document.new entry.now.name (texts_data entry.now.texts)) }
+fn add_entry(document: &mut Document, entry: &MetadataEntry)
+    ensures { AddsMember document.old document.new entry.now.name (texts_data entry.now.texts) }
 {
     match entry.texts.as_slice() {
         [text] => document.text(entry.name.as_str(), text.as_str()),
@@ -79,14 +74,13 @@ fn add_entry(document: &mut Document, entry: &MetadataEntry) -> Result<(), Alloc
     }
 }
 
-fn add_texts(document: &mut Document, name: &str, texts: &[Text]) -> Result<(), AllocError>
-    ensures { OnOk result
-        (AddsMember document.old document.new name.now (text_list texts.now)) }
+fn add_texts(document: &mut Document, name: &str, texts: &[Text])
+    ensures { AddsMember document.old document.new name.now (text_list texts.now) }
 {
-    document.name(name)?;
-    document.begin_list()?;
+    document.name(name);
+    document.begin_list();
     for text in texts {
-        document.text_item(text.as_str())?;
+        document.text_item(text.as_str());
     }
-    document.end_list()
+    document.end_list();
 }

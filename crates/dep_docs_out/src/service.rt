@@ -1,5 +1,5 @@
 //! The service document.
-ghost use Rattle.std.specs.Prelude.{OnOk, codes};
+ghost use Rattle.std.specs.Prelude.{codes};
 ghost use Rattle.dep_docs_out.specs.Made.{Makes};
 ghost use Rattle.dep_docs_out.specs.Documents.{digests_data, service_document, service_limits, service_offers, service_places, url};
 ghost use Rattle.dep_docs_out.specs.Json.{AddsMember, AddsMembers};
@@ -15,63 +15,62 @@ pub fn service_doc(alloc: Global, config: &Config) -> Result<Vec<u8>, AllocError
     ensures { Makes result (service_document config.now) }
 {
     let mut document = Document::begun(alloc)?;
-    add_offers(&mut document, alloc, config)?;
-    add_limits(&mut document, config)?;
-    add_places(&mut document, alloc, config)?;
+    add_offers(&mut document, alloc, config);
+    add_limits(&mut document, config);
+    add_places(&mut document, alloc, config);
     document.ended()
 }
 
 // What the server takes.
 #[tactic(auto, unfolding(crate::specs::Documents::service_offers))]
-fn add_offers(document: &mut Document, alloc: Global, config: &Config) -> Result<(), AllocError>
-    ensures { OnOk result (AddsMembers document.old document.new
-        (service_offers (url config.now (codes "/service")))) }
+fn add_offers(document: &mut Document, alloc: Global, config: &Config)
+    ensures { AddsMembers document.old document.new
+        (service_offers (url config.now (codes "/service"))) }
 {
-    document.text("@context", CONTEXT)?;
-    document.made_text("@id", url(alloc, config, "/service"))?;
-    document.text("@type", "ServiceDocument")?;
-    document.only("accept", "*/*")?;
-    document.flag("acceptDeposits", true)?;
-    document.only("acceptMetadata", METADATA_FORMAT)?;
-    document.only("acceptPackaging", BINARY_PACKAGING)
+    document.text("@context", CONTEXT);
+    document.made_text("@id", url(alloc, config, "/service"));
+    document.text("@type", "ServiceDocument");
+    document.only("accept", "*/*");
+    document.flag("acceptDeposits", true);
+    document.only("acceptMetadata", METADATA_FORMAT);
+    document.only("acceptPackaging", BINARY_PACKAGING);
 }
 
 // What it is called, and its limits.
 #[tactic(auto, unfolding(crate::specs::Documents::service_limits))]
-fn add_limits(document: &mut Document, config: &Config) -> Result<(), AllocError>
-    ensures { OnOk result (AddsMembers document.old document.new (service_limits config.now)) }
+fn add_limits(document: &mut Document, config: &Config)
+    ensures { AddsMembers document.old document.new (service_limits config.now) }
 {
-    document.flag("byReferenceDeposit", true)?;
-    document.text("dc:title", config.title.as_str())?;
-    document.text("dcterms:abstract", config.abstract_text.as_str())?;
-    add_digests(document)?;
-    document.whole_number("maxAssembledSize", config.max_assembled)?;
-    document.whole_number("maxSegments", config.max_segments)?;
-    document.whole_number("maxUploadSize", config.max_upload)
+    document.flag("byReferenceDeposit", true);
+    document.text("dc:title", config.title.as_str());
+    document.text("dcterms:abstract", config.abstract_text.as_str());
+    add_digests(document);
+    document.whole_number("maxAssembledSize", config.max_assembled);
+    document.whole_number("maxSegments", config.max_segments);
+    document.whole_number("maxUploadSize", config.max_upload);
 }
 
 // The digests of a content that a request may promise, by their names in a Digest field (RFC 5843).
-fn add_digests(document: &mut Document) -> Result<(), AllocError>
-    ensures { OnOk result
-        (AddsMember document.old document.new (codes "digest") digests_data) }
+fn add_digests(document: &mut Document)
+    ensures { AddsMember document.old document.new (codes "digest") digests_data }
 {
-    document.name("digest")?;
-    document.begin_list()?;
-    document.text_item("SHA-256")?;
-    document.text_item("SHA-512")?;
-    document.end_list()
+    document.name("digest");
+    document.begin_list();
+    document.text_item("SHA-256");
+    document.text_item("SHA-512");
+    document.end_list();
 }
 
 // Where it takes it.
 #[tactic(auto, unfolding(crate::specs::Documents::service_places))]
-fn add_places(document: &mut Document, alloc: Global, config: &Config) -> Result<(), AllocError>
-    ensures { OnOk result (AddsMembers document.old document.new
+fn add_places(document: &mut Document, alloc: Global, config: &Config)
+    ensures { AddsMembers document.old document.new
         (service_places config.now (url config.now (codes "/service"))
-        (url config.now (codes "/staging")))) }
+        (url config.now (codes "/staging"))) }
 {
-    document.flag("onBehalfOf", config.on_behalf_of)?;
-    document.made_text("root", url(alloc, config, "/service"))?;
-    document.made_text("staging", url(alloc, config, "/staging"))?;
-    document.whole_number("stagingMaxIdle", config.staging_max_idle)?;
-    document.text("version", "http://purl.org/net/sword/3.0")
+    document.flag("onBehalfOf", config.on_behalf_of);
+    document.made_text("root", url(alloc, config, "/service"));
+    document.made_text("staging", url(alloc, config, "/staging"));
+    document.whole_number("stagingMaxIdle", config.staging_max_idle);
+    document.text("version", "http://purl.org/net/sword/3.0");
 }

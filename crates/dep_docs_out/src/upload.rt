@@ -1,5 +1,5 @@
 //! The document of an upload.
-ghost use Rattle.std.specs.Prelude.{◌≡◌, true, IfOk, OnOk, codes, option_map};
+ghost use Rattle.std.specs.Prelude.{◌≡◌, true, IfOk, codes, option_map};
 ghost use Rattle.dep_docs_out.specs.Documents.{expecting, segments_data, upload_members, upload_url};
 ghost use Rattle.dep_docs_out.specs.Segments.{are_segments, ordered_upload_document};
 ghost use Rattle.dep_docs_out.specs.Json.{AddsMember, AddsMembers, number_list};
@@ -25,7 +25,7 @@ pub fn upload_doc(
         return Ok(None);
     }
     let mut document = Document::begun(alloc)?;
-    add_upload(&mut document, alloc, config, upload, received)?;
+    add_upload(&mut document, alloc, config, upload, received);
     Ok(Some(document.ended()?))
 }
 
@@ -50,62 +50,58 @@ fn add_upload(
     config: &Config,
     upload: &UploadRow,
     received: &[u64],
-) -> Result<(), AllocError>
+)
     requires { are_segments received.now ≡ true }
-    ensures { OnOk result (AddsMembers document.old document.new
-        (upload_members (upload_url config.now upload.now.upload) upload.now received.now)) }
+    ensures { AddsMembers document.old document.new
+        (upload_members (upload_url config.now upload.now.upload) upload.now received.now) }
 {
-    document.text("@context", CONTEXT)?;
-    document.made_text("@id", upload_url(alloc, config, upload.upload))?;
-    document.text("@type", "Temporary")?;
-    add_segments(document, upload, received)
+    document.text("@context", CONTEXT);
+    document.made_text("@id", upload_url(alloc, config, upload.upload));
+    document.text("@type", "Temporary");
+    add_segments(document, upload, received);
 }
 
 // Which segments it waits for, and which it has.
-fn add_segments(
-    document: &mut Document,
-    upload: &UploadRow,
-    received: &[u64],
-) -> Result<(), AllocError>
+fn add_segments(document: &mut Document, upload: &UploadRow, received: &[u64])
     requires { are_segments received.now ≡ true }
-    ensures { OnOk result (AddsMember document.old document.new (codes "segments")
-        (segments_data upload.now received.now)) }
+    ensures { AddsMember document.old document.new (codes "segments")
+        (segments_data upload.now received.now) }
 {
-    document.name("segments")?;
-    document.begin_object()?;
-    add_expecting(document, upload.count, received)?;
-    add_received(document, received)?;
-    document.whole_number("segment_size", upload.segment_size)?;
-    document.whole_number("size", upload.size)?;
-    document.end_object()
+    document.name("segments");
+    document.begin_object();
+    add_expecting(document, upload.count, received);
+    add_received(document, received);
+    document.whole_number("segment_size", upload.segment_size);
+    document.whole_number("size", upload.size);
+    document.end_object();
 }
 
-fn add_expecting(document: &mut Document, count: u64, received: &[u64]) -> Result<(), AllocError>
+fn add_expecting(document: &mut Document, count: u64, received: &[u64])
     requires { are_segments received.now ≡ true }
-    ensures { OnOk result (AddsMember document.old document.new (codes "expecting")
-        (number_list (expecting count received.now))) }
+    ensures { AddsMember document.old document.new (codes "expecting")
+        (number_list (expecting count received.now)) }
 {
-    document.name("expecting")?;
-    document.begin_list()?;
+    document.name("expecting");
+    document.begin_list();
     let mut left = received;
     for before in 0..count {
         let number = before + 1;
         match left.split_first() {
             Some((first, rest)) if *first == number => left = rest,
-            _ => document.whole_number_item(number)?,
+            _ => document.whole_number_item(number),
         }
     }
-    document.end_list()
+    document.end_list();
 }
 
-fn add_received(document: &mut Document, received: &[u64]) -> Result<(), AllocError>
-    ensures { OnOk result (AddsMember document.old document.new (codes "received")
-        (number_list received.now)) }
+fn add_received(document: &mut Document, received: &[u64])
+    ensures { AddsMember document.old document.new (codes "received")
+        (number_list received.now) }
 {
-    document.name("received")?;
-    document.begin_list()?;
+    document.name("received");
+    document.begin_list();
     for number in received {
-        document.whole_number_item(*number)?;
+        document.whole_number_item(*number);
     }
-    document.end_list()
+    document.end_list();
 }

@@ -1,5 +1,4 @@
 //! URLs of the server.
-ghost use Rattle.std.specs.Prelude.{};
 ghost use Rattle.dep_docs_out.specs.Made.{MakesText};
 ghost use Rattle.dep_docs_out.specs.Documents.{file_url, files_url, metadata_url, object_url, upload_url, url};
 

@@ -7,4 +7,4 @@ use Rattle.dep_docs_out.proofs.error.error_doc.Goals as goal
 pub returns : goal.returns
 unfolding error_data
 returns c =
-    IfOk-weaker c.ended.result _ _ (λ text e. e ∙ whole_text c.in_ok-document.ensures c.in_ok-add_error.ensures) c.ended.ensures
+    IfOk-weaker c.ended.result _ _ (λ text e. e.1 ∙ whole_text c.in_ok-document.ensures c.add_error.ensures e.0) c.ended.ensures

@@ -18,7 +18,7 @@ members_of-pairs (e ∷ es) = ap (λ ms. (e.name, texts_data e.texts) ∷ ms) (m
 pub loop-entry-preserved : goal.loop-entry-preserved
 unfolding member_of
 loop-entry-preserved c =
-    member_next member_of c.entries-entry-items.result.now c.loop-entry.entry-index c.entry-item.result (omega arith) c.entry-item.is c.loop-entry.invariant c.in_ok-add_entry.ensures
+    member_next member_of c.entries-entry-items.result.now c.loop-entry.entry-index c.entry-item.result (omega arith) c.entry-item.is c.loop-entry.invariant c.add_entry.ensures
 
 pub returns : goal.returns
 unfolding member_of

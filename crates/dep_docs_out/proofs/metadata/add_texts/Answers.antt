@@ -1,5 +1,4 @@
 use Rattle.std.proofs.Common.{arith}
-use Rattle.std.proofs.lemmas.Result.{on_ok_weaker}
 use Rattle.dep_docs_out.specs.Json.{text}
 use Rattle.dep_docs_out.proofs.TokenLemmas.{list_member}
 use Rattle.dep_docs_out.proofs.Loops.{item_next, items_all}
@@ -8,9 +7,9 @@ use Rattle.dep_docs_out.proofs.metadata.add_texts.Goals as goal
 pub loop-text-preserved : goal.loop-text-preserved
 loop-text-preserved c =
     item_next (λ s. text s) c.args.texts.now c.loop-text.text-index c.text-item.result (omega arith) c.text-item.is c.loop-text.invariant
-    (rw c.as_str.ensures at c.in_ok-text_item.ensures)
+    (rw c.as_str.ensures at c.text_item.ensures)
 
 pub returns : goal.returns
 returns c =
     let texts = items_all (λ s. text s) c.args.texts.now c.loop-text.text-index (omega arith) c.loop-text.invariant in
-    on_ok_weaker c.end_list.result (λ e. list_member c.in_ok-name.ensures c.in_ok-begin_list.ensures texts e) c.end_list.ensures
+    list_member c.name.ensures c.begin_list.ensures texts c.end_list.ensures

@@ -1,6 +1,5 @@
-use Rattle.std.proofs.lemmas.Result.{on_ok_weaker}
 use Rattle.dep_docs_out.proofs.TokenLemmas.{◌⨾◌}
 use Rattle.dep_docs_out.proofs.metadata.add_unplaced.Goals as goal
 
 pub returns : goal.returns
-returns c = on_ok_weaker c.add_metadata.result (λ e. c.in_ok-text.ensures ⨾ c.in_ok-text-2.ensures ⨾ e) c.add_metadata.ensures
+returns c = c.text.ensures ⨾ c.text-2.ensures ⨾ c.add_metadata.ensures

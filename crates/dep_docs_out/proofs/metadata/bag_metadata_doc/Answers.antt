@@ -6,4 +6,4 @@ use Rattle.dep_docs_out.proofs.metadata.bag_metadata_doc.Goals as goal
 
 pub returns : goal.returns
 unfolding bag_metadata_document bag_metadata_data
-returns c = IfOk-weaker c.ended.result _ _ (λ text e. e ∙ whole_text c.in_ok-document.ensures c.in_ok-add_unplaced.ensures) c.ended.ensures
+returns c = IfOk-weaker c.ended.result _ _ (λ text e. e.1 ∙ whole_text c.in_ok-document.ensures c.add_unplaced.ensures e.0) c.ended.ensures

@@ -1,5 +1,4 @@
 use Rattle.std.proofs.Common.{codes}
-use Rattle.std.proofs.lemmas.Result.{on_ok_weaker}
 use Rattle.dep_docs_out.specs.Documents.{service_places, url}
 use Rattle.dep_docs_out.proofs.TokenLemmas.{◌⨾◌}
 use Rattle.dep_docs_out.proofs.service.add_places.Goals as goal
@@ -9,9 +8,8 @@ unfolding service_places
 returns c =
     let root = url c.args.config.now (codes "/service") in
     let staging = url c.args.config.now (codes "/staging") in
-    on_ok_weaker c.text.result (λ e.
-    c.in_ok-flag.ensures
-    ⨾ c.in_ok-made_text.ensures root c.url.ensures
-    ⨾ c.in_ok-made_text-2.ensures staging c.url-2.ensures
-    ⨾ c.in_ok-whole_number.ensures
-    ⨾ e) c.text.ensures
+    c.flag.ensures
+    ⨾ c.made_text.ensures root c.url.ensures
+    ⨾ c.made_text-2.ensures staging c.url-2.ensures
+    ⨾ c.whole_number.ensures
+    ⨾ c.text.ensures

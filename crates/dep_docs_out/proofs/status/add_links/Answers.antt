@@ -1,5 +1,4 @@
 use Rattle.std.proofs.Common.{map, arith}
-use Rattle.std.proofs.lemmas.Result.{on_ok_weaker}
 use Rattle.dep_docs_out.specs.Json.{AddsItems}
 use Rattle.dep_docs_out.specs.Documents.{link_data, links_data}
 use Rattle.dep_docs_out.proofs.TokenLemmas.{list_member}
@@ -9,7 +8,7 @@ use Rattle.dep_docs_out.proofs.status.add_links.Goals as goal
 pub loop-file-preserved : goal.loop-file-preserved
 loop-file-preserved c =
     let link = link_data c.args.config.now c.args.view.now.object.object in
-    item_next link c.as_slice-file-items.result.now c.loop-file.file-index c.file-item.result (omega arith) c.file-item.is c.loop-file.invariant c.in_ok-add_link.ensures
+    item_next link c.as_slice-file-items.result.now c.loop-file.file-index c.file-item.result (omega arith) c.file-item.is c.loop-file.invariant c.add_link.ensures
 
 pub returns : goal.returns
 unfolding links_data
@@ -18,4 +17,4 @@ returns c =
     let written : AddsItems c.begin_list.new.self c.loop-file.document (map link c.as_slice-file-items.result.now) =
     items_all link c.as_slice-file-items.result.now c.loop-file.file-index (omega arith) c.loop-file.invariant in
     let links = rw c.as_slice-file-items.ensures at written in
-    on_ok_weaker c.end_list.result (λ e. list_member c.in_ok-name.ensures c.in_ok-begin_list.ensures links e) c.end_list.ensures
+    list_member c.name.ensures c.begin_list.ensures links c.end_list.ensures

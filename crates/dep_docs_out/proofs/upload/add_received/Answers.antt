@@ -1,5 +1,4 @@
 use Rattle.std.proofs.Common.{arith}
-use Rattle.std.proofs.lemmas.Result.{on_ok_weaker}
 use Rattle.dep_docs_out.specs.Json.{whole_number}
 use Rattle.dep_docs_out.proofs.TokenLemmas.{list_member}
 use Rattle.dep_docs_out.proofs.Loops.{number_next, items_all}
@@ -7,9 +6,9 @@ use Rattle.dep_docs_out.proofs.upload.add_received.Goals as goal
 
 pub loop-number-preserved : goal.loop-number-preserved
 loop-number-preserved c =
-    number_next (λ n. whole_number n) c.args.received.now c.loop-number.number-index (omega arith) c.loop-number.invariant c.in_ok-whole_number_item.ensures
+    number_next (λ n. whole_number n) c.args.received.now c.loop-number.number-index (omega arith) c.loop-number.invariant c.whole_number_item.ensures
 
 pub returns : goal.returns
 returns c =
     let numbers = items_all (λ n. whole_number n) c.args.received.now c.loop-number.number-index (omega arith) c.loop-number.invariant in
-    on_ok_weaker c.end_list.result (λ e. list_member c.in_ok-name.ensures c.in_ok-begin_list.ensures numbers e) c.end_list.ensures
+    list_member c.name.ensures c.begin_list.ensures numbers c.end_list.ensures
