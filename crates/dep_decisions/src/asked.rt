@@ -265,22 +265,16 @@ fn new_file(
       behalf = behalf_of operation.now;
     }) }
 {
+    let behalf = match &operation.fields.on_behalf_of {
+        Field::Value(behalf) => Some(Text::copied(alloc, behalf.as_str())?),
+        _ => None,
+    };
     Ok(NewFile {
         name: Text::copied(alloc, name)?,
         media: Text::copied(alloc, media)?,
         source,
-        behalf: behalf(alloc, operation)?,
+        behalf,
     })
-}
-
-// On whose behalf the request is made.
-fn behalf(alloc: Global, operation: &Operation<'_>) -> Result<Option<Text>, AllocError>
-    ensures { IfOk result (λ behalf. behalf ≡ behalf_of operation.now) }
-{
-    match &operation.fields.on_behalf_of {
-        Field::Value(behalf) => Ok(Some(Text::copied(alloc, behalf.as_str())?)),
-        _ => Ok(None),
-    }
 }
 
 // The uploads that the entries point at, as files.
