@@ -1,5 +1,5 @@
 -- Replies that show files, by what was read of them.
-use Rattle.std.proofs.Common.{◌≡◌, ◌⊎◌, inl, inr, ℕ, List, Option, Some, None, refl, sym, ap, subst, ◌∙◌, true}
+use Rattle.std.proofs.Common.{◌≡◌, ℕ, List, Option, Some, None, refl, sym, ap, subst, ◌∙◌, true}
 use Rattle.std.specs.Option.{option_map, option_map_or, option_and_then}
 use Rattle.std.specs.FinMap as finmap
 use Rattle.dep_types.specs.State.{State, Object, File, file_at}
@@ -7,14 +7,12 @@ use Rattle.dep_types.specs.Rows.{file_row, object_view}
 use Rattle.dep_types.specs.declared.rows.FileRow.{FileRow}
 use Rattle.dep_types.specs.declared.rows.ObjectView.{ObjectView}
 use Rattle.dep_types.specs.declared.config.Config.{Config}
-use Rattle.dep_types.specs.declared.target.Method.{Method}
 use Rattle.dep_types.specs.declared.target.Resource.{Resource}
-use Rattle.dep_types.specs.declared.target.Resource.TheVariants as resource
 use Rattle.dep_answers.specs.Answers.{Answer, StoredContent, answer, is_silent}
 use Rattle.dep_answers.specs.Bags.{shown_in_bag}
 use Rattle.dep_answers.specs.Performing.{IsReply, Says}
-use Rattle.dep_answers.specs.Replies.{shown_answer, answer_to}
-use Rattle.dep_answers.specs.Subjects.{shown_at, subject_at, subject_of}
+use Rattle.dep_answers.specs.Replies.{shown_answer}
+use Rattle.dep_answers.specs.Subjects.{shown_at, subject_at}
 use Rattle.dep_answers.specs.Told.{file_answer, bag_answer}
 use Rattle.dep_answers.specs.declared.performed.Delivery.{Delivery}
 use Rattle.dep_answers.specs.declared.performed.FileId.{FileId}
@@ -114,7 +112,7 @@ no_bag_answer s n path sh not e =
     ap (λ (o : Option Object). answer 200 (option_and_then (λ (x : Object). shown_in_bag x path) o) None None)
     (sym (no_object n sh (finmap.get s.objects n) not e))
 
--- ---- by the resource and the method
+-- ---- by the resource
 
 -- the reply that shows a resource that is this one
 pub shows : (config : Config) (s : State) (sh : Shown) (delivery : Delivery) (said : Option Performed) (r q : Resource) → r ≡ q
@@ -122,16 +120,3 @@ pub shows : (config : Config) (s : State) (sh : Shown) (delivery : Delivery) (sa
     → sh ≡ shown_at s (subject_at r) → Says s (shown_answer config s r) delivery said
 shows config s sh delivery said r q is says =
     subst (λ (x : Resource). sh ≡ shown_at s (subject_at x) → Says s (shown_answer config s x) delivery said) (sym is) says
-
--- the reply to a method that is this one
-pub answers : (config : Config) (s : State) (sh : Shown) (delivery : Delivery) (said : Option Performed) (r : Resource) (m n : Method) → m ≡ n
-    → (sh ≡ shown_at s (subject_of s.next r n) → Says s (answer_to config s r n) delivery said)
-    → sh ≡ shown_at s (subject_of s.next r m) → Says s (answer_to config s r m) delivery said
-answers config s sh delivery said r m n is says =
-    subst (λ (x : Method). sh ≡ shown_at s (subject_of s.next r x) → Says s (answer_to config s r x) delivery said) (sym is) says
-
--- what is never read shows nothing
-pub unread : (config : Config) (s : State) (r : Resource) → ((n : ℕ) × (r ≡ resource.FileSet n)) ⊎ (r ≡ resource.Staging)
-    → answer 200 None None None ≡ shown_answer config s r
-unread config s r (inl h) = ap (λ (x : Resource). shown_answer config s x) (sym h.1)
-unread config s r (inr h) = ap (λ (x : Resource). shown_answer config s x) (sym h)

@@ -1,5 +1,7 @@
 -- What answers tell of what was read is what they tell of the state.
-use Rattle.std.proofs.Common.{◌≡◌, ℕ, Bool, true, List, [], ◌∷◌, ◌++◌, Option, Some, None, if◌then◌else◌, refl, ap, ◌∙◌, map as each}
+use Rattle.std.proofs.Common.{◌≡◌, ◌<◌, ℕ, ◌+◌, Bool, true, List, [], ◌∷◌, ◌++◌, length, take, get_or, codes, Option, Some, None, if◌then◌else◌, refl, sym, ap, ◌∙◌, append-nil, append_assoc, map as each}
+use Rattle.std.proofs.lemmas.Grind.{flat_map-append}
+use Rattle.std.proofs.lemmas.List.{take_more}
 use Rattle.std.specs.Option.{option_map, option_map_or}
 use Rattle.std.specs.FinMap as finmap
 use Rattle.dep_types.specs.State.{State, Object, File, Upload, file_at}
@@ -7,16 +9,19 @@ use Rattle.dep_types.specs.Sound.{IsSound}
 use Rattle.dep_types.specs.BagPaths.{bag_paths, tag_paths, payload_path}
 use Rattle.dep_types.specs.Rows.{object_row, object_view, file_row, upload_row}
 use Rattle.dep_types.specs.declared.config.Config.{Config}
+use Rattle.dep_types.specs.declared.target.Method.{Method}
+use Rattle.dep_types.specs.declared.target.Method.TheVariants as method
+use Rattle.dep_types.specs.declared.target.Resource.{Resource}
 use Rattle.dep_types.specs.declared.target.Resource.TheVariants as resource
 use Rattle.dep_docs_out.specs.Segments.{are_segments}
 use Rattle.dep_docs_out.specs.Documents.{status_document, metadata_document, upload_document, object_url, upload_url}
 use Rattle.dep_bag.specs.Bag.{list_text}
 use Rattle.dep_manifest.specs.Told.{row_path}
 use Rattle.dep_decisions.specs.Rules.{tag_at}
-use Rattle.dep_answers.specs.Answers.{Document, PlainText, answer}
-use Rattle.dep_answers.specs.Replies.{status_answer, created_answer, opened_answer, shown_answer}
-use Rattle.dep_answers.specs.Subjects.{shown_at}
-use Rattle.dep_answers.specs.Told.{told_status, told_created, told_metadata, told_list, told_tag, told_upload, told_opened}
+use Rattle.dep_answers.specs.Answers.{Answer, Document, PlainText, answer}
+use Rattle.dep_answers.specs.Replies.{answer_to, last_object, last_upload, status_answer, created_answer, opened_answer, shown_answer}
+use Rattle.dep_answers.specs.Subjects.{shown_at, subject_at, subject_of}
+use Rattle.dep_answers.specs.Told.{told_change, told_text, told_status, told_created, told_metadata, told_list, told_tag, told_upload, told_opened}
 use Rattle.dep_answers.specs.declared.subject.Shown.{Shown}
 use Rattle.dep_answers.specs.declared.subject.Shown.TheVariants as shown
 use Rattle.dep_answers.specs.declared.subject.Subject.TheVariants as subject
@@ -118,6 +123,16 @@ same_paths : (n : ℕ) (es : List (ℕ × File))
 same_paths n [] = refl
 same_paths n (e ∷ es) = ap (λ (l : List (List ℕ)). payload_path e.0 e.1.name ∷ l) (same_paths n es)
 
+-- a line for one more path
+pub lines_more : (paths : List (List ℕ)) (i : ℕ) (p : List ℕ) → i < length paths → p ≡ get_or paths i p
+    → list_text (take (i + 1) paths) ≡ (list_text (take i paths) ++ p) ++ codes "\n"
+lines_more paths i p h is =
+    ap list_text (take_more paths i p h)
+    ∙ flat_map-append (λ (path : List ℕ). path ++ codes "\n") (take i paths) (get_or paths i p ∷ [])
+    ∙ ap (λ (path : List ℕ). list_text (take i paths) ++ list_text (path ∷ [])) (sym is)
+    ∙ ap (λ (line : List ℕ). list_text (take i paths) ++ line) (append-nil (p ++ codes "\n"))
+    ∙ sym (append_assoc (list_text (take i paths)) p (codes "\n"))
+
 list_by : (n : ℕ) (o : Option Object)
     → told_list (option_map_or (λ (x : Object). shown.Object (object_view n x)) o shown.Nothing)
     ≡ answer 200 (option_map (λ (x : Object). PlainText (list_text (bag_paths x))) o) None None
@@ -127,3 +142,54 @@ list_by n (Some o) = ap (λ (l : List (List ℕ)). answer 200 (Some (PlainText (
 pub list_is : (config : Config) (s : State) (n : ℕ) (sh : Shown) → sh ≡ shown_at s (subject.Object n)
     → told_list sh ≡ shown_answer config s (resource.BagList n)
 list_is config s n sh e = ap told_list e ∙ list_by n (finmap.get s.objects n)
+
+-- ---- by the resource and the method
+
+pub text_is : (config : Config) (s : State) → IsSound s → (r : Resource) (sh : Shown)
+    → ((n f : ℕ) → r ≡ resource.File n f → ⊥) → ((n : ℕ) (path : List ℕ) → r ≡ resource.BagFile n path → ⊥)
+    → sh ≡ shown_at s (subject_at r) → told_text config r sh ≡ shown_answer config s r
+text_is config s sound resource.Service sh not_file not_path e = refl
+text_is config s sound (resource.Object n) sh not_file not_path e = status_is config s n sh e
+text_is config s sound (resource.Metadata n) sh not_file not_path e = metadata_is config s n sh e
+text_is config s sound (resource.FileSet n) sh not_file not_path e = refl
+text_is config s sound (resource.File n f) sh not_file not_path e = absurd (not_file n f refl)
+text_is config s sound resource.Staging sh not_file not_path e = refl
+text_is config s sound (resource.Upload u) sh not_file not_path e = upload_is config s sound u sh e
+text_is config s sound (resource.BagList n) sh not_file not_path e = list_is config s n sh e
+text_is config s sound (resource.BagFile n path) sh not_file not_path e = absurd (not_path n path refl)
+
+abbrev tagged : Option ℕ → Answer
+tagged tag = answer 204 None tag None
+
+posted_is : (config : Config) (s : State) → IsSound s → (r : Resource) (sh : Shown) → sh ≡ shown_at s (subject_of s.next r method.Post)
+    → told_change config method.Post r sh ≡ answer_to config s r method.Post
+posted_is config s sound resource.Service sh e = created_is config s (last_object s) sh e
+posted_is config s sound (resource.Object n) sh e = status_is config s n sh e
+posted_is config s sound (resource.Metadata n) sh e = refl
+posted_is config s sound (resource.FileSet n) sh e = refl
+posted_is config s sound (resource.File n f) sh e = refl
+posted_is config s sound resource.Staging sh e = opened_is config s sound (last_upload s) sh e
+posted_is config s sound (resource.Upload u) sh e = refl
+posted_is config s sound (resource.BagList n) sh e = refl
+posted_is config s sound (resource.BagFile n path) sh e = refl
+
+put_is : (config : Config) (s : State) (r : Resource) (sh : Shown) → sh ≡ shown_at s (subject_of s.next r method.Put)
+    → told_change config method.Put r sh ≡ answer_to config s r method.Put
+put_is config s resource.Service sh e = refl
+put_is config s (resource.Object n) sh e = status_is config s n sh e
+put_is config s (resource.Metadata n) sh e = ap tagged (metadata_tag_is s n sh e)
+put_is config s (resource.FileSet n) sh e = ap tagged (files_tag_is s n sh e)
+put_is config s (resource.File n f) sh e = ap tagged (file_tag_is s n f sh e)
+put_is config s resource.Staging sh e = refl
+put_is config s (resource.Upload u) sh e = refl
+put_is config s (resource.BagList n) sh e = refl
+put_is config s (resource.BagFile n path) sh e = refl
+
+pub change_is : (config : Config) (s : State) → IsSound s → (m : Method) (r : Resource) (sh : Shown)
+    → (m ≡ method.Get → ⊥) → (m ≡ method.Head → ⊥) → sh ≡ shown_at s (subject_of s.next r m)
+    → told_change config m r sh ≡ answer_to config s r m
+change_is config s sound method.Get r sh not_get not_head e = absurd (not_get refl)
+change_is config s sound method.Head r sh not_get not_head e = absurd (not_head refl)
+change_is config s sound method.Post r sh not_get not_head e = posted_is config s sound r sh e
+change_is config s sound method.Put r sh not_get not_head e = put_is config s r sh e
+change_is config s sound method.Delete r sh not_get not_head e = refl

@@ -5,8 +5,10 @@ use Rattle.dep_types.specs.State.{State, file_at}
 use Rattle.dep_types.specs.declared.config.Config.{Config}
 use Rattle.dep_types.specs.declared.rows.UploadRow.{UploadRow}
 use Rattle.dep_types.specs.declared.target.Resource.{Resource}
-use Rattle.dep_types.specs.declared.target.Resource.TheVariants.{Metadata, FileSet, File}
-use Rattle.dep_docs_out.specs.Documents.{status_document, metadata_document, object_url, upload_url}
+use Rattle.dep_types.specs.declared.target.Resource.TheVariants.{Service, Object, Metadata, FileSet, File, Staging, Upload, BagList}
+use Rattle.dep_types.specs.declared.target.Method.{Method}
+use Rattle.dep_types.specs.declared.target.Method.TheVariants.{Post, Put}
+use Rattle.dep_docs_out.specs.Documents.{service_document, status_document, metadata_document, object_url, upload_url}
 use Rattle.dep_docs_out.specs.Segments.{ordered_upload_document}
 use Rattle.dep_bag.specs.Bag.{list_text}
 use Rattle.dep_bag.specs.Parts.{told_paths}
@@ -69,6 +71,26 @@ abbrev pub told_opened : Config → Shown → Answer
 told_opened config (shown.Upload row received) =
     answer 201 (ordered_upload config row received) None (Some (upload_url config row.upload))
 told_opened config sh = answer 201 None None None
+
+-- ---- by the resource and the method
+
+-- what a resource shows that isn't the content of a file
+abbrev pub told_text : Config → Resource → Shown → Answer
+told_text config Service sh = answer 200 (Some (Document (service_document config))) None None
+told_text config (Object n) sh = told_status config sh
+told_text config (Metadata n) sh = told_metadata config sh
+told_text config (Upload u) sh = told_upload config sh
+told_text config (BagList n) sh = told_list sh
+told_text config resource sh = answer 200 None None None
+
+-- the answer to a POST, a PUT and a DELETE
+abbrev pub told_change : Config → Method → Resource → Shown → Answer
+told_change config Post Service sh = told_created config sh
+told_change config Post (Object n) sh = told_status config sh
+told_change config Post Staging sh = told_opened config sh
+told_change config Put (Object n) sh = told_status config sh
+told_change config Put resource sh = answer 204 None (told_tag resource sh) None
+told_change config method resource sh = answer 204 None None None
 
 -- ---- files and bags
 

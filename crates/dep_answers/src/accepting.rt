@@ -2,17 +2,17 @@
 ghost use Rattle.std.specs.Prelude.{◌≡◌, IfOk, IfSome, Some, None};
 ghost use Rattle.dep_types.specs.State.{State};
 ghost use Rattle.dep_types.specs.Sound.{IsSound};
-ghost use Rattle.dep_types.specs.declared.target.Method.TheVariants.{Post, Put};
 ghost use Rattle.dep_docs_out.specs.Documents.{service_document};
 ghost use Rattle.dep_answers.specs.Answers.{answer, Document};
 ghost use Rattle.dep_answers.specs.Performing.{HasEnd, Says};
-ghost use Rattle.dep_answers.specs.Replies.{answer_to, shown_answer};
-ghost use Rattle.dep_answers.specs.Subjects.{shown_at, subject_at, subject_of};
+ghost use Rattle.dep_answers.specs.Replies.{shown_answer};
+ghost use Rattle.dep_answers.specs.Subjects.{shown_at, subject_at};
 ghost use Rattle.dep_answers.specs.Telling.{SaysShown};
+ghost use Rattle.dep_answers.specs.Told.{told_change, told_text};
 
 use crate::answer::{Answer, ReplyText};
 use crate::bags::{bag_list, bag_reply};
-use crate::objects::{changed, created, metadata, status};
+use crate::objects::{created, metadata, put, status};
 use crate::performed::{Delivery, Performed};
 use crate::service::Service;
 use crate::stored::file_reply;
@@ -40,13 +40,7 @@ pub fn accepted(
 {
     match target.method {
         Method::Get | Method::Head => show(alloc, service, &target.resource, shown, delivery),
-        Method::Post => {
-            posted(alloc, service.config(), &target.resource, shown)?.say(alloc, delivery)
-        }
-        Method::Put => {
-            put(alloc, service.config(), &target.resource, shown)?.say(alloc, delivery)
-        }
-        Method::Delete => Answer::without_content(Status::NoContent).say(alloc, delivery),
+        _ => changed(alloc, service.config(), target, shown)?.say(alloc, delivery),
     }
 }
 
@@ -63,16 +57,29 @@ fn show(
         → Says s (shown_answer service.now s resource.now) delivery said) }
     ensures ends { IfOk result (λ said. IfSome said HasEnd) }
 {
-    let config = service.config();
     match resource {
-        Resource::Service => service_document(alloc, service)?.say(alloc, delivery),
-        Resource::Object(_) => status(alloc, config, shown)?.say(alloc, delivery),
-        Resource::Metadata(_) => metadata(alloc, config, shown)?.say(alloc, delivery),
         Resource::File(..) => file_reply(alloc, shown, delivery),
-        Resource::Upload(_) => upload(alloc, config, shown)?.say(alloc, delivery),
-        Resource::BagList(_) => bag_list(alloc, shown)?.say(alloc, delivery),
         Resource::BagFile(_, path) => bag_reply(alloc, shown, path.as_slice(), delivery),
-        Resource::FileSet(_) | Resource::Staging => Ok(None),
+        _ => text(alloc, service, resource, shown)?.say(alloc, delivery),
+    }
+}
+
+// What a resource shows that isn't the content of a file.
+fn text(
+    alloc: Global,
+    service: &Service,
+    resource: &Resource,
+    shown: &Shown,
+) -> Result<Answer, AllocError>
+    ensures { IfOk result (λ a. a ≡ told_text service.now resource.now shown.now) }
+{
+    match resource {
+        Resource::Service => service_document(alloc, service),
+        Resource::Object(_) => status(alloc, service.config(), shown),
+        Resource::Metadata(_) => metadata(alloc, service.config(), shown),
+        Resource::Upload(_) => upload(alloc, service.config(), shown),
+        Resource::BagList(_) => bag_list(alloc, shown),
+        _ => Ok(Answer::without_content(Status::Ok)),
     }
 }
 
@@ -84,38 +91,21 @@ fn service_document(alloc: Global, service: &Service) -> Result<Answer, AllocErr
     Ok(Answer::showing(Status::Ok, ReplyText::document(document)))
 }
 
-// The answer to a POST.
-fn posted(
+// The answer to a POST, a PUT and a DELETE.
+fn changed(
     alloc: Global,
     config: &Config,
-    resource: &Resource,
+    target: &Target,
     shown: &Shown,
 ) -> Result<Answer, AllocError>
-    ensures { IfOk result (λ a. (s : State) → IsSound s
-        → shown.now ≡ shown_at s (subject_of s.next resource.now Post)
-        → a ≡ answer_to config.now s resource.now Post) }
+    ensures { IfOk result (λ a.
+        a ≡ told_change config.now target.now.method target.now.resource shown.now) }
 {
-    match resource {
-        Resource::Service => created(alloc, config, shown),
-        Resource::Object(_) => status(alloc, config, shown),
-        Resource::Staging => opened(alloc, config, shown),
+    match (target.method, &target.resource) {
+        (Method::Post, Resource::Service) => created(alloc, config, shown),
+        (Method::Post | Method::Put, Resource::Object(_)) => status(alloc, config, shown),
+        (Method::Post, Resource::Staging) => opened(alloc, config, shown),
+        (Method::Put, resource) => Ok(put(resource, shown)),
         _ => Ok(Answer::without_content(Status::NoContent)),
-    }
-}
-
-// The answer to a PUT.
-fn put(
-    alloc: Global,
-    config: &Config,
-    resource: &Resource,
-    shown: &Shown,
-) -> Result<Answer, AllocError>
-    ensures { IfOk result (λ a. (s : State)
-        → shown.now ≡ shown_at s (subject_of s.next resource.now Put)
-        → a ≡ answer_to config.now s resource.now Put) }
-{
-    match resource {
-        Resource::Object(_) => status(alloc, config, shown),
-        _ => Ok(changed(resource, shown)),
     }
 }

@@ -144,6 +144,15 @@ impl Answer {
         ensures says { IfOk result (λ said. (s : State) → Says s self delivery said) }
         ensures ends { IfOk result (λ said. IfSome said HasEnd) }
     {
+        let said = self.said(alloc, delivery);
+        drop(self);
+        said
+    }
+
+    fn said(&self, alloc: Global, delivery: Delivery) -> Result<Option<Performed>, AllocError>
+        ensures says { IfOk result (λ said. (s : State) → Says s self.now delivery said) }
+        ensures ends { IfOk result (λ said. IfSome said HasEnd) }
+    {
         if self.is_silent() {
             return Ok(None);
         }
@@ -151,10 +160,10 @@ impl Answer {
     }
 
     /// Returns the reply that says this: its head, and behind it the text unless the reply is bare.
-    pub(crate) fn spell(self, alloc: Global, delivery: Delivery) -> Result<Performed, AllocError>
-        ensures says { IfOk result (λ p. (s : State) → IsReply s self delivery p) }
+    pub(crate) fn spell(&self, alloc: Global, delivery: Delivery) -> Result<Performed, AllocError>
+        ensures says { IfOk result (λ p. (s : State) → IsReply s self.now delivery p) }
         ensures front { IfOk result (λ p. p.front.items
-            ≡ front_text self delivery.clock delivery.is_bare delivery.closes) }
+            ≡ front_text self.now delivery.clock delivery.is_bare delivery.closes) }
     {
         let mut front = spell_head(alloc, &self.head(delivery.clock, delivery.closes))?;
         self.add_text(&mut front, delivery.is_bare)?;

@@ -29,10 +29,12 @@ pub(crate) fn bag_list(alloc: Global, shown: &Shown) -> Result<Answer, AllocErro
     let Shown::Object(view) = shown else {
         return Ok(Answer::without_content(Status::Ok));
     };
-    let text = list_text(alloc, bag_paths(alloc, view)?.as_slice())?;
+    let paths = bag_paths(alloc, view)?;
+    let text = list_text(alloc, paths.as_slice());
+    drop(paths);
     Ok(Answer::showing(
         Status::Ok,
-        ReplyText::new(Form::PlainText, Octets::from_vec(text)),
+        ReplyText::new(Form::PlainText, Octets::from_vec(text?)),
     ))
 }
 

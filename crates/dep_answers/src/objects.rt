@@ -33,13 +33,20 @@ pub(crate) fn created(alloc: Global, config: &Config, shown: &Shown) -> Result<A
     let Shown::Object(view) = shown else {
         return Ok(Answer::without_content(Status::Created));
     };
-    Ok(Answer {
-        status: Status::Created,
-        content: Some(ReplyText::document(status_doc(alloc, config, view)?)),
-        tag: Some(view.object.object_tag),
-        location: Some(Text::new(object_url(alloc, config, view.object.object)?)),
-        allow: None,
-    })
+    let location = Text::new(object_url(alloc, config, view.object.object)?);
+    match status_doc(alloc, config, view) {
+        Ok(document) => Ok(Answer {
+            status: Status::Created,
+            content: Some(ReplyText::document(document)),
+            tag: Some(view.object.object_tag),
+            location: Some(location),
+            allow: None,
+        }),
+        Err(error) => {
+            drop(location);
+            Err(error)
+        }
+    }
 }
 
 /// The metadata document of an object (SWORD 3.0), with its entity tag.
@@ -60,7 +67,7 @@ pub(crate) fn metadata(alloc: Global, config: &Config, shown: &Shown) -> Result<
 }
 
 /// Nothing but the entity tag of a part that was put in its place.
-pub(crate) fn changed(resource: &Resource, shown: &Shown) -> Answer
+pub(crate) fn put(resource: &Resource, shown: &Shown) -> Answer
     ensures { result ≡ answer 204 None (told_tag resource.now shown.now) None }
 {
     Answer {

@@ -24,7 +24,10 @@ pub fn refused(
     ensures { IfOk result (λ p. (s : State) →
         IsReply s (refused_answer delivery.clock refusal (option_copied allow.entry)) delivery p) }
 {
-    refusing(alloc, refusal, allow, delivery.clock)?.spell(alloc, delivery)
+    let answer = refusing(alloc, refusal, allow, delivery.clock)?;
+    let reply = answer.spell(alloc, delivery);
+    drop(answer);
+    reply
 }
 
 fn refusing(

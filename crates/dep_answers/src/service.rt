@@ -33,12 +33,17 @@ impl Service {
     pub fn new(alloc: Global, config: Config) -> Result<Service, AllocError>
         ensures { IfOk result (λ service. service ≡ config) }
     {
-        let document = Octets::from_vec(service_doc(alloc, &config)?);
-        Ok(Service {
-            alloc,
-            config,
-            document,
-        })
+        match service_doc(alloc, &config) {
+            Ok(document) => Ok(Service {
+                alloc,
+                config,
+                document: Octets::from_vec(document),
+            }),
+            Err(error) => {
+                drop(config);
+                Err(error)
+            }
+        }
     }
 
     /// The allocator that replies grow in.

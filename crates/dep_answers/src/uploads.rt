@@ -33,13 +33,20 @@ pub(crate) fn opened(alloc: Global, config: &Config, shown: &Shown) -> Result<An
     let Shown::Upload { upload, received } = shown else {
         return Ok(Answer::without_content(Status::Created));
     };
-    Ok(Answer {
-        status: Status::Created,
-        content: document(alloc, config, upload, received)?,
-        tag: None,
-        location: Some(Text::new(upload_url(alloc, config, upload.upload)?)),
-        allow: None,
-    })
+    let location = Text::new(upload_url(alloc, config, upload.upload)?);
+    match document(alloc, config, upload, received) {
+        Ok(content) => Ok(Answer {
+            status: Status::Created,
+            content,
+            tag: None,
+            location: Some(location),
+            allow: None,
+        }),
+        Err(error) => {
+            drop(location);
+            Err(error)
+        }
+    }
 }
 
 // The document, unless a damaged table gave numbers that aren't in order.

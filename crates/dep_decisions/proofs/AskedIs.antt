@@ -1,5 +1,5 @@
 -- What is asked for, by the target and by the purpose of the content.
-use Rattle.std.proofs.Common.{◌≡◌, ◌<◌, ◌+◌, ◌∙◌, ℕ, List, [], ◌∷◌, ◌++◌, take, length, get_or, Option, Some, None, option_map, option_and_then, unwrap_or, refl, sym, ap}
+use Rattle.std.proofs.Common.{◌≡◌, ◌<◌, ◌+◌, ◌∙◌, ℕ, List, [], ◌∷◌, ◌++◌, take, length, get_or, Option, refl, sym, ap}
 use Rattle.std.proofs.lemmas.List.{take_more}
 use Rattle.std.proofs.lemmas.List.Elements.{filter_map-append}
 use Rattle.std.specs.List.{cons_option}
@@ -7,32 +7,11 @@ use Rattle.dep_types.specs.declared.target.Resource.{Resource}
 use Rattle.dep_types.specs.declared.target.Resource.TheVariants.{Service, Object, Metadata, FileSet, File, Staging, Upload, BagList, BagFile}
 use Rattle.dep_types.specs.declared.target.Method.{Method}
 use Rattle.dep_types.specs.declared.target.Method.TheVariants.{Get, Head}
-use Rattle.dep_fields.specs.declared.kind.Kind.{Kind}
-use Rattle.dep_fields.specs.declared.kind.Kind.TheVariants as of
 use Rattle.dep_docs_in.specs.declared.reference.Reference.{Reference}
-use Rattle.dep_decisions.specs.Asked.{asked_at, opened_by, received_by}
-use Rattle.dep_decisions.specs.Decisions.{decision_with, opened, received, referred_file, referred_files}
-use Rattle.dep_decisions.specs.Purposes.{purpose_of}
+use Rattle.dep_decisions.specs.Asked.{asked_at}
+use Rattle.dep_decisions.specs.Decisions.{decision_with, referred_file, referred_files}
 use Rattle.dep_decisions.specs.declared.operation.Operation.{Operation}
 use Rattle.dep_decisions.specs.declared.decision.Decision.TheVariants.{Show}
-
-pub opened_is : (o : Option Kind) → opened_by (option_map purpose_of o) ≡ unwrap_or (option_and_then opened o) Show
-unfolding opened_by
-opened_is None = refl
-opened_is (Some (of.File name)) = refl
-opened_is (Some of.Metadata) = refl
-opened_is (Some of.References) = refl
-opened_is (Some (of.Opening o)) = refl
-opened_is (Some (of.Segment k)) = refl
-
-pub received_is : (u : ℕ) (o : Option Kind) → received_by u (option_map purpose_of o) ≡ unwrap_or (option_and_then (received u) o) Show
-unfolding received_by
-received_is u None = refl
-received_is u (Some (of.File name)) = refl
-received_is u (Some of.Metadata) = refl
-received_is u (Some of.References) = refl
-received_is u (Some (of.Opening o)) = refl
-received_is u (Some (of.Segment k)) = refl
 
 pub shown_by_get : (refs : Option (List Reference)) (op : Operation) (resource : Resource) → Show ≡ asked_at refs op resource Get
 shown_by_get refs op Service = refl

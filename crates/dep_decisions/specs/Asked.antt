@@ -1,20 +1,24 @@
 -- What a request asks for, by the purpose of its content, and by what was read of it.
-use Rattle.std.specs.Prelude.{◌≡◌, ℕ, List, Option, Some, None, unwrap_or, IfSome}
+use Rattle.std.specs.Prelude.{◌≡◌, ℕ, Bool, List, [], ◌∷◌, Option, Some, None, unwrap_or, IfSome, if◌then◌else◌}
+use Rattle.std.specs.FinMap as finmap
 use Rattle.dep_types.specs.declared.target.Resource.{Resource}
+use Rattle.dep_types.specs.declared.target.Resource.TheVariants.{Service, Object, Metadata, FileSet, File, Staging, Upload}
 use Rattle.dep_types.specs.declared.target.Method.{Method}
+use Rattle.dep_types.specs.declared.target.Method.TheVariants.{Post, Delete}
 use Rattle.dep_fixity.specs.Fixity.{digests_of}
 use Rattle.dep_fields.specs.declared.kind.Kind.{Kind}
 use Rattle.dep_fields.specs.declared.kind.Kind.TheVariants as of
 use Rattle.dep_docs_in.specs.Documents.{metadata_read}
 use Rattle.dep_docs_in.specs.declared.reference.Reference.{Reference}
 use Rattle.dep_decisions.specs.Decisions.{decision_at}
-use Rattle.dep_decisions.specs.Kinds.{kind_of}
+use Rattle.dep_decisions.specs.Kinds.{is_completion, kind_of}
 use Rattle.dep_decisions.specs.declared.asked.ReadContent.{ReadContent}
+use Rattle.dep_decisions.specs.declared.decision.NewFile.{NewFile}
+use Rattle.dep_decisions.specs.declared.decision.Deposit.{Deposit}
+use Rattle.dep_decisions.specs.declared.decision.Deposit.TheVariants as deposit
 use Rattle.dep_decisions.specs.declared.decision.Decision.{Decision}
-use Rattle.dep_decisions.specs.declared.decision.Decision.TheVariants.{Show, Open, Receive}
+use Rattle.dep_decisions.specs.declared.decision.Decision.TheVariants.{Show, Create, Append, Replace, Complete, SetMetadata, SetFiles, SetFile, DropFile, DropObject, Receive, DropUpload}
 use Rattle.dep_decisions.specs.declared.operation.Operation.{Operation}
-use Rattle.dep_decisions.specs.declared.purpose.Purpose.{Purpose}
-use Rattle.dep_decisions.specs.declared.purpose.Purpose.TheVariants.{Opening, Segment}
 
 -- what was read of the content is there where it is needed, and is of this content
 pub record IsRead (op : Operation) (read : ReadContent) : Type 0 where
@@ -30,10 +34,36 @@ abbrev pub name_in : Kind → Option (List ℕ)
 name_in (of.File name) = Some name
 name_in _ = None
 
-unfoldable pub opened_by : Option Purpose → Decision
-opened_by (Some (Opening o)) = Open o
-opened_by _ = Show
+-- what a deposit makes of a resource that takes one
+abbrev pub deposited_in : (ingests : Bool) → Deposit → Resource → Method → Decision
+deposited_in ingests d Service method = Create d ingests
+deposited_in ingests d (Object n) Post = Append n d ingests
+deposited_in ingests d (Object n) method = Replace n d ingests
+deposited_in ingests (deposit.Metadata texts) (Metadata n) method = SetMetadata n texts
+deposited_in ingests (deposit.Files files) (FileSet n) method = SetFiles n files
+deposited_in ingests d resource method = Show
 
-unfoldable pub received_by : (upload : ℕ) → Option Purpose → Decision
-received_by u (Some (Segment k)) = Receive u k
-received_by u _ = Show
+-- what a content makes that is a file
+abbrev pub filed_in : (ingests : Bool) → NewFile → Resource → Method → Decision
+filed_in ingests file (File n f) method = SetFile n f file
+filed_in ingests file resource method = deposited_in ingests (deposit.Files (file ∷ [])) resource method
+
+-- the segment is received by the upload
+abbrev pub received_in : (segment : ℕ) → Resource → Decision
+received_in k (Upload u) = Receive u k
+received_in k resource = Show
+
+-- what a DELETE asks for
+abbrev pub dropped_at : Resource → Decision
+dropped_at (Object n) = DropObject n
+dropped_at (Metadata n) = SetMetadata n finmap.empty
+dropped_at (FileSet n) = SetFiles n []
+dropped_at (File n f) = DropFile n f
+dropped_at (Upload u) = DropUpload u
+dropped_at resource = Show
+
+-- what is asked for where no content has a purpose
+abbrev pub undeposited_in : Operation → Resource → Method → Decision
+undeposited_in op (Object n) Post = if is_completion op then Complete n else Show
+undeposited_in op resource Delete = dropped_at resource
+undeposited_in op resource method = Show

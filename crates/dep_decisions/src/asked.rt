@@ -1,18 +1,13 @@
 //! What an accepted request asks for, as its content is read.
-ghost use Rattle.std.specs.Prelude.{◌≡◌, ◌∷◌, [], IfOk, OnErr, IfSome, IsSome, List, Option, Some, option_map, option_and_then, unwrap_or};
+ghost use Rattle.std.specs.Prelude.{◌≡◌, IfOk, OnErr, IfSome, IsSome, option_map, option_and_then, unwrap_or};
 ghost use Rattle.std.specs.Option.{option_copied};
 ghost use Rattle.dep_fixity.specs.Fixity.{digests_of};
-ghost use Rattle.dep_docs_in.specs.declared.reference.Reference.{Reference as AReference};
-ghost use Rattle.dep_decisions.specs.Asked.{IsRead, asked_at, name_in, opened_by, received_by};
-ghost use Rattle.dep_decisions.specs.Decisions.{assembled_file, behalf_of, decision_with, deposit_of, files_of, ingests, posted_file, referred_files, replaced_file, texts_of};
-ghost use Rattle.dep_decisions.specs.ContentRules.{purpose_in};
+ghost use Rattle.dep_decisions.specs.Asked.{IsRead, deposited_in, dropped_at, filed_in, name_in, received_in, undeposited_in};
+ghost use Rattle.dep_decisions.specs.Decisions.{assembled_file, behalf_of, decision_with, ingests, posted_file, referred_files};
 ghost use Rattle.dep_decisions.specs.Kinds.{kind_of};
 ghost use Rattle.dep_decisions.specs.Memory.{MakesFiles};
-ghost use Rattle.dep_decisions.specs.declared.decision.Decision.TheVariants.{Append, Create, Replace, SetFiles, SetMetadata, Show};
+ghost use Rattle.dep_decisions.specs.declared.decision.Decision.TheVariants.{Show};
 ghost use Rattle.dep_decisions.specs.declared.decision.Deposit.TheVariants.{Files, Metadata as MetadataOf};
-ghost use Rattle.dep_decisions.specs.declared.operation.Operation.{Operation as AnOperation};
-ghost use Rattle.dep_decisions.specs.declared.purpose.Purpose.TheVariants as of;
-ghost use Rattle.dep_types.specs.declared.target.Method.TheVariants.{Post, Put, Delete};
 
 use crate::decision::{Decision, Deposit, NewFile, NewFiles, Source};
 use crate::operation::Operation;
@@ -44,188 +39,147 @@ pub fn decision_on(
     ensures ok { IfOk result (λ d. d ≡ decision_with (option_copied references.entry) operation.now) }
     ensures err { OnErr result (MakesFiles (option_copied references.entry) operation.now) }
 {
-    match operation.target.method {
-        Method::Get | Method::Head => Ok(Decision::Show),
-        Method::Post => posted(alloc, operation, references, read),
-        Method::Put => put(alloc, operation, references, read),
-        Method::Delete => Ok(dropped(alloc, &operation.target.resource)),
-    }
-}
-
-// What a POST asks for.
-fn posted(
-    alloc: Global,
-    operation: &Operation<'_>,
-    references: Option<&References>,
-    read: ReadContent,
-) -> Result<Decision, AllocError>
-    requires { IsRead operation.now read }
-    ensures ok { IfOk result (λ d.
-        d ≡ asked_at (option_copied references.entry) operation.now
-        operation.now.target.resource Post) }
-    ensures err { OnErr result (MakesFiles (option_copied references.entry) operation.now) }
-{
-    match operation.target.resource {
-        Resource::Service => {
-            let deposit = deposit(alloc, operation, references, read)?;
-            Ok(created(deposit, ingests(operation)))
-        }
-        Resource::Object(object) if is_completion(operation) => {
-            drop(read);
-            Ok(Decision::Complete { object })
-        }
-        Resource::Object(object) => {
-            let deposit = deposit(alloc, operation, references, read)?;
-            Ok(appended(object, deposit, ingests(operation)))
-        }
-        Resource::Staging => {
-            drop(read);
-            Ok(opened(content_purpose(operation)))
-        }
-        Resource::Upload(upload) => {
-            drop(read);
-            Ok(received(upload, content_purpose(operation)))
-        }
-        _ => {
-            drop(read);
-            Ok(Decision::Show)
-        }
-    }
-}
-
-// A new object with the deposit, where there is one.
-fn created(deposit: Option<Deposit>, ingests: bool) -> Decision
-    ensures { result ≡ unwrap_or (option_map (λ d. Create d ingests) deposit) Show }
-{
-    match deposit {
-        Some(deposit) => Decision::Create { deposit, ingests },
-        None => Decision::Show,
-    }
-}
-
-// The deposit is added to the object, where there is one.
-fn appended(object: u64, deposit: Option<Deposit>, ingests: bool) -> Decision
-    ensures { result ≡ unwrap_or (option_map (λ d. Append object d ingests) deposit) Show }
-{
-    match deposit {
-        Some(deposit) => Decision::Append {
-            object,
-            deposit,
-            ingests,
-        },
-        None => Decision::Show,
-    }
-}
-
-// What a PUT asks for.
-fn put(
-    alloc: Global,
-    operation: &Operation<'_>,
-    references: Option<&References>,
-    read: ReadContent,
-) -> Result<Decision, AllocError>
-    requires { IsRead operation.now read }
-    ensures ok { IfOk result (λ d.
-        d ≡ asked_at (option_copied references.entry) operation.now
-        operation.now.target.resource Put) }
-    ensures err { OnErr result (MakesFiles (option_copied references.entry) operation.now) }
-{
-    match operation.target.resource {
-        Resource::Object(object) => {
-            let deposit = deposit(alloc, operation, references, read)?;
-            Ok(replaced(object, deposit, ingests(operation)))
-        }
-        Resource::Metadata(object) => {
-            let deposit = deposit(alloc, operation, references, read)?;
-            Ok(metadata_set(object, deposit))
-        }
-        Resource::FileSet(object) => {
-            let deposit = deposit(alloc, operation, references, read)?;
-            Ok(files_set(object, deposit))
-        }
-        Resource::File(object, file) => {
+    match content_purpose(operation) {
+        Some(Purpose::File) => {
             let digests = read.digests;
             drop(read);
-            file_set(alloc, operation, digests, object, file)
+            filed(alloc, operation, digests)
         }
-        _ => {
+        Some(Purpose::Metadata) => Ok(described(operation, read.metadata)),
+        Some(Purpose::References) => {
             drop(read);
-            Ok(Decision::Show)
+            referred(alloc, operation, references)
+        }
+        Some(Purpose::Opening(opening)) => {
+            drop(read);
+            Ok(Decision::Open(opening))
+        }
+        Some(Purpose::Segment(segment)) => {
+            drop(read);
+            Ok(received(&operation.target.resource, segment))
+        }
+        None => {
+            drop(read);
+            Ok(undeposited(alloc, operation))
         }
     }
 }
 
-// The deposit takes the place of what the object has, where there is one.
-fn replaced(object: u64, deposit: Option<Deposit>, ingests: bool) -> Decision
-    ensures { result ≡ unwrap_or (option_map (λ d. Replace object d ingests) deposit) Show }
-{
-    match deposit {
-        Some(deposit) => Decision::Replace {
-            object,
-            deposit,
-            ingests,
-        },
-        None => Decision::Show,
-    }
-}
-
-// The object gets the metadata that was deposited, where that is what was deposited.
-fn metadata_set(object: u64, deposit: Option<Deposit>) -> Decision
-    ensures { result ≡ unwrap_or (option_map (λ texts. SetMetadata object texts)
-        (option_and_then texts_of deposit)) Show }
-{
-    match deposit {
-        Some(Deposit::Metadata(metadata)) => Decision::SetMetadata { object, metadata },
-        Some(Deposit::Files(files)) => {
-            drop(files);
-            Decision::Show
-        }
-        None => Decision::Show,
-    }
-}
-
-// The object gets the files that were deposited, where that is what was deposited.
-fn files_set(object: u64, deposit: Option<Deposit>) -> Decision
-    ensures { result ≡ unwrap_or (option_map (λ files. SetFiles object files)
-        (option_and_then files_of deposit)) Show }
-{
-    match deposit {
-        Some(Deposit::Files(files)) => Decision::SetFiles { object, files },
-        Some(Deposit::Metadata(metadata)) => {
-            drop(metadata);
-            Decision::Show
-        }
-        None => Decision::Show,
-    }
-}
-
-// The content takes the place of a file, where it is a file.
-fn file_set(
+// What the content asks for as a file, where it has the name of one.
+fn filed(
     alloc: Global,
     operation: &Operation<'_>,
     digests: Option<Digests>,
-    object: u64,
-    file: u64,
 ) -> Result<Decision, AllocError>
     requires { IfSome digests (λ d. d ≡ digests_of operation.now.content) }
-    ensures ok { IfOk result (λ d. d ≡ unwrap_or
-        (option_and_then (replaced_file operation.now object file) (kind_of operation.now)) Show) }
-    ensures err { OnErr result (purpose_in operation.now ≡ Some of.File) }
+    ensures { IfOk result (λ d. d ≡ unwrap_or (option_map
+        (λ name. filed_in (ingests operation.now) (posted_file operation.now name)
+        operation.now.target.resource operation.now.target.method)
+        (option_and_then name_in (kind_of operation.now))) Show) }
 {
-    match file_name(operation) {
-        Some(name) => Ok(Decision::SetFile {
-            object,
-            file,
-            new: posted_file(alloc, operation, name, digests)?,
-        }),
+    let Some(name) = file_name(operation) else {
+        return Ok(Decision::Show);
+    };
+    let new = posted_file(alloc, operation, name, digests)?;
+    match operation.target.resource {
+        Resource::File(object, file) => Ok(Decision::SetFile { object, file, new }),
+        _ => Ok(deposited(operation, Deposit::Files(NewFiles::one(alloc, new)?))),
+    }
+}
+
+// What the metadata asks for that was read, where it was.
+fn described(operation: &Operation<'_>, metadata: Option<Metadata>) -> Decision
+    ensures { result ≡ unwrap_or (option_map
+        (λ texts. deposited_in (ingests operation.now) (MetadataOf texts)
+        operation.now.target.resource operation.now.target.method)
+        metadata) Show }
+{
+    match metadata {
+        Some(metadata) => deposited(operation, Deposit::Metadata(metadata)),
+        None => Decision::Show,
+    }
+}
+
+// What the uploads ask for that the references point at, where there are references.
+fn referred(
+    alloc: Global,
+    operation: &Operation<'_>,
+    references: Option<&References>,
+) -> Result<Decision, AllocError>
+    ensures ok { IfOk result (λ d. d ≡ unwrap_or (option_map
+        (λ entries. deposited_in (ingests operation.now) (Files (referred_files operation.now entries))
+        operation.now.target.resource operation.now.target.method)
+        (option_copied references.entry)) Show) }
+    ensures err { OnErr result (IsSome (option_copied references.entry)) }
+{
+    match references {
+        Some(references) => {
+            let files = referred_files(alloc, operation, references.as_slice())?;
+            Ok(deposited(operation, Deposit::Files(files)))
+        }
         None => Ok(Decision::Show),
+    }
+}
+
+// What a deposit makes of the resource. The object becomes ingested unless In-Progress is true.
+fn deposited(operation: &Operation<'_>, deposit: Deposit) -> Decision
+    ensures { result ≡ deposited_in (ingests operation.now) deposit
+        operation.now.target.resource operation.now.target.method }
+{
+    let ingests = !is_true(&operation.fields.in_progress);
+    match (&operation.target.resource, deposit) {
+        (Resource::Service, deposit) => Decision::Create { deposit, ingests },
+        (Resource::Object(object), deposit) => match operation.target.method {
+            Method::Post => Decision::Append {
+                object: *object,
+                deposit,
+                ingests,
+            },
+            _ => Decision::Replace {
+                object: *object,
+                deposit,
+                ingests,
+            },
+        },
+        (Resource::Metadata(object), Deposit::Metadata(metadata)) => Decision::SetMetadata {
+            object: *object,
+            metadata,
+        },
+        (Resource::FileSet(object), Deposit::Files(files)) => Decision::SetFiles {
+            object: *object,
+            files,
+        },
+        _ => Decision::Show,
+    }
+}
+
+// The segment is received by the upload.
+fn received(resource: &Resource, segment: u64) -> Decision
+    ensures { result ≡ received_in segment resource.now }
+{
+    match *resource {
+        Resource::Upload(upload) => Decision::Receive { upload, segment },
+        _ => Decision::Show,
+    }
+}
+
+// What is asked for without a content that has a purpose.
+fn undeposited(alloc: Global, operation: &Operation<'_>) -> Decision
+    ensures { result ≡ undeposited_in operation.now
+        operation.now.target.resource operation.now.target.method }
+{
+    match (operation.target.method, &operation.target.resource) {
+        (Method::Post, Resource::Object(object)) if is_completion(operation) => {
+            Decision::Complete { object: *object }
+        }
+        (Method::Delete, resource) => dropped(alloc, resource),
+        _ => Decision::Show,
     }
 }
 
 // What a DELETE asks for.
 fn dropped(alloc: Global, resource: &Resource) -> Decision
-    ensures { (refs : Option (List AReference)) (op : AnOperation)
-        → result ≡ asked_at refs op resource.now Delete }
+    ensures { result ≡ dropped_at resource.now }
 {
     match *resource {
         Resource::Object(object) => Decision::DropObject { object },
@@ -240,92 +194,6 @@ fn dropped(alloc: Global, resource: &Resource) -> Decision
         Resource::File(object, file) => Decision::DropFile { object, file },
         Resource::Upload(upload) => Decision::DropUpload { upload },
         _ => Decision::Show,
-    }
-}
-
-// The object becomes ingested unless In-Progress is true.
-fn ingests(operation: &Operation<'_>) -> bool
-    ensures { result ≡ ingests operation.now }
-{
-    !is_true(&operation.fields.in_progress)
-}
-
-// What the content deposits.
-#[tactic(auto, unfolding(crate::specs::Decisions::deposit_of))]
-fn deposit(
-    alloc: Global,
-    operation: &Operation<'_>,
-    references: Option<&References>,
-    read: ReadContent,
-) -> Result<Option<Deposit>, AllocError>
-    requires { IsRead operation.now read }
-    ensures ok { IfOk result (λ d. d ≡ deposit_of (option_copied references.entry) operation.now) }
-    ensures err { OnErr result (MakesFiles (option_copied references.entry) operation.now) }
-{
-    match content_purpose(operation) {
-        Some(Purpose::File) => {
-            let digests = read.digests;
-            drop(read);
-            file_deposit(alloc, operation, digests)
-        }
-        Some(Purpose::Metadata) => Ok(metadata_deposit(read.metadata)),
-        Some(Purpose::References) => {
-            drop(read);
-            references_deposit(alloc, operation, references)
-        }
-        _ => {
-            drop(read);
-            Ok(None)
-        }
-    }
-}
-
-// The content itself, where it has the name of a file.
-fn file_deposit(
-    alloc: Global,
-    operation: &Operation<'_>,
-    digests: Option<Digests>,
-) -> Result<Option<Deposit>, AllocError>
-    requires { IfSome digests (λ d. d ≡ digests_of operation.now.content) }
-    ensures { IfOk result (λ d. d ≡ option_map
-        (λ name. Files (posted_file operation.now name ∷ []))
-        (option_and_then name_in (kind_of operation.now))) }
-{
-    match file_name(operation) {
-        Some(name) => {
-            let file = posted_file(alloc, operation, name, digests)?;
-            Ok(Some(Deposit::Files(NewFiles::one(alloc, file)?)))
-        }
-        None => Ok(None),
-    }
-}
-
-fn metadata_deposit(metadata: Option<Metadata>) -> Option<Deposit>
-    ensures { result ≡ option_map (λ texts. MetadataOf texts) metadata }
-{
-    match metadata {
-        Some(metadata) => Some(Deposit::Metadata(metadata)),
-        None => None,
-    }
-}
-
-// The uploads that the references point at, where there are references.
-fn references_deposit(
-    alloc: Global,
-    operation: &Operation<'_>,
-    references: Option<&References>,
-) -> Result<Option<Deposit>, AllocError>
-    ensures ok { IfOk result (λ d. d ≡ option_map
-        (λ entries. Files (referred_files operation.now entries))
-        (option_copied references.entry)) }
-    ensures err { OnErr result (IsSome (option_copied references.entry)) }
-{
-    match references {
-        Some(references) => {
-            let files = referred_files(alloc, operation, references.as_slice())?;
-            Ok(Some(Deposit::Files(files)))
-        }
-        None => Ok(None),
     }
 }
 
@@ -397,22 +265,16 @@ fn new_file(
       behalf = behalf_of operation.now;
     }) }
 {
+    let behalf = match &operation.fields.on_behalf_of {
+        Field::Value(behalf) => Some(Text::copied(alloc, behalf.as_str())?),
+        _ => None,
+    };
     Ok(NewFile {
         name: Text::copied(alloc, name)?,
         media: Text::copied(alloc, media)?,
         source,
-        behalf: behalf(alloc, operation)?,
+        behalf,
     })
-}
-
-// On whose behalf the request is made.
-fn behalf(alloc: Global, operation: &Operation<'_>) -> Result<Option<Text>, AllocError>
-    ensures { IfOk result (λ behalf. behalf ≡ behalf_of operation.now) }
-{
-    match &operation.fields.on_behalf_of {
-        Field::Value(behalf) => Ok(Some(Text::copied(alloc, behalf.as_str())?)),
-        _ => Ok(None),
-    }
 }
 
 // The uploads that the entries point at, as files.
@@ -448,24 +310,4 @@ fn assembled_file(
         reference.media.as_str(),
         Source::Assembled(upload),
     )
-}
-
-#[tactic(auto, unfolding(crate::specs::Asked::opened_by))]
-fn opened(purpose: Option<Purpose>) -> Decision
-    ensures { result ≡ opened_by purpose }
-{
-    match purpose {
-        Some(Purpose::Opening(opening)) => Decision::Open(opening),
-        _ => Decision::Show,
-    }
-}
-
-#[tactic(auto, unfolding(crate::specs::Asked::received_by))]
-fn received(upload: u64, purpose: Option<Purpose>) -> Decision
-    ensures { result ≡ received_by upload purpose }
-{
-    match purpose {
-        Some(Purpose::Segment(segment)) => Decision::Receive { upload, segment },
-        _ => Decision::Show,
-    }
 }

@@ -3,10 +3,10 @@
 ghost use Rattle.std.specs.Prelude.{◌≡◌, ◌==◌, bytes_eq, codes, position};
 ghost use Rattle.std.specs.List.{before_first};
 ghost use Rattle.std.specs.Str.{str_eq_ignore_ascii_case};
-ghost use Rattle.dep_types.specs.Names.{binary, metadata_format};
+ghost use Rattle.dep_types.specs.Names.{binary};
 ghost use Rattle.dep_types.specs.declared.refusal.Refusal.TheVariants as why;
 ghost use Rattle.dep_decisions.specs.ContentRules.{digests_if_promised, fields_by, fields_refusal, format_by, purpose_in, type_by};
-ghost use Rattle.dep_decisions.specs.Rules.{is_json, media_name, digest_rule, encoding_rule, in_progress_rule, kind_rule, reads_in_progress, unless};
+ghost use Rattle.dep_decisions.specs.Rules.{is_json, media_name, digest_rule, encoding_rule, in_progress_rule, kind_rule, reads_in_progress, unless, value_refusal};
 
 use crate::operation::Operation;
 use crate::purpose::{Purpose, content_purpose, is_completion};
@@ -114,36 +114,35 @@ fn format_rule(operation: &Operation<'_>, purpose: Option<Purpose>) -> Option<Re
     ensures { result ≡ format_by operation.now purpose }
 {
     match purpose {
-        Some(Purpose::File) => match &operation.fields.packaging {
-            Field::Absent => None,
-            Field::Bad => Some(Refusal::BadRequest),
-            Field::Value(text) => {
-                if is_binary(text.as_slice()) {
-                    None
-                } else {
-                    Some(Refusal::PackagingFormatNotAcceptable)
-                }
-            }
-        },
-        Some(Purpose::Metadata) => match &operation.fields.metadata_format {
-            Field::Absent => None,
-            Field::Bad => Some(Refusal::BadRequest),
-            Field::Value(text) => {
-                if is_metadata_format(text) {
-                    None
-                } else {
-                    Some(Refusal::MetadataFormatNotAcceptable)
-                }
-            }
-        },
+        Some(Purpose::File) => unless_is(
+            &operation.fields.packaging,
+            BINARY_PACKAGING,
+            Refusal::PackagingFormatNotAcceptable,
+        ),
+        Some(Purpose::Metadata) => unless_is(
+            &operation.fields.metadata_format,
+            METADATA_FORMAT,
+            Refusal::MetadataFormatNotAcceptable,
+        ),
         _ => None,
     }
 }
 
-fn is_metadata_format(text: &Octets) -> bool
-    ensures { result ≡ bytes_eq metadata_format text.now }
+// A field that has to be absent or this text.
+fn unless_is(field: &Field<Octets>, taken: &str, refusal: Refusal) -> Option<Refusal>
+    ensures { result ≡ value_refusal (bytes_eq taken.now) refusal field.now }
 {
-    METADATA_FORMAT.as_bytes() == text.as_slice()
+    match field {
+        Field::Absent => None,
+        Field::Bad => Some(Refusal::BadRequest),
+        Field::Value(text) => {
+            if taken.as_bytes() == text.as_slice() {
+                None
+            } else {
+                Some(refusal)
+            }
+        }
+    }
 }
 
 /// Rule 11: Content-Type.

@@ -1,6 +1,6 @@
 use Rattle.std.proofs.Common.{◌∙◌, sym}
 use Rattle.dep_answers.proofs.ReplyLemmas.{ends_by}
-use Rattle.dep_answers.proofs.answer.Answer.say.Goals as goal
+use Rattle.dep_answers.proofs.answer.Answer.said.Goals as goal
 
 pub returns-then-is_silent-clause-says : goal.returns-then-is_silent-clause-says
 returns-then-is_silent-clause-says c = λ s. sym c.is_silent.ensures ∙ c.if-is_silent.true
@@ -10,4 +10,4 @@ returns-clause-says c = λ s. c.in_ok-spell.ensures.says s
 
 pub returns-clause-ends : goal.returns-clause-ends
 returns-clause-ends c =
-    ends_by c.args.self c.args.delivery _ (sym c.is_silent.ensures ∙ c.if-is_silent.false) c.in_ok-spell.ensures.front
+    ends_by c.args.self.now c.args.delivery _ (sym c.is_silent.ensures ∙ c.if-is_silent.false) c.in_ok-spell.ensures.front
