@@ -1,15 +1,13 @@
 -- The text of the example, read step by step.
-use Rattle.std.proofs.Common.{◌≡◌, ◌∙◌, false, List, [], ◌∷◌, Option, Some, option_and_then, inr, refl, ap, codes, bytes_eq, IsTrue, arith}
-use Rattle.std.specs.List.{AllByRecursion, IsDistinct}
+use Rattle.std.proofs.Common.{◌≡◌, ◌∙◌, ℕ, false, List, [], ◌∷◌, Option, Some, option_and_then, inr, refl, ap, codes, arith}
 use Rattle.std.specs.Fmt.{digits}
 use Rattle.std.specs.Net.Grammar.{IsDotted}
-use Rattle.std.proofs.lemmas.List.Elements.{All-from_recursion}
-use Rattle.std.proofs.lemmas.Map.Made.{AllPairs-from_IsDistinct}
+use Rattle.std.proofs.lemmas.Cmp.{nat_list_eq_equiv}
+use Rattle.std.proofs.lemmas.List.Sums.{AllPass-from_list_all}
+use Rattle.std.proofs.lemmas.Map.Made.{AllPairs-from_IsDistinct, IsDistinct-from_count}
 use Rattle.std.proofs.lemmas.Slice.Eq.{bytes_eq-Decides}
 use Rattle.json.specs.Token.{Token}
 use Rattle.json.specs.Lex.{Lexeme, token, comma, colon, between, fresh, lex, punctuate}
-use Rattle.json.specs.Text.{content, short_escape, code_unit}
-use Rattle.json.specs.Word.{after_number, word}
 use Rattle.json.specs.Json.{Json, Members, no_members, member, object, document, value, items, members, max_depth, if_last}
 use Rattle.json.specs.Strict.{keys}
 use Rattle.dep_configuration.specs.Configured.{HasConfig, HasConfiguration, HasLimits}
@@ -17,7 +15,6 @@ use Rattle.dep_configuration.specs.Example.{example_config, example_configuratio
 use Rattle.dep_configuration.specs.Fields.{bounds_of, name_of}
 use Rattle.dep_configuration.specs.Names.{is_field_name, AreFieldNames}
 use Rattle.dep_configuration.specs.Readings.{number_within}
-use Rattle.dep_configuration.specs.declared.example.TheConstants.{EXAMPLE}
 
 unfoldable pub example_lexemes : List Lexeme
 example_lexemes =
@@ -164,10 +161,6 @@ example_members = member (codes "address") (Json.string (codes "127.0.0.1")) (
     member (codes "unfinished_bytes") (Json.number (codes "1073741824")) (
     no_members)))))))))))))))))))
 
-lexed : lex between EXAMPLE.now ≡ example_lexemes
-unfolding lex content short_escape code_unit word after_number example_lexemes
-lexed = refl
-
 punctuated : punctuate fresh example_lexemes ≡ example_tokens
 unfolding punctuate example_lexemes example_tokens
 punctuated = refl
@@ -176,81 +169,19 @@ valued : value max_depth example_tokens ≡ Some (object example_members, [])
 unfolding value items members example_tokens example_members
 valued = refl
 
-pub example-document : document EXAMPLE.now ≡ Some (object example_members)
-example-document =
+-- a text of these lexemes is the example
+pub example-document : (text : List ℕ) → lex between text ≡ example_lexemes → document text ≡ Some (object example_members)
+example-document text lexed =
     ap (λ ls. option_and_then (λ p. if_last p.0 p.1) (value max_depth (punctuate fresh ls))) lexed
     ∙ ap (λ ts. option_and_then (λ p. if_last p.0 p.1) (value max_depth ts)) punctuated
     ∙ ap (λ (r : Option (Json × List Token)). option_and_then (λ p. if_last p.0 p.1) r) valued
 
-all-known : AllByRecursion (λ name. IsTrue (is_field_name name)) (keys example_members)
-unfolding name_of example_members
-all-known = (refl, (refl, (refl, (refl, (refl, (refl, (refl, (refl, (refl, (refl, (refl, (refl, (refl, (refl, (refl, (refl, (refl, (refl, (refl, tt)))))))))))))))))))
-
-all-once : IsDistinct bytes_eq (keys example_members)
-unfolding IsDistinct example_members
-all-once = (
-  (refl, (refl, (refl, (refl, (refl, (refl, (refl, (refl, (refl, (refl, (refl, (refl, (refl, (refl, (refl, (refl, (refl, (refl, tt)))))))))))))))))),
-  (
-    (refl, (refl, (refl, (refl, (refl, (refl, (refl, (refl, (refl, (refl, (refl, (refl, (refl, (refl, (refl, (refl, (refl, tt))))))))))))))))),
-    (
-      (refl, (refl, (refl, (refl, (refl, (refl, (refl, (refl, (refl, (refl, (refl, (refl, (refl, (refl, (refl, (refl, tt)))))))))))))))),
-      (
-        (refl, (refl, (refl, (refl, (refl, (refl, (refl, (refl, (refl, (refl, (refl, (refl, (refl, (refl, (refl, tt))))))))))))))),
-        (
-          (refl, (refl, (refl, (refl, (refl, (refl, (refl, (refl, (refl, (refl, (refl, (refl, (refl, (refl, tt)))))))))))))),
-          (
-            (refl, (refl, (refl, (refl, (refl, (refl, (refl, (refl, (refl, (refl, (refl, (refl, (refl, tt))))))))))))),
-            (
-              (refl, (refl, (refl, (refl, (refl, (refl, (refl, (refl, (refl, (refl, (refl, (refl, tt)))))))))))),
-              (
-                (refl, (refl, (refl, (refl, (refl, (refl, (refl, (refl, (refl, (refl, (refl, tt))))))))))),
-                (
-                  (refl, (refl, (refl, (refl, (refl, (refl, (refl, (refl, (refl, (refl, tt)))))))))),
-                  (
-                    (refl, (refl, (refl, (refl, (refl, (refl, (refl, (refl, (refl, tt))))))))),
-                    (
-                      (refl, (refl, (refl, (refl, (refl, (refl, (refl, (refl, tt)))))))),
-                      (
-                        (refl, (refl, (refl, (refl, (refl, (refl, (refl, tt))))))),
-                        (
-                          (refl, (refl, (refl, (refl, (refl, (refl, tt)))))),
-                          (
-                            (refl, (refl, (refl, (refl, (refl, tt))))),
-                            (
-                              (refl, (refl, (refl, (refl, tt)))),
-                              (
-                                (refl, (refl, (refl, tt))),
-                                (
-                                  (refl, (refl, tt)),
-                                  (
-                                    (refl, tt),
-                                    (
-                                      tt,
-                                      tt,
-                                    ),
-                                  ),
-                                ),
-                              ),
-                            ),
-                          ),
-                        ),
-                      ),
-                    ),
-                  ),
-                ),
-              ),
-            ),
-          ),
-        ),
-      ),
-    ),
-  ),
-)
-
 pub example-names : AreFieldNames (keys example_members)
+unfolding name_of example_members
 example-names = record {
-  known = All-from_recursion (λ name. IsTrue (is_field_name name)) (keys example_members) all-known;
-  once = AllPairs-from_IsDistinct bytes_eq-Decides (keys example_members) all-once;
+  known = AllPass-from_list_all is_field_name (keys example_members) refl;
+  once = AllPairs-from_IsDistinct bytes_eq-Decides (keys example_members)
+      (IsDistinct-from_count nat_list_eq_equiv (keys example_members) refl);
 }
 
 example-limits : HasLimits example_limits (object example_members)

@@ -1,5 +1,5 @@
 -- What a field that can be read gives.
-use Rattle.std.proofs.Common.{◌≡◌, ◌≤◌, ℕ, Bool, true, false, nat_le, List, [], ◌∷◌, Option, Some, None, IsSome, MatchOption, option_map, refl, sym, subst, cond, true≢false, arith}
+use Rattle.std.proofs.Common.{◌≡◌, ◌∙◌, ◌≤◌, ℕ, Bool, true, false, nat_le, List, [], ◌∷◌, Option, Some, None, IsSome, MatchOption, Result, Ok, Err, IfOk, option_map, refl, sym, ap, subst, cond, true≢false, arith}
 use Rattle.std.specs.Option.{option_map_or, unwrap_or}
 use Rattle.std.specs.Borrow.{Bor}
 use Rattle.std.proofs.lemmas.Bool.Decides.{nat_tests}
@@ -47,8 +47,15 @@ suited field w j readable e = subst (λ w. MatchOption (given field j) (is_requi
 pub text-or : (field : Field) (default : List ℕ) (j : Json) → AreReadable j → wanted_of field ≡ AnyText → text_of field default j ≡ Some (unwrap_or (given_text field j) default)
 text-or field default j readable e = read-or (false ≡ false) as_str (given field j) default (suited field AnyText j readable e)
 
-pub flag-or : (field : Field) (j : Json) → AreReadable j → wanted_of field ≡ Flag → flag_of field j ≡ Some (unwrap_or (given field j >>= as_bool) false)
+flag-or : (field : Field) (j : Json) → AreReadable j → wanted_of field ≡ Flag → flag_of field j ≡ Some (unwrap_or (given field j >>= as_bool) false)
 flag-or field j readable e = read-or (false ≡ false) as_bool (given field j) false (suited field Flag j readable e)
+
+pub flag-given : (field : Field) (j v : Json) (b : Bool) → AreReadable j → wanted_of field ≡ Flag → Some v ≡ given field j → b ≡ unwrap_or (as_bool v) false → flag_of field j ≡ Some b
+flag-given field j v b readable e given same =
+    flag-or field j readable e ∙ ap (λ o. Some (unwrap_or (o >>= as_bool) false)) (sym given) ∙ ap (λ b. Some b) (sym same)
+
+pub flag-absent : (field : Field) (j : Json) → AreReadable j → wanted_of field ≡ Flag → None ≡ given field j → flag_of field j ≡ Some false
+flag-absent field j readable e given = flag-or field j readable e ∙ ap (λ o. Some (unwrap_or (o >>= as_bool) false)) (sym given)
 
 pub number-or : (field : Field) (default : ℕ) (j : Json) → AreReadable j → wanted_of field ≡ WholeNumber (bounds_of field) → number_of field default j ≡ Some (unwrap_or (given field j >>= number_within (bounds_of field)) default)
 number-or field default j readable e = read-or (false ≡ false) (number_within (bounds_of field)) (given field j) default (suited field (WholeNumber (bounds_of field)) j readable e)
@@ -121,3 +128,8 @@ unwrapped None default = refl
 pub there-seen : (r : Option (Bor (List ℕ))) (o : Option (List ℕ)) → option_map (λ x. x.now) r ≡ o → IsSome o → IsSome r
 there-seen (Some x) o e h = refl
 there-seen None o e h = subst IsSome (sym e) h
+
+-- a copy of a text that is read
+pub copied-text : {E : Type 0} (o : Option (List ℕ)) (text : List ℕ) (r : Result (List ℕ) E) → o ≡ Some text → IfOk r (λ copied. copied ≡ text) → IfOk r (λ copied. o ≡ Some copied)
+copied-text o text (Ok copied) read same = read ∙ ap (λ t. Some t) (sym same)
+copied-text o text (Err e) read same = tt

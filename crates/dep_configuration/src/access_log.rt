@@ -102,114 +102,112 @@ pub struct Start<'a> {
 
 /// Returns the line of a request that was answered. An `Err` is want of memory.
 pub fn exchange_line(alloc: Global, exchange: &Exchange<'_>) -> Result<Vec<u8>, AllocError> {
-    let mut line = Line::new(alloc, "exchange", exchange.moment)?;
-    line.add_request(exchange);
-    line.add_reply(exchange);
-    line.end()
+    let end = exchange.path.floor_char_boundary(GREATEST_PATH);
+    let refusal = match exchange.refusal {
+        Some(refusal) => Item::Text(refusal),
+        None => Item::LeftOut,
+    };
+    line(
+        alloc,
+        &[
+            ("event", Item::Text("exchange")),
+            ("moment", Item::Number(exchange.moment)),
+            ("connection", Item::Number(exchange.connection)),
+            ("peer", Item::Text(exchange.peer)),
+            ("method", Item::Text(exchange.method)),
+            ("path", Item::Text(&exchange.path[..end])),
+            ("status", Item::Number(u64::from(exchange.status))),
+            ("refusal", refusal),
+            ("bytes_in", Item::Number(exchange.bytes_in)),
+            ("bytes_out", Item::Number(exchange.bytes_out)),
+            ("microseconds", Item::Number(exchange.microseconds)),
+        ],
+    )
 }
 
 /// Returns the line of a connection that the server closed, or of a client that it turned away. An `Err` is want of
 /// memory.
 pub fn closing_line(alloc: Global, closing: &Closing<'_>) -> Result<Vec<u8>, AllocError> {
-    let event = match closing.connection {
-        Some(_) => "closed",
-        None => "refused",
+    let (event, connection) = match closing.connection {
+        Some(connection) => ("closed", Item::Number(connection)),
+        None => ("refused", Item::LeftOut),
     };
-    let mut line = Line::new(alloc, event, closing.moment)?;
-    line.add_optional_number("connection", closing.connection);
-    line.add_text("peer", closing.peer);
-    line.add_text("reason", closing.reason.name());
-    line.end()
+    line(
+        alloc,
+        &[
+            ("event", Item::Text(event)),
+            ("moment", Item::Number(closing.moment)),
+            ("connection", connection),
+            ("peer", Item::Text(closing.peer)),
+            ("reason", Item::Text(closing.reason.name())),
+        ],
+    )
 }
 
 /// Returns the line of a server that starts. An `Err` is want of memory.
 pub fn start_line(alloc: Global, start: &Start<'_>) -> Result<Vec<u8>, AllocError> {
-    let mut line = Line::new(alloc, "started", start.moment)?;
-    line.add_text("version", start.version);
-    line.add_text("address", start.address);
-    line.add_limits(&start.limits);
-    line.add_number("open_microseconds", start.open_microseconds);
-    line.end()
+    let limits = &start.limits;
+    let connections = match limits.connections {
+        Some(connections) => Item::Number(connections),
+        None => Item::LeftOut,
+    };
+    line(
+        alloc,
+        &[
+            ("event", Item::Text("started")),
+            ("moment", Item::Number(start.moment)),
+            ("version", Item::Text(start.version)),
+            ("address", Item::Text(start.address)),
+            ("idle_seconds", Item::Number(limits.idle_seconds)),
+            ("least_rate", Item::Number(limits.least_rate)),
+            ("connections", connections),
+            (
+                "address_connections",
+                Item::Number(limits.address_connections),
+            ),
+            ("spool_bytes", Item::Number(limits.spool_bytes)),
+            ("unfinished_bytes", Item::Number(limits.unfinished_bytes)),
+            ("open_microseconds", Item::Number(start.open_microseconds)),
+        ],
+    )
 }
 
-/// A line that is written: an object of JSON. Once memory ran out nothing more is added, and there is no line.
-struct Line {
-    out: Writer,
-    so_far: Result<(), AllocError>,
+/// The value of a member of a line.
+#[derive(Clone, Copy)]
+enum Item<'a> {
+    Text(&'a str),
+    Number(u64),
+    /// The member is left out.
+    LeftOut,
 }
 
-impl Line {
-    // An object with its event and its moment.
-    fn new(alloc: Global, event: &str, moment: u64) -> Result<Line, AllocError> {
-        let mut out = Writer::new(Vec::with_capacity(alloc, 512)?);
-        let so_far = out.begin_object();
-        let mut line = Line { out, so_far };
-        line.add_text("event", event);
-        line.add_number("moment", moment);
-        Ok(line)
-    }
-
-    fn add_request(&mut self, exchange: &Exchange<'_>) {
-        let end = exchange.path.floor_char_boundary(GREATEST_PATH);
-        self.add_number("connection", exchange.connection);
-        self.add_text("peer", exchange.peer);
-        self.add_text("method", exchange.method);
-        self.add_text("path", &exchange.path[..end]);
-    }
-
-    fn add_reply(&mut self, exchange: &Exchange<'_>) {
-        self.add_number("status", u64::from(exchange.status));
-        if let Some(refusal) = exchange.refusal {
-            self.add_text("refusal", refusal);
-        }
-        self.add_number("bytes_in", exchange.bytes_in);
-        self.add_number("bytes_out", exchange.bytes_out);
-        self.add_number("microseconds", exchange.microseconds);
-    }
-
-    fn add_limits(&mut self, limits: &Limits) {
-        self.add_number("idle_seconds", limits.idle_seconds);
-        self.add_number("least_rate", limits.least_rate);
-        self.add_optional_number("connections", limits.connections);
-        self.add_number("address_connections", limits.address_connections);
-        self.add_number("spool_bytes", limits.spool_bytes);
-        self.add_number("unfinished_bytes", limits.unfinished_bytes);
-    }
-
-    fn add_text(&mut self, name: &str, text: &str) {
-        if self.so_far.is_ok() {
-            self.so_far = put_text(&mut self.out, name, text);
-        }
-    }
-
-    fn add_optional_number(&mut self, name: &str, number: Option<u64>) {
-        if let Some(number) = number {
-            self.add_number(name, number);
-        }
-    }
-
-    fn add_number(&mut self, name: &str, number: u64) {
-        if self.so_far.is_ok() {
-            self.so_far = put_number(&mut self.out, name, number);
-        }
-    }
-
-    fn end(self) -> Result<Vec<u8>, AllocError> {
-        let Line { mut out, so_far } = self;
-        so_far?;
-        out.end_object()?;
-        let mut line = out.into_inner();
-        line.push(b'\n')?;
-        Ok(line)
-    }
+// The line of these members.
+fn line(alloc: Global, members: &[(&str, Item<'_>)]) -> Result<Vec<u8>, AllocError> {
+    let mut out = Writer::new(Vec::with_capacity(alloc, 512)?);
+    put_object(&mut out, members)?;
+    let mut line = out.into_inner();
+    line.push(b'\n')?;
+    Ok(line)
 }
 
-fn put_text(out: &mut Writer, name: &str, text: &str) -> Result<(), AllocError> {
-    out.key(name)?;
-    out.string(text)
+fn put_object(out: &mut Writer, members: &[(&str, Item<'_>)]) -> Result<(), AllocError> {
+    out.begin_object()?;
+    for (name, item) in members {
+        put_member(out, name, *item)?;
+    }
+    out.end_object()
 }
 
-fn put_number(out: &mut Writer, name: &str, number: u64) -> Result<(), AllocError> {
-    out.key(name)?;
-    out.u64(number)
+fn put_member(out: &mut Writer, name: &str, item: Item<'_>) -> Result<(), AllocError> {
+    match item {
+        Item::Text(text) => {
+            out.key(name)?;
+            out.string(text)
+        }
+        Item::Number(number) => {
+            out.key(name)?;
+            out.u64(number)
+        }
+        Item::LeftOut => Ok(()),
+    }
 }

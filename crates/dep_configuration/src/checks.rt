@@ -48,7 +48,7 @@ impl Wanted {
     {
         match self {
             Wanted::AnyText | Wanted::Base => value.as_str().is_some(),
-            Wanted::FilledText => value.as_str().is_some_and(|text| !text.is_empty()),
+            Wanted::FilledText => matches!(value.as_str(), Some(text) if !text.is_empty()),
             Wanted::Flag => value.as_bool().is_some(),
             Wanted::Address => is_address(value),
             Wanted::WholeNumber(bounds) => whole_number(value, bounds).is_some(),

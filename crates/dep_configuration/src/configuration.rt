@@ -78,8 +78,13 @@ fn read_value(alloc: Global, value: &Value<'_>) -> Result<Configuration, Configu
     check_names(alloc, value)?;
     check_fields(value)?;
     let configuration = configuration_in(alloc, value)?;
-    check_config(alloc, &configuration.config)?;
-    Ok(configuration)
+    match check_config(alloc, &configuration.config) {
+        Ok(()) => Ok(configuration),
+        Err(fault) => {
+            drop(configuration);
+            Err(fault)
+        }
+    }
 }
 
 // Whether a server can be set up so, which has its limits.
@@ -102,8 +107,8 @@ fn configuration_in(alloc: Global, value: &Value<'_>) -> Result<Configuration, A
     requires { AreReadable (value_view value.now) }
     ensures { IfOk result (λ c. HasConfiguration c (value_view value.now)) }
 {
-    let database = Text::copied(alloc, filled_text(value, Field::Database))?;
-    let spool_folder = Text::copied(alloc, filled_text(value, Field::SpoolFolder))?;
+    let database = filled_text(alloc, value, Field::Database)?;
+    let spool_folder = filled_text(alloc, value, Field::SpoolFolder)?;
     Ok(Configuration {
         address: address(value),
         port: number(value, Field::Port, 8_080) as u16,
@@ -119,10 +124,10 @@ fn config_in(alloc: Global, value: &Value<'_>) -> Result<Config, AllocError>
     requires { AreReadable (value_view value.now) }
     ensures { IfOk result (λ c. HasConfig c (value_view value.now)) }
 {
-    let base = Text::copied(alloc, base(value))?;
-    let title = Text::copied(alloc, text(value, Field::Title, "swordd"))?;
-    let abstract_text = Text::copied(alloc, text(value, Field::Abstract, "Deposit service"))?;
-    let depositor = Text::copied(alloc, text(value, Field::Depositor, "depositor"))?;
+    let base = base(alloc, value)?;
+    let title = text(alloc, value, Field::Title, "swordd")?;
+    let abstract_text = text(alloc, value, Field::Abstract, "Deposit service")?;
+    let depositor = text(alloc, value, Field::Depositor, "depositor")?;
     Ok(Config {
         base,
         title,

@@ -102,20 +102,19 @@ pub enum Wanted {
 
 impl fmt::Display for Wanted {
     fn fmt<W: fmt::Write>(&self, f: &mut fmt::Formatter<W>) -> fmt::Result {
-        match self {
-            Wanted::AnyText => f.write_str("a text"),
-            Wanted::FilledText => f.write_str("a text that is not empty"),
-            Wanted::Flag => f.write_str("true or false"),
-            Wanted::Address => f.write_str("an IP address in quotes"),
+        let text = match self {
+            Wanted::AnyText => "a text",
+            Wanted::FilledText => "a text that is not empty",
+            Wanted::Flag => "true or false",
+            Wanted::Address => "an IP address in quotes",
             Wanted::Base => {
-                f.write_str(
-                    "an http URL in its normal form, without a path or the slash at its end",
-                )
+                "an http URL in its normal form, without a path or the slash at its end"
             }
             Wanted::WholeNumber(bounds) => {
-                write!(f, "a whole number from {} to {}", bounds.least, bounds.most)
+                return write!(f, "a whole number from {} to {}", bounds.least, bounds.most);
             }
-        }
+        };
+        f.write_str(text)
     }
 }
 

@@ -29,20 +29,18 @@ pub fn refusal_of_front(front: &[u8]) -> Option<&str> {
         return None;
     }
     let reply = front.strip_prefix(CONTINUE).unwrap_or(front);
-    name_in(content_of(reply.get(..1_024).unwrap_or(reply))?)
+    let (_, content) = split_once(reply.get(..1_024).unwrap_or(reply), b"\r\n\r\n")?;
+    let (name, _) = split_once(content.strip_prefix(BEFORE_NAME)?, b"\"")?;
+    str::from_utf8(name).ok()
 }
 
-// What stands behind the head of a reply.
-fn content_of(reply: &[u8]) -> Option<&[u8]> {
-    let end = reply
-        .windows(4)
-        .position(|four| four == b"\r\n\r\n".as_slice())?;
-    reply.get(end..)?.get(4..)
-}
-
-// The name of the refusal in an error document.
-fn name_in(document: &[u8]) -> Option<&str> {
-    let named = document.strip_prefix(BEFORE_NAME)?;
-    let quote = named.iter().position(|byte| *byte == b'"')?;
-    str::from_utf8(named.get(..quote)?).ok()
+// What stands before and behind a mark, where it stands first.
+fn split_once<'a>(text: &'a [u8], mark: &[u8]) -> Option<(&'a [u8], &'a [u8])> {
+    for start in 0..text.len() {
+        let (before, rest) = text.split_at(start);
+        if let Some(behind) = rest.strip_prefix(mark) {
+            return Some((before, behind));
+        }
+    }
+    None
 }

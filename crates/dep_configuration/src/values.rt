@@ -1,39 +1,50 @@
 //! The values of the fields that a configuration gives, once each of them can be read.
-ghost use Rattle.std.specs.Prelude.{◌≡◌, Some, option_map};
+ghost use Rattle.std.specs.Prelude.{◌≡◌, IfOk, Some, option_map};
 ghost use Rattle.json.specs.Value.{value_view};
 ghost use Rattle.dep_configuration.specs.Fields.{bounds_of};
 ghost use Rattle.dep_configuration.specs.declared.field.Wanted.TheVariants.{AnyText, FilledText, Flag, WholeNumber};
 ghost use Rattle.dep_configuration.specs.declared.field.Wanted.TheVariants as Kind;
 ghost use Rattle.dep_configuration.specs.Faults.{Gives};
-ghost use Rattle.dep_configuration.specs.Readings.{filled_text_of, flag_of, given_flag, given_number, given_text, number_of, number_within, optional_number_of, text_of, IsAddressOf};
+ghost use Rattle.dep_configuration.specs.Readings.{filled_text_of, flag_of, given_number, given_text, number_of, number_within, optional_number_of, text_of, IsAddressOf};
 
 use crate::field::{Bounds, Field};
 use dep_octets::{Number, decimal};
+use dep_types::Text;
 use json::Value;
+use std::alloc::{AllocError, Global};
 use std::net::{IpAddr, Ipv4Addr};
 
-/// The text of a field, or the default.
-pub(crate) fn text<'a>(value: &Value<'a>, field: Field, default: &'static str) -> &'a str
+/// A copy of the text of a field, or of the default.
+pub(crate) fn text(
+    alloc: Global,
+    value: &Value<'_>,
+    field: Field,
+    default: &'static str,
+) -> Result<Text, AllocError>
     requires { Gives field AnyText (value_view value.now) }
-    ensures { text_of field default.now (value_view value.now) ≡ Some result.now }
+    ensures { IfOk result (λ text. text_of field default.now (value_view value.now) ≡ Some text) }
 {
-    given_text(value, field).unwrap_or(default)
+    Text::copied(alloc, given_text(value, field).unwrap_or(default))
 }
 
-/// The text of a field that has to be given, and not to be empty.
-pub(crate) fn filled_text<'a>(value: &Value<'a>, field: Field) -> &'a str
+/// A copy of the text of a field that has to be given, and not to be empty.
+pub(crate) fn filled_text(
+    alloc: Global,
+    value: &Value<'_>,
+    field: Field,
+) -> Result<Text, AllocError>
     requires { Gives field FilledText (value_view value.now) }
-    ensures { filled_text_of field (value_view value.now) ≡ Some result.now }
+    ensures { IfOk result (λ text. filled_text_of field (value_view value.now) ≡ Some text) }
 {
-    given_text(value, field).unwrap()
+    Text::copied(alloc, given_text(value, field).unwrap())
 }
 
-/// The text of the base, which has to be given.
-pub(crate) fn base<'a>(value: &Value<'a>) -> &'a str
+/// A copy of the text of the base, which has to be given.
+pub(crate) fn base(alloc: Global, value: &Value<'_>) -> Result<Text, AllocError>
     requires { Gives Field.Base Kind.Base (value_view value.now) }
-    ensures { given_text Field.Base (value_view value.now) ≡ Some result.now }
+    ensures { IfOk result (λ text. given_text Field.Base (value_view value.now) ≡ Some text) }
 {
-    given_text(value, Field::Base).unwrap()
+    Text::copied(alloc, given_text(value, Field::Base).unwrap())
 }
 
 /// The truth value of a field, which is false where it isn't given.
@@ -41,7 +52,10 @@ pub(crate) fn flag(value: &Value<'_>, field: Field) -> bool
     requires { Gives field Flag (value_view value.now) }
     ensures { flag_of field (value_view value.now) ≡ Some result }
 {
-    given_flag(value, field).unwrap_or(false)
+    match value.get(field.name()) {
+        Some(found) => found.as_bool().unwrap_or(false),
+        None => false,
+    }
 }
 
 /// The IP address to listen at: 127.0.0.1 where none is given.
@@ -91,13 +105,6 @@ fn given_text<'a>(value: &Value<'a>, field: Field) -> Option<&'a str>
     ensures { option_map (λ text. text.now) result ≡ given_text field (value_view value.now) }
 {
     value.get(field.name())?.as_str()
-}
-
-// The truth value that a field is given as.
-fn given_flag(value: &Value<'_>, field: Field) -> Option<bool>
-    ensures { result ≡ given_flag field (value_view value.now) }
-{
-    value.get(field.name())?.as_bool()
 }
 
 // The number that a field is given as.

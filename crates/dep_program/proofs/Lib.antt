@@ -1,2 +1,3 @@
 pub mod ServeLemmas
 pub mod GatheredLemmas
+pub mod CommandLemmas

@@ -103,10 +103,6 @@ not_served condition ticks clock hub settles = record {
   converses = unserved condition clock hub hub socket_wire (λ w at. at) refl (λ w at. stays_as (condition hub.store) w.state settles at.state) (λ first records h. h);
 }
 
--- the same over the same hub
-pub same_served : {A : Type 0} (condition : A → Condition) (old mid new : Hub A) (talks : List Conversation) → new ≡ mid → ServesThese condition old mid talks → ServesThese condition old new talks
-same_served condition old mid new talks same m = subst (λ hub. ServesThese condition old hub talks) (sym same) m
-
 pub so_many : (talks : List Conversation) (k count : ℕ) → k ≡ count → AreAmong talks k → AreAmong talks count
 so_many talks k count same m = subst (λ n. AreAmong talks n) same m
 

@@ -69,9 +69,8 @@ fn read_serve<'a>(words: &'a [String]) -> Option<Command<'a>>
     let [port, file, count] = words else {
         return None;
     };
-    let port = number_in(port.as_str(), GREATEST_PORT)?;
     let door = Door {
-        port: u16::try_from(port).ok()?,
+        port: number_in(port.as_str(), GREATEST_PORT)? as u16,
         count: number_in(count.as_str(), MOST_SERVED)?,
     };
     Some(Command::WorkOn {

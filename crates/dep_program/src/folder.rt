@@ -4,6 +4,7 @@ ghost use Rattle.dep_program.specs.Folders.{path_in, without_folder};
 
 use crate::outcome::Outcome;
 use crate::progress::Progress;
+use std::alloc::AllocError;
 use std::fs::File;
 use std::io::{ErrorKind, Write};
 use std::{fs, io};
@@ -100,14 +101,13 @@ impl LastFile<'_> {
 }
 
 // Puts the path of a file or a folder in this folder into the room for it.
-fn put_path(inside: &mut String, folder: &str, path: &str) -> io::Result<()>
+fn put_path(inside: &mut String, folder: &str, path: &str) -> Result<(), AllocError>
     ensures { OnOk result (string_bytes inside.new ≡ path_in folder.now path.now) }
 {
     inside.clear();
     inside.push_str(folder)?;
     inside.push_str("/")?;
-    inside.push_str(path)?;
-    Ok(())
+    inside.push_str(path)
 }
 
 /// Returns the outcome of an export whose folder can't be made: `StoreFault` for want of memory, else

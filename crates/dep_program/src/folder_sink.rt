@@ -1,8 +1,10 @@
 //! The folder as a sink of a bag.
-ghost use Rattle.std.specs.Prelude.{◌≡◌};
+ghost use Rattle.std.specs.Prelude.{◌≡◌, OnErr, OnOk};
+ghost use Rattle.dep_types.specs.Writing.{HasRisen};
 
 use crate::folder::Folder;
 use dep_types::{BagSink, Outlet, SinkFailed, WriteFailed};
+use std::io;
 
 /// A bag goes into the folder, and its failures are counted.
 #[derive(Drop)]
@@ -22,6 +24,20 @@ impl<'a> FolderSink<'a> {
             failures: 0,
         }
     }
+
+    /// Counts a call that failed.
+    fn count(&mut self, done: io::Result<()>) -> Result<(), SinkFailed>
+        ensures count { OnOk result (self.new.failures ≡ self.old.failures) }
+        ensures cause { OnErr result (HasRisen self.old.failures self.new.failures) }
+    {
+        match done {
+            Ok(()) => Ok(()),
+            Err(_) => {
+                self.failures = self.failures.saturating_add(1);
+                Err(SinkFailed)
+            }
+        }
+    }
 }
 
 impl Outlet for FolderSink<'_> {
@@ -38,26 +54,17 @@ impl Outlet for FolderSink<'_> {
 
 impl BagSink for FolderSink<'_> {
     fn folder(&mut self, path: &str) -> Result<(), SinkFailed> {
-        if self.folder.make_folder(path).is_ok() {
-            return Ok(());
-        }
-        self.failures = self.failures.saturating_add(1);
-        Err(SinkFailed)
+        let made = self.folder.make_folder(path);
+        self.count(made)
     }
 
     fn begin(&mut self, path: &str) -> Result<(), SinkFailed> {
-        if self.folder.begin_file(path).is_ok() {
-            return Ok(());
-        }
-        self.failures = self.failures.saturating_add(1);
-        Err(SinkFailed)
+        let begun = self.folder.begin_file(path);
+        self.count(begun)
     }
 
     fn finish(&mut self) -> Result<(), SinkFailed> {
-        if self.folder.file.end().is_ok() {
-            return Ok(());
-        }
-        self.failures = self.failures.saturating_add(1);
-        Err(SinkFailed)
+        let ended = self.folder.file.end();
+        self.count(ended)
     }
 }

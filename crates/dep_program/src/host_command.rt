@@ -38,15 +38,9 @@ fn of_one<'a>(word: &'a str) -> Option<HostCommand<'a>>
     if word == "--example" {
         return Some(HostCommand::Example);
     }
-    if is_option(word) {
-        return None;
+    // An option is no name of a file.
+    match word.as_bytes().first() {
+        Some(b'-') => None,
+        _ => Some(HostCommand::Serve(word)),
     }
-    Some(HostCommand::Serve(word))
-}
-
-/// Whether a word is no name of a file.
-fn is_option(word: &str) -> bool
-    ensures { result ≡ spec.is_option word.now }
-{
-    matches!(word.as_bytes().first(), Some(b'-'))
 }

@@ -6,7 +6,7 @@ ghost use Rattle.dep_program.specs.Outcomes.{status_of, line_of, outcome_of, out
 use dep_hub::Served;
 
 /// How a run of the program ended.
-#[derive(Clone, Copy, Debug, PartialEq, Eq)]
+#[derive(Clone, Copy, Debug)]
 pub enum Outcome {
     /// What was asked for was done.
     Done,

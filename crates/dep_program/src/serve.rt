@@ -1,5 +1,4 @@
 //! Connections over sockets, one after another.
-ghost use Rattle.std.specs.Prelude.{◌≡◌, IfOk, OnErr};
 ghost use Rattle.dep_hub.specs.Standing.{ServesAs};
 ghost use Rattle.dep_program.specs.Serves.{Serves, ServesOne};
 
@@ -9,8 +8,7 @@ use dep_hub::{Archive, Hub, Served, serve_connection};
 use dep_moment::Moment;
 use dep_types::ReaderInlet;
 use std::alloc::Global;
-use std::io;
-use std::net::TcpListener;
+use std::net::{TcpListener, TcpStream};
 
 /// Serves so many connections that the listener accepts, one after another, each from its opening to its close.
 /// A connection that fails doesn't end it. Where accepting fails, no further one is served.
@@ -26,34 +24,31 @@ pub fn serve_on<A: Archive, C: FnMut() -> Moment>(
     ensures serves { Serves A.condition C.step clock hub.old hub.new count result }
 {
     for _ in 0..count {
-        let Ok(_) = serve_next(alloc, listener, hub, &mut clock) else {
+        let Ok((stream, _)) = listener.accept() else {
             return Outcome::TransferFault;
         };
+        serve_stream(alloc, &stream, hub, &mut clock);
     }
     Outcome::Done
 }
 
-/// Serves the next connection.
-fn serve_next<A: Archive, C: FnMut() -> Moment>(
+/// Serves a connection over its socket.
+fn serve_stream<A: Archive, C: FnMut() -> Moment>(
     alloc: Global,
-    listener: &TcpListener,
+    stream: &TcpStream,
     hub: &mut Hub<A>,
     clock: &mut C,
-) -> io::Result<Served>
+) -> Served
     requires { C.IsAlwaysCallable clock.old }
     ensures call { C.IsAlwaysCallable clock.new }
     ensures goes { ServesAs A.condition hub.old hub.new }
-    ensures one { IfOk result
-        (λ served. ServesOne A.condition C.step clock.old clock.new hub.old hub.new served) }
-    ensures none { OnErr result (hub.new ≡ hub.old) }
-    ensures asked { OnErr result (clock.new ≡ clock.old) }
+    ensures one { ServesOne A.condition C.step clock.old clock.new hub.old hub.new result }
 {
-    let (stream, _) = listener.accept()?;
     // Else a short content would wait until its client has acknowledged the head.
     let _ = stream.set_nodelay(true);
-    let Ok(mut outlet) = Gathered::new(alloc, &stream) else {
-        return Ok(Served::Unserved);
+    let Ok(mut outlet) = Gathered::new(alloc, stream) else {
+        return Served::Unserved;
     };
-    let mut inlet = ReaderInlet::new(&stream);
-    Ok(serve_connection(alloc, &mut inlet, &mut outlet, hub, clock))
+    let mut inlet = ReaderInlet::new(stream);
+    serve_connection(alloc, &mut inlet, &mut outlet, hub, clock)
 }

@@ -48,11 +48,11 @@ pub fn configuration_at(alloc: Global, port: u64) -> Result<Config, AllocError>
 fn base_text(alloc: Global, port: u64) -> Result<String, AllocError>
     ensures { IfOk result (λ text. string_bytes text ≡ base_at port) }
 {
-    let mut text = String::from_str(alloc, "http://127.0.0.1")?;
-    if port != DEFAULT_PORT {
-        let mut digits = Buffer::new();
-        text.push_str(":")?;
-        text.push_str(digits.format(port))?;
+    if port == DEFAULT_PORT {
+        return String::from_str(alloc, "http://127.0.0.1");
     }
+    let mut text = String::from_str(alloc, "http://127.0.0.1:")?;
+    let mut digits = Buffer::new();
+    text.push_str(digits.format(port))?;
     Ok(text)
 }

@@ -17,8 +17,7 @@ returns-in_err-check_fields-clause-refused c =
 pub check_config-requires : goal.check_config-requires
 check_config-requires c = limits-of c.in_ok-configuration.configuration.config (value_view c.args.value.now) c.in_ok-configuration.ensures.config
 
-pub returns-in_err-check_config-clause-refused : goal.returns-in_err-check_config-clause-refused
-returns-in_err-check_config-clause-refused c =
-    let p = err_from_is_err_and c.from_residual-in_err-check_config.result c.from_residual-in_err-check_config.ensures.1 in
-    rw (p.1, p.2) (last-of-base _ (value_view c.args.value.now) c.in_ok-configuration.configuration.config c.in_ok-check_names.ensures.taken c.in_ok-check_fields.ensures.readable c.in_ok-configuration.ensures.config
-    c.in_err-check_config.ensures.refused)
+pub returns-in-Err-clause-refused : goal.returns-in-Err-clause-refused
+returns-in-Err-clause-refused c =
+    last-of-base c.in-Err.fault (value_view c.args.value.now) c.in_ok-configuration.configuration.config c.in_ok-check_names.ensures.taken c.in_ok-check_fields.ensures.readable c.in_ok-configuration.ensures.config
+    c.in-Err.ensures.refused

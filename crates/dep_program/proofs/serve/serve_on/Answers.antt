@@ -1,5 +1,5 @@
 use Rattle.std.proofs.Common.{◌≡◌, inl, inr, refl, arith}
-use Rattle.dep_program.proofs.ServeLemmas.{none_served, one_served, same_served, so_many, serves_then}
+use Rattle.dep_program.proofs.ServeLemmas.{none_served, one_served, so_many, serves_then}
 use Rattle.dep_program.proofs.serve.serve_on.Goals as goal
 
 pub loop-init : goal.loop-init
@@ -7,20 +7,20 @@ loop-init g c = record { call = c.requires; goes = record { config = refl; clean
 
 pub loop-preserved : goal.loop-preserved
 loop-preserved g c = record {
-  call = c.serve_next.ensures.call;
-  goes = serves_then _ _ _ _ c.loop.invariant.goes c.serve_next.ensures.goes;
-  served = one_served _ _ _ _ _ _ _ _ _ c.loop.invariant.served c.serve_next.ensures.goes.clean c.in-Ok.field-0 c.in-Ok.ensures.one;
+  call = c.serve_stream.ensures.call;
+  goes = serves_then _ _ _ _ c.loop.invariant.goes c.serve_stream.ensures.goes;
+  served = one_served _ _ _ _ _ _ _ _ _ c.loop.invariant.served c.serve_stream.ensures.goes.clean c.serve_stream.result c.serve_stream.ensures.one;
 }
 
 pub returns-in_default-clause-goes : goal.returns-in_default-clause-goes
-returns-in_default-clause-goes g c = serves_then _ _ _ _ c.loop.invariant.goes c.serve_next.ensures.goes
+returns-in_default-clause-goes g c = c.loop.invariant.goes
 
 pub returns-in_default-clause-serves : goal.returns-in_default-clause-serves
 returns-in_default-clause-serves g c =
     let served = c.loop.invariant.served in (
       served.talks,
       inr (c.loop.counter, c.loop-test.true, served.among, refl),
-      same_served g.A.Archive.condition _ _ _ served.talks c.in_default.ensures.none served.these,
+      served.these,
       (c.loop.clock, served.moments),
     )
 

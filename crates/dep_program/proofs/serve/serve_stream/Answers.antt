@@ -1,5 +1,5 @@
 use Rattle.dep_program.proofs.ServeLemmas.{over_socket, not_served}
-use Rattle.dep_program.proofs.serve.serve_next.Goals as goal
+use Rattle.dep_program.proofs.serve.serve_stream.Goals as goal
 
 pub returns-clause-one : goal.returns-clause-one
 returns-clause-one g c =
