@@ -1,2 +1,1 @@
 pub mod Clients
-pub mod Verdicts

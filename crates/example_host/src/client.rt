@@ -6,6 +6,10 @@ use dep_outbox::{Delivered, Received};
 use example_text::{Exchange, Trouble};
 use std::alloc::{AllocError, Global};
 
+const TOLD: Trouble = Trouble::Line("the client was told that nothing more is sent");
+
+const NOT_TOLD: Trouble = Trouble::Line("the client wasn't told that nothing more is sent");
+
 /// What comes of a receive where the client has sent nothing more.
 #[derive(Clone, Copy)]
 pub enum Silence {
@@ -172,9 +176,11 @@ impl Client {
         Delivered::Bytes(count)
     }
 
-    /// Sets how it behaves from here on.
-    pub fn behaves(&mut self, word: &str, count: usize) -> Result<(), Trouble> {
+    /// Does what a line says of it: how it behaves from here on, or what it was told, or what isn't compared.
+    pub fn line(&mut self, word: &str, count: usize) -> Result<(), Trouble> {
         match word {
+            "finished" | "unfinished" => return self.is_told_as(word),
+            "forget" => return Ok(self.forget()),
             "receives" => self.at_once = count,
             "takes" => self.room = count,
             "takes-all" => self.room = usize::MAX,
@@ -186,5 +192,14 @@ impl Client {
         }
         self.is_ready = true;
         Ok(())
+    }
+
+    // It was told that nothing more is sent, or wasn't, as the word says.
+    fn is_told_as(&self, word: &str) -> Result<(), Trouble> {
+        match (self.is_finished, word) {
+            (false, "finished") => Err(NOT_TOLD),
+            (true, "unfinished") => Err(TOLD),
+            _ => Ok(()),
+        }
     }
 }

@@ -1,6 +1,19 @@
-//! What becomes of the clients of a script, and the words for it.
+//! What becomes of the clients of an example, and the words for it.
 
 use dep_host::{Closing, Refusal};
+
+/// The words for what becomes of a client that has come.
+pub const FATES: [&str; 9] = [
+    "open",
+    "over",
+    "silent",
+    "slow",
+    "large",
+    "address-refused",
+    "full-refused",
+    "memory-refused",
+    "shut-refused",
+];
 
 /// What became of a client.
 #[derive(Clone, Copy)]
@@ -30,14 +43,5 @@ impl Fate {
             Fate::Closed(Closing::Slow) => "slow",
             Fate::Closed(Closing::Large) => "large",
         }
-    }
-}
-
-/// Whether it is the word for what became of a client.
-pub fn is_fate(word: &str) -> bool {
-    match word {
-        "outside" | "open" | "over" | "silent" | "slow" | "large" => true,
-        "address-refused" | "full-refused" | "memory-refused" | "shut-refused" => true,
-        _ => false,
     }
 }

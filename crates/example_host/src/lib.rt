@@ -1,13 +1,14 @@
-//! Plays examples of many connections at once: a host over clients, spools and clocks that do what a script says.
+//! Plays examples of many connections at once: a host over clients, spools and clocks that do what their lines say.
 //! docs/EXAMPLES.md explains the files.
 #![tactic(auto)]
 
 mod client;
+mod clients;
+mod coming;
 mod fate;
 mod file;
-mod log;
-mod script;
-mod setting;
+mod play;
+mod roll;
 mod socket;
 mod spool;
 

@@ -1,16 +1,13 @@
-//! A client as its script and its socket share it.
+//! A client as its player and its socket share it.
 
 use crate::client::Client;
 use dep_outbox::{Delivered, Received, Sink, Source};
-use example_text::{Exchange, Trouble};
+use example_text::Trouble;
 use std::alloc::{AllocError, Global};
-use std::cell::RefCell;
+use std::cell::{RefCell, RefMut};
 use std::rc::Rc;
 
-/// What is wrong where a client is in use already.
-const IN_USE: Trouble = Trouble::Line("the client is in use");
-
-/// A client as its script and the two halves of its socket share it.
+/// A client as its player and the two halves of its socket share it.
 #[derive(Drop)]
 pub struct Shared {
     client: Rc<RefCell<Client>>,
@@ -31,52 +28,11 @@ impl Shared {
         })
     }
 
-    /// It sends the bytes that are written too.
-    pub fn give(&self, exchange: &Exchange) -> Result<(), Trouble> {
+    /// The client, which no call of its socket uses meanwhile.
+    pub fn client(&self) -> Result<RefMut<'_, Client>, Trouble> {
         match self.client.try_borrow_mut() {
-            Ok(mut client) => Ok(client.give(exchange.stream.as_slice())?),
-            Err(_) => Err(IN_USE),
-        }
-    }
-
-    /// What it took, and what became of it, has to be as it is written. What it took is forgotten.
-    pub fn ends(
-        &self,
-        alloc: Global,
-        exchange: &Exchange,
-        fate: &str,
-        word: &str,
-    ) -> Result<(), Trouble> {
-        match self.client.try_borrow_mut() {
-            Ok(mut client) => {
-                let ended = client.is_as_written(alloc, exchange, fate, word);
-                client.forget();
-                ended
-            }
-            Err(_) => Err(IN_USE),
-        }
-    }
-
-    /// What it took so far isn't compared.
-    pub fn forget(&self) {
-        if let Ok(mut client) = self.client.try_borrow_mut() {
-            client.forget();
-        }
-    }
-
-    /// Sets how it behaves from here on.
-    pub fn behaves(&self, word: &str, count: usize) -> Result<(), Trouble> {
-        match self.client.try_borrow_mut() {
-            Ok(mut client) => client.behaves(word, count),
-            Err(_) => Err(IN_USE),
-        }
-    }
-
-    /// Whether it was told that nothing more is sent.
-    pub fn is_finished(&self) -> bool {
-        match self.client.try_borrow() {
-            Ok(client) => client.is_finished,
-            Err(_) => false,
+            Ok(client) => Ok(client),
+            Err(_) => Err(Trouble::Line("the client is in use")),
         }
     }
 

@@ -1,16 +1,17 @@
 //! An example, and the ways in which it is played.
 
-use crate::play::Play;
-use crate::tables::ExampleTables;
-use example_text::{Cut, Trouble, Words};
-use std::alloc::Global;
-use std::fmt;
+use crate::player::Player;
+use example_text::{Cut, Trouble, Words, first_word};
+use std::alloc::{AllocError, Global};
+use std::io;
 
-/// An example, and what of it is played.
+/// An example, and what of it is played. What stands at the head of a file is one too.
 #[derive(Drop)]
 pub struct Example<'a> {
     alloc: Global,
     words: &'a mut Words,
+    /// So many texts have a name before its first line.
+    texts: usize,
     /// Its lines, the title first.
     lines: &'a str,
     /// The number of its first line in the file.
@@ -22,21 +23,12 @@ pub struct Example<'a> {
     line: usize,
 }
 
-// It shows where the play stands: in which line, in which row, and how the bytes are cut.
-impl fmt::Display for Example<'_> {
-    fn fmt<W: fmt::Write>(&self, f: &mut fmt::Formatter<W>) -> fmt::Result {
-        let line = self.number.saturating_add(self.line);
-        let (title, row, cut) = (self.title(), self.row, self.cut);
-        let what = if row.is_empty() { "" } else { ", row " };
-        write!(f, "{line}: \"{title}\"{what}{row}, {cut}")
-    }
-}
-
 impl<'a> Example<'a> {
     /// These lines, of which the first has this number in the file. Nothing is played yet.
     pub fn new(alloc: Global, words: &'a mut Words, lines: &'a str, number: usize) -> Example<'a> {
         Example {
             alloc,
+            texts: words.count(),
             words,
             lines,
             number,
@@ -46,99 +38,85 @@ impl<'a> Example<'a> {
         }
     }
 
-    /// Plays it for each of its rows, in each of its ways. Its texts end with it. What stands at the head of the file
-    /// is no example, and its texts stay.
-    pub fn plays<T: ExampleTables>(&mut self) -> Result<(), Trouble> {
-        if self.number == 1 {
-            let _longest = self.each_line::<T>(0)?;
-            return Ok(());
-        }
+    /// Plays it for each of its rows, in each of its ways. The texts of the last time stay.
+    pub fn plays<P: Player>(&mut self) -> Result<(), Trouble> {
         match (self.value_behind("\neach "), self.lines.contains("\n-")) {
-            (None, false) => self.in_all_ways::<T>(),
-            (Some(names), true) => self.for_each_row::<T>(names),
+            (None, false) => self.in_all_ways::<P>(),
+            (Some(names), true) => self.for_each_row::<P>(names),
             _ => Err(Trouble::Line("rows stand below `each`")),
         }
     }
 
-    fn for_each_row<T: ExampleTables>(&mut self, names: &str) -> Result<(), Trouble> {
+    fn for_each_row<P: Player>(&mut self, names: &str) -> Result<(), Trouble> {
+        let texts = self.texts;
         for (i, line) in self.lines.lines().enumerate() {
             if let Some(row) = line.strip_prefix("-") {
                 self.line = i;
                 self.row = row.trim_ascii();
-                let kept = self.words.count();
-                let played = self.for_row::<T>(names);
-                self.words.forget(kept);
-                played?;
+                self.cut = Cut::Whole;
+                self.words.forget(texts);
+                add_cells(self.alloc, self.words, names, self.row)?;
+                self.texts = self.words.count();
+                self.in_all_ways::<P>()?;
             }
         }
         Ok(())
     }
 
-    fn for_row<T: ExampleTables>(&mut self, names: &str) -> Result<(), Trouble> {
-        add_cells(self.alloc, self.words, names, self.row)?;
-        self.in_all_ways::<T>()
-    }
-
-    fn in_all_ways<T: ExampleTables>(&mut self) -> Result<(), Trouble> {
+    fn in_all_ways<P: Player>(&mut self) -> Result<(), Trouble> {
         let ways = self.value_behind("\npieces ").unwrap_or("whole");
         for way in ways.split(' ') {
-            self.line = 0;
-            self.cut = Cut::Whole;
-            self.in_way::<T>(way)?;
+            self.in_way::<P>(way)?;
         }
-        self.cut = Cut::Whole;
         Ok(())
     }
 
-    fn in_way<T: ExampleTables>(&mut self, way: &str) -> Result<(), Trouble> {
-        let mut next = Cut::first(way);
-        if next.is_none() {
+    fn in_way<P: Player>(&mut self, way: &str) -> Result<(), Trouble> {
+        let Some(mut cut) = Cut::first(way) else {
             return Err(Trouble::Line("no way to cut has that name"));
-        }
+        };
         for _ in 0..u64::MAX {
-            let Some(cut) = next else {
-                break;
-            };
             self.cut = cut;
-            next = cut.following(self.played::<T>()?);
-        }
-        Ok(())
-    }
-
-    // Plays it on an archive of its own. It returns the length of the longest stream of an exchange. Its
-    // texts end with it.
-    fn played<T: ExampleTables>(&mut self) -> Result<usize, Trouble> {
-        let kept = self.words.count();
-        let played = self.each_line::<T>(1);
-        self.words.forget(kept);
-        played
-    }
-
-    // Plays the lines from the first of these on.
-    fn each_line<T: ExampleTables>(&mut self, first: usize) -> Result<usize, Trouble> {
-        self.line = 0;
-        let mut play = Play::<T>::new(self.alloc, self.cut)?;
-        let played = self.all_lines(&mut play, first);
-        drop(play);
-        played
-    }
-
-    fn all_lines<T: ExampleTables>(
-        &mut self,
-        play: &mut Play<T>,
-        first: usize,
-    ) -> Result<usize, Trouble> {
-        for (i, line) in self.lines.lines().enumerate() {
-            self.line = i;
-            if i >= first {
-                play.line(self.words, line)?;
+            match cut.following(self.played::<P>()?) {
+                Some(next) => cut = next,
+                None => break,
             }
         }
-        play.finish()
+        Ok(())
     }
 
-    fn title(&self) -> &'a str {
-        self.lines.lines().next().unwrap_or("")
+    // Plays it by a player of its own. It returns the length of the longest stream of an exchange.
+    fn played<P: Player>(&mut self) -> Result<usize, Trouble> {
+        self.words.forget(self.texts);
+        let mut player = P::new(self.alloc, self.cut)?;
+        let longest = self.all_lines(&mut player);
+        drop(player);
+        longest
+    }
+
+    fn all_lines<P: Player>(&mut self, player: &mut P) -> Result<usize, Trouble> {
+        for (i, line) in self.lines.lines().enumerate() {
+            self.line = i;
+            let is_title = i == 0 && self.number > 1;
+            let (word, rest) = first_word(line);
+            match word {
+                _ if is_title => {}
+                "" | "//" | "pieces" | "each" | "-" => {}
+                "let" | "text" | "|" => add_text(self.alloc, self.words, word, rest)?,
+                _ => player.line(self.words, word, rest)?,
+            }
+        }
+        player.finish()
+    }
+
+    /// Prints why it is not as it is written, and where the play stands: in which line, in which row, and how the bytes
+    /// are cut.
+    pub fn tells(&self, rt: &impl Print, name: &str, why: &Trouble) -> io::Result<()> {
+        let line = self.number.saturating_add(self.line);
+        let title = self.lines.lines().next().unwrap_or("");
+        let (row, cut) = (self.row, self.cut);
+        let what = if row.is_empty() { "" } else { ", row " };
+        println!(rt; "{name}:{line}: \"{title}\"{what}{row}, {cut}: {why}")
     }
 
     // What stands behind this line break and word, where they stand first.
@@ -160,5 +138,20 @@ fn add_cells(alloc: Global, words: &mut Words, names: &str, row: &str) -> Result
     match cells.next() {
         None => Ok(()),
         Some(_) => Err(Trouble::Line("there is a cell too many")),
+    }
+}
+
+// Adds a text with its name, or a line to the last text.
+fn add_text(alloc: Global, words: &mut Words, word: &str, rest: &str) -> Result<(), AllocError> {
+    match word {
+        "let" => {
+            let (name, text) = first_word(rest);
+            words.add(alloc, name, text)
+        }
+        "text" => words.add(alloc, rest, ""),
+        _ => match rest.strip_suffix('\\') {
+            Some(front) => words.extend(front, ""),
+            None => words.extend(rest, "\\r\\n"),
+        },
     }
 }

@@ -14,73 +14,39 @@ pub fn takes(
 ) -> Result<&'static str, Trouble> {
     let mut came = Arrived::Open;
     for piece in exchange.pieces() {
-        feed(intake, piece)?;
-        came = steps(intake, page)?;
+        (_, came) = steps(intake, piece, page)?;
     }
     Ok(word_of(came))
 }
 
-/// Whether these bytes are one whole request, whose client waits for nothing.
-pub fn is_one_request(alloc: Global, max_upload: u64, stream: &[u8]) -> Result<bool, AllocError> {
+/// Whether these bytes make one step, behind which more may come: they are one whole request, whose client waits for
+/// nothing, or the front of one whose client waits to be told to go on.
+pub fn is_one_request(alloc: Global, max_upload: u64, stream: &[u8], page: &mut Page) -> bool {
     let mut intake = Intake::new(alloc, max_upload);
-    let is_one = begins_with_one(&mut intake, stream);
+    let came = steps(&mut intake, stream, page);
     drop(intake);
-    is_one
+    matches!(came, Ok((1, Arrived::Open)))
 }
 
-fn begins_with_one(intake: &mut Intake, stream: &[u8]) -> Result<bool, AllocError> {
-    feed(intake, stream)?;
-    Ok(matches!(
-        (next_kind(intake)?, next_kind(intake)?),
-        (Kind::Message, Kind::NeedMore)
-    ))
-}
-
-/// What a step is.
-#[derive(Clone, Copy)]
-enum Kind {
-    Message,
-    NeedMore,
-    Other,
-}
-
-fn next_kind(intake: &mut Intake) -> Result<Kind, AllocError> {
-    let step = next(intake)?;
-    let kind = match &step {
-        Step::Message(_) => Kind::Message,
-        Step::NeedMore => Kind::NeedMore,
-        _ => Kind::Other,
-    };
-    drop(step);
-    Ok(kind)
-}
-
-// A call that fails changes nothing, so it may be made again.
-fn feed(intake: &mut Intake, piece: &[u8]) -> Result<(), AllocError> {
-    match intake.feed(piece) {
-        Ok(()) => Ok(()),
-        Err(_) => intake.feed(piece),
+// A piece comes, and each step that the intake gives then is a line on the page. It returns how many there were, and
+// how the connection stands behind them. A call that fails changes nothing, so it may be made again.
+fn steps(intake: &mut Intake, piece: &[u8], page: &mut Page) -> Result<(u64, Arrived), Trouble> {
+    if intake.feed(piece).is_err() {
+        intake.feed(piece)?;
     }
-}
-
-fn next(intake: &mut Intake) -> Result<Step, AllocError> {
-    match intake.next() {
-        Ok(step) => Ok(step),
-        Err(_) => intake.next(),
-    }
-}
-
-fn steps(intake: &mut Intake, page: &mut Page) -> Result<Arrived, Trouble> {
-    for _ in 0..u64::MAX {
+    for count in 0..u64::MAX {
         if let Some(came) = step(intake, page)? {
-            return Ok(came);
+            return Ok((count, came));
         }
     }
     Err(Trouble::Line("the intake comes to no end"))
 }
 
 fn step(intake: &mut Intake, page: &mut Page) -> Result<Option<Arrived>, AllocError> {
-    let step = next(intake)?;
+    let step = match intake.next() {
+        Ok(step) => step,
+        Err(_) => intake.next()?,
+    };
     let came = tell_step(&step, page);
     drop(step);
     Ok(came)

@@ -5,6 +5,7 @@ mod example;
 mod file;
 mod intake;
 mod play;
+mod player;
 mod server;
 mod shelf;
 mod side;
@@ -12,7 +13,9 @@ mod tables;
 mod verdict;
 
 pub use file::play_file;
-pub use server::new_archive;
+pub use play::Play;
+pub use player::Player;
+pub use server::{new_archive, new_hub};
 pub use shelf::Shelf;
 pub use tables::ExampleTables;
 pub use verdict::Verdict;

@@ -1,6 +1,7 @@
-//! An example is played line by line.
+//! An example is played over a hub, or over an intake by itself.
 
 use crate::intake::is_one_request;
+use crate::player::Player;
 use crate::side::Side;
 use crate::tables::ExampleTables;
 use example_faults::{Fault, Script, play_faults};
@@ -31,7 +32,11 @@ const ANSWERS: [&str; 15] = [
 /// The kinds of what has numbers in an archive.
 const KINDS: [&str; 4] = ["object", "file", "upload", "change"];
 
-/// An example that is played, its bytes cut in one way.
+const NO_ANSWER: Trouble = Trouble::Line(
+    "where a file fails or stops an exchange ends open or closed",
+);
+
+/// An example that is played over a hub, or over an intake by itself.
 #[derive(Drop)]
 pub struct Play<T: ExampleTables> {
     alloc: Global,
@@ -43,14 +48,13 @@ pub struct Play<T: ExampleTables> {
     longest: usize,
 }
 
-impl<T: ExampleTables> Play<T> {
-    /// Before its first line: the archive is made once it is needed. It fails for want of memory alone.
-    pub fn new(alloc: Global, cut: Cut) -> Result<Play<T>, Trouble> {
+impl<T: ExampleTables> Player for Play<T> {
+    // The archive is made once it is needed.
+    fn new(alloc: Global, cut: Cut) -> Result<Play<T>, Trouble> {
         let page = Page::new(alloc)?;
-        let settings = Settings::new(alloc);
         Ok(Play {
             alloc,
-            settings,
+            settings: Settings::new(alloc),
             side: Side::New,
             exchange: Exchange::new(alloc, cut),
             page,
@@ -59,81 +63,61 @@ impl<T: ExampleTables> Play<T> {
         })
     }
 
-    /// Does what a line says.
-    pub fn line(&mut self, words: &mut Words, line: &str) -> Result<(), Trouble> {
-        let (word, rest) = first_word(line);
+    fn line(&mut self, words: &Words, word: &str, rest: &str) -> Result<(), Trouble> {
         match word {
-            "" | "//" | "pieces" | "each" | "-" => Ok(()),
             ">" | "<" => self.exchange.line(self.alloc, words, word, rest),
-            "let" | "text" | "|" => names(self.alloc, words, word, rest),
             _ if ANSWERS.contains(&word) => self.ends(word, rest),
-            _ => self.filled(words, word, rest),
+            _ => {
+                let rest = fill(self.alloc, words, rest)?;
+                let done = self.sets(word, rest.as_str());
+                drop(rest);
+                done
+            }
         }
     }
 
-    // Does what a line says in which named texts are filled in.
-    fn filled(&mut self, words: &Words, word: &str, rest: &str) -> Result<(), Trouble> {
-        let rest = fill(self.alloc, words, rest)?;
-        let done = self.sets(word, rest.as_str());
-        drop(rest);
-        done
-    }
-
-    /// No exchange may be left. The faults that are written happen now. It returns the length of the longest
-    /// stream of an exchange.
-    pub fn finish(&self) -> Result<usize, Trouble> {
+    // The faults that are written happen now.
+    fn finish(&mut self) -> Result<usize, Trouble> {
         self.exchange.is_answered()?;
         if self.script.has_faults() {
             play_faults::<T::Files>(self.alloc, &self.script, &self.settings)?;
         }
         Ok(self.longest)
     }
+}
 
-    // An exchange ends.
+impl<T: ExampleTables> Play<T> {
+    // An exchange ends. Where a file fails or stops it was on a connection of its own, and is played with that too.
     fn ends(&mut self, answer: &str, rest: &str) -> Result<(), Trouble> {
         blank(rest)?;
         if self.exchange.call.is_none() {
             self.side.open(self.alloc, &self.settings)?;
         }
         if self.script.has_faults() {
+            if !matches!(answer, "open" | "closed") {
+                return Err(NO_ANSWER);
+            }
             self.side.turn_to_new()?;
         }
         self.is_as_written(answer)?;
         self.longest = self.longest.max(self.exchange.stream.len());
         if self.script.has_faults() {
-            return self.keep(answer);
+            return self.script.add(self.exchange.take(self.alloc), answer);
         }
         self.exchange.clear();
         Ok(())
     }
 
-    // The exchange will be played with faults too.
-    fn keep(&mut self, answer: &str) -> Result<(), Trouble> {
-        if !matches!(answer, "open" | "closed") {
-            return Err(Trouble::Line(
-                "where a file fails or stops an exchange ends open or closed",
-            ));
-        }
-        self.script.add(self.exchange.take(self.alloc), answer)
-    }
-
+    // A request that was given up for want of memory has changed nothing. It comes once more, and its result has to be
+    // the one that is written.
     fn is_as_written(&mut self, answer: &str) -> Result<(), Trouble> {
         match self.comes(answer) {
-            Err(Trouble::Memory) if self.may_come_again() => Err(self.again(answer)),
+            Err(Trouble::Memory) if self.may_come_again() => Err(match self.comes(answer) {
+                Ok(()) => Trouble::Memory,
+                Err(Trouble::Memory) => Trouble::Line("a request is given up twice"),
+                Err(why) => why,
+            }),
             came => came,
-        }
-    }
-
-    // A request that was given up for want of memory has changed nothing. It comes once more, and its result
-    // has to be the one that is written.
-    fn again(&mut self, answer: &str) -> Trouble {
-        if self.side.turn_to_new().is_err() {
-            return Trouble::Memory;
-        }
-        match self.comes(answer) {
-            Ok(()) => Trouble::Memory,
-            Err(Trouble::Memory) => Trouble::Line("a request is given up twice"),
-            Err(why) => why,
         }
     }
 
@@ -144,16 +128,13 @@ impl<T: ExampleTables> Play<T> {
         exchange.has_come(self.alloc, page.bytes()?, came, answer)
     }
 
-    // Whether the exchange is one request to a hub, and neither its reader nor its writer fails.
-    fn may_come_again(&self) -> bool {
-        self.exchange.is_plain()
-            && self.side.has_hub()
-            && is_one_request(
-                self.alloc,
-                self.settings.max_upload(),
-                self.exchange.stream.as_slice(),
-            )
-            .unwrap_or(false)
+    // Whether the exchange is one request, neither its reader nor its writer fails, and a hub has a new connection for it.
+    fn may_come_again(&mut self) -> bool {
+        let most = self.settings.max_upload();
+        let (exchange, page) = (&self.exchange, &mut self.page);
+        exchange.is_plain()
+            && is_one_request(self.alloc, most, exchange.stream.as_slice(), page)
+            && self.side.turn_to_new().is_ok()
     }
 
     fn sets(&mut self, word: &str, rest: &str) -> Result<(), Trouble> {
@@ -162,36 +143,28 @@ impl<T: ExampleTables> Play<T> {
         }
         self.exchange.is_answered()?;
         match word {
-            "at" => self.moves_to(rest),
+            "at" => {
+                self.exchange.moment = number(rest)?;
+                Ok(())
+            }
             "fails" => self.script.add_faults(Fault::Fails, rest),
             "stops" => self.script.add_faults(Fault::Stops, rest),
             "looks" => self.script.add_looks(self.alloc, rest),
-            "config" => self.configures(rest),
-            "store" => self.fills(rest),
+            // Where a file fails or stops it holds from the first exchange on.
+            "config" => {
+                self.script.is_unbegun()?;
+                self.settings.configure(self.alloc, rest)
+            }
+            // These statements make the tables of the archive, before it is opened first.
+            "store" => {
+                self.side.fill(self.alloc, rest)?;
+                Ok(self.script.fill(self.alloc, rest)?)
+            }
             _ if self.script.has_faults() => {
                 Err(Trouble::Line("no such line stands where a file fails or stops"))
             }
             _ => self.between(word, rest),
         }
-    }
-
-    fn moves_to(&mut self, moment: &str) -> Result<(), Trouble> {
-        self.exchange.moment = number(moment)?;
-        Ok(())
-    }
-
-    // The statements that make the tables of the archive, before it is opened first.
-    fn fills(&mut self, statements: &str) -> Result<(), Trouble> {
-        self.side.fill(self.alloc, statements)?;
-        self.script
-            .fill(self.alloc, statements)
-            .map_err(Trouble::from)
-    }
-
-    // A part of the configuration: where a file fails or stops it holds from the first exchange on.
-    fn configures(&mut self, rest: &str) -> Result<(), Trouble> {
-        self.script.is_unbegun()?;
-        self.settings.configure(self.alloc, rest)
     }
 
     // A line that stands between two exchanges, where no file fails.
@@ -200,63 +173,55 @@ impl<T: ExampleTables> Play<T> {
             "next" => self.number_next(rest),
             "sql" => self.side.change(self.alloc, rest),
             "unopened" => self.side.fail_to_open(self.alloc, rest),
-            "connection" | "close" | "crowd" => self.commands(word, rest),
-            "export" => self.calls(ArchiveCall::export(rest)),
-            "audit" => self.calls(ArchiveCall::audit(rest)),
-            _ => self.turns(word, rest),
+            "export" => self.calls(ArchiveCall::export(rest)?),
+            "audit" => self.calls(ArchiveCall::audit(rest)?),
+            "connection" | "close" | "crowd" => {
+                let number = number(rest)?;
+                self.side.command(self.alloc, &self.settings, word, number)
+            }
+            _ => {
+                blank(rest)?;
+                self.turns(word)
+            }
         }
     }
 
     // Another side, or the same anew.
-    fn turns(&mut self, word: &str, rest: &str) -> Result<(), Trouble> {
-        blank(rest)?;
-        self.side.turn(self.alloc, &self.settings, word)
+    fn turns(&mut self, word: &str) -> Result<(), Trouble> {
+        match word {
+            "full" => self.side.command(self.alloc, &self.settings, word, 0),
+            "restart" => self.side.leave(self.alloc),
+            "reopen" => {
+                self.side.close(self.alloc)?;
+                self.side.leave(self.alloc)
+            }
+            "refused" => self.side.refuse(self.alloc, &self.settings),
+            "intake" => {
+                self.side.take_in(self.alloc, &self.settings);
+                Ok(())
+            }
+            "shut" => self.side.shut(),
+            _ => Err(Trouble::Line("no line of an example begins so")),
+        }
     }
 
     // An exchange begins that is a call of the archive.
-    fn calls(&mut self, call: Result<ArchiveCall, Trouble>) -> Result<(), Trouble> {
-        self.exchange.call = Some(call?);
+    fn calls(&mut self, call: ArchiveCall) -> Result<(), Trouble> {
+        self.exchange.call = Some(call);
         self.exchange.begin();
         self.side.leave(self.alloc)
     }
 
     // The archive gives this number of a kind next, by a line `KIND NUMBER`.
-    fn number_next(&mut self, rest: &str) -> Result<(), Trouble> {
-        let statement = numbering(self.alloc, rest)?;
+    fn number_next(&mut self, line: &str) -> Result<(), Trouble> {
+        let (kind, value) = first_word(line);
+        if !KINDS.contains(&kind) {
+            return Err(Trouble::Line("no kind of numbers has that name"));
+        }
+        let number = number(value)?;
+        let statement = format!(in self.alloc; "UPDATE state SET next_{kind} = {number}")?;
         let changed = self.side.change(self.alloc, statement.as_str());
         drop(statement);
         changed
     }
-
-    // Does what a line asks of the hub's connections.
-    fn commands(&mut self, word: &str, rest: &str) -> Result<(), Trouble> {
-        let number = number(rest)?;
-        let server = self.side.server(self.alloc, &self.settings)?;
-        server.commanded(word, number)
-    }
-}
-
-// The statement by which the archive gives the number of a line `KIND NUMBER` next.
-fn numbering(alloc: Global, line: &str) -> Result<String, Trouble> {
-    let (kind, value) = first_word(line);
-    if !KINDS.contains(&kind) {
-        return Err(Trouble::Line("no kind of numbers has that name"));
-    }
-    let number = number(value)?;
-    format!(in alloc; "UPDATE state SET next_{kind} = {number}").map_err(Trouble::from)
-}
-
-fn names(alloc: Global, words: &mut Words, word: &str, rest: &str) -> Result<(), Trouble> {
-    let added = match word {
-        "let" => {
-            let (name, text) = first_word(rest);
-            words.add(alloc, name, text)
-        }
-        "text" => words.add(alloc, rest, ""),
-        _ => match rest.strip_suffix('\\') {
-            Some(front) => words.extend(front, ""),
-            None => words.extend(rest, "\\r\\n"),
-        },
-    };
-    added.map_err(Trouble::from)
 }

@@ -1,7 +1,7 @@
 //! A hub and its connections.
 
 use crate::tables::ExampleTables;
-use dep_hub::{Archive, ConnId, ConnectFault, Hub, HubFault, Served, serve_connection};
+use dep_hub::{Archive, ConnId, ConnectFault, Hub, Served, serve_connection};
 use dep_moment::Moment;
 use dep_types::{ReaderInlet, Through};
 use example_faults::{arrives, connected, hub_over, trouble_of, word_of};
@@ -18,24 +18,17 @@ pub struct Server<A> {
 }
 
 impl<A: Archive + Drop> Server<A> {
-    /// Over this archive, with connection 1.
-    pub fn open(alloc: Global, settings: &Settings, store: A) -> Result<Server<A>, Trouble> {
-        let mut server = Server {
-            hub: opened(alloc, settings, store)?,
+    /// Over this hub, which has no connection yet.
+    pub fn new(alloc: Global, hub: Hub<A>) -> Server<A> {
+        Server {
+            hub,
             connections: Vec::new(alloc),
             current: 0,
-        };
-        match server.turn_to_new() {
-            Ok(()) => Ok(server),
-            Err(why) => {
-                drop(server);
-                Err(why)
-            }
         }
     }
 
-    /// Goes on at a connection, closes one, or opens a crowd of them.
-    pub fn commanded(&mut self, word: &str, number: u64) -> Result<(), Trouble> {
+    /// Goes on at a connection, closes one, or opens so many without a number. Or else there has to be room for none.
+    pub fn command(&mut self, word: &str, number: u64) -> Result<(), Trouble> {
         match word {
             "connection" => self.turn(number),
             "close" => {
@@ -43,13 +36,19 @@ impl<A: Archive + Drop> Server<A> {
                 self.hub.close(connection);
                 Ok(())
             }
-            _ => self.crowd(number),
+            "crowd" => {
+                for _ in 0..number {
+                    let _ = connected(&mut self.hub)?;
+                }
+                Ok(())
+            }
+            _ => self.is_full(),
         }
     }
 
     // Goes on at a connection, which is opened where it is the next one.
     fn turn(&mut self, number: u64) -> Result<(), Trouble> {
-        if number == self.next_number() {
+        if number == (self.connections.len() as u64).saturating_add(1) {
             return self.turn_to_new();
         }
         let _there = self.numbered(number)?;
@@ -59,33 +58,20 @@ impl<A: Archive + Drop> Server<A> {
 
     /// Goes on at a new connection.
     pub fn turn_to_new(&mut self) -> Result<(), Trouble> {
-        let number = self.next_number();
         self.connections.push(connected(&mut self.hub)?)?;
-        self.current = number;
+        self.current = self.connections.len() as u64;
         Ok(())
-    }
-
-    fn next_number(&self) -> u64 {
-        (self.connections.len() as u64).saturating_add(1)
     }
 
     fn numbered(&self, number: u64) -> Result<ConnId, Trouble> {
-        self.connections
-            .get((number as usize).wrapping_sub(1))
-            .copied()
-            .ok_or(Trouble::Line("no connection has that number"))
-    }
-
-    // Opens so many connections without a number.
-    fn crowd(&mut self, count: u64) -> Result<(), Trouble> {
-        for _ in 0..count {
-            let _ = connected(&mut self.hub)?;
+        match self.connections.get((number as usize).wrapping_sub(1)) {
+            Some(connection) => Ok(*connection),
+            None => Err(Trouble::Line("no connection has that number")),
         }
-        Ok(())
     }
 
-    /// There is room for no connection.
-    pub fn is_full(&mut self) -> Result<(), Trouble> {
+    // There is room for no connection.
+    fn is_full(&mut self) -> Result<(), Trouble> {
         match self.hub.connect() {
             Err(ConnectFault::Full) => Ok(()),
             Err(ConnectFault::Memory) => Err(Trouble::Memory),
@@ -154,8 +140,8 @@ pub fn new_archive<T: ExampleTables>(alloc: Global) -> Result<T::Archive, Troubl
     T::made(alloc, "")?.opened(alloc)
 }
 
-// A hub over the archive.
-fn opened<A: Archive + Drop>(
+/// A hub over the archive by this configuration.
+pub fn new_hub<A: Archive + Drop>(
     alloc: Global,
     settings: &Settings,
     store: A,
@@ -165,25 +151,6 @@ fn opened<A: Archive + Drop>(
         Err((fault, store)) => {
             drop(store);
             Err(trouble_of(fault))
-        }
-    }
-}
-
-/// The archive, which no hub takes by this configuration.
-pub fn refused<A: Archive + Drop>(
-    alloc: Global,
-    settings: &Settings,
-    store: A,
-) -> Result<A, Trouble> {
-    match hub_over(alloc, settings, store) {
-        Ok(hub) => {
-            drop(hub);
-            Err(Trouble::Line("the configuration is accepted"))
-        }
-        Err((HubFault::Config, store)) => Ok(store),
-        Err((HubFault::Memory, store)) => {
-            drop(store);
-            Err(Trouble::Memory)
         }
     }
 }

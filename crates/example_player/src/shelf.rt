@@ -27,28 +27,17 @@ impl<'a> Shelf<'a> {
         ensures count { OnOk result (self.new.failures ≡ self.old.failures) }
         ensures cause { OnErr result (HasRisen self.old.failures self.new.failures) }
     {
-        if self.fails(call) {
-            self.failures = self.failures.saturating_add(1);
-            return Err(SinkFailed);
+        if let Some(failing) = &mut self.failing
+            && failing.call == call
+        {
+            if failing.before == 0 {
+                self.failures = self.failures.saturating_add(1);
+                return Err(SinkFailed);
+            }
+            failing.before -= 1;
         }
         self.page.put(parts);
         Ok(())
-    }
-
-    fn fails(&mut self, call: SinkCall) -> bool
-        ensures { self.new.failures ≡ self.old.failures }
-    {
-        let Some(failing) = self.failing else {
-            return false;
-        };
-        if failing.call != call {
-            return false;
-        }
-        self.failing = Some(FailingCall {
-            before: failing.before.saturating_sub(1),
-            ..failing
-        });
-        failing.before == 0
     }
 }
 

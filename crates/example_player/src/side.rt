@@ -1,9 +1,11 @@
 //! What an example is played against.
 
 use crate::intake::takes;
-use crate::server::{Server, new_archive, refused};
+use crate::server::{Server, new_archive, new_hub};
 use crate::tables::ExampleTables;
+use dep_hub::HubFault;
 use dep_message::Intake;
+use example_faults::hub_over;
 use example_text::{Exchange, Page, Settings, Trouble};
 use std::alloc::Global;
 use std::mem;
@@ -30,14 +32,11 @@ impl<T: ExampleTables> Side<T> {
         answer: &str,
         page: &mut Page,
     ) -> Result<&'static str, Trouble> {
-        match self {
-            Side::New | Side::Closed(_) => Err(Trouble::Line("no hub is there")),
-            Side::Archive(store) => match exchange.call {
-                Some(call) => T::answers(store, alloc, call, page),
-                None => Err(Trouble::Line("no hub is there")),
-            },
-            Side::Intake(intake) => takes(intake, exchange, page),
-            Side::Server(server) => server.plays(alloc, exchange, answer, page),
+        match (self, exchange.call) {
+            (Side::Archive(store), Some(call)) => T::answers(store, alloc, call, page),
+            (Side::Intake(intake), None) => takes(intake, exchange, page),
+            (Side::Server(server), None) => server.plays(alloc, exchange, answer, page),
+            _ => Err(Trouble::Line("no hub is there")),
         }
     }
 
@@ -50,21 +49,30 @@ impl<T: ExampleTables> Side<T> {
         Ok(())
     }
 
-    /// Opens a hub over the archive, where none is there yet.
+    /// Opens a hub over the archive, with connection 1, where no hub and no intake is there yet.
     pub fn open(&mut self, alloc: Global, settings: &Settings) -> Result<(), Trouble> {
-        match self {
-            Side::Server(_) | Side::Intake(_) => Ok(()),
-            _ => {
-                let store = self.take_archive(alloc)?;
-                self.change_to(Side::Server(Server::open(alloc, settings, store)?));
-                Ok(())
-            }
+        if matches!(self, Side::Server(_) | Side::Intake(_)) {
+            return Ok(());
         }
+        let store = self.take_archive(alloc)?;
+        let hub = new_hub(alloc, settings, store)?;
+        self.change_to(Side::Server(Server::new(alloc, hub)));
+        self.turn_to_new()
     }
 
-    /// Whether there is a hub.
-    pub fn has_hub(&self) -> bool {
-        matches!(self, Side::Server(_))
+    /// Does what a line asks of the connections of the hub, which is opened where none is there yet.
+    pub fn command(
+        &mut self,
+        alloc: Global,
+        settings: &Settings,
+        word: &str,
+        number: u64,
+    ) -> Result<(), Trouble> {
+        self.open(alloc, settings)?;
+        match self {
+            Side::Server(server) => server.command(word, number),
+            _ => Err(Trouble::Line("no connections are there")),
+        }
     }
 
     /// The hub's next exchange comes on a new connection.
@@ -75,19 +83,6 @@ impl<T: ExampleTables> Side<T> {
         }
     }
 
-    /// Its hub, which is opened where none is there yet.
-    pub fn server(
-        &mut self,
-        alloc: Global,
-        settings: &Settings,
-    ) -> Result<&mut Server<T::Archive>, Trouble> {
-        self.open(alloc, settings)?;
-        match self {
-            Side::Server(server) => Ok(server),
-            _ => Err(Trouble::Line("no connections are there")),
-        }
-    }
-
     /// The archive goes on without a hub.
     pub fn leave(&mut self, alloc: Global) -> Result<(), Trouble> {
         let store = self.take_archive(alloc)?;
@@ -95,10 +90,12 @@ impl<T: ExampleTables> Side<T> {
         Ok(())
     }
 
-    // The archive is closed and opened again.
-    fn reopen(&mut self, alloc: Global) -> Result<(), Trouble> {
-        let tables = self.take_tables(alloc)?;
-        self.change_to(Side::Archive(tables.opened(alloc)?));
+    /// The archive is closed.
+    pub fn close(&mut self, alloc: Global) -> Result<(), Trouble> {
+        if !matches!(self, Side::Closed(_)) {
+            let store = self.take_archive(alloc)?;
+            self.change_to(Side::Closed(T::closed(store)));
+        }
         Ok(())
     }
 
@@ -111,49 +108,47 @@ impl<T: ExampleTables> Side<T> {
         }
     }
 
-    // The archive is closed.
-    fn close(&mut self, alloc: Global) -> Result<(), Trouble> {
-        let tables = self.take_tables(alloc)?;
-        self.change_to(Side::Closed(tables));
-        Ok(())
-    }
-
     /// The archive doesn't open, by the fault of this name.
     pub fn fail_to_open(&mut self, alloc: Global, fault: &str) -> Result<(), Trouble> {
-        let tables = self.take_tables(alloc)?;
-        self.change_to(Side::Closed(tables.unopened(alloc, fault)?));
-        Ok(())
-    }
-
-    // No hub takes the archive by this configuration.
-    fn refuse(&mut self, alloc: Global, settings: &Settings) -> Result<(), Trouble> {
-        let store = self.take_archive(alloc)?;
-        self.change_to(Side::Archive(refused(alloc, settings, store)?));
-        Ok(())
-    }
-
-    /// It goes on as a line of one word says.
-    pub fn turn(&mut self, alloc: Global, settings: &Settings, word: &str) -> Result<(), Trouble> {
-        match word {
-            "full" => self.server(alloc, settings)?.is_full(),
-            "restart" => self.leave(alloc),
-            "reopen" => self.reopen(alloc),
-            "refused" => self.refuse(alloc, settings),
-            "shut" => self.shut(),
-            "intake" => {
-                self.change_to(Side::Intake(Intake::new(alloc, settings.max_upload())));
+        self.close(alloc)?;
+        match mem::replace(self, Side::New) {
+            Side::Closed(tables) => {
+                self.change_to(Side::Closed(tables.unopened(alloc, fault)?));
                 Ok(())
             }
-            _ => Err(Trouble::Line("no line of an example begins so")),
+            other => {
+                drop(other);
+                Ok(())
+            }
         }
     }
 
-    fn change_to(&mut self, other: Side<T>) {
-        drop(mem::replace(self, other));
+    /// No hub takes the archive by this configuration.
+    pub fn refuse(&mut self, alloc: Global, settings: &Settings) -> Result<(), Trouble> {
+        let store = self.take_archive(alloc)?;
+        match hub_over(alloc, settings, store) {
+            Ok(hub) => {
+                drop(hub);
+                Err(Trouble::Line("the configuration is accepted"))
+            }
+            Err((HubFault::Config, store)) => {
+                self.change_to(Side::Archive(store));
+                Ok(())
+            }
+            Err((HubFault::Memory, store)) => {
+                drop(store);
+                Err(Trouble::Memory)
+            }
+        }
     }
 
-    // Shuts the intake.
-    fn shut(&mut self) -> Result<(), Trouble> {
+    /// An intake takes the place of the hub.
+    pub fn take_in(&mut self, alloc: Global, settings: &Settings) {
+        self.change_to(Side::Intake(Intake::new(alloc, settings.max_upload())));
+    }
+
+    /// Shuts the intake.
+    pub fn shut(&mut self) -> Result<(), Trouble> {
         match self {
             Side::Intake(intake) => {
                 intake.shut();
@@ -163,14 +158,8 @@ impl<T: ExampleTables> Side<T> {
         }
     }
 
-    fn take_tables(&mut self, alloc: Global) -> Result<T, Trouble> {
-        match mem::replace(self, Side::New) {
-            Side::Closed(tables) => Ok(tables),
-            other => {
-                self.change_to(other);
-                Ok(T::closed(self.take_archive(alloc)?))
-            }
-        }
+    fn change_to(&mut self, other: Side<T>) {
+        drop(mem::replace(self, other));
     }
 
     fn take_archive(&mut self, alloc: Global) -> Result<T::Archive, Trouble> {

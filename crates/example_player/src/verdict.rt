@@ -1,5 +1,8 @@
 //! What came of the files so far.
 
+ghost use Rattle.std.specs.Prelude.{◌≡◌};
+ghost use Rattle.example_player.specs.Verdicts.{verdict_of};
+
 use example_text::Trouble;
 use std::io;
 use std::io::ErrorKind;
@@ -26,7 +29,9 @@ impl Verdict {
     }
 
     /// That of an example.
-    pub fn of_trouble(why: &Trouble) -> Verdict {
+    pub fn of_trouble(why: &Trouble) -> Verdict
+        ensures { result ≡ verdict_of why.now }
+    {
         match why {
             Trouble::Memory => Verdict::Unknown,
             _ => Verdict::Otherwise,

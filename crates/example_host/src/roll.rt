@@ -1,12 +1,10 @@
-//! A log of a host, which keeps what became of each client of a script.
+//! A log of a host, which keeps what became of each client.
 
 use crate::fate::Fate;
 use dep_host::{Bytes, Closing, HostLog, Refusal};
 use dep_hub::{AccessLog, ConnId, Next};
 use std::alloc::{AllocError, Global};
-use std::cell::RefCell;
 use std::net::IpAddr;
-use std::rc::Rc;
 
 /// A client, by the number that its connection has once it was let in.
 #[derive(Clone, Copy)]
@@ -22,6 +20,13 @@ pub struct Roll {
 }
 
 impl Roll {
+    /// No client has come.
+    pub fn new(alloc: Global) -> Roll {
+        Roll {
+            entries: Vec::new(alloc),
+        }
+    }
+
     /// One more client comes.
     pub fn comes(&mut self) -> Result<(), AllocError> {
         self.entries.push(Entry {
@@ -45,51 +50,21 @@ impl Roll {
             *entry = Entry { connection, fate };
         }
     }
-
-    fn close(&mut self, connection: ConnId, closing: Closing) {
-        for entry in self.entries.iter_mut() {
-            if entry.connection == Some(connection) {
-                entry.fate = Fate::Closed(closing);
-            }
-        }
-    }
 }
 
-/// A log that keeps what became of each client.
-#[derive(Drop)]
-pub struct ScriptLog {
-    pub roll: Rc<RefCell<Roll>>,
-}
-
-impl ScriptLog {
-    /// A log of no client.
-    pub fn new(alloc: Global) -> Result<ScriptLog, AllocError> {
-        let roll = Roll {
-            entries: Vec::new(alloc),
-        };
-        Ok(ScriptLog {
-            roll: Rc::new(alloc, RefCell::new(roll))?,
-        })
-    }
-}
-
-impl AccessLog for ScriptLog {
+impl AccessLog for Roll {
     fn request(&mut self, method: &[u8], path: &str, length: u64) {}
 
     fn reply(&mut self, front: &[u8]) {}
 }
 
-impl HostLog for ScriptLog {
+impl HostLog for Roll {
     fn opened(&mut self, connection: ConnId, address: IpAddr) {
-        if let Ok(mut roll) = self.roll.try_borrow_mut() {
-            roll.tell_newest(Some(connection), Fate::Open);
-        }
+        self.tell_newest(Some(connection), Fate::Open);
     }
 
     fn refused(&mut self, address: IpAddr, refusal: Refusal) {
-        if let Ok(mut roll) = self.roll.try_borrow_mut() {
-            roll.tell_newest(None, Fate::Refused(refusal));
-        }
+        self.tell_newest(None, Fate::Refused(refusal));
     }
 
     fn answering(&mut self, connection: ConnId, address: IpAddr) {}
@@ -97,8 +72,10 @@ impl HostLog for ScriptLog {
     fn answered(&mut self, next: Next, bytes: Bytes) {}
 
     fn closed(&mut self, connection: ConnId, address: IpAddr, closing: Closing, bytes: Bytes) {
-        if let Ok(mut roll) = self.roll.try_borrow_mut() {
-            roll.close(connection, closing);
+        for entry in self.entries.iter_mut() {
+            if entry.connection == Some(connection) {
+                entry.fate = Fate::Closed(closing);
+            }
         }
     }
 

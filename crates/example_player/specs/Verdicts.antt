@@ -4,7 +4,6 @@ use Rattle.example_text.specs.declared.trouble.Trouble.{Trouble}
 use Rattle.example_text.specs.declared.trouble.Trouble.TheVariants.{Memory, Line, Other}
 use Rattle.example_player.specs.declared.verdict.Verdict.{Verdict}
 use Rattle.example_player.specs.declared.verdict.Verdict.TheVariants.{AsWritten, Otherwise, Unknown}
-use Rattle.example_host.specs.declared.script.Wrong.{Wrong}
 
 -- where it isn't as it is written
 abbrev pub verdict_of : Trouble → Verdict
@@ -13,6 +12,6 @@ verdict_of (Line why) = Otherwise
 verdict_of (Other what) = Otherwise
 
 -- once it was played
-abbrev pub verdict_on : Result (Unit {0}) Wrong → Verdict
+abbrev pub verdict_on : Result (Unit {0}) Trouble → Verdict
 verdict_on (Ok done) = AsWritten
-verdict_on (Err wrong) = verdict_of wrong.why
+verdict_on (Err why) = verdict_of why
