@@ -1,12 +1,10 @@
 //! The folders that a configuration names.
 
-use dep_configuration::{Configuration, Field};
-use std::error::Error;
-use std::fmt;
+use dep_configuration::Configuration;
 use std::fs::{self, Files};
 
-/// A folder that a configuration needs isn't there. It is displayed as one line, which begins with the field's name.
-#[derive(Clone, Copy, Debug)]
+/// A folder that a configuration needs isn't there.
+#[derive(Clone, Copy)]
 pub enum FolderFault {
     /// That in which the database's file stands.
     OfDatabase,
@@ -14,17 +12,15 @@ pub enum FolderFault {
     OfSpools,
 }
 
-impl fmt::Display for FolderFault {
-    fn fmt<W: fmt::Write>(&self, f: &mut fmt::Formatter<W>) -> fmt::Result {
-        let (field, wanted) = match self {
-            FolderFault::OfDatabase => (Field::Database, "a file in a folder that is there"),
-            FolderFault::OfSpools => (Field::SpoolFolder, "a folder that is there"),
-        };
-        write!(f, "{}: {wanted}", field.name())
+impl FolderFault {
+    /// The fault in one line, which begins with the field's name.
+    pub fn line(self) -> &'static str {
+        match self {
+            FolderFault::OfDatabase => "database: a file in a folder that is there",
+            FolderFault::OfSpools => "spool_folder: a folder that is there",
+        }
     }
 }
-
-impl Error for FolderFault {}
 
 /// Returns `Ok` where the folder of the database and that of the spools are there, and the database is no folder, else the
 /// first fault.

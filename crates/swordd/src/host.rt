@@ -94,7 +94,7 @@ fn with_folders(
         Ok(()) => Ok(configuration),
         Err(fault) => {
             drop(configuration);
-            tell(rt, file, &fault);
+            tell(rt, file, &fault.line());
             Err(Outcome::Usage)
         }
     }

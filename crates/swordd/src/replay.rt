@@ -124,3 +124,11 @@ fn new_hub<S: Alter>(
         Err((fault, connection)) => Err((fault.outcome(), connection)),
     }
 }
+
+/// Hands the database of a hub back.
+// A call of `Hub::into_store` over a database is dear to prove: it stands here alone.
+pub fn close_hub<S: Alter>(hub: Hub<HashingStore<S>>) -> Connection<S>
+    ensures { result ≡ hub.store.store }
+{
+    hub.into_store().into_store().close()
+}
