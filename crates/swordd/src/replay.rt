@@ -97,7 +97,7 @@ fn replay_database<S: Alter, R: Inlet, W: Flush>(
                 ensures { result ≡ moment }
             { moment };
             let served = serve_connection(alloc, reader, writer, &mut hub, &mut clock);
-            (outcome_of(served), hub.into_store().into_store().close())
+            (outcome_of(served), close_hub(hub))
         }
         Err(refused) => refused,
     }
