@@ -1,5 +1,6 @@
 //! Where clients come from.
-ghost use Rattle.std.specs.Prelude.{◌≡◌, Bool, is_some};
+ghost use Rattle.std.specs.Prelude.{◌≡◌, Bool, false, is_some};
+ghost use Rattle.std.specs.Option.{option_map_or};
 
 use crate::file_spool::FileSpool;
 use crate::socket::{SocketSink, SocketSource};
@@ -9,6 +10,7 @@ use dep_host::{Event, Events};
 use dep_outbox::{Sink, Source, Spool};
 use std::alloc::Global;
 use std::fs::Files;
+use std::mem;
 use std::net::{Net, SocketAddr};
 use std::time::Clock;
 
@@ -42,7 +44,6 @@ pub struct SocketDoor<'a, R: Files> {
     clients: u64,
     /// There are none before it is opened.
     sockets: Option<Sockets<'a, R>>,
-    is_cut: bool,
 }
 
 impl<'a, R: Files + Net + Clock> SocketDoor<'a, R> {
@@ -61,7 +62,6 @@ impl<'a, R: Files + Net + Clock> SocketDoor<'a, R> {
             address,
             clients,
             sockets: None,
-            is_cut: false,
         }
     }
 }
@@ -70,28 +70,32 @@ impl<'a, R: Files + Net + Clock> Door<SocketSource, SocketSink, FileSpool<'a, R>
     for SocketDoor<'a, R> {
     ghost is_open = { λ door. is_some door.sockets };
 
-    ghost is_cut = { λ door. door.is_cut };
+    ghost is_cut = { λ door. option_map_or (λ s. is_some s.fault) door.sockets false };
 
     fn open(&mut self) -> bool {
         drop(self.sockets.take());
-        match Sockets::listen(self.alloc, self.rt, self.spools, self.address, self.clients) {
-            Ok(sockets) => {
-                drop(self.sockets.replace(sockets));
-                true
-            }
-            Err(_) => false,
-        }
+        let listened = Sockets::listen(
+            self.alloc,
+            self.rt,
+            self.spools,
+            self.address,
+            self.clients,
+        );
+        drop(mem::replace(&mut self.sockets, listened.ok()));
+        self.sockets.is_some()
     }
 
     fn was_cut(&self) -> bool {
-        self.is_cut
+        match &self.sockets {
+            Some(sockets) => sockets.fault.is_some(),
+            None => false,
+        }
     }
 }
 
 impl<'a, R: Files + Net + Clock> Events<SocketSource, SocketSink, FileSpool<'a, R>>
     for SocketDoor<'a, R> {
     ghost use Rattle.std.specs.Prelude.{true};
-    ghost use Rattle.std.specs.Option.{option_map_or};
 
     ghost is_over = { λ door. option_map_or (λ s. s.has_ended) door.sockets true };
 
@@ -101,11 +105,7 @@ impl<'a, R: Files + Net + Clock> Events<SocketSource, SocketSink, FileSpool<'a, 
         is_busy: bool,
     ) -> Event<SocketSource, SocketSink, FileSpool<'a, R>> {
         match &mut self.sockets {
-            Some(sockets) => {
-                let event = sockets.next(vacancy, is_busy);
-                self.is_cut = sockets.fault().is_some();
-                event
-            }
+            Some(sockets) => sockets.next(vacancy, is_busy),
             None => Event::End,
         }
     }

@@ -5,8 +5,7 @@ ghost use Rattle.dep_sockets.specs.Totals.{HoldsTheSame};
 use crate::spools::Spools;
 use dep_outbox::{Spool, SpoolFailed};
 use std::fs::Files;
-use std::io;
-use std::io::{ErrorKind, Read, Seek, SeekFrom, Write};
+use std::io::{Read, Seek, SeekFrom, Write};
 
 /// How many bytes are taken out of a spool at once at most.
 const MOST_PULLED: u64 = 65_536;
@@ -62,9 +61,7 @@ impl<'a, R: Files> FileSpool<'a, R> {
         let Some(file) = &mut self.file else {
             return Err(SpoolFailed);
         };
-        if read_behind(file, self.begin, count, into).is_err() {
-            return Err(SpoolFailed);
-        }
+        read_behind(file, self.begin, count, into)?;
         self.begin += count;
         Ok(())
     }
@@ -86,21 +83,22 @@ fn read_behind<F: Read + Seek>(
     begin: u64,
     count: u64,
     into: &mut Vec<u8>,
-) -> io::Result<()>
+) -> Result<(), SpoolFailed>
     ensures read { OnOk result (vec_len into.new ≡ vec_len into.old + count) }
     ensures same { OnErr result (into.new.items ≡ into.old.items) }
 {
-    file.seek(SeekFrom::Start(begin))?;
     let before = into.len();
     let Some(whole) = before.checked_add(count as usize) else {
-        return Err(ErrorKind::OutOfMemory.into());
+        return Err(SpoolFailed);
     };
-    into.resize(whole, 0)?;
-    let got = file.read_exact(&mut into[before..]);
-    if got.is_err() {
-        into.truncate(before);
+    if file.seek(SeekFrom::Start(begin)).is_err() || into.resize(whole, 0).is_err() {
+        return Err(SpoolFailed);
     }
-    got
+    if file.read_exact(&mut into[before..]).is_err() {
+        into.truncate(before);
+        return Err(SpoolFailed);
+    }
+    Ok(())
 }
 
 impl<R: Files> Drop for FileSpool<'_, R> {

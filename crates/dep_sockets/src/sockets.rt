@@ -85,7 +85,7 @@ pub struct Sockets<'a, R: Files> {
     /// When the system was asked last which sockets are ready.
     look: LastLook,
     moment: RoundMoment,
-    fault: Option<SocketFault>,
+    pub(crate) fault: Option<SocketFault>,
     has_ended: bool,
 }
 
@@ -98,10 +98,9 @@ impl<'a, R: Files + Net + Clock> Sockets<'a, R> {
         address: SocketAddr,
         clients: u64,
     ) -> io::Result<Sockets<'a, R>> {
-        let poll = Poll::new(rt)?;
-        let listener = listener_at(rt, address, &poll)?;
-        let (polled, ready, open) = room(alloc)?;
         let start = Instant::now(rt)?;
+        let (poll, listener) = listener_at(rt, address)?;
+        let (polled, ready, open) = room(alloc)?;
         Ok(Sockets {
             alloc,
             rt,
@@ -163,9 +162,7 @@ impl<'a, R: Files + Net + Clock> Sockets<'a, R> {
         if self.poll.poll(&mut self.polled, Some(nap)).is_err() {
             return Err(SocketFault::Poll);
         }
-        if note_all(&self.polled, LISTENER, &mut self.ready)? {
-            self.is_waited_for = true;
-        }
+        self.is_waited_for |= note_all(&self.polled, LISTENER, &mut self.ready)?;
         self.look = LastLook::at(self.elapsed().as_micros());
         Ok(())
     }
@@ -177,16 +174,19 @@ impl<'a, R: Files + Net + Clock> Sockets<'a, R> {
                 let (stream, address) = self.accept()?;
                 self.stage = Stage::LettingIn(count + 1);
                 self.remaining = self.remaining.saturating_sub(1);
-                let (source, sink) = self.seat(stream, at)?;
-                let wire = Wire::new(self.alloc, sink, FileSpool::new(self.spools));
-                Some(Client::new(source, wire, address.ip()))
+                self.seat(stream, address, at)
             }
             _ => None,
         }
     }
 
-    /// The halves of the socket of a client that is seated there, if the system has room for it.
-    fn seat(&self, mut stream: TcpStream, at: usize) -> Option<(SocketSource, SocketSink)> {
+    /// A client that is seated there, if the system has room for it.
+    fn seat(
+        &self,
+        mut stream: TcpStream,
+        address: SocketAddr,
+        at: usize,
+    ) -> Option<SocketClient<'a, R>> {
         // Else a short content would wait until its client has acknowledged the head.
         let _ = stream.set_nodelay(true);
         let interest = Interest::READABLE | Interest::WRITABLE;
@@ -194,7 +194,9 @@ impl<'a, R: Files + Net + Clock> Sockets<'a, R> {
         if registry.register(&mut stream, Token(at), interest).is_err() {
             return None;
         }
-        halves(self.alloc, stream, &self.open).ok()
+        let (source, sink) = halves(self.alloc, stream, &self.open).ok()?;
+        let wire = Wire::new(self.alloc, sink, FileSpool::new(self.spools));
+        Some(Client::new(source, wire, address.ip()))
     }
 
     /// The next client that waits. Where the system gives none, as for want of descriptors, it is asked again in
@@ -261,12 +263,13 @@ impl<'a, R: Files + Net + Clock> Events<SocketSource, SocketSink, FileSpool<'a, 
     }
 }
 
-/// A listener at the address, of which the poll says that a client waits.
-fn listener_at<R: Net>(rt: &R, address: SocketAddr, poll: &Poll) -> io::Result<TcpListener> {
+/// A listener at the address, and a poll that says of it that a client waits.
+fn listener_at<R: Net>(rt: &R, address: SocketAddr) -> io::Result<(Poll, TcpListener)> {
+    let poll = Poll::new(rt)?;
     let mut listener = TcpListener::bind(rt, address)?;
     poll.registry()
         .register(&mut listener, LISTENER, Interest::READABLE)?;
-    Ok(listener)
+    Ok((poll, listener))
 }
 
 /// Room for what the poll says of all sockets at once, and the first owner of what each connection owns too.

@@ -33,19 +33,15 @@ impl<'a> HeldLines<'a> {
         }
         if self.bytes.extend_from_slice(line).is_err() {
             self.write();
-            self.write_now(line);
+            let _ = self.rt.stderr().write_all(line);
         }
     }
 
     /// Writes what is held.
     pub fn write(&mut self) {
         if !self.bytes.is_empty() {
-            self.write_now(self.bytes.as_slice());
+            let _ = self.rt.stderr().write_all(self.bytes.as_slice());
             self.bytes.clear();
         }
-    }
-
-    fn write_now(&self, bytes: &[u8]) {
-        let _ = self.rt.stderr().write_all(bytes);
     }
 }

@@ -110,23 +110,6 @@ impl<'a> StandardErrorLog<'a> {
 }
 
 impl Item {
-    fn begin(&mut self, connection: ConnId, address: IpAddr, begun: Option<Instant>) {
-        self.connection = connection.number();
-        self.address = Some(address);
-        self.method.clear();
-        self.path.clear();
-        self.status = None;
-        self.refusal.clear();
-        self.begun = begun;
-    }
-
-    fn note_request(&mut self, method: &[u8], path: &str) {
-        let front = method.get(..MOST_METHOD).unwrap_or(method);
-        let _ = self.method.push_str(str::from_utf8(front).unwrap_or(""));
-        let end = path.floor_char_boundary(GREATEST_PATH);
-        let _ = self.path.push_str(&path[..end]);
-    }
-
     fn refusal(&self) -> Option<&str> {
         if self.refusal.is_empty() {
             None
@@ -134,21 +117,26 @@ impl Item {
             Some(self.refusal.as_str())
         }
     }
-
-    fn note_reply(&mut self, front: &[u8]) {
-        self.status = status_of_front(front);
-        self.refusal.clear();
-        let _ = self.refusal.push_str(refusal_of_front(front).unwrap_or(""));
-    }
 }
 
 impl AccessLog for StandardErrorLog<'_> {
     fn request(&mut self, method: &[u8], path: &str, _length: u64) {
-        self.item.note_request(method, path);
+        let front = method.get(..MOST_METHOD).unwrap_or(method);
+        let _ = self
+            .item
+            .method
+            .push_str(str::from_utf8(front).unwrap_or(""));
+        let end = path.floor_char_boundary(GREATEST_PATH);
+        let _ = self.item.path.push_str(&path[..end]);
     }
 
     fn reply(&mut self, front: &[u8]) {
-        self.item.note_reply(front);
+        self.item.status = status_of_front(front);
+        self.item.refusal.clear();
+        let _ = self
+            .item
+            .refusal
+            .push_str(refusal_of_front(front).unwrap_or(""));
     }
 }
 
@@ -156,12 +144,24 @@ impl HostLog for StandardErrorLog<'_> {
     fn opened(&mut self, _connection: ConnId, _address: IpAddr) {}
 
     fn refused(&mut self, address: IpAddr, refusal: Refusal) {
-        self.write_closing(None, address, reason_of_refusal(refusal));
+        let reason = match refusal {
+            Refusal::Address => Reason::AddressLimit,
+            Refusal::Full => Reason::Full,
+            Refusal::Memory => Reason::Memory,
+            Refusal::Shut => Reason::StoreShut,
+        };
+        self.write_closing(None, address, reason);
     }
 
     fn answering(&mut self, connection: ConnId, address: IpAddr) {
-        self.item
-            .begin(connection, address, Instant::now(self.rt).ok());
+        let item = &mut self.item;
+        item.connection = connection.number();
+        item.address = Some(address);
+        item.method.clear();
+        item.path.clear();
+        item.status = None;
+        item.refusal.clear();
+        item.begun = Instant::now(self.rt).ok();
     }
 
     // A `100 Continue` has no line.
@@ -177,10 +177,15 @@ impl HostLog for StandardErrorLog<'_> {
         }
     }
 
+    // A client that ends its connection has no line.
     fn closed(&mut self, connection: ConnId, address: IpAddr, closing: Closing, _bytes: Bytes) {
-        if let Some(reason) = reason_of_closing(closing) {
-            self.write_closing(Some(connection.number()), address, reason);
-        }
+        let reason = match closing {
+            Closing::Over => return,
+            Closing::Silent => Reason::Idle,
+            Closing::Slow => Reason::Slow,
+            Closing::Large => Reason::UnfinishedLimit,
+        };
+        self.write_closing(Some(connection.number()), address, reason);
     }
 
     fn rest(&mut self) {
@@ -196,24 +201,5 @@ impl DoorLog for StandardErrorLog<'_> {
         } else {
             let _ = eprintln!(self.rt; "swordd_host: it can't listen at {address}");
         }
-    }
-}
-
-// A client that ends its connection has no line.
-fn reason_of_closing(closing: Closing) -> Option<Reason> {
-    match closing {
-        Closing::Over => None,
-        Closing::Silent => Some(Reason::Idle),
-        Closing::Slow => Some(Reason::Slow),
-        Closing::Large => Some(Reason::UnfinishedLimit),
-    }
-}
-
-fn reason_of_refusal(refusal: Refusal) -> Reason {
-    match refusal {
-        Refusal::Address => Reason::AddressLimit,
-        Refusal::Full => Reason::Full,
-        Refusal::Memory => Reason::Memory,
-        Refusal::Shut => Reason::StoreShut,
     }
 }

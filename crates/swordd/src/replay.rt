@@ -96,7 +96,7 @@ fn replay_database<S: Alter, R: Inlet, W: Flush>(
                 ensures { result ≡ moment }
             { moment };
             let served = serve_connection(alloc, reader, writer, &mut hub, &mut clock);
-            (outcome_of(served), hub.into_store().into_store().close())
+            (outcome_of(served), close_hub(hub))
         }
         Err(refused) => refused,
     }
@@ -122,4 +122,12 @@ fn new_hub<S: Alter>(
         Ok(hub) => Ok(hub),
         Err((fault, connection)) => Err((fault.outcome(), connection)),
     }
+}
+
+/// Hands the database of a hub back.
+// A call of `Hub::into_store` over a database is dear to prove: it stands here alone.
+pub fn close_hub<S: Alter>(hub: Hub<HashingStore<S>>) -> Connection<S>
+    ensures { result ≡ hub.store.store }
+{
+    hub.into_store().into_store().close()
 }

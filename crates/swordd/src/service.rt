@@ -5,22 +5,15 @@ ghost use Rattle.sqlite.specs.State.{HasCleanDisk};
 ghost use Rattle.dep_program.specs.Setup.{program_config, base_at};
 ghost use Rattle.swordd.specs.Databases.{ServesDatabase};
 
+use crate::replay::close_hub;
 use dep_program::{Door, Outcome, configuration_at, serve_at};
 use dep_store::{Watch, open_hub};
 use sqlite::{Alter, Connection};
-use std::alloc::Global;
-use std::net::{Net, TcpListener, TcpStream};
-use std::time::Clock;
 
 /// Opens the store in the database, serves so many connections of 127.0.0.1 at the port, one after another, and hands
 /// the database back. The watch is told of what is read where version 1 becomes version 2.
-pub fn serve_database<
-    R: Net<Listener = TcpListener, Stream = TcpStream> + Clock,
-    S: Alter,
-    W: Watch,
->(
-    rt: &R,
-    alloc: Global,
+pub fn serve_database<S: Alter, W: Watch>(
+    rt: &HostRuntime,
     door: Door,
     connection: Connection<S>,
     watch: &mut W,
@@ -32,6 +25,7 @@ pub fn serve_database<
     ensures open { IsTrue (state S.Store result.1).is_open
         → IsTrue (state S.Store connection).is_open }
 {
+    let alloc = rt.alloc();
     // For the proof alone: there is nothing that was not committed.
     let _between = connection.is_autocommit();
     let Ok(config) = configuration_at(alloc, u64::from(door.port)) else {
@@ -40,7 +34,7 @@ pub fn serve_database<
     match open_hub(alloc, config, connection, watch) {
         Ok(mut hub) => {
             let outcome = serve_at(rt, alloc, door, &mut hub);
-            (outcome, hub.into_store().into_store().close())
+            (outcome, close_hub(hub))
         }
         Err((fault, connection)) => (fault.outcome(), connection),
     }

@@ -20,8 +20,25 @@ struct JobHere<'a> {
 }
 
 impl Work for JobHere<'_> {
-    fn work<S: Alter>(self, connection: Connection<S>) -> (Outcome, Connection<S>) {
-        worked(self.rt, self.job, connection)
+    // Does the job, and hands the database back. The lines of an audit go to standard output, and how far it came to
+    // standard error.
+    fn work<S: Alter>(self, connection: Connection<S>) -> (Outcome, Connection<S>)
+        requires settled { (state S.Store connection).in_transaction ≡ false }
+        ensures works { WorksOn self.entry.job (state S.Store connection)
+            (state S.Store result.1) result.0 }
+    {
+        let JobHere { rt, job } = self;
+        let mut watch = Told(Progress::new(rt));
+        match job {
+            Job::Serve(door) => serve_database(rt, door, connection, &mut watch),
+            Job::Export { object, folder } => {
+                export_database(rt, connection, object, folder, &mut watch)
+            }
+            Job::Audit => {
+                let mut lines = Through::new(rt.stdout());
+                audit_database(rt.alloc(), connection, &mut lines, &mut watch)
+            }
+        }
     }
 }
 
@@ -34,28 +51,5 @@ pub fn work_on(rt: &HostRuntime, file: &str, job: Job<'_>) -> Outcome {
     match work_on_file(rt, file, JobHere { rt, job }) {
         Some(outcome) => outcome,
         None => Outcome::StoreFault,
-    }
-}
-
-// Does the job, and hands the database back. The lines of an audit go to standard output, and how far it came to
-// standard error.
-fn worked<S: Alter>(
-    rt: &HostRuntime,
-    job: Job<'_>,
-    connection: Connection<S>,
-) -> (Outcome, Connection<S>)
-    requires settled { (state S.Store connection).in_transaction ≡ false }
-    ensures works { WorksOn job.entry (state S.Store connection) (state S.Store result.1) result.0 }
-{
-    let mut watch = Told(Progress::new(rt));
-    match job {
-        Job::Serve(door) => serve_database(rt, rt.alloc(), door, connection, &mut watch),
-        Job::Export { object, folder } => {
-            export_database(rt, connection, object, folder, &mut watch)
-        }
-        Job::Audit => {
-            let mut lines = Through::new(rt.stdout());
-            audit_database(rt.alloc(), connection, &mut lines, &mut watch)
-        }
     }
 }

@@ -1,8 +1,7 @@
-use Rattle.std.proofs.Common.{◌≡◌, ◌∙◌, ap, refl, sym, subst, of_calls}
+use Rattle.std.proofs.Common.{◌≡◌, refl, sym, subst, of_calls}
 use Rattle.sqlite.specs.Held.{Held, state}
 use Rattle.sqlite.specs.State.{HasCleanDisk}
 use Rattle.dep_store.specs.HashingStores.{condition_of}
-use Rattle.dep_store.specs.declared.archive.HashingStore.{HashingStore}
 use Rattle.dep_hub.specs.Conversation.{wire, session}
 use Rattle.dep_hub.specs.Standing.{IsHonest}
 use Rattle.swordd.specs.Replays.{Replays}
@@ -20,8 +19,7 @@ returns-in-Ok-clause-replays g c none clean =
     let run = c.serve_connection-served in
     let before = wire (g.R.Inlet.unread c.args.reader.now) (g.R.Inlet.reads c.args.reader.now) (g.R.Inlet.last c.args.reader.now) (g.W.Outlet.taken c.args.writer.now) (g.W.Outlet.failures c.args.writer.now) in
     let after = wire (g.R.Inlet.unread run.new.reader) (g.R.Inlet.reads run.new.reader) (g.R.Inlet.last run.new.reader) (g.W.Outlet.taken run.new.writer) (g.W.Outlet.failures run.new.writer) in
-    let same = c.close.ensures ∙ c.into_store-in-Ok.ensures ∙ ap (λ (a : HashingStore _). a.store) c.into_store.ensures.same in
-    let honest : IsHonest (condition_of g.S.Store) run.new.hub = subst (λ (h : Held _). HasCleanDisk (state g.S.Store h)) same clean in
+    let honest : IsHonest (condition_of g.S.Store) run.new.hub = subst (λ (h : Held _). HasCleanDisk (state g.S.Store h)) c.close_hub.ensures clean in
     subst (λ (o : Outcome). Replays c.args.setting.base.now c.args.setting.moment before after o) (sym c.outcome_of.ensures)
     (comes_to _ _ c.args.setting.moment (λ f. f.0 ≡ c.args.setting.moment) (λ before after m p e. ((search of_calls), (search of_calls)))
     c.args.setting.base.now (session c.in-Ok.hub before _) (session run.new.hub after _)

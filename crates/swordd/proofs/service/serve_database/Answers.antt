@@ -1,7 +1,6 @@
 use Rattle.std.proofs.Common.{◌≡◌, ℕ, ◌∙◌, ap, sym, subst, rules, arith}
 use Rattle.sqlite.specs.Held.{state}
 use Rattle.sqlite.proofs.StateLemmas.{clean_if_open}
-use Rattle.dep_store.specs.declared.archive.HashingStore.{HashingStore}
 use Rattle.dep_types.specs.declared.config.Config.{Config}
 use Rattle.dep_program.specs.Setup.{program_config, base_at}
 use Rattle.dep_program.specs.declared.outcome.Outcome.{Outcome}
@@ -18,11 +17,11 @@ returns-in-Ok-open_hub-clause-serves g c =
     let run = c.serve_at-outcome in
     let port : c.from.result ≡ c.args.door.port = omega arith in
     let same : c.in-Ok.config ≡ program_config (base_at c.args.door.port) = c.in-Ok.ensures ∙ ap (λ (n : ℕ). program_config (base_at n)) port in
-    subst (λ (x : Config). ServesDatabase x c.args.door.count (state g.S.Store c.args.connection) (state g.S.Store c.close.result) run.result) same
+    subst (λ (x : Config). ServesDatabase x c.args.door.count (state g.S.Store c.args.connection) (state g.S.Store c.close_hub.result) run.result) same
     (served g.S.Store (λ h is_open. clean_if_open (g.S.Store.view h.store) (g.met.S.Store.shut_if_dirty h.store) is_open)
     (λ h is_open trees may. g.met.S.Store.settled h.store trees is_open may) c.args.connection c.in-Ok.config c.in-Ok-open_hub.hub
-    c.in-Ok-open_hub.ensures.config c.in-Ok-open_hub.ensures.fresh c.in-Ok-open_hub.ensures.again c.args.door.count run.new.hub c.close.result run.result
-    (c.close.ensures ∙ c.into_store-in-Ok-open_hub.ensures ∙ ap (λ (a : HashingStore _). a.store) c.into_store.ensures.same) run.ensures.config run.ensures.honest (opening_left _ _ c.in-Ok-open_hub.ensures.stop) run.ensures.serves)
+    c.in-Ok-open_hub.ensures.config c.in-Ok-open_hub.ensures.fresh c.in-Ok-open_hub.ensures.again c.args.door.count run.new.hub c.close_hub.result run.result
+    c.close_hub.ensures run.ensures.config run.ensures.honest (opening_left _ _ c.in-Ok-open_hub.ensures.stop) run.ensures.serves)
 
 pub returns-in-Err-clause-serves : goal.returns-in-Err-clause-serves
 returns-in-Err-clause-serves g c =
