@@ -69,11 +69,7 @@ pub fn read_still<T: Statements>(
 }
 
 /// The clock that is remembered, where a tick at this moment changes nothing.
-pub fn clock_still(
-    remembered: &Option<Remembered>,
-    config: &Config,
-    moment: u64,
-) -> Option<u64>
+pub fn clock_still(remembered: &Option<Remembered>, config: &Config, moment: u64) -> Option<u64>
     ensures { (clock : ℕ) → result ≡ Some clock → (m : Remembered) × (remembered.now ≡ Some m)
         × (clock ≡ m.clock) × (moment ≤ m.clock) × (config.now.staging_max_idle ≡ m.max_idle) }
 {
@@ -90,10 +86,7 @@ pub fn clock_still(
 }
 
 /// What is remembered, where the request reads the service document.
-pub fn recalled(
-    remembered: &Option<Remembered>,
-    operation: &Operation<'_>,
-) -> Option<Remembered>
+pub fn recalled(remembered: &Option<Remembered>, operation: &Operation<'_>) -> Option<Remembered>
     ensures { (m : Remembered) → result ≡ Some m
         → (remembered.now ≡ Some m) × ReadsService operation.now }
 {

@@ -15,8 +15,8 @@ ghost use Rattle.dep_staging.specs.HashedAhead.{AreRunning, IsRunning};
 use crate::blocks::stored_block;
 use crate::loading::StagedUpload;
 use crate::running::{RunningHash, RunningHashes};
-use dep_objects::BLOCK_SIZE;
 use dep_fixity::{Digests, Hasher};
+use dep_objects::BLOCK_SIZE;
 use dep_tables::{SegmentRow, Statements};
 use dep_types::StoreFault;
 

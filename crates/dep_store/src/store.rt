@@ -36,9 +36,7 @@ use crate::ticking::{MoveClock, copy_log};
 use dep_answers::{Performed, Service, StoredFile};
 use dep_decisions::Operation;
 use dep_moment::Moment;
-use dep_requests::{
-    Remembered, clock_still, file_shown, recalled, show_service, still_known,
-};
+use dep_requests::{Remembered, clock_still, file_shown, recalled, show_service, still_known};
 use dep_schema::OpenFault;
 use dep_staging::RunningHashes;
 use dep_streams::{Audit, Watch, audit_files};
