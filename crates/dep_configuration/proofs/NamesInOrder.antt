@@ -3,15 +3,12 @@ use Rattle.std.proofs.Common.{◌≡◌, ◌≢◌, ◌∙◌, ℕ, zero, suc, �
 use Rattle.std.specs.Borrow.{Bor}
 use Rattle.std.proofs.lemmas.List.{take-append-drop, drop_more, take_more, take_all, get_or_default}
 use Rattle.std.proofs.lemmas.List.Elements.{All-nil, All-push, Contains-append_right}
-use Rattle.std.proofs.lemmas.List.Folds.{list_any_more, list_any-from_Any}
 use Rattle.std.proofs.lemmas.List.Quantifiers.{all_pairs_push}
 use Rattle.std.proofs.lemmas.Slice.Eq.{bytes_eq-Decides}
 use Rattle.std.specs.List.{list_any}
 use Rattle.json.specs.Strict.{keys}
 use Rattle.json.specs.Value.{members_view}
 use Rattle.json.specs.declared.value.Value.{Value}
-use Rattle.dep_configuration.specs.Fields.{name_of}
-use Rattle.dep_configuration.specs.declared.field.Field.{Field}
 use Rattle.dep_configuration.specs.Names.{is_field_name, AreFieldNames, StandsBehind}
 
 -- the names of members are the keys that are seen of them
@@ -83,16 +80,3 @@ repeated-first names i name told same within at was again =
 
 pub all-named : {A : Type 0} (i : ℕ) (ms : List (Bor (List ℕ) × Value A)) → length ms ≤ i → AreFieldNames (take i (keys (members_view ms))) → AreFieldNames (keys (members_view ms))
 all-named i ms past named = subst AreFieldNames (keys-taken i ms ∙ ap (λ l. keys (members_view l)) (take_all i ms past)) named
-
--- a field that has the name is among the fields
-pub field-found : (fields : List Field) (i : ℕ) (d : Field) (name told : List ℕ) → i < length fields → told ≡ name_of (get_or fields i d) → bytes_eq told name ≡ true → true ≡ list_any (λ field. bytes_eq (name_of field) name) fields
-field-found fields i d name told within same found =
-    sym (list_any-from_Any (λ field. bytes_eq (name_of field) name) fields (i, get_or fields i d, within, get_or_default fields i (get_or fields i d) d within, ap (λ t. bytes_eq t name) (sym same) ∙ found))
-
--- one more field that has another name
-pub none-more : (fields : List Field) (i : ℕ) (d : Field) (name told : List ℕ) → i < length fields → told ≡ name_of (get_or fields i d) → list_any (λ field. bytes_eq (name_of field) name) (take i fields) ≡ false → bytes_eq told name ≡ false → list_any (λ field. bytes_eq (name_of field) name) (take (i + 1) fields) ≡ false
-none-more fields i d name told within same before other =
-    list_any_more (λ field. bytes_eq (name_of field) name) fields i d within
-    ∙ ap (λ b. b || bytes_eq (name_of (get_or fields i d)) name) before
-    ∙ ap (λ t. bytes_eq t name) (sym same)
-    ∙ other

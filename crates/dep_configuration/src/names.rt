@@ -45,21 +45,11 @@ fn check_members(alloc: Global, members: &[(&str, Value<'_>)]) -> Result<(), Con
 fn is_field(name: &str) -> bool
     ensures { result ≡ is_field_name name.now }
 {
-    for field in &FIELDS {
-        if field.name() == name {
-            return true;
-        }
-    }
-    false
+    FIELDS.iter().any(|field| field.name() == name)
 }
 
 fn has_name(members: &[(&str, Value<'_>)], name: &str) -> bool
     ensures { result ≡ list_any (λ member. bytes_eq member.0.now name.now) members.now }
 {
-    for member in members {
-        if member.0 == name {
-            return true;
-        }
-    }
-    false
+    members.iter().any(|member| member.0 == name)
 }
