@@ -2,7 +2,7 @@
 use Rattle.std.specs.Prelude.{◌≡◌, ℕ, Bool, List, [], ◌∷◌, Option, Some, None, unwrap_or, IfSome, if◌then◌else◌}
 use Rattle.std.specs.FinMap as finmap
 use Rattle.dep_types.specs.declared.target.Resource.{Resource}
-use Rattle.dep_types.specs.declared.target.Resource.TheVariants.{Service, Object, Metadata, FileSet, File, Staging, Upload}
+use Rattle.dep_types.specs.declared.target.Resource.TheVariants.{Service, Object, Metadata, FileSet, File, Upload}
 use Rattle.dep_types.specs.declared.target.Method.{Method}
 use Rattle.dep_types.specs.declared.target.Method.TheVariants.{Post, Delete}
 use Rattle.dep_fixity.specs.Fixity.{digests_of}
@@ -10,7 +10,7 @@ use Rattle.dep_fields.specs.declared.kind.Kind.{Kind}
 use Rattle.dep_fields.specs.declared.kind.Kind.TheVariants as of
 use Rattle.dep_docs_in.specs.Documents.{metadata_read}
 use Rattle.dep_docs_in.specs.declared.reference.Reference.{Reference}
-use Rattle.dep_decisions.specs.Decisions.{decision_at}
+use Rattle.dep_decisions.specs.Decisions.{decision_at, ingests, posted_file, referred_files}
 use Rattle.dep_decisions.specs.Kinds.{is_completion, kind_of}
 use Rattle.dep_decisions.specs.declared.asked.ReadContent.{ReadContent}
 use Rattle.dep_decisions.specs.declared.decision.NewFile.{NewFile}
@@ -47,6 +47,16 @@ deposited_in ingests d resource method = Show
 abbrev pub filed_in : (ingests : Bool) → NewFile → Resource → Method → Decision
 filed_in ingests file (File n f) method = SetFile n f file
 filed_in ingests file resource method = deposited_in ingests (deposit.Files (file ∷ [])) resource method
+
+-- what a file of this name asks for
+abbrev pub filed_at : Operation → (name : List ℕ) → Decision
+filed_at op name =
+    filed_in (ingests op) (posted_file op name) op.target.resource op.target.method
+
+-- what the files ask for that these references point at
+abbrev pub referred_at : Operation → List Reference → Decision
+referred_at op entries = deposited_in (ingests op) (deposit.Files (referred_files op entries))
+    op.target.resource op.target.method
 
 -- the segment is received by the upload
 abbrev pub received_in : (segment : ℕ) → Resource → Decision

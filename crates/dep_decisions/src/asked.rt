@@ -2,7 +2,7 @@
 ghost use Rattle.std.specs.Prelude.{◌≡◌, IfOk, OnErr, IfSome, IsSome, option_map, option_and_then, unwrap_or};
 ghost use Rattle.std.specs.Option.{option_copied};
 ghost use Rattle.dep_fixity.specs.Fixity.{digests_of};
-ghost use Rattle.dep_decisions.specs.Asked.{IsRead, deposited_in, dropped_at, filed_in, name_in, received_in, undeposited_in};
+ghost use Rattle.dep_decisions.specs.Asked.{IsRead, deposited_in, dropped_at, filed_at, name_in, received_in, referred_at, undeposited_in};
 ghost use Rattle.dep_decisions.specs.Decisions.{assembled_file, behalf_of, decision_with, ingests, posted_file, referred_files};
 ghost use Rattle.dep_decisions.specs.Kinds.{kind_of};
 ghost use Rattle.dep_decisions.specs.Memory.{MakesFiles};
@@ -73,8 +73,7 @@ fn filed(
 ) -> Result<Decision, AllocError>
     requires { IfSome digests (λ d. d ≡ digests_of operation.now.content) }
     ensures { IfOk result (λ d. d ≡ unwrap_or (option_map
-        (λ name. filed_in (ingests operation.now) (posted_file operation.now name)
-        operation.now.target.resource operation.now.target.method)
+        (λ name. filed_at operation.now name)
         (option_and_then name_in (kind_of operation.now))) Show) }
 {
     let Some(name) = file_name(operation) else {
@@ -107,8 +106,7 @@ fn referred(
     references: Option<&References>,
 ) -> Result<Decision, AllocError>
     ensures ok { IfOk result (λ d. d ≡ unwrap_or (option_map
-        (λ entries. deposited_in (ingests operation.now) (Files (referred_files operation.now entries))
-        operation.now.target.resource operation.now.target.method)
+        (λ entries. referred_at operation.now entries)
         (option_copied references.entry)) Show) }
     ensures err { OnErr result (IsSome (option_copied references.entry)) }
 {

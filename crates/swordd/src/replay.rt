@@ -124,8 +124,8 @@ fn new_hub<S: Alter>(
     }
 }
 
-/// Hands the database of a hub back.
 // A call of `Hub::into_store` over a database is dear to prove: it stands here alone.
+/// Hands the database of a hub back.
 pub fn close_hub<S: Alter>(hub: Hub<HashingStore<S>>) -> Connection<S>
     ensures { result ≡ hub.store.store }
 {
