@@ -127,7 +127,7 @@ same_extended text a b is has =
     let escaped = (cut_is text b (left.charset, left.rest) (left.language, left.escaped) right left.first left.second).1 in
     left.told ∙ ap percent_decode escaped ∙ sym right.told
 
-same_told : (star plain : Option (List ℕ)) (a b : List ℕ) → IsTold star plain a → IsTold star plain b → a ≡ b
+pub same_told : (star plain : Option (List ℕ)) (a b : List ℕ) → IsTold star plain a → IsTold star plain b → a ≡ b
 same_told (Some text) plain a b is has = same_extended text a b is has
 same_told None (Some plain) a b is has = is ∙ sym has
 same_told None None a b is has = absurd is
