@@ -16,7 +16,7 @@ pub struct Exchange<'a> {
     pub moment: u64,
     /// The number of the connection.
     pub connection: u64,
-    /// The client's address and port.
+    /// The client's address.
     pub peer: &'a str,
     /// The method of the request.
     pub method: &'a str,
@@ -80,7 +80,7 @@ pub struct Closing<'a> {
     pub moment: u64,
     /// The number of the connection; a client that was turned away has none.
     pub connection: Option<u64>,
-    /// The client's address and port.
+    /// The client's address.
     pub peer: &'a str,
     pub reason: Reason,
 }

@@ -70,8 +70,10 @@ pub fn read_still<T: Statements>(
 
 /// The clock that is remembered, where a tick at this moment changes nothing.
 pub fn clock_still(remembered: &Option<Remembered>, config: &Config, moment: u64) -> Option<u64>
-    ensures { (clock : ℕ) → result ≡ Some clock → (m : Remembered) × (remembered.now ≡ Some m)
+    ensures told { (clock : ℕ) → result ≡ Some clock → (m : Remembered) × (remembered.now ≡ Some m)
         × (clock ≡ m.clock) × (moment ≤ m.clock) × (config.now.staging_max_idle ≡ m.max_idle) }
+    ensures known { (m : Remembered) → remembered.now ≡ Some m → moment ≤ m.clock
+        → config.now.staging_max_idle ≡ m.max_idle → result ≡ Some m.clock }
 {
     match remembered {
         Some(it) => {
@@ -87,8 +89,9 @@ pub fn clock_still(remembered: &Option<Remembered>, config: &Config, moment: u64
 
 /// What is remembered, where the request reads the service document.
 pub fn recalled(remembered: &Option<Remembered>, operation: &Operation<'_>) -> Option<Remembered>
-    ensures { (m : Remembered) → result ≡ Some m
+    ensures told { (m : Remembered) → result ≡ Some m
         → (remembered.now ≡ Some m) × ReadsService operation.now }
+    ensures known { ReadsService operation.now → result ≡ remembered.now }
 {
     match remembered {
         Some(it) => {

@@ -1,6 +1,6 @@
 //! Requests that are answered by what is remembered, and what the reply to one that only reads lets be remembered.
 
-ghost use Rattle.std.specs.Prelude.{◌≡◌, false, if◌then◌else◌, Some, IsTrue, IfOk};
+ghost use Rattle.std.specs.Prelude.{◌≡◌, false, if◌then◌else◌, Some, IsTrue, IfOk, ◌↔◌};
 ghost use Rattle.dep_types.specs.State.{State};
 ghost use Rattle.dep_types.specs.Sound.{IsSound};
 ghost use Rattle.dep_fields.specs.Fit.{AreFit};
@@ -19,7 +19,7 @@ use std::alloc::Global;
 
 /// Whether the request reads the service document.
 pub(crate) fn reads_service(operation: &Operation<'_>) -> bool
-    ensures { IsTrue result → ReadsService operation.now }
+    ensures { IsTrue result ↔ ReadsService operation.now }
 {
     matches!(operation.target.resource, Resource::Service)
         && matches!(operation.target.method, Method::Get | Method::Head)
@@ -92,8 +92,10 @@ fn is_plain_read(operation: &Operation<'_>) -> bool
 
 /// The file whose content the reply has, where the request only reads.
 pub fn file_shown(operation: &Operation<'_>, done: &Done) -> Option<StoredFile>
-    ensures { (it : StoredFile) → result ≡ Some it → IsTrue (is_plain_read operation.now)
+    ensures told { (it : StoredFile) → result ≡ Some it → IsTrue (is_plain_read operation.now)
         × (done.now.has_changes ≡ false) × (done.now.performed.stored ≡ Some it) }
+    ensures known { IsTrue (is_plain_read operation.now) → done.now.has_changes ≡ false
+        → result ≡ done.now.performed.stored }
 {
     if !done.has_changes && is_plain_read(operation) {
         done.performed.stored

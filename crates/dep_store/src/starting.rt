@@ -108,3 +108,11 @@ pub fn open_hub<S: Alter, W: Watch>(
         }
     }
 }
+
+// A call of `Hub::into_store` over a database is dear to prove: it stands here alone.
+/// Hands the database of a hub back.
+pub fn close_hub<S: Alter>(hub: Hub<HashingStore<S>>) -> Connection<S>
+    ensures { result ≡ hub.store.store }
+{
+    hub.into_store().into_store().close()
+}

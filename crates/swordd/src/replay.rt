@@ -14,7 +14,7 @@ ghost use Rattle.swordd.specs.Replays.{FromNothing, IsNotBegun, Replays, Replays
 use dep_hub::{Flush, Hub, serve_connection};
 use dep_moment::Moment;
 use dep_program::{Gathered, Outcome, configuration, outcome_of, outcome_sent};
-use dep_store::{HashingStore, Unwatched, open_hub};
+use dep_store::{HashingStore, Unwatched, close_hub, open_hub};
 use dep_types::Inlet;
 use sqlite::{Alter, Connection};
 use std::alloc::Global;
@@ -122,12 +122,4 @@ fn new_hub<S: Alter>(
         Ok(hub) => Ok(hub),
         Err((fault, connection)) => Err((fault.outcome(), connection)),
     }
-}
-
-// A call of `Hub::into_store` over a database is dear to prove: it stands here alone.
-/// Hands the database of a hub back.
-pub fn close_hub<S: Alter>(hub: Hub<HashingStore<S>>) -> Connection<S>
-    ensures { result ≡ hub.store.store }
-{
-    hub.into_store().into_store().close()
 }

@@ -5,9 +5,8 @@ ghost use Rattle.sqlite.specs.State.{HasCleanDisk};
 ghost use Rattle.dep_program.specs.Setup.{program_config, base_at};
 ghost use Rattle.swordd.specs.Databases.{ServesDatabase};
 
-use crate::replay::close_hub;
 use dep_program::{Door, Outcome, configuration_at, serve_at};
-use dep_store::{Watch, open_hub};
+use dep_store::{Watch, close_hub, open_hub};
 use sqlite::{Alter, Connection};
 
 /// Opens the store in the database, serves so many connections of 127.0.0.1 at the port, one after another, and hands

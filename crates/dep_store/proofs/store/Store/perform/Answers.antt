@@ -44,7 +44,7 @@ returns-in-Some-clause-does g c =
     let d = state g.S.Store c.self.inside.connection in
     let config = c.args.service.now in
     let op = c.args.operation.now in
-    let told = c.recalled.ensures c.in-Some.it c.in-Some.is in
+    let told = c.recalled.ensures.told c.in-Some.it c.in-Some.is in
     let still : Transacts d d c.show_service.result (Made config op) = unmoved d c.show_service.result (Made config op) (λ is_open trees h. g.met.S.Store.settled c.self.inside.connection.store trees is_open h)
     (λ t stands. service_made d t config op c.in-Some.it c.show_service.result stands (c.self.invariant.0 c.in-Some.it told.0) c.show_service.ensures) in
     tries_over (state g.S.Store c.args.self.now) (state g.S.Store c.args.self.now) c.show_service.result (Made config op) _ (ready config op) (next config op)
@@ -85,7 +85,7 @@ invariant_of-self-2 g c =
           c.self.invariant.0 m (known m is).0 s (stood_before (state g.S.Store c.self.inside.connection) (state g.S.Store c.perform_if_open.new.connection) (c.in_ok-done.ensures.back (known m is).1).back (search rules) s stands),
       λ m is clean. (c.in_ok-done.ensures.back (known m is).1).opened clean,
       λ it is.
-          let shown = c.file_shown-self-inside.ensures it is in
+          let shown = c.file_shown-self-inside.ensures.told it is in
           let given = c.in_ok-done.ensures.back shown.1 in
           let store = c.perform_if_open.new.connection.store in (
             λ s stands.
@@ -108,7 +108,7 @@ invariant_of-self g c = forgotten (state g.S.Store c.perform_if_open.new.connect
 pub returns-in-Some-clause-shut : goal.returns-in-Some-clause-shut
 returns-in-Some-clause-shut g c =
     let d = state g.S.Store c.self.inside.connection in
-    let shut : FailsIfShut d d c.show_service.result = was_open_then d d _ (c.self.invariant.1 c.in-Some.it (c.recalled.ensures c.in-Some.it c.in-Some.is).0) in
+    let shut : FailsIfShut d d c.show_service.result = was_open_then d d _ (c.self.invariant.1 c.in-Some.it (c.recalled.ensures.told c.in-Some.it c.in-Some.is).0) in
     rw c.self.view_is at shut
 
 pub returns-in_err-done-clause-unchanged : goal.returns-in_err-done-clause-unchanged

@@ -19,7 +19,7 @@ pub returns-in-Some : goal.returns-in-Some
 returns-in-Some g c =
     let d = state g.S.Store c.self.inside.connection in
     let config = c.args.config.now in
-    let its = c.clock_still.ensures c.in-Some.clock c.in-Some.is in
+    let its = c.clock_still.ensures.told c.in-Some.clock c.in-Some.is in
     let shown = told c.new-shown.result in
     let still : Transacts d d shown (Clocked config c.secs-secs.result) = unmoved d _ _ (λ is_open trees h. g.met.S.Store.settled c.self.inside.connection.store trees is_open h)
     (λ t stands. clock_made d t config c.secs-secs.result its.0 c.new-shown.result stands (c.self.invariant.0 its.0 its.1) its.3 its.4
