@@ -122,11 +122,6 @@ impl<'a, R: Files + Net + Clock> Sockets<'a, R> {
         })
     }
 
-    /// Why it has ended, if it wasn't because all clients were served.
-    pub fn fault(&self) -> Option<SocketFault> {
-        self.fault
-    }
-
     /// Waits, unless all clients were let in, and have left. It returns whether it could.
     fn go_on(&mut self, is_busy: bool) -> bool {
         if self.remaining == 0 && Rc::strong_count(&self.open) == 1 {
