@@ -1,5 +1,5 @@
 -- What is remembered of a state: a tick that changes nothing, and what a request for the service document sees.
-use Rattle.std.proofs.Common.{◌≡◌, ◌∙◌, ℕ, ◌≤◌, ◌-◌, min, max, Bool, true, false, cond, not, ◌||◌, ◌&&◌, if◌then◌else◌, Option, Some, None, is_some, option_map, refl, sym, ap, subst, IsTrue, arith, nat_lt}
+use Rattle.std.proofs.Common.{◌≡◌, ◌∙◌, ℕ, ◌≤◌, ◌<◌, ◌-◌, min, max, Bool, true, false, cond, not, ◌||◌, ◌&&◌, if◌then◌else◌, Option, Some, None, is_some, option_map, refl, sym, ap, subst, IsTrue, arith, nat_lt}
 use Rattle.std.specs.Option.{option_map_or}
 use Rattle.std.specs.Cmp.{nat_cmp_total}
 use Rattle.std.specs.FinMap as map
@@ -34,7 +34,7 @@ use Rattle.dep_tables.specs.Edits.{IsLeftBefore}
 use Rattle.dep_tables.specs.declared.uploads.LeftUpload.{LeftUpload}
 use Rattle.std.proofs.lemmas.Bool.Decides.{nat_tests}
 use Rattle.dep_requests.specs.declared.remembering.Remembered.{Remembered}
-use Rattle.dep_requests.specs.Remembering.{Recalls, ReadsService, is_left, service_view}
+use Rattle.dep_requests.specs.Remembering.{Recalls, HasNoneLeft, ReadsService, is_left, service_view}
 
 -- ---- the tick
 
@@ -95,6 +95,22 @@ none_was_left max_idle clock t s found are read none u = go found none (left_bef
     go : (found : Option LeftUpload) → is_some found ≡ false → TellsLeft (clock - max_idle) s.uploads found → is_left max_idle clock s.uploads u ≡ false
     go None h tells = left_is max_idle clock s.uploads u ∙ tells u
     go (Some l) h tells = absurd (cc)
+
+-- a moment that is no later than the clock is not behind the row's
+pub not_earlier : (row : StateRow) (s : State) (moment : ℕ) → row ≡ state_row s → row.clock < moment → moment ≤ s.clock → ⊥
+not_earlier row s moment is early late = go row.clock s.clock (ap (λ (r : StateRow). r.clock) is) early late
+  where
+    go : (read clock : ℕ) → read ≡ clock → read < moment → moment ≤ clock → ⊥
+    go read clock same early late = omega arith
+
+-- where one is told, one was left
+pub some_was_left : (max_idle : ℕ) (t : Tables) (s : State) (found : Option LeftUpload) → TablesAre t s → IsLeftBefore (s.clock - max_idle) t found → HasNoneLeft max_idle s
+    → is_some found ≡ false
+some_was_left max_idle t s found are read none = go found (left_before_read t s are (s.clock - max_idle) found read)
+  where
+    go : (found : Option LeftUpload) → TellsLeft (s.clock - max_idle) s.uploads found → is_some found ≡ false
+    go None tells = refl
+    go (Some l) tells = sym tells ∙ sym (left_is max_idle s.clock s.uploads l.upload) ∙ none l.upload
 
 -- what was read of the state, where none was left
 pub read_recalled : (row : StateRow) (s : State) (max_idle : ℕ) (m : Remembered) → row ≡ state_row s → ((u : ℕ) → is_left max_idle row.clock s.uploads u ≡ false)

@@ -22,11 +22,15 @@ abbrev pub is_left : (max_idle clock : ℕ) → Numbered Upload → ℕ → Bool
 is_left max_idle clock uploads u =
     option_map_or (λ it. nat_lt max_idle (clock - it.last)) (map.get uploads u) false
 
+-- no upload of the state was left alone for longer than this
+abbrev pub HasNoneLeft : (max_idle : ℕ) → State → Type 0
+HasNoneLeft max_idle s = (u : ℕ) → is_left max_idle s.clock s.uploads u ≡ false
+
 -- the state's clock and counters; and no upload of it was left alone for longer
 pub record Recalls (m : Remembered) (s : State) : Type 0 where
   pub clock : m.clock ≡ s.clock
   pub next : m.next ≡ s.next
-  pub none_left : (u : ℕ) → is_left m.max_idle s.clock s.uploads u ≡ false
+  pub none_left : HasNoneLeft m.max_idle s
 
 -- what may be remembered was read at this moment or later, by the configured idle time
 abbrev pub Covers : Config → (moment : ℕ) → Option Remembered → Type 0

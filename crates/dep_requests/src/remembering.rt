@@ -1,11 +1,11 @@
 //! What may be remembered of the archive between requests, so that one for the service document asks no tables.
 
-ghost use Rattle.std.specs.Prelude.{◌≡◌, ◌≤◌, ℕ, Some, None, if◌then◌else◌, IsTrue, IfOk, ◌↔◌};
+ghost use Rattle.std.specs.Prelude.{◌≡◌, ◌≤◌, ℕ, Some, None, is_some, if◌then◌else◌, IsTrue, IfOk, ◌↔◌};
 ghost use Rattle.dep_types.specs.State.{State};
 ghost use Rattle.dep_types.specs.Sound.{IsSound};
 ghost use Rattle.dep_tables.specs.Clauses.{StaysWithin};
 ghost use Rattle.dep_row_maps.specs.Clauses.{FromMaps};
-ghost use Rattle.dep_requests.specs.Remembering.{Recalls, Covers, ReadsService};
+ghost use Rattle.dep_requests.specs.Remembering.{Recalls, Covers, HasNoneLeft, ReadsService};
 
 use crate::showing::reads_service;
 use dep_decisions::Operation;
@@ -50,6 +50,9 @@ pub fn read_still<T: Statements>(
     ensures map { FromMaps (T.state tx.old) (T.state tx.new)
         (λ s. IsSound s → IfOk result (λ found. (m : Remembered) → found ≡ Some m → Recalls m s)) }
     ensures covers { IfOk result (Covers config.now moment) }
+    ensures known { FromMaps (T.state tx.old) (T.state tx.new)
+        (λ s. IsSound s → moment ≤ s.clock → HasNoneLeft config.now.staging_max_idle s
+        → IfOk result (λ found. IsTrue (is_some found))) }
     ensures stays { StaysWithin T.lenders T.state tx.old tx.new result }
 {
     let row = counters(tx)?;

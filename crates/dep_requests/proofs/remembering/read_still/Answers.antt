@@ -1,11 +1,12 @@
-use Rattle.std.proofs.Common.{sym, subst, ◌∙◌}
+use Rattle.std.proofs.Common.{◌≡◌, ◌∙◌, ◌-◌, false, true, ap, sym, subst}
 use Rattle.sqlite.specs.Effect.{Database}
 use Rattle.dep_tables.specs.Tables.{tables_in, tables_of, HasOurTables}
 use Rattle.dep_tables.specs.Edits.{IsLeftBefore}
+use Rattle.dep_tables.specs.declared.state.StateRow.{StateRow}
 use Rattle.dep_row_maps.specs.TablesAre.{TablesAre}
 use Rattle.std.proofs.lemmas.Result.{IfOk-from_err}
 use Rattle.dep_tables.proofs.Chains.{clean_before, stays_then, stays_ok, stays_err}
-use Rattle.dep_requests.proofs.Recalling.{none_is, none_was_left, read_recalled}
+use Rattle.dep_requests.proofs.Recalling.{none_is, none_was_left, not_earlier, read_recalled, some_was_left}
 use Rattle.dep_requests.proofs.remembering.read_still.Goals as goal
 
 pub returns-clause-map : goal.returns-clause-map
@@ -44,6 +45,23 @@ returns-then-is_some-clause-stays g c = stays_ok (stays_then c.in_ok-row.ensures
 
 pub returns-clause-stays : goal.returns-clause-stays
 returns-clause-stays g c = stays_ok (stays_then c.in_ok-row.ensures.does.keeps.stays c.in_ok-left.ensures.does.keeps.stays)
+
+-- where something may be remembered, it is
+pub returns-then-row-moment-clause-known : goal.returns-then-row-moment-clause-known
+returns-then-row-moment-clause-known g c clean inside ours s are sound late none =
+    absurd (not_earlier c.in_ok-row.row s c.args.moment (c.in_ok-row.ensures.does.map clean ours s are) c.if-row-moment.true late)
+
+pub returns-then-is_some-clause-known : goal.returns-then-is_some-clause-known
+returns-then-is_some-clause-known g c clean inside ours s are sound late none =
+    let mid = tables_of (g.T.Statements.state c.counters.new.tx) in
+    let before = clean_before c.in_ok-left.ensures.does.keeps.stays clean in
+    let seen = (c.in_ok-row.ensures.does.keeps.same before ours).0.now_is in
+    let asked = subst (λ n. IsLeftBefore n mid c.in_ok-left.left) c.saturating_sub-oldest.ensures (c.in_ok-left.ensures.does.ok clean (subst HasOurTables (sym seen) ours)) in
+    let is = c.in_ok-row.ensures.does.map before ours s are in
+    let read = subst (λ n. IsLeftBefore (n - c.args.config.now.staging_max_idle) mid c.in_ok-left.left) (ap (λ (r : StateRow). r.clock) is) asked in
+    let found = some_was_left c.args.config.now.staging_max_idle mid s c.in_ok-left.left (subst (λ (d : Database). TablesAre (tables_in d.trees) s) (sym seen) are) read none in
+    let bad : false ≡ true = sym found ∙ sym c.is_some.ensures ∙ c.if-is_some.true in
+    absurd (cc bad)
 
 -- nothing is remembered
 pub returns-then-row-moment-clause-map : goal.returns-then-row-moment-clause-map
