@@ -104,23 +104,23 @@ pub struct Start<'a> {
 pub fn exchange_line(alloc: Global, exchange: &Exchange<'_>) -> Result<Vec<u8>, AllocError> {
     let end = exchange.path.floor_char_boundary(GREATEST_PATH);
     let refusal = match exchange.refusal {
-        Some(refusal) => Item::Text(refusal),
-        None => Item::LeftOut,
+        Some(refusal) => Member::Text("refusal", refusal),
+        None => Member::LeftOut,
     };
     line(
         alloc,
         &[
-            ("event", Item::Text("exchange")),
-            ("moment", Item::Number(exchange.moment)),
-            ("connection", Item::Number(exchange.connection)),
-            ("peer", Item::Text(exchange.peer)),
-            ("method", Item::Text(exchange.method)),
-            ("path", Item::Text(&exchange.path[..end])),
-            ("status", Item::Number(u64::from(exchange.status))),
-            ("refusal", refusal),
-            ("bytes_in", Item::Number(exchange.bytes_in)),
-            ("bytes_out", Item::Number(exchange.bytes_out)),
-            ("microseconds", Item::Number(exchange.microseconds)),
+            Member::Text("event", "exchange"),
+            Member::Number("moment", exchange.moment),
+            Member::Number("connection", exchange.connection),
+            Member::Text("peer", exchange.peer),
+            Member::Text("method", exchange.method),
+            Member::Text("path", &exchange.path[..end]),
+            Member::Number("status", u64::from(exchange.status)),
+            refusal,
+            Member::Number("bytes_in", exchange.bytes_in),
+            Member::Number("bytes_out", exchange.bytes_out),
+            Member::Number("microseconds", exchange.microseconds),
         ],
     )
 }
@@ -129,17 +129,17 @@ pub fn exchange_line(alloc: Global, exchange: &Exchange<'_>) -> Result<Vec<u8>, 
 /// memory.
 pub fn closing_line(alloc: Global, closing: &Closing<'_>) -> Result<Vec<u8>, AllocError> {
     let (event, connection) = match closing.connection {
-        Some(connection) => ("closed", Item::Number(connection)),
-        None => ("refused", Item::LeftOut),
+        Some(connection) => ("closed", Member::Number("connection", connection)),
+        None => ("refused", Member::LeftOut),
     };
     line(
         alloc,
         &[
-            ("event", Item::Text(event)),
-            ("moment", Item::Number(closing.moment)),
-            ("connection", connection),
-            ("peer", Item::Text(closing.peer)),
-            ("reason", Item::Text(closing.reason.name())),
+            Member::Text("event", event),
+            Member::Number("moment", closing.moment),
+            connection,
+            Member::Text("peer", closing.peer),
+            Member::Text("reason", closing.reason.name()),
         ],
     )
 }
@@ -148,41 +148,38 @@ pub fn closing_line(alloc: Global, closing: &Closing<'_>) -> Result<Vec<u8>, All
 pub fn start_line(alloc: Global, start: &Start<'_>) -> Result<Vec<u8>, AllocError> {
     let limits = &start.limits;
     let connections = match limits.connections {
-        Some(connections) => Item::Number(connections),
-        None => Item::LeftOut,
+        Some(connections) => Member::Number("connections", connections),
+        None => Member::LeftOut,
     };
     line(
         alloc,
         &[
-            ("event", Item::Text("started")),
-            ("moment", Item::Number(start.moment)),
-            ("version", Item::Text(start.version)),
-            ("address", Item::Text(start.address)),
-            ("idle_seconds", Item::Number(limits.idle_seconds)),
-            ("least_rate", Item::Number(limits.least_rate)),
-            ("connections", connections),
-            (
-                "address_connections",
-                Item::Number(limits.address_connections),
-            ),
-            ("spool_bytes", Item::Number(limits.spool_bytes)),
-            ("unfinished_bytes", Item::Number(limits.unfinished_bytes)),
-            ("open_microseconds", Item::Number(start.open_microseconds)),
+            Member::Text("event", "started"),
+            Member::Number("moment", start.moment),
+            Member::Text("version", start.version),
+            Member::Text("address", start.address),
+            Member::Number("idle_seconds", limits.idle_seconds),
+            Member::Number("least_rate", limits.least_rate),
+            connections,
+            Member::Number("address_connections", limits.address_connections),
+            Member::Number("spool_bytes", limits.spool_bytes),
+            Member::Number("unfinished_bytes", limits.unfinished_bytes),
+            Member::Number("open_microseconds", start.open_microseconds),
         ],
     )
 }
 
-/// The value of a member of a line.
+/// A member of a line: its name and its value.
 #[derive(Clone, Copy)]
-enum Item<'a> {
-    Text(&'a str),
-    Number(u64),
+enum Member<'a> {
+    Text(&'static str, &'a str),
+    Number(&'static str, u64),
     /// The member is left out.
     LeftOut,
 }
 
 // The line of these members.
-fn line(alloc: Global, members: &[(&str, Item<'_>)]) -> Result<Vec<u8>, AllocError> {
+fn line(alloc: Global, members: &[Member<'_>]) -> Result<Vec<u8>, AllocError> {
     let mut out = Writer::new(Vec::with_capacity(alloc, 512)?);
     put_object(&mut out, members)?;
     let mut line = out.into_inner();
@@ -190,24 +187,24 @@ fn line(alloc: Global, members: &[(&str, Item<'_>)]) -> Result<Vec<u8>, AllocErr
     Ok(line)
 }
 
-fn put_object(out: &mut Writer, members: &[(&str, Item<'_>)]) -> Result<(), AllocError> {
+fn put_object(out: &mut Writer, members: &[Member<'_>]) -> Result<(), AllocError> {
     out.begin_object()?;
-    for (name, item) in members {
-        put_member(out, name, *item)?;
+    for member in members {
+        put_member(out, *member)?;
     }
     out.end_object()
 }
 
-fn put_member(out: &mut Writer, name: &str, item: Item<'_>) -> Result<(), AllocError> {
-    match item {
-        Item::Text(text) => {
+fn put_member(out: &mut Writer, member: Member<'_>) -> Result<(), AllocError> {
+    match member {
+        Member::Text(name, text) => {
             out.key(name)?;
             out.string(text)
         }
-        Item::Number(number) => {
+        Member::Number(name, number) => {
             out.key(name)?;
             out.u64(number)
         }
-        Item::LeftOut => Ok(()),
+        Member::LeftOut => Ok(()),
     }
 }

@@ -109,12 +109,13 @@ fn configuration_in(alloc: Global, value: &Value<'_>) -> Result<Configuration, A
 {
     let database = filled_text(alloc, value, Field::Database)?;
     let spool_folder = filled_text(alloc, value, Field::SpoolFolder)?;
+    let config = config_in(alloc, value)?;
     Ok(Configuration {
         address: address(value),
         port: number(value, Field::Port, 8_080) as u16,
         database,
         spool_folder,
-        config: config_in(alloc, value)?,
+        config,
         limits: limits_in(value),
     })
 }

@@ -17,7 +17,7 @@ pub fn status_of_front(front: &[u8]) -> Option<u16> {
     let reply = front.strip_prefix(CONTINUE).unwrap_or(front);
     let behind = reply.strip_prefix(VERSION)?;
     match decimal(behind.get(..3)?, 999) {
-        Number::Value(status) => u16::try_from(status).ok(),
+        Number::Value(status) => Some(status as u16),
         _ => None,
     }
 }
@@ -30,6 +30,11 @@ pub fn refusal_of_front(front: &[u8]) -> Option<&str> {
     }
     let reply = front.strip_prefix(CONTINUE).unwrap_or(front);
     let (_, content) = split_once(reply.get(..1_024).unwrap_or(reply), b"\r\n\r\n")?;
+    name_in(content)
+}
+
+// The name of the refusal in an error document.
+fn name_in(content: &[u8]) -> Option<&str> {
     let (name, _) = split_once(content.strip_prefix(BEFORE_NAME)?, b"\"")?;
     str::from_utf8(name).ok()
 }

@@ -13,8 +13,6 @@ enum Given<'a> {
     Text(&'a str),
     Flag(bool),
     Number(u64),
-    /// There is no greatest number.
-    WithoutEnd,
 }
 
 impl fmt::Display for Given<'_> {
@@ -24,7 +22,6 @@ impl fmt::Display for Given<'_> {
             Given::Text(text) => text.fmt(f),
             Given::Flag(flag) => flag.fmt(f),
             Given::Number(number) => number.fmt(f),
-            Given::WithoutEnd => f.write_str("without end"),
         }
     }
 }
@@ -59,7 +56,7 @@ fn value_of<'a>(configuration: &'a Configuration, field: Field) -> Given<'a> {
         Field::LeastRate => Given::Number(limits.least_rate),
         Field::Connections => match limits.connections {
             Some(connections) => Given::Number(connections),
-            None => Given::WithoutEnd,
+            None => Given::Text("without end"),
         },
         Field::AddressConnections => Given::Number(limits.address_connections),
         Field::SpoolBytes => Given::Number(limits.spool_bytes),

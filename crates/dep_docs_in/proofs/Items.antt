@@ -1,12 +1,14 @@
 -- Items that are read one after another.
-use Rattle.std.proofs.Common.{◌≡◌, ℕ, zero, suc, ◌+◌, ◌<◌, List, [], ◌∷◌, ◌++◌, length, drop, Option, Some, None, option_map, append_assoc, append-nil, refl, sym, ap, ◌∙◌, arith}
+use Rattle.std.proofs.Common.{◌≡◌, ◌==◌, Bool, true, false, ℕ, zero, suc, ◌+◌, ◌<◌, List, [], ◌∷◌, ◌++◌, length, drop, Option, Some, None, option_map, append_assoc, append-nil, refl, sym, ap, ◌∙◌, arith}
 use Rattle.std.proofs.Math.Seq.{drop-cons}
+use Rattle.std.proofs.lemmas.Bool.{eqb-true}
 use Rattle.std.specs.Prelude.{slice_index_or}
-use Rattle.serde_json.specs.Data.{Data}
+use Rattle.serde_json.specs.Data.{Data, Items, item, no_items}
+use Rattle.serde_json.specs.Find.{as_str, as_array}
 use Rattle.serde_json.specs.View.{view, items_view}
 use Rattle.serde_json.specs.declared.value.Value.{Value}
-use Rattle.dep_types.specs.Maps.{◌>>=◌}
-use Rattle.dep_docs_in.specs.Documents.{each_read}
+use Rattle.dep_types.specs.Maps.{◌>>=◌, provided}
+use Rattle.dep_docs_in.specs.Documents.{each_read, not_empty, text_or_list, texts_in}
 use Rattle.dep_docs_in.specs.Faults.{Fails}
 use Rattle.dep_docs_in.specs.declared.fault.DocFault.{DocFault}
 use Rattle.dep_docs_in.specs.declared.fault.DocFault.TheVariants.{Malformed, Memory}
@@ -57,3 +59,35 @@ module _ {X : Type 0} (reads : Data → Option X) where
       → length vs < i + 1 → all ≡ Some front
   unfolding each_read
   at_end all vs i front so_far h = so_far ∙ ap (λ l. with_front front (each_read reads (items_view l))) (past vs i h) ∙ ap Some (append-nil front)
+
+  then_one : (o : Option X) (more : Option (List X)) → ((o >>= (λ x. more >>= (λ xs. Some (x ∷ xs)))) >>= not_empty) ≡ (o >>= (λ x. more >>= (λ xs. Some (x ∷ xs))))
+  then_one None more = refl
+  then_one (Some x) None = refl
+  then_one (Some x) (Some xs) = refl
+
+  -- where there are items, something is read or nothing can be
+  pub some_read : (b : Bool) (o : Option Items) (vs : List Value) → b ≡ true → o ≡ Some (items_view vs) → (length vs == 0) ≡ false
+      → (provided b o >>= (λ items. each_read reads items >>= not_empty)) ≡ each_read reads (items_view vs)
+  unfolding each_read
+  some_read b o [] is there some = cc some
+  some_read b o (v ∷ vs) is there some = rw is (rw there (then_one (reads (view v)) (each_read reads (items_view vs))))
+
+  pub none_read : (b : Bool) (o : Option Items) (vs : List Value) → o ≡ Some (items_view vs) → (length vs == 0) ≡ true
+      → (provided b o >>= (λ items. each_read reads items >>= not_empty)) ≡ None
+  unfolding each_read
+  none_read true o [] there none = rw there refl
+  none_read false o [] there none = refl
+  none_read b o (v ∷ vs) there none = absurd (omega (arith, eqb-true (length (v ∷ vs)) 0 none))
+
+  pub unlisted : (b : Bool) (o : Option Items) → o ≡ None → (provided b o >>= (λ items. each_read reads items >>= not_empty)) ≡ None
+  unlisted true o none = rw none refl
+  unlisted false o none = refl
+
+one_text : (o : Option (List ℕ)) → (o >>= (λ x. Some (x ∷ []))) ≡ text_or_list o None
+one_text None = refl
+one_text (Some text) = refl
+
+-- a text is read as the list of it
+pub one_read : (d : Data) → as_array d ≡ None → each_read as_str (item d no_items) ≡ texts_in d
+unfolding each_read
+one_read d none = one_text (as_str d) ∙ ap (text_or_list (as_str d)) (sym none)

@@ -45,6 +45,10 @@ each_read reads (item d ds) = do
 abbrev pub text_under : List ℕ → Data → Option (List ℕ)
 text_under name d = option_and_then as_str (get name d)
 
+-- the items of the list under a name
+abbrev pub items_under : List ℕ → Data → Option Items
+items_under name d = get name d >>= as_array
+
 -- ---- metadata
 
 -- a text, or a list of texts
@@ -67,12 +71,15 @@ kept_texts kept (member name d rest) =
     if is_kept_name name then texts_in d >>= (λ texts. kept_texts (keep name texts kept) rest)
     else kept_texts kept rest
 
--- what a metadata document keeps
-abbrev pub metadata_read : List ℕ → Option Texts
-metadata_read content = do
-  d ← document content
+-- what a metadata document keeps, by its value
+abbrev pub metadata_of : Data → Option Texts
+metadata_of d = do
   ms ← as_object d
   provided (has_type (codes "Metadata") d) (kept_texts map.empty ms)
+
+-- and by its text
+abbrev pub metadata_read : List ℕ → Option Texts
+metadata_read content = document content >>= metadata_of
 
 -- ---- references
 
@@ -152,11 +159,13 @@ abbrev pub not_empty : {X : Type 0} → List X → Option (List X)
 not_empty [] = None
 not_empty (x ∷ xs) = Some (x ∷ xs)
 
--- the entries of a document of references
-abbrev pub references_read : Config → List ℕ → Option (List Reference)
-references_read config content = do
-  d ← document content
-  items ← provided (has_type (codes "ByReference") d)
-      (get (codes "byReferenceFiles") d >>= as_array)
+-- the entries of a document of references, by its value
+abbrev pub references_of : Config → Data → Option (List Reference)
+references_of config d = do
+  items ← provided (has_type (codes "ByReference") d) (items_under (codes "byReferenceFiles") d)
   entries ← each_read (reference_in config) items
   not_empty entries
+
+-- and by its text
+abbrev pub references_read : Config → List ℕ → Option (List Reference)
+references_read config content = document content >>= references_of config

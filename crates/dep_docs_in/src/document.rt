@@ -1,12 +1,13 @@
 //! A document as a value of JSON, and what its members say.
-ghost use Rattle.std.specs.Prelude.{◌≡◌, false, bytes_eq};
+ghost use Rattle.std.specs.Prelude.{◌≡◌, option_map};
 ghost use Rattle.serde_json.specs.Find.{as_str};
-ghost use Rattle.serde_json.specs.View.{view};
-ghost use Rattle.dep_docs_in.specs.Documents.{document, has_type, text_under};
-ghost use Rattle.dep_docs_in.specs.Faults.{GivesBy};
-ghost use Rattle.std.specs.Option.{option_copied, option_map_or};
+ghost use Rattle.serde_json.specs.View.{items_view, view};
+ghost use Rattle.dep_docs_in.specs.Documents.{document, has_type, items_under, text_under};
+ghost use Rattle.dep_docs_in.specs.Faults.{Gives, GivesBy};
+ghost use Rattle.std.specs.Option.{option_copied};
 
 use crate::fault::DocFault;
+use dep_types::Text;
 use serde_json::Value;
 use std::alloc::Global;
 
@@ -22,17 +23,8 @@ pub(crate) fn has_type(document: &Value, name: &str) -> bool
     ensures { result ≡ has_type name.now (view document.now) }
 {
     match document.get("@type") {
-        Some(value) => is_text(value, name),
+        Some(value) => matches!(value.as_str(), Some(found) if found == name),
         None => true,
-    }
-}
-
-fn is_text(value: &Value, text: &str) -> bool
-    ensures { result ≡ option_map_or (bytes_eq text.now) (as_str (view value.now)) false }
-{
-    match value.as_str() {
-        Some(found) => found == text,
-        None => false,
     }
 }
 
@@ -40,5 +32,22 @@ fn is_text(value: &Value, text: &str) -> bool
 pub(crate) fn text_of<'a>(document: &'a Value, name: &str) -> Option<&'a str>
     ensures { option_copied result ≡ text_under name.now (view document.now) }
 {
-    document.get(name).and_then(Value::as_str)
+    document.get(name)?.as_str()
+}
+
+/// The items of a member that is there and is a list.
+pub(crate) fn items_of<'a>(document: &'a Value, name: &str) -> Option<&'a Vec<Value>>
+    ensures { option_map (λ items. items_view items.now.items) result ≡ items_under name.now (view document.now) }
+{
+    document.get(name)?.as_array()
+}
+
+/// A copy of the text that a value is.
+pub(crate) fn text_in(alloc: Global, value: &Value) -> Result<Text, DocFault>
+    ensures { Gives result (as_str (view value.now)) }
+{
+    match value.as_str() {
+        Some(text) => Ok(Text::copied(alloc, text)?),
+        None => Err(DocFault::Malformed),
+    }
 }

@@ -3,14 +3,15 @@ ghost use Rattle.std.specs.Prelude.{◌≡◌, option_map};
 ghost use Rattle.std.specs.FinMap as map;
 ghost use Rattle.serde_json.specs.Find.{as_str};
 ghost use Rattle.serde_json.specs.View.{view, items_view, members_view};
-ghost use Rattle.dep_docs_in.specs.Documents.{each_read, keep, kept_texts, metadata_read, texts_in};
+ghost use Rattle.dep_docs_in.specs.Documents.{each_read, keep, kept_texts, metadata_of, metadata_read, texts_in};
 ghost use Rattle.dep_docs_in.specs.Faults.{Gives, GivesBy};
 
-use crate::document::{document, has_type};
+use crate::document::{document, has_type, text_in};
 use crate::fault::DocFault;
 use dep_types::{Metadata, Text, TextList, is_kept_name};
 use serde_json::{Map, Value};
 use std::alloc::Global;
+use std::slice;
 
 /// Reads a metadata document (SWORD 3.0, metadata): an object of JSON whose `@type` is absent or `Metadata`. Each
 /// member whose name begins with `dc:` or `dcterms:` is a text or a list of texts; it is kept, unless the list is
@@ -20,13 +21,16 @@ pub fn read_metadata(alloc: Global, content: &[u8]) -> Result<Metadata, DocFault
     ensures { Gives result (metadata_read content.now) }
 {
     let document = document(alloc, content)?;
-    let Some(members) = document.as_object() else {
-        return Err(DocFault::Malformed);
-    };
-    if !has_type(&document, "Metadata") {
-        return Err(DocFault::Malformed);
+    metadata_of(alloc, &document)
+}
+
+fn metadata_of(alloc: Global, document: &Value) -> Result<Metadata, DocFault>
+    ensures { Gives result (metadata_of (view document.now)) }
+{
+    match document.as_object() {
+        Some(members) if has_type(document, "Metadata") => kept(alloc, members),
+        _ => Err(DocFault::Malformed),
     }
-    kept(alloc, members)
 }
 
 // What the members keep.
@@ -59,14 +63,9 @@ fn keep(alloc: Global, metadata: &mut Metadata, name: &str, value: &Value) -> Re
 fn texts(alloc: Global, value: &Value) -> Result<TextList, DocFault>
     ensures { Gives result (texts_in (view value.now)) }
 {
-    if let Some(text) = value.as_str() {
-        let mut texts = Vec::new(alloc);
-        texts.push(Text::copied(alloc, text)?)?;
-        return Ok(TextList::from_vec(texts));
-    }
     match value.as_array() {
         Some(values) => listed(alloc, values),
-        None => Err(DocFault::Malformed),
+        None => listed(alloc, slice::from_ref(value)),
     }
 }
 
@@ -75,10 +74,7 @@ fn listed(alloc: Global, values: &[Value]) -> Result<TextList, DocFault>
 {
     let mut texts = Vec::new(alloc);
     for value in values {
-        let Some(text) = value.as_str() else {
-            return Err(DocFault::Malformed);
-        };
-        texts.push(Text::copied(alloc, text)?)?;
+        texts.push(text_in(alloc, value)?)?;
     }
     Ok(TextList::from_vec(texts))
 }

@@ -4,10 +4,10 @@ ghost use Rattle.std.specs.Option.{option_copied};
 ghost use Rattle.serde_json.specs.Find.{as_str};
 ghost use Rattle.serde_json.specs.View.{view, items_view};
 ghost use Rattle.dep_fixity.specs.Fixity.{digest_field};
-ghost use Rattle.dep_docs_in.specs.Documents.{behind, digest_of, each_read, form_name, length_of, media_in, media_of, name_of, packaging_of, pointed_by, reference_in, references_read, target_of, upload_number};
-ghost use Rattle.dep_docs_in.specs.Faults.{Gives, GivesBy};
+ghost use Rattle.dep_docs_in.specs.Documents.{behind, digest_of, each_read, form_name, length_of, media_in, media_of, name_of, packaging_of, pointed_by, reference_in, references_of, references_read, target_of, upload_number};
+ghost use Rattle.dep_docs_in.specs.Faults.{Gives};
 
-use crate::document::{document, has_type, text_of};
+use crate::document::{document, has_type, items_of, text_in, text_of};
 use crate::fault::DocFault;
 use crate::reference::{DEFAULT_MEDIA, Pointed, Reference, References};
 use dep_fixity::{DigestList, read_digest_field};
@@ -32,28 +32,29 @@ pub fn read_references(
     ensures { Gives result (references_read config.now content.now) }
 {
     let document = document(alloc, content)?;
-    if !has_type(&document, "ByReference") {
-        return Err(DocFault::Malformed);
-    }
-    let Some(entries) = document.get("byReferenceFiles").and_then(Value::as_array) else {
-        return Err(DocFault::Malformed);
-    };
-    let references = entries_in(alloc, config, entries)?;
-    if references.is_empty() {
-        return Err(DocFault::Malformed);
-    }
-    Ok(References::from_vec(references))
+    references_of(alloc, config, &document)
 }
 
-fn entries_in(alloc: Global, config: &Config, entries: &[Value]) -> Result<Vec<Reference>, DocFault>
-    ensures { GivesBy (λ references. references.items) result
-        (each_read (reference_in config.now) (items_view entries.now)) }
+fn references_of(alloc: Global, config: &Config, document: &Value) -> Result<References, DocFault>
+    ensures { Gives result (references_of config.now (view document.now)) }
+{
+    if !has_type(document, "ByReference") {
+        return Err(DocFault::Malformed);
+    }
+    match items_of(document, "byReferenceFiles") {
+        Some(entries) if !entries.is_empty() => entries_in(alloc, config, entries),
+        _ => Err(DocFault::Malformed),
+    }
+}
+
+fn entries_in(alloc: Global, config: &Config, entries: &[Value]) -> Result<References, DocFault>
+    ensures { Gives result (each_read (reference_in config.now) (items_view entries.now)) }
 {
     let mut references = Vec::new(alloc);
     for entry in entries {
         references.push(reference_in(alloc, config, entry)?)?;
     }
-    Ok(references)
+    Ok(References::from_vec(references))
 }
 
 #[tactic(auto, unfolding(crate::specs::Documents::reference_in))]
@@ -152,13 +153,10 @@ fn media_of(alloc: Global, entry: &Value) -> Result<Text, DocFault>
 fn media_in(alloc: Global, value: &Value) -> Result<Text, DocFault>
     ensures { Gives result (media_in (view value.now)) }
 {
-    let Some(text) = value.as_str() else {
-        return Err(DocFault::Malformed);
-    };
-    if !is_media(text.as_bytes()) {
-        return Err(DocFault::Malformed);
+    match value.as_str() {
+        Some(text) if is_media(text.as_bytes()) => Ok(Text::copied(alloc, text)?),
+        _ => Err(DocFault::Malformed),
     }
-    Ok(Text::copied(alloc, text)?)
 }
 
 // How many bytes an entry is said to have.
@@ -180,12 +178,9 @@ fn length_of(entry: &Value) -> Result<Option<u64>, DocFault>
 fn packaging_of(alloc: Global, entry: &Value) -> Result<Option<Text>, DocFault>
     ensures { Gives result (packaging_of (view entry.now)) }
 {
-    let Some(value) = entry.get("packaging") else {
-        return Ok(None);
-    };
-    match value.as_str() {
-        Some(text) => Ok(Some(Text::copied(alloc, text)?)),
-        None => Err(DocFault::Malformed),
+    match entry.get("packaging") {
+        Some(value) => Ok(Some(text_in(alloc, value)?)),
+        None => Ok(None),
     }
 }
 
@@ -194,17 +189,17 @@ fn packaging_of(alloc: Global, entry: &Value) -> Result<Option<Text>, DocFault>
 fn digest_of(entry: &Value) -> Result<DigestList, DocFault>
     ensures { Gives result (digest_of (view entry.now)) }
 {
-    let Some(value) = entry.get("digest") else {
-        return Ok(DigestList::none());
-    };
-    digest_in(value)
+    match entry.get("digest") {
+        Some(value) => digest_in(value),
+        None => Ok(DigestList::none()),
+    }
 }
 
 fn digest_in(value: &Value) -> Result<DigestList, DocFault>
     ensures { Gives result (option_and_then digest_field (as_str (view value.now))) }
 {
-    let Some(text) = value.as_str() else {
-        return Err(DocFault::Malformed);
-    };
-    Ok(read_digest_field(text.as_bytes())?)
+    match value.as_str() {
+        Some(text) => Ok(read_digest_field(text.as_bytes())?),
+        None => Err(DocFault::Malformed),
+    }
 }

@@ -1,4 +1,4 @@
-use Rattle.std.proofs.Common.{arith, sym}
+use Rattle.std.proofs.Common.{◌∙◌, Some, arith, ap, sym}
 use Rattle.std.proofs.lemmas.Result.{err_from_is_err_and}
 use Rattle.dep_docs_in.specs.Documents.{reference_in}
 use Rattle.dep_docs_in.proofs.Items.{one_more, failed, at_end}
@@ -15,4 +15,4 @@ loop-entry-preserved c =
     c.loop-entry.invariant (omega arith) (sym c.entry-item.is) c.in_ok-reference_in.ensures c.in_ok-push.ensures.items
 
 pub returns : goal.returns
-returns c = at_end (reference_in c.args.config.now) _ c.args.entries.now c.loop-entry.entry-index c.loop-entry.references.items c.loop-entry.invariant (omega arith)
+returns c = at_end (reference_in c.args.config.now) _ c.args.entries.now c.loop-entry.entry-index c.loop-entry.references.items c.loop-entry.invariant (omega arith) ∙ ap Some (sym c.from_vec.ensures)
