@@ -22,6 +22,11 @@ const ROOM: usize = 4_096;
 /// How many turns a host has at most until it can't go on at once.
 const MOST_ROUNDS: u64 = 10_000;
 
+/// The words of lines that have a number.
+const COUNTS: [&str; 7] = [
+    "at", "second", "crowd", "rounds", "receives", "takes", "spool",
+];
+
 /// Where clients come from that have no other address.
 const LOCAL: IpAddr = IpAddr::V4(Ipv4Addr::LOCALHOST);
 
@@ -65,9 +70,7 @@ impl<T: ExampleTables> Player for HostPlay<T> {
             ">" | "<" => self.clients.exchange.line(self.alloc, words, word, rest),
             "config" | "limit" => self.sets(word, rest),
             "client" => self.turn_to(rest),
-            "at" | "second" | "crowd" | "rounds" | "receives" | "takes" | "spool" => {
-                self.counts(word, number(rest)?)
-            }
+            _ if COUNTS.contains(&word) => self.counts(word, number(rest)?),
             _ => {
                 blank(rest)?;
                 self.does(word)
@@ -191,18 +194,18 @@ impl<T: ExampleTables> HostPlay<T> {
         };
         self.roll.comes()?;
         let client = Shared::new(self.alloc, Client::new(self.alloc, place))?;
-        let guest = guest_of(self.alloc, &client, address)?;
-        self.clients.add(client)?;
+        self.clients.add(client.share()?)?;
+        let guest = guest_of(self.alloc, client, address)?;
         self.comes(Some(guest), 0, false);
         Ok(())
     }
 }
 
 // The two halves of a client's socket, and a spool of its own.
-fn guest_of(alloc: Global, client: &Shared, address: IpAddr) -> Result<Guest, AllocError> {
-    let (source, sink, owner) = (client.share()?, client.share()?, client.share()?);
+fn guest_of(alloc: Global, client: Shared, address: IpAddr) -> Result<Guest, AllocError> {
+    let (sink, owner) = (client.share()?, client.share()?);
     let wire = Wire::new(alloc, sink, MemorySpool::new(alloc, owner));
-    Ok(dep_host::Client::new(source, wire, address))
+    Ok(dep_host::Client::new(client, wire, address))
 }
 
 fn set_limit(limits: &mut Limits, line: &str) -> Result<(), Trouble> {

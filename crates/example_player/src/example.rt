@@ -2,8 +2,14 @@
 
 use crate::player::Player;
 use example_text::{Cut, Trouble, Words, first_word};
-use std::alloc::{AllocError, Global};
+use std::alloc::Global;
 use std::io;
+
+/// Lines with these words say nothing of their own: remarks, and the ways and rows, which are read ahead.
+const SILENT: [&str; 5] = ["", "//", "pieces", "each", "-"];
+
+/// The words of lines that give a name to a text.
+const TEXTS: [&str; 3] = ["let", "text", "|"];
 
 /// An example, and what of it is played. What stands at the head of a file is one too.
 #[derive(Drop)]
@@ -97,14 +103,16 @@ impl<'a> Example<'a> {
     fn all_lines<P: Player>(&mut self, player: &mut P) -> Result<usize, Trouble> {
         for (i, line) in self.lines.lines().enumerate() {
             self.line = i;
-            let is_title = i == 0 && self.number > 1;
             let (word, rest) = first_word(line);
-            match word {
-                _ if is_title => {}
-                "" | "//" | "pieces" | "each" | "-" => {}
-                "let" | "text" | "|" => add_text(self.alloc, self.words, word, rest)?,
-                _ => player.line(self.words, word, rest)?,
+            if i == 0 && self.number > 1 || SILENT.contains(&word) {
+                continue;
             }
+            let done = if TEXTS.contains(&word) {
+                add_text(self.alloc, self.words, word, rest)
+            } else {
+                player.line(self.words, word, rest)
+            };
+            done?;
         }
         player.finish()
     }
@@ -142,8 +150,8 @@ fn add_cells(alloc: Global, words: &mut Words, names: &str, row: &str) -> Result
 }
 
 // Adds a text with its name, or a line to the last text.
-fn add_text(alloc: Global, words: &mut Words, word: &str, rest: &str) -> Result<(), AllocError> {
-    match word {
+fn add_text(alloc: Global, words: &mut Words, word: &str, rest: &str) -> Result<(), Trouble> {
+    let added = match word {
         "let" => {
             let (name, text) = first_word(rest);
             words.add(alloc, name, text)
@@ -153,5 +161,6 @@ fn add_text(alloc: Global, words: &mut Words, word: &str, rest: &str) -> Result<
             Some(front) => words.extend(front, ""),
             None => words.extend(rest, "\\r\\n"),
         },
-    }
+    };
+    Ok(added?)
 }

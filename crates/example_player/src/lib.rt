@@ -11,6 +11,7 @@ mod shelf;
 mod side;
 mod tables;
 mod verdict;
+mod written;
 
 pub use file::play_file;
 pub use play::Play;

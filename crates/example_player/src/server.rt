@@ -8,6 +8,9 @@ use example_faults::{arrives, connected, hub_over, trouble_of, word_of};
 use example_text::{Exchange, Page, Settings, Source, Trouble};
 use std::alloc::Global;
 
+/// The words for how a connection stands behind what has arrived.
+const ARRIVED: [&str; 4] = ["open", "closed", "cut", "gone"];
+
 /// A hub and its connections, which have the numbers 1, 2 and so on.
 #[derive(Drop)]
 pub struct Server<A> {
@@ -92,14 +95,12 @@ impl<A: Archive + Drop> Server<A> {
         answer: &str,
         page: &mut Page,
     ) -> Result<&'static str, Trouble> {
-        match answer {
-            "open" | "closed" | "cut" | "gone" => {
-                let (connection, pieces) = (self.numbered(self.current)?, exchange.pieces());
-                let came = arrives(&mut self.hub, connection, pieces, exchange.moment, page);
-                Ok(word_of(came))
-            }
-            _ => self.serves(alloc, exchange, answer, page),
+        if !ARRIVED.contains(&answer) {
+            return self.serves(alloc, exchange, answer, page);
         }
+        let (connection, pieces) = (self.numbered(self.current)?, exchange.pieces());
+        let came = arrives(&mut self.hub, connection, pieces, exchange.moment, page);
+        Ok(word_of(came))
     }
 
     // A connection of its own is served.

@@ -3,12 +3,16 @@
 use crate::intake::takes;
 use crate::server::{Server, new_archive, new_hub};
 use crate::tables::ExampleTables;
+use crate::written::numbering;
 use dep_hub::HubFault;
 use dep_message::Intake;
 use example_faults::hub_over;
-use example_text::{Exchange, Page, Settings, Trouble};
+use example_text::{Exchange, Page, Settings, Trouble, blank, number};
 use std::alloc::Global;
 use std::mem;
+
+/// The words of lines that name connections by a number.
+const COMMANDS: [&str; 3] = ["connection", "close", "crowd"];
 
 /// What an example is played against.
 #[derive(Drop)]
@@ -40,8 +44,8 @@ impl<T: ExampleTables> Side<T> {
         }
     }
 
-    /// The archive is to be the one whose tables these statements make. It stays closed until it is needed.
-    pub fn fill(&mut self, alloc: Global, statements: &str) -> Result<(), Trouble> {
+    // The archive is to be the one whose tables these statements make. It stays closed until it is needed.
+    fn fill(&mut self, alloc: Global, statements: &str) -> Result<(), Trouble> {
         if !matches!(self, Side::New) {
             return Err(Trouble::Line("a store stands above all that is played"));
         }
@@ -60,8 +64,50 @@ impl<T: ExampleTables> Side<T> {
         self.turn_to_new()
     }
 
-    /// Does what a line asks of the connections of the hub, which is opened where none is there yet.
-    pub fn command(
+    /// Does what a line asks that stands between two exchanges, or above the first. A call of the archive is made without a
+    /// hub.
+    pub fn line(
+        &mut self,
+        alloc: Global,
+        settings: &Settings,
+        word: &str,
+        rest: &str,
+    ) -> Result<(), Trouble> {
+        match word {
+            "store" => self.fill(alloc, rest),
+            "export" | "audit" => self.leave(alloc),
+            "sql" => self.change(alloc, rest),
+            "next" => self.number_next(alloc, rest),
+            "unopened" => self.fail_to_open(alloc, rest),
+            _ if COMMANDS.contains(&word) => self.command(alloc, settings, word, number(rest)?),
+            _ => {
+                blank(rest)?;
+                self.turns(alloc, settings, word)
+            }
+        }
+    }
+
+    // Another side, or the same anew.
+    fn turns(&mut self, alloc: Global, settings: &Settings, word: &str) -> Result<(), Trouble> {
+        match word {
+            "full" => self.command(alloc, settings, word, 0),
+            "restart" => self.leave(alloc),
+            "reopen" => {
+                self.close(alloc)?;
+                self.leave(alloc)
+            }
+            "refused" => self.refuse(alloc, settings),
+            "intake" => {
+                self.change_to(Side::Intake(Intake::new(alloc, settings.max_upload())));
+                Ok(())
+            }
+            "shut" => self.shut(),
+            _ => Err(Trouble::Line("no line of an example begins so")),
+        }
+    }
+
+    // Does what is asked of the connections of the hub, which is opened where none is there yet.
+    fn command(
         &mut self,
         alloc: Global,
         settings: &Settings,
@@ -83,15 +129,15 @@ impl<T: ExampleTables> Side<T> {
         }
     }
 
-    /// The archive goes on without a hub.
-    pub fn leave(&mut self, alloc: Global) -> Result<(), Trouble> {
+    // The archive goes on without a hub.
+    fn leave(&mut self, alloc: Global) -> Result<(), Trouble> {
         let store = self.take_archive(alloc)?;
         self.change_to(Side::Archive(store));
         Ok(())
     }
 
-    /// The archive is closed.
-    pub fn close(&mut self, alloc: Global) -> Result<(), Trouble> {
+    // The archive is closed.
+    fn close(&mut self, alloc: Global) -> Result<(), Trouble> {
         if !matches!(self, Side::Closed(_)) {
             let store = self.take_archive(alloc)?;
             self.change_to(Side::Closed(T::closed(store)));
@@ -99,8 +145,8 @@ impl<T: ExampleTables> Side<T> {
         Ok(())
     }
 
-    /// A statement changes the tables of the archive, which stays closed until it is needed.
-    pub fn change(&mut self, alloc: Global, statement: &str) -> Result<(), Trouble> {
+    // A statement changes the tables of the archive, which stays closed until it is needed.
+    fn change(&mut self, alloc: Global, statement: &str) -> Result<(), Trouble> {
         self.close(alloc)?;
         match self {
             Side::Closed(tables) => tables.change(statement),
@@ -108,8 +154,16 @@ impl<T: ExampleTables> Side<T> {
         }
     }
 
-    /// The archive doesn't open, by the fault of this name.
-    pub fn fail_to_open(&mut self, alloc: Global, fault: &str) -> Result<(), Trouble> {
+    // The archive gives this number of a kind next, by a line `KIND NUMBER`.
+    fn number_next(&mut self, alloc: Global, line: &str) -> Result<(), Trouble> {
+        let statement = numbering(alloc, line)?;
+        let changed = self.change(alloc, statement.as_str());
+        drop(statement);
+        changed
+    }
+
+    // The archive doesn't open, by the fault of this name.
+    fn fail_to_open(&mut self, alloc: Global, fault: &str) -> Result<(), Trouble> {
         self.close(alloc)?;
         match mem::replace(self, Side::New) {
             Side::Closed(tables) => {
@@ -123,8 +177,8 @@ impl<T: ExampleTables> Side<T> {
         }
     }
 
-    /// No hub takes the archive by this configuration.
-    pub fn refuse(&mut self, alloc: Global, settings: &Settings) -> Result<(), Trouble> {
+    // No hub takes the archive by this configuration.
+    fn refuse(&mut self, alloc: Global, settings: &Settings) -> Result<(), Trouble> {
         let store = self.take_archive(alloc)?;
         match hub_over(alloc, settings, store) {
             Ok(hub) => {
@@ -142,13 +196,8 @@ impl<T: ExampleTables> Side<T> {
         }
     }
 
-    /// An intake takes the place of the hub.
-    pub fn take_in(&mut self, alloc: Global, settings: &Settings) {
-        self.change_to(Side::Intake(Intake::new(alloc, settings.max_upload())));
-    }
-
-    /// Shuts the intake.
-    pub fn shut(&mut self) -> Result<(), Trouble> {
+    // Shuts the intake.
+    fn shut(&mut self) -> Result<(), Trouble> {
         match self {
             Side::Intake(intake) => {
                 intake.shut();
