@@ -90,8 +90,8 @@ impl<S: NewDatabase> ExampleTables for Database<S> {
     }
 }
 
-// A store on the connection. That no transaction is open was seen where the last statement was executed.
-fn open<S: Alter>(
+/// A store on the connection. That no transaction is open was seen where the last statement was executed.
+pub fn open<S: Alter>(
     alloc: Global,
     connection: Connection<S>,
 ) -> Result<Store<S>, (OpenFault, Connection<S>)> {
@@ -122,7 +122,7 @@ fn is_fault(alloc: Global, came: OpenFault, fault: &str) -> Result<(), Trouble> 
     if came == fault {
         return Ok(());
     }
-    Err(Trouble::Other(format!(in alloc;
+    Err(Trouble::told(format!(in alloc;
         "it is written not to open by \"{fault}\", and came to \"{came}\""
-    )?))
+    )))
 }

@@ -1,7 +1,7 @@
 //! The files of an archive, in memory.
 
-use crate::database::change;
-use dep_store::{HashingStore, Store, Unwatched};
+use crate::database::{change, open};
+use dep_store::HashingStore;
 use example_faults::{Fault, FaultPlay, FaultyFile, FaultyFiles};
 use example_text::Trouble;
 use sqlite::{Alter, Connection, FileStore, Files, Options};
@@ -179,10 +179,7 @@ fn played_on<S: Alter + Drop>(
     connection: Connection<S>,
     play: &mut FaultPlay<'_>,
 ) -> Connection<S> {
-    if !connection.is_autocommit() {
-        return connection;
-    }
-    match Store::open(alloc, connection, &mut Unwatched) {
+    match open(alloc, connection) {
         Ok(store) => {
             let archive = play.plays(HashingStore::new(alloc, store));
             archive.into_store().close()
