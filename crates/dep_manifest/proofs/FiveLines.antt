@@ -15,12 +15,12 @@ module _ (d : Digest) where
   abbrev line : Entry → List ℕ
   line f = manifest_line (checksum_of d f)
 
-  regroup : (v w x y z : List ℕ) → (((v ++ w) ++ x) ++ y) ++ z ≡ v ++ (w ++ (x ++ (y ++ (z ++ []))))
-  regroup v w x y z = simp (append_assoc, append-nil)
+  regroup : (u v w x y z : List ℕ) → ((((u ++ v) ++ w) ++ x) ++ y) ++ z ≡ u ++ (v ++ (w ++ (x ++ (y ++ (z ++ [])))))
+  regroup u v w x y z = simp (append_assoc, append-nil)
 
   pub five_lines : (p q r s t : Entry) (none one two three four five : List ℕ)
-      → none ≡ [] → one ≡ none ++ line p → two ≡ one ++ line q → three ≡ two ++ line r → four ≡ three ++ line s → five ≡ four ++ line t
-      → five ≡ manifest_of d (p ∷ q ∷ r ∷ s ∷ t ∷ [])
-  five_lines p q r s t none one two three four five new e f g h k =
-      k ∙ ap (λ l. l ++ line t) (h ∙ ap (λ l. l ++ line s) (g ∙ ap (λ l. l ++ line r) (f ∙ ap (λ l. l ++ line q) (e ∙ ap (λ l. l ++ line p) new))))
-      ∙ regroup (line p) (line q) (line r) (line s) (line t)
+      → one ≡ none ++ line p → two ≡ one ++ line q → three ≡ two ++ line r → four ≡ three ++ line s → five ≡ four ++ line t
+      → five ≡ none ++ manifest_of d (p ∷ q ∷ r ∷ s ∷ t ∷ [])
+  five_lines p q r s t none one two three four five e f g h k =
+      k ∙ ap (λ l. l ++ line t) (h ∙ ap (λ l. l ++ line s) (g ∙ ap (λ l. l ++ line r) (f ∙ ap (λ l. l ++ line q) e)))
+      ∙ regroup none (line p) (line q) (line r) (line s) (line t)

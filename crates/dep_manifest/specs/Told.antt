@@ -63,3 +63,7 @@ AreTagManifests view manifests = (a : Algorithm) → text_by a manifests ≡ tol
 abbrev pub AddsLines : (old new : TagManifests) → Entry → Type 0
 AddsLines old new file = (a : Algorithm)
     → text_by a new ≡ text_by a old ++ manifest_line (checksum_of (digest_by a) file)
+
+-- the lines of all that a tag manifest names were
+abbrev pub AddsTagFiles : ObjectView → (old new : TagManifests) → Type 0
+AddsTagFiles view old new = (a : Algorithm) → text_by a new ≡ text_by a old ++ told_tag_manifest a view

@@ -32,9 +32,6 @@ pub fn payload_path(alloc: Global, row: &FileRow) -> Result<Text, AllocError>
     ensures { IfOk result (λ path. path ≡ row_path row.now) }
 {
     let mut digits = Buffer::new();
-    let mut path = String::from_str(alloc, "data/")?;
-    path.push_str(digits.format(row.file))?;
-    path.push_str("/")?;
-    path.push_str(row.name.as_str())?;
-    Ok(Text::new(path))
+    let pieces = ["data/", digits.format(row.file), "/", row.name.as_str()];
+    Ok(Text::new(pieces.concat(alloc)?))
 }

@@ -1,9 +1,8 @@
 //! The texts of `bagit.txt` and `bag-info.txt` (RFC 8493, sections 2.1.1 and 2.2.2).
-ghost use Rattle.std.specs.Prelude.{◌≡◌, OnOk, sum_by};
+ghost use Rattle.std.specs.Prelude.{◌≡◌, sum_by};
 ghost use Rattle.dep_docs_out.specs.Made.{Makes};
-ghost use Rattle.dep_manifest.specs.Growing.{Grows};
 ghost use Rattle.dep_manifest.specs.TagFiles.{bagit_text};
-ghost use Rattle.dep_manifest.specs.Told.{told_oxum, told_info};
+ghost use Rattle.dep_manifest.specs.Told.{told_info};
 
 use dep_moment::Moment;
 use dep_types::{FileRow, ObjectView};
@@ -24,22 +23,20 @@ pub fn declaration(alloc: Global) -> Result<Vec<u8>, AllocError>
 pub fn information(alloc: Global, view: &ObjectView) -> Result<Vec<u8>, AllocError>
     ensures { Makes result (told_info view.now) }
 {
-    let mut text = b"Bagging-Date: ".to_vec(alloc)?;
-    text.extend_from_slice(&Moment::new(view.object.changed).civil_date())?;
-    text.extend_from_slice(b"\nPayload-Oxum: ")?;
-    add_oxum(&mut text, view.files.as_slice())?;
-    text.extend_from_slice(b"\n")?;
-    Ok(text)
-}
-
-// Adds how many bytes the files have, a dot, and how many they are.
-fn add_oxum(text: &mut Vec<u8>, rows: &[FileRow]) -> Result<(), AllocError>
-    ensures { OnOk result (Grows text.old text.new (told_oxum rows.now)) }
-{
-    let mut digits = Buffer::new();
-    text.extend_from_slice(digits.format(octets_of(rows)).as_bytes())?;
-    text.extend_from_slice(b".")?;
-    text.extend_from_slice(digits.format(rows.len()).as_bytes())
+    let rows = view.files.as_slice();
+    let day = Moment::new(view.object.changed).civil_date();
+    let mut octets = Buffer::new();
+    let mut files = Buffer::new();
+    let pieces: [&[u8]; 7] = [
+        b"Bagging-Date: ",
+        &day,
+        b"\nPayload-Oxum: ",
+        octets.format(octets_of(rows)).as_bytes(),
+        b".",
+        files.format(rows.len()).as_bytes(),
+        b"\n",
+    ];
+    pieces.concat(alloc)
 }
 
 // How many bytes the files have. The sum is in 128 bits, so that no list of rows passes it.

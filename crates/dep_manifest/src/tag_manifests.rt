@@ -25,7 +25,7 @@ pub struct TagManifests {
 impl TagManifests {
     ghost use Rattle.std.specs.Prelude.{ℕ, List, OnOk};
     ghost use Rattle.dep_docs_out.specs.Made.{Makes};
-    ghost use Rattle.dep_manifest.specs.Told.{AddsLines};
+    ghost use Rattle.dep_manifest.specs.Told.{AddsLines, AddsTagFiles};
 
     // Adds the lines of a file with these bytes, where they could be made.
     fn add_file(&mut self, path: &str, made: Result<Vec<u8>, AllocError>) -> Result<(), AllocError>
@@ -40,10 +40,27 @@ impl TagManifests {
         add_line(&mut self.sha256, path, Algorithm::Sha256, &digests)?;
         add_line(&mut self.sha512, path, Algorithm::Sha512, &digests)
     }
+
+    // Adds the lines of each file that a tag manifest names. Each is made once, hashed once for both, and dropped before
+    // the next is made.
+    fn add_files(&mut self, alloc: Global, view: &ObjectView) -> Result<(), AllocError>
+        ensures { OnOk result (AddsTagFiles view.now self.old self.new) }
+    {
+        self.add_file(BAGIT, declaration(alloc))?;
+        self.add_file(BAG_INFO, information(alloc, view))?;
+        self.add_file(
+            MANIFEST_SHA256,
+            payload_manifest(alloc, view, Algorithm::Sha256),
+        )?;
+        self.add_file(
+            MANIFEST_SHA512,
+            payload_manifest(alloc, view, Algorithm::Sha512),
+        )?;
+        self.add_file(METADATA, bag_metadata_doc(alloc, &view.metadata))
+    }
 }
 
-/// Returns both tag manifests. Each file that they name is made once, hashed once for both, and dropped
-/// before the next is made.
+/// Returns both tag manifests.
 pub fn both_tag_manifests(alloc: Global, view: &ObjectView) -> Result<TagManifests, AllocError>
     ensures { IfOk result (AreTagManifests view.now) }
 {
@@ -51,17 +68,7 @@ pub fn both_tag_manifests(alloc: Global, view: &ObjectView) -> Result<TagManifes
         sha256: Vec::new(alloc),
         sha512: Vec::new(alloc),
     };
-    texts.add_file(BAGIT, declaration(alloc))?;
-    texts.add_file(BAG_INFO, information(alloc, view))?;
-    texts.add_file(
-        MANIFEST_SHA256,
-        payload_manifest(alloc, view, Algorithm::Sha256),
-    )?;
-    texts.add_file(
-        MANIFEST_SHA512,
-        payload_manifest(alloc, view, Algorithm::Sha512),
-    )?;
-    texts.add_file(METADATA, bag_metadata_doc(alloc, &view.metadata))?;
+    texts.add_files(alloc, view)?;
     Ok(texts)
 }
 

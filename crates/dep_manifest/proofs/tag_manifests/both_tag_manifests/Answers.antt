@@ -1,24 +1,9 @@
-use Rattle.std.proofs.Common.{codes}
-use Rattle.dep_docs_out.specs.Documents.{bag_metadata_document}
-use Rattle.dep_manifest.specs.Manifest.{digest_by}
-use Rattle.dep_manifest.specs.declared.algorithm.Algorithm.TheVariants.{Sha256, Sha512}
-use Rattle.dep_manifest.specs.TagFiles.{bagit_text, manifest_path}
-use Rattle.dep_manifest.specs.Told.{told_info, told_manifest, text_by}
-use Rattle.dep_manifest.proofs.FiveLines.{five_lines, no_text}
+use Rattle.std.proofs.Common.{◌++◌, ◌∙◌, ap}
+use Rattle.dep_manifest.specs.Told.{told_tag_manifest}
+use Rattle.dep_manifest.proofs.FiveLines.{no_text}
 use Rattle.dep_manifest.proofs.tag_manifests.both_tag_manifests.Goals as goal
 
 pub returns : goal.returns
 returns c = λ a.
-    let view = c.args.view.now in
-    let metadata = bag_metadata_document view.metadata in
-    five_lines (digest_by a)
-    (codes "bagit.txt", bagit_text) (codes "bag-info.txt", told_info view)
-    (manifest_path Sha256, told_manifest Sha256 view) (manifest_path Sha512, told_manifest Sha512 view) (codes "metadata/sword.json", metadata)
-    (text_by a (record { sha256 = c.new.result; sha512 = c.new-2.result }))
-    (text_by a c.add_file.new.self) (text_by a c.add_file-2.new.self) (text_by a c.add_file-3.new.self) (text_by a c.add_file-4.new.self) (text_by a c.add_file-5.new.self)
-    (no_text a c.new.result c.new-2.result c.new.ensures.items c.new-2.ensures.items)
-    (c.in_ok-add_file.ensures bagit_text c.declaration.ensures a)
-    (c.in_ok-add_file-2.ensures (told_info view) c.information.ensures a)
-    (c.in_ok-add_file-3.ensures (told_manifest Sha256 view) c.payload_manifest.ensures a)
-    (c.in_ok-add_file-4.ensures (told_manifest Sha512 view) c.payload_manifest-2.ensures a)
-    (c.in_ok-add_file-5.ensures metadata c.bag_metadata_doc.ensures a)
+    c.in_ok-add_files.ensures a
+    ∙ ap (λ text. text ++ told_tag_manifest a c.args.view.now) (no_text a c.new.result c.new-2.result c.new.ensures.items c.new-2.ensures.items)
