@@ -1,5 +1,5 @@
 -- What a call on a store comes to, as those who serve it see it, from what it makes of the tables.
-use Rattle.std.proofs.Common.{◌≡◌, ℕ, inl, inr, Result, Ok, Err, IsErr, OnOk, OnErr, IfOk, IsTrue, sym, subst, arith, ◌∙◌}
+use Rattle.std.proofs.Common.{◌≡◌, ℕ, inl, inr, Result, Ok, Err, IsErr, OnOk, OnErr, IfOk, IsTrue, false, refl, le_of_eq, sym, subst, arith, ◌∙◌}
 use Rattle.sqlite.specs.State as db
 use Rattle.sqlite.specs.State.{HasCleanDisk, Survives}
 use Rattle.dep_types.specs.State.{State, tick}
@@ -11,7 +11,7 @@ use Rattle.dep_staging.specs.declared.running.RunningHashes.{RunningHashes}
 use Rattle.dep_streams.specs.Faults.{BlamesOutlet}
 use Rattle.dep_schema.specs.Standing.{Stands}
 use Rattle.dep_schema.specs.States.{TablesStandFor, StandsFor, Leaves}
-use Rattle.dep_schema.specs.Transactions.{Transacts, OnlyTells, OverStates, IsBackAt, IsRestored}
+use Rattle.dep_schema.specs.Transactions.{Transacts, OnlyTells, OverStates, IsBackAt, IsGivenBack, IsRestored}
 use Rattle.dep_schema.proofs.Transacting.{IsSettled, IsOver, ok_over_states, err_state, stop_over_states, ok_tells, still_tells, left_tells, leaves_still, leaves_as_was}
 use Rattle.dep_hub.specs.Archives.{TriesTo, Ticks, Tells, KeepsState, KeepsAll, Always, CountsFailures}
 use Rattle.dep_store.specs.Archive.{shown_by}
@@ -90,6 +90,14 @@ keeps_back old new it = record {
   left = λ clean image h. (image, leaves_only old new it.survives clean image h, λ s. (λ x. x, λ x. x));
 }
 
+-- an open store, of which nothing was asked between transactions
+pub back_as_was : (d : db.State) → (HasCleanDisk d → IsTrue d.is_open) → d.in_transaction ≡ false → IsGivenBack d d
+back_as_was d opened between = record {
+  opened = opened;
+  back = λ is_open. (is_open, refl, refl, between);
+  survives = record { clean = le_of_eq refl; shield = λ shielded. shielded; counts = le_of_eq refl; limit = refl; closes = λ clean was. inl was; crash = λ clean trees h. inl h };
+}
+
 -- nothing was asked
 pub keeps_same : (d : db.State) → KeepsAll (shown_by d) (shown_by d)
 keeps_same d = record {
@@ -137,15 +145,6 @@ module _ (d : db.State) (busy : IsTrue d.in_transaction) where
   busy_transacts = record {
     ok = λ clean t at. tt;
     err = λ is_open t at. at;
-    honest = λ clean. clean;
-    was_open = λ is_open. is_open;
-    stop = λ clean t at. absurd (stands_not t at);
-  }
-
-  pub busy_tells : {A E : Type 0} {told : Tables → A → Type 0} {fault : E} → TellsTables d d told (Err fault)
-  busy_tells = record {
-    ok = λ clean t at. tt;
-    still = λ is_open t at. at;
     honest = λ clean. clean;
     was_open = λ is_open. is_open;
     stop = λ clean t at. absurd (stands_not t at);

@@ -1,8 +1,16 @@
 use Rattle.std.proofs.Common.{rules, ◌≡◌, refl}
 use Rattle.std.proofs.lemmas.Result.{err_from_is_err_and}
+use Rattle.sqlite.specs.Held.{state}
 use Rattle.sqlite.proofs.StateLemmas.{clean_if_open}
 use Rattle.dep_schema.proofs.Transacting.{gave_up, committed, uncommitted, began_open, nothing_told, works_within, still_inside}
+use Rattle.dep_store.proofs.ShutLemmas.{under_way}
+use Rattle.dep_store.proofs.Tries.{busy_transacts}
 use Rattle.dep_store.proofs.tasks.transact.Goals as goal
+
+pub returns-then-not-is_autocommit : goal.returns-then-not-is_autocommit
+returns-then-not-is_autocommit g c =
+    let d = state g.S.Store c.args.connection.now in
+    record { transacts = busy_transacts d (under_way c.args.connection.now.in_transaction c.if-not-is_autocommit.ensures.value); opened = λ clean. tt }
 
 pub returns-in_err-answer : goal.returns-in_err-answer
 returns-in_err-answer g c =
