@@ -91,3 +91,6 @@ returns-then-not-is_autocommit g c =
 
 pub invariant_of-self : goal.invariant_of-self
 invariant_of-self g c = forgotten (state g.S.Store c.look.new.connection)
+
+pub invariant_of-self-in-None : goal.invariant_of-self-in-None
+invariant_of-self-in-None g c = forgotten (state g.S.Store c.transact.new.connection)
