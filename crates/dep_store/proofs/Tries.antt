@@ -1,11 +1,12 @@
 -- What a call on a store comes to, as those who serve it see it, from what it makes of the tables.
-use Rattle.std.proofs.Common.{◌≡◌, ℕ, inl, inr, Result, Ok, Err, IsErr, OnOk, OnErr, IfOk, IsTrue, false, refl, le_of_eq, sym, subst, arith, ◌∙◌}
+use Rattle.std.proofs.Common.{◌≡◌, ℕ, List, [], Option, inl, inr, Result, Ok, Err, IsErr, OnOk, OnErr, IfOk, IsTrue, false, refl, le_of_eq, sym, subst, arith, ◌∙◌}
+use Rattle.std.proofs.KnownBytes.{Appends-nil}
 use Rattle.sqlite.specs.State as db
 use Rattle.sqlite.specs.State.{HasCleanDisk, Survives}
 use Rattle.dep_types.specs.State.{State, tick}
 use Rattle.dep_types.specs.declared.config.Config.{Config}
 use Rattle.dep_types.specs.declared.stream_fault.StreamFault.{StreamFault}
-use Rattle.dep_types.specs.declared.stream_fault.StreamFault.TheVariants.{Writer}
+use Rattle.dep_types.specs.declared.stream_fault.StreamFault.TheVariants.{Writer, Store as StoreFails}
 use Rattle.dep_tables.specs.Tables.{Tables}
 use Rattle.dep_staging.specs.declared.running.RunningHashes.{RunningHashes}
 use Rattle.dep_streams.specs.Faults.{BlamesOutlet}
@@ -15,7 +16,7 @@ use Rattle.dep_schema.specs.Transactions.{Transacts, OnlyTells, OverStates, IsBa
 use Rattle.dep_schema.proofs.Transacting.{IsSettled, IsOver, ok_over_states, err_state, stop_over_states, ok_tells, still_tells, left_tells, leaves_still, leaves_as_was}
 use Rattle.dep_hub.specs.Archives.{TriesTo, Ticks, Tells, KeepsState, KeepsAll, Always, CountsFailures}
 use Rattle.dep_store.specs.Archive.{shown_by}
-use Rattle.dep_store.specs.Shut.{FailsIfShut}
+use Rattle.dep_store.specs.Shut.{FailsIfShut, SendsFile}
 use Rattle.dep_store.specs.Staying.{TellsTables, KeepsTables, KeepsRunning, LeavesOnly, HashesOn}
 use Rattle.dep_store.proofs.ShutLemmas.{state_back}
 use Rattle.dep_store.proofs.ReportLemmas.{leaves_held, stands_still}
@@ -152,6 +153,14 @@ module _ (d : db.State) (busy : IsTrue d.in_transaction) where
 
   pub busy_fails : {A E : Type 0} {fault : E} → FailsIfShut {A = A} d d (Err fault)
   busy_fails = record { opened = λ clean. tt; left = λ clean shut trees h. h }
+
+  pub busy_sends : {A : Type 0} (taken : Option (List ℕ)) (failures file : ℕ) → SendsFile {A = A} d d taken taken failures failures file (Err StoreFails)
+  busy_sends taken failures file = record {
+    streams = ([], Appends-nil taken, λ clean s at. inl refl);
+    does = busy_tries;
+    count = record { kept = tt; cause = λ is. cc is; others = λ other. refl };
+    stays = record { shut = busy_fails; back = tt; opened = λ clean. tt };
+  }
 
 -- ---- tables that stay
 

@@ -75,11 +75,14 @@ fn spell(alloc: Global, line: &Line<'_>) -> Result<String, AllocError>
     ensures { IfOk result (λ text. string_bytes text
         ≡ two_numbers line.now.before.now line.now.first line.now.between.now line.now.second) }
 {
-    let mut digits = Buffer::new();
-    let mut text = String::from_str(alloc, line.before)?;
-    text.push_str(digits.format(line.first))?;
-    text.push_str(line.between)?;
-    text.push_str(digits.format(line.second))?;
-    text.push_str("\n")?;
-    Ok(text)
+    let mut first = Buffer::new();
+    let mut second = Buffer::new();
+    [
+        line.before,
+        first.format(line.first),
+        line.between,
+        second.format(line.second),
+        "\n",
+    ]
+    .concat(alloc)
 }

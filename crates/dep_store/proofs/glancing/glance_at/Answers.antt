@@ -14,7 +14,7 @@ returns g c =
     let inside = c.tx-2-1.given.0.conn.now in
     let new = c.rollback.new.self.0 in
     let shut = clean_if_open (g.S.Store.view new.store) (g.met.S.Store.shut_if_dirty new.store) in
-    let work = works_within g.S.Store old new c.read-answer.ensures.stays c.transaction-tx.ensures.begun left (λ is_open trees h. g.met.S.Store.settled old.store trees is_open h) shut in
+    let work = works_within {inside = c.read-answer.new.tx} g.S.Store old new c.read-answer.ensures.stays c.transaction-tx.ensures.begun left (λ is_open trees h. g.met.S.Store.settled old.store trees is_open h) shut in
     let same : new ≡ c.connection-1.given.0 = sym (c.connection-1.given.1 (lent_connection g.S.Store {new = c.read-answer.new.tx} c.read-answer.ensures.stays left c.transaction-tx.ensures.same_reference)) in
     record {
       tells = λ is_open s stands.

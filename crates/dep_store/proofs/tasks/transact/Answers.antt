@@ -24,7 +24,7 @@ returns-in_err-answer g c =
     let left : c.run.new.tx.tx.now ≡ c.tx-2-1.given.0 = sym (c.tx-2-1.given.1 (lent_name g.S.Store stays)) in
     let inside = c.tx-2-1.given.0.conn.now in
     let new = c.drop-tx.new.self.0 in
-    let work = works_within g.S.Store old new stays begun.begun left (λ is_open trees h. g.met.S.Store.settled old.store trees is_open h)
+    let work = works_within {inside = c.run.new.tx} g.S.Store old new stays begun.begun left (λ is_open trees h. g.met.S.Store.settled old.store trees is_open h)
     (clean_if_open (g.S.Store.view new.store) (g.met.S.Store.shut_if_dirty new.store)) in
     let same : new ≡ c.connection-1.given.0 = sym (c.connection-1.given.1 (lent_connection g.S.Store stays left begun.same_reference)) in
     let result = c.from_residual.result in
@@ -42,7 +42,7 @@ returns g c =
     let left : c.run.new.tx.tx.now ≡ c.tx-2-1.given.0 = sym (c.tx-2-1.given.1 (lent_name g.S.Store did.stays)) in
     let inside = c.tx-2-1.given.0.conn.now in
     let new = c.commit.new.tx.0 in
-    let work = works_within g.S.Store old new did.stays begun.begun left (λ is_open trees h. g.met.S.Store.settled old.store trees is_open h)
+    let work = works_within {inside = c.run.new.tx} g.S.Store old new did.stays begun.begun left (λ is_open trees h. g.met.S.Store.settled old.store trees is_open h)
     (clean_if_open (g.S.Store.view new.store) (g.met.S.Store.shut_if_dirty new.store)) in
     let same : new ≡ c.connection-2-1.given.0 = sym (c.connection-2-1.given.1 (lent_connection g.S.Store did.stays left begun.same_reference)) in
     let made = made_inside g.S.Store old _ _ _ (g.K.Task.makes c.args.task.now) c.in_ok-answer.answer begun.begun left did.made in
@@ -61,7 +61,7 @@ returns-in_err-commit g c =
     let inside = c.tx-2-1.given.0.conn.now in
     let new = c.commit.new.tx.0 in
     let last = c.connection-2-1.given.0 in
-    let work = works_within g.S.Store old new did.stays begun.begun left (λ is_open trees h. g.met.S.Store.settled old.store trees is_open h)
+    let work = works_within {inside = c.run.new.tx} g.S.Store old new did.stays begun.begun left (λ is_open trees h. g.met.S.Store.settled old.store trees is_open h)
     (clean_if_open (g.S.Store.view new.store) (g.met.S.Store.shut_if_dirty new.store)) in
     let same : new ≡ last = sym (c.connection-2-1.given.1 (lent_connection g.S.Store did.stays left begun.same_reference)) in
     let made = made_inside g.S.Store old _ _ _ (g.K.Task.makes c.args.task.now) c.in_ok-answer.answer begun.begun left did.made in
