@@ -1,6 +1,5 @@
 -- An export that failed, as the program says it.
 use Rattle.std.proofs.Common.{◌≡◌, ℕ, List, Err, refl}
-use Rattle.std.specs.Prelude.{Result}
 use Rattle.dep_types.specs.State.{State}
 use Rattle.dep_bag.specs.Exports.{IsExported}
 use Rattle.dep_bag.specs.Giving.{IsCausedBy}

@@ -58,11 +58,7 @@ pub(crate) fn write_count<W: Outlet>(
     write_line(alloc, &line, out)
 }
 
-fn write_line<W: Outlet>(
-    alloc: Global,
-    line: &Line<'_>,
-    out: &mut W,
-) -> Result<(), AuditFault>
+fn write_line<W: Outlet>(alloc: Global, line: &Line<'_>, out: &mut W) -> Result<(), AuditFault>
     ensures { WritesTo W.taken W.failures out.old out.new
         (two_numbers line.now.before.now line.now.first line.now.between.now line.now.second) result }
 {

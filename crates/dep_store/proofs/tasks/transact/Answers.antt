@@ -21,12 +21,12 @@ returns-in_err-answer g c =
     let old = c.args.connection.now in
     let stays = c.in_err-answer.ensures.stays in
     let begun = c.transaction-tx.ensures in
-    let left : c.run.new.tx.tx.now ≡ c.tx-2-1.given.0 = sym (c.tx-2-1.given.1 (lent_name g.S.Store stays)) in
+    let left : c.run.new.tx.tx.now ≡ c.tx-2-1.given.0 = sym (c.tx-2-1.given.1 (lent_name g.S.Store {new = c.run.new.tx} stays)) in
     let inside = c.tx-2-1.given.0.conn.now in
     let new = c.drop-tx.new.self.0 in
     let work = works_within {inside = c.run.new.tx} g.S.Store old new stays begun.begun left (λ is_open trees h. g.met.S.Store.settled old.store trees is_open h)
     (clean_if_open (g.S.Store.view new.store) (g.met.S.Store.shut_if_dirty new.store)) in
-    let same : new ≡ c.connection-1.given.0 = sym (c.connection-1.given.1 (lent_connection g.S.Store stays left begun.same_reference)) in
+    let same : new ≡ c.connection-1.given.0 = sym (c.connection-1.given.1 (lent_connection g.S.Store {new = c.run.new.tx} stays left begun.same_reference)) in
     let result = c.from_residual.result in
     let is_err = c.from_residual.ensures.0 in
     record {
@@ -39,12 +39,12 @@ returns g c =
     let old = c.args.connection.now in
     let did = c.in_ok-answer.ensures in
     let begun = c.transaction-tx.ensures in
-    let left : c.run.new.tx.tx.now ≡ c.tx-2-1.given.0 = sym (c.tx-2-1.given.1 (lent_name g.S.Store did.stays)) in
+    let left : c.run.new.tx.tx.now ≡ c.tx-2-1.given.0 = sym (c.tx-2-1.given.1 (lent_name g.S.Store {new = c.run.new.tx} did.stays)) in
     let inside = c.tx-2-1.given.0.conn.now in
     let new = c.commit.new.tx.0 in
     let work = works_within {inside = c.run.new.tx} g.S.Store old new did.stays begun.begun left (λ is_open trees h. g.met.S.Store.settled old.store trees is_open h)
     (clean_if_open (g.S.Store.view new.store) (g.met.S.Store.shut_if_dirty new.store)) in
-    let same : new ≡ c.connection-2-1.given.0 = sym (c.connection-2-1.given.1 (lent_connection g.S.Store did.stays left begun.same_reference)) in
+    let same : new ≡ c.connection-2-1.given.0 = sym (c.connection-2-1.given.1 (lent_connection g.S.Store {new = c.run.new.tx} did.stays left begun.same_reference)) in
     let made = made_inside g.S.Store old _ _ _ (g.K.Task.makes c.args.task.now) c.in_ok-answer.answer begun.begun left did.made in
     let ended = c.in_ok-commit.ensures.ok in
     record {
@@ -57,18 +57,18 @@ returns-in_err-commit g c =
     let old = c.args.connection.now in
     let did = c.in_ok-answer.ensures in
     let begun = c.transaction-tx.ensures in
-    let left : c.run.new.tx.tx.now ≡ c.tx-2-1.given.0 = sym (c.tx-2-1.given.1 (lent_name g.S.Store did.stays)) in
+    let left : c.run.new.tx.tx.now ≡ c.tx-2-1.given.0 = sym (c.tx-2-1.given.1 (lent_name g.S.Store {new = c.run.new.tx} did.stays)) in
     let inside = c.tx-2-1.given.0.conn.now in
     let new = c.commit.new.tx.0 in
     let last = c.connection-2-1.given.0 in
     let work = works_within {inside = c.run.new.tx} g.S.Store old new did.stays begun.begun left (λ is_open trees h. g.met.S.Store.settled old.store trees is_open h)
     (clean_if_open (g.S.Store.view new.store) (g.met.S.Store.shut_if_dirty new.store)) in
-    let same : new ≡ last = sym (c.connection-2-1.given.1 (lent_connection g.S.Store did.stays left begun.same_reference)) in
+    let same : new ≡ last = sym (c.connection-2-1.given.1 (lent_connection g.S.Store {new = c.run.new.tx} did.stays left begun.same_reference)) in
     let made = made_inside g.S.Store old _ _ _ (g.K.Task.makes c.args.task.now) c.in_ok-answer.answer begun.begun left did.made in
     let fault = c.in_err-commit.field-0.0 in
     let result = c.from_residual-in_err-commit.result in
     let failed : Transacts (state g.S.Store old) (state g.S.Store last) (Err fault) (g.K.Task.makes c.args.task.now) =
-        uncommitted g.S.Store old inside new _ c.in_ok-answer.answer fault work made (still_inside g.S.Store old did.stays begun.begun left) c.in_err-commit.ensures.err c.commit.ensures.survives _ same in
+    uncommitted g.S.Store old inside new _ c.in_ok-answer.answer fault work made (still_inside g.S.Store old did.stays begun.begun left) c.in_err-commit.ensures.err c.commit.ensures.survives _ same in
     record {
       transacts = subst (λ (r : Result _ StoreFault). Transacts (state g.S.Store old) (state g.S.Store last) r (g.K.Task.makes c.args.task.now)) (sym (passed_on result fault c.from_residual-in_err-commit.ensures.1)) failed;
       opened = λ clean. nothing_told result _ c.from_residual-in_err-commit.ensures.0;

@@ -18,8 +18,8 @@ returns-in_err-check_open g c =
     let is_err = c.from_residual.ensures.0 in
     let restored = c.check_open.ensures.restored in
     let done : CopiesLog old new result =
-        copies old new result (fails_back old new result _ is_err (λ is_open trees h. g.met.S.Store.settled first.store trees is_open h) restored.back restored.survives)
-        (fails_still old new result is_err restored.survives) in
+    copies old new result (fails_back old new result _ is_err (λ is_open trees h. g.met.S.Store.settled first.store trees is_open h) restored.back restored.survives)
+    (fails_still old new result is_err restored.survives) in
     rw c.self.view_is at done
 
 pub returns : goal.returns
@@ -28,9 +28,9 @@ returns g c =
     let mid = c.check_open.new.connection in
     let new = state g.S.Store c.transact.new.connection in
     let done : CopiesLog (state g.S.Store first) new c.transact.result =
-        copies_open (state g.S.Store first) (state g.S.Store mid) new c.transact.result (λ is_open trees h. g.met.S.Store.settled first.store trees is_open h)
-        (clean_if_open (g.S.Store.view mid.store) (g.met.S.Store.shut_if_dirty mid.store)) (record { opened = c.in_ok-check_open.ensures.opened; restored = c.check_open.ensures.restored })
-        c.transact.ensures.transacts in
+    copies_open (state g.S.Store first) (state g.S.Store mid) new c.transact.result (λ is_open trees h. g.met.S.Store.settled first.store trees is_open h)
+    (clean_if_open (g.S.Store.view mid.store) (g.met.S.Store.shut_if_dirty mid.store)) (record { opened = c.in_ok-check_open.ensures.opened; restored = c.check_open.ensures.restored })
+    c.transact.ensures.transacts in
     rw c.self.view_is at done
 
 pub returns-then-not-is_autocommit : goal.returns-then-not-is_autocommit
