@@ -5,12 +5,14 @@ use Rattle.sqlite.specs.State as db
 use Rattle.sqlite.specs.State.{HasCleanDisk, IsUnchanged}
 use Rattle.sqlite.specs.Effect.{Database}
 use Rattle.sqlite.specs.Held.{Held, state}
+use Rattle.sqlite.specs.declared.transaction.Transaction.{Transaction}
 use Rattle.sqlite_trees.specs.declared.store.Store.{Ghosts}
 use Rattle.dep_types.specs.State.{State, Upload, tick}
 use Rattle.dep_types.specs.Sound.{IsSound}
 use Rattle.dep_types.specs.Limits.{greatest_moment}
 use Rattle.dep_types.specs.declared.config.Config.{Config}
 use Rattle.dep_types.proofs.TickSound.{keeps_sound}
+use Rattle.dep_tables.specs.Schema.{our_schema}
 use Rattle.dep_tables.specs.Tables.{Tables, tables_in, tables_of, HasOurTables, IsOurs}
 use Rattle.dep_row_maps.specs.TablesAre.{TablesAre}
 use Rattle.dep_row_maps.specs.Clauses.{FromMaps}
@@ -18,8 +20,10 @@ use Rattle.dep_streams.specs.Reading.{IsKept}
 use Rattle.dep_tables.specs.Clauses.{ReadsWithin}
 use Rattle.dep_schema.specs.Standing.{Stands}
 use Rattle.dep_schema.proofs.Transactions.{stands_left}
+use Rattle.dep_schema.proofs.Transacting.{IsMade}
 use Rattle.dep_schema.specs.States.{StandsFor}
 use Rattle.dep_schema.specs.Transactions.{OnlyTells, OverStates}
+use Rattle.dep_store.specs.Glancing.{TellsFrom}
 use Rattle.dep_store.specs.Tasks.{Makes}
 
 -- no upload of a sound state has the number 0
@@ -73,11 +77,21 @@ ok_leaves (Ok answer) p f = f p
 ok_leaves (Err e) p f = tt
 
 -- what it told of the state that the database stands for
-pub told_then : {S : Type 0} (g : Ghosts S) (old : Held S) (inside : db.State) (told : State → Type 0)
-    → FromMaps (state g (record old { in_transaction = true })) inside (λ s. IsSound s → told s)
-    → HasCleanDisk inside → (s : State) → StandsFor (state g old) s → told s
-told_then g old inside told reads clean s was =
-    reads clean refl was.stands.ours s (subst (λ (t : Tables). TablesAre t s) (sym was.stands.rows) was.means.are) was.means.sound
+pub told_then : {S : Type 0} (g : Ghosts S) (old begun : Held S) (inside last : Transaction S) (told : State → Type 0) → begun ≡ record old { in_transaction = true } → inside ≡ last
+    → TellsFrom (state g begun) (state g inside.conn.now) told → HasCleanDisk (state g last.conn.now) → (s : State) → StandsFor (state g old) s → told s
+told_then g old begun inside last told is left reads clean s was =
+    let inside_clean = subst (λ (tx : Transaction _). HasCleanDisk (state g tx.conn.now)) (sym left) clean in
+    subst (λ (h : Held _). TellsFrom (state g h) (state g inside.conn.now) told) is reads
+    was.stands.is_open inside_clean refl was.stands.ours s (subst (λ (t : Tables). TablesAre t s) (sym was.stands.rows) was.means.are) was.means.sound
+
+-- what an Ok made of the tables inside the transaction that was begun
+pub made_inside : {S A : Type 0} (g : Ghosts S) (old begun : Held S) (inside last : Transaction S) (makes : Tables → A → Tables → Type 0) (answer : A)
+    → begun ≡ record old { in_transaction = true } → inside ≡ last
+    → (HasCleanDisk (state g inside.conn.now) → IsTrue (state g begun).in_transaction → IsOurs (state g begun) → IsOurs (state g inside.conn.now) × makes (tables_of (state g begun)) answer (tables_of (state g inside.conn.now)))
+    → IsMade our_schema our_schema g old last.conn.now makes answer
+made_inside g old begun inside last makes answer is left made =
+    subst (λ (tx : Transaction _). IsMade our_schema our_schema g old tx.conn.now makes answer) left
+    (λ clean. subst (λ (h : Held _). IsTrue (state g h).in_transaction → IsOurs (state g h) → IsOurs (state g inside.conn.now) × makes (tables_of (state g h)) answer (tables_of (state g inside.conn.now))) is (made clean) refl)
 
 -- ---- what reads alone, outside a transaction
 

@@ -12,5 +12,6 @@ pub mod ShutLemmas
 pub mod Tries
 pub mod KnownFiles
 pub mod Copied
+pub mod Exported
 pub mod KeepingLemmas
 pub mod StartingLemmas

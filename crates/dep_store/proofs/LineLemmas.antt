@@ -1,5 +1,5 @@
 -- What is written of lines, one after another.
-use Rattle.std.proofs.Common.{◌≡◌, ℕ, ◌<◌, List, [], ◌∷◌, ◌++◌, length, get_or, take, drop, flat_map, ◌+◌, Option, Result, Ok, Err, refl, sym, ap, subst, ◌∙◌, append_assoc, add-one, take-append-drop, drop-cons}
+use Rattle.std.proofs.Common.{◌≡◌, ℕ, ◌<◌, List, [], ◌∷◌, ◌++◌, length, get_or, take, drop, flat_map, ◌+◌, Option, Result, Ok, Err, refl, sym, ap, subst, ◌∙◌, append_assoc, append-nil, take-suc, ap₂, add-one, take-append-drop, drop-cons}
 use Rattle.std.specs.Prelude.{IsErrAnd, ◌≢◌}
 use Rattle.std.proofs.KnownBytes.{Appends-nil}
 use Rattle.std.proofs.lemmas.Grind.{flat_map-append}
@@ -26,6 +26,14 @@ line_part line files i d less written part so_far front = record {
       ∙ ap (λ l. l ++ (line x ++ later)) (sym so_far)
       ∙ ap (λ l. written ++ (l ++ later)) front.joined ∙ regrouped written part front.rest later;
 }
+
+-- the lines so far, and the next one
+pub lines_next : (line : ℕ → List ℕ) (files : List ℕ) (i d : ℕ) → i < length files → (written part : List ℕ)
+    → written ≡ flat_map line (take i files) → part ≡ line (get_or files i d) → written ++ part ≡ flat_map line (take (i + 1) files)
+lines_next line files i d less written part so_far is =
+    let x = get_or files i d in
+    ap₂ (λ xs ys. xs ++ ys) so_far (is ∙ sym (append-nil (line x))) ∙ sym (flat_map-append line (take i files) (x ∷ []))
+    ∙ ap (flat_map line) (sym (take-suc files i d less) ∙ ap (λ n. take n files) (sym (add-one i)))
 
 pub line_fails : {X : Type 0} (line : ℕ → List ℕ) (files : List ℕ) (i d : ℕ) → i < length files → (written part : List ℕ)
     → written ≡ flat_map line (take i files) → IsFront part (line (get_or files i d)) → (fault : AuditFault) (result : Result X AuditFault)

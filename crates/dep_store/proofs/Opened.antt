@@ -1,9 +1,9 @@
 -- What an open finds of a database that stood for a state, in either version.
-use Rattle.std.proofs.Common.{◌≡◌, ◌⊎◌, inl, inr, ℕ, [], ◌∷◌, false, IsTrue, refl, sym, ap, subst, ◌∙◌}
+use Rattle.std.proofs.Common.{◌≡◌, ◌⊎◌, inl, inr, ℕ, [], ◌∷◌, false, IsTrue, Result, refl, sym, ap, subst, ◌∙◌}
 use Rattle.sqlite.specs.Effect.{Database}
 use Rattle.sqlite.specs.Schema.{Schema}
 use Rattle.sqlite.specs.State as db
-use Rattle.sqlite.specs.State.{IsLive, Survives}
+use Rattle.sqlite.specs.State.{HasCleanDisk, IsLive, Survives}
 use Rattle.sqlite.specs.Tree.{Trees}
 use Rattle.dep_types.specs.State.{State, empty_state}
 use Rattle.dep_types.proofs.EmptySound.{empty_sound}
@@ -15,8 +15,10 @@ use Rattle.dep_tables.specs.Versions.{our_version, older_version, HasVersion}
 use Rattle.dep_schema.specs.Standing.{first_tables, HoldsOf, HoldsNone, StandsOf, CommitsOpen, IsOpenable, IsBack}
 use Rattle.dep_schema.proofs.Again.{sees_trees}
 use Rattle.dep_schema.proofs.Transacting.{IsSettled}
+use Rattle.dep_schema.proofs.Version.{not_older}
 use Rattle.dep_schema.specs.States.{TablesStandFor, StandsFor, OlderStandsFor, IsLeftAs}
-use Rattle.dep_store.specs.Migrating.{Stood, OpenLeaves}
+use Rattle.dep_store.specs.Migrating.{Migrates, Stood, OpenLeaves}
+use Rattle.dep_store.proofs.Migrated.{stop_states}
 
 -- tables have one version
 pub version_is : (t : Tables) (v w : ℕ) → HasVersion v t → HasVersion w t → v ≡ w
@@ -56,6 +58,22 @@ leaves_opened old new settled between survives = record {
   where
     still : IsTrue old.is_open → (trees : Trees) → old.may_leave trees → trees ≡ old.now.trees
     still is_open trees earlier = settled is_open trees earlier ∙ ap (λ (b : Database). b.trees) (sym (between is_open))
+
+-- or what the migration of tables of version 1 leaves, which an empty database hasn't
+pub leaves_migrated : {A E : Type 0} (old mid new : db.State) (result : Result A E) (found : ℕ) → found ≡ older_version
+    → (HasCleanDisk mid → (its : Schema) → IsKnownSchema its → (t : Tables) → HoldsOf its old.now.trees t → HasVersion found t × StandsOf its mid t)
+    → (HasCleanDisk mid → HoldsNone old.now.trees → found ≡ our_version) → Migrates mid new result → OpenLeaves old new
+leaves_migrated old mid new result found one finds fresh it = record {
+  fresh = λ clean is_open none trees h. absurd (not_older (sym (fresh (it.honest clean) none) ∙ one));
+  found = λ clean is_open s left trees h. (
+    s,
+    elim (opened_stood old mid found s (finds (it.honest clean)) left) [
+      | inl newest ↦ absurd (not_older (sym newest.0 ∙ one))
+      | inr older ↦ stop_states mid new result it clean s older.1 trees h
+    ],
+    refl,
+  );
+}
 
 pub is_openable : (old : db.State) → IsLive old → IsTrue old.is_open → (s : State) → IsLeftAs old.now.trees s → IsOpenable old
 is_openable old live is_open s (inl (t, holds, means)) =

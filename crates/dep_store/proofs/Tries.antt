@@ -1,21 +1,22 @@
 -- What a call on a store comes to, as those who serve it see it, from what it makes of the tables.
-use Rattle.std.proofs.Common.{◌≡◌, ℕ, inl, inr, Result, Ok, Err, IsErr, OnOk, OnErr, IfOk, IsTrue, sym, subst, arith, ◌∙◌}
+use Rattle.std.proofs.Common.{◌≡◌, ℕ, List, [], Option, inl, inr, Result, Ok, Err, IsErr, OnOk, OnErr, IfOk, IsTrue, false, refl, le_of_eq, sym, subst, arith, ◌∙◌}
+use Rattle.std.proofs.KnownBytes.{Appends-nil}
 use Rattle.sqlite.specs.State as db
 use Rattle.sqlite.specs.State.{HasCleanDisk, Survives}
 use Rattle.dep_types.specs.State.{State, tick}
 use Rattle.dep_types.specs.declared.config.Config.{Config}
 use Rattle.dep_types.specs.declared.stream_fault.StreamFault.{StreamFault}
-use Rattle.dep_types.specs.declared.stream_fault.StreamFault.TheVariants.{Writer}
+use Rattle.dep_types.specs.declared.stream_fault.StreamFault.TheVariants.{Writer, Store as StoreFails}
 use Rattle.dep_tables.specs.Tables.{Tables}
 use Rattle.dep_staging.specs.declared.running.RunningHashes.{RunningHashes}
 use Rattle.dep_streams.specs.Faults.{BlamesOutlet}
 use Rattle.dep_schema.specs.Standing.{Stands}
 use Rattle.dep_schema.specs.States.{TablesStandFor, StandsFor, Leaves}
-use Rattle.dep_schema.specs.Transactions.{Transacts, OnlyTells, OverStates, IsBackAt, IsRestored}
+use Rattle.dep_schema.specs.Transactions.{Transacts, OnlyTells, OverStates, IsBackAt, IsGivenBack, IsRestored}
 use Rattle.dep_schema.proofs.Transacting.{IsSettled, IsOver, ok_over_states, err_state, stop_over_states, ok_tells, still_tells, left_tells, leaves_still, leaves_as_was}
 use Rattle.dep_hub.specs.Archives.{TriesTo, Ticks, Tells, KeepsState, KeepsAll, Always, CountsFailures}
 use Rattle.dep_store.specs.Archive.{shown_by}
-use Rattle.dep_store.specs.Shut.{FailsIfShut}
+use Rattle.dep_store.specs.Shut.{FailsIfShut, SendsFile}
 use Rattle.dep_store.specs.Staying.{TellsTables, KeepsTables, KeepsRunning, LeavesOnly, HashesOn}
 use Rattle.dep_store.proofs.ShutLemmas.{state_back}
 use Rattle.dep_store.proofs.ReportLemmas.{leaves_held, stands_still}
@@ -90,6 +91,14 @@ keeps_back old new it = record {
   left = λ clean image h. (image, leaves_only old new it.survives clean image h, λ s. (λ x. x, λ x. x));
 }
 
+-- an open store, of which nothing was asked between transactions
+pub back_as_was : (d : db.State) → (HasCleanDisk d → IsTrue d.is_open) → d.in_transaction ≡ false → IsGivenBack d d
+back_as_was d opened between = record {
+  opened = opened;
+  back = λ is_open. (is_open, refl, refl, between);
+  survives = record { clean = le_of_eq refl; shield = λ shielded. shielded; counts = le_of_eq refl; limit = refl; closes = λ clean was. inl was; crash = λ clean trees h. inl h };
+}
+
 -- nothing was asked
 pub keeps_same : (d : db.State) → KeepsAll (shown_by d) (shown_by d)
 keeps_same d = record {
@@ -142,17 +151,16 @@ module _ (d : db.State) (busy : IsTrue d.in_transaction) where
     stop = λ clean t at. absurd (stands_not t at);
   }
 
-  pub busy_tells : {A E : Type 0} {told : Tables → A → Type 0} {fault : E} → TellsTables d d told (Err fault)
-  busy_tells = record {
-    ok = λ clean t at. tt;
-    still = λ is_open t at. at;
-    honest = λ clean. clean;
-    was_open = λ is_open. is_open;
-    stop = λ clean t at. absurd (stands_not t at);
-  }
-
   pub busy_fails : {A E : Type 0} {fault : E} → FailsIfShut {A = A} d d (Err fault)
   busy_fails = record { opened = λ clean. tt; left = λ clean shut trees h. h }
+
+  pub busy_sends : {A : Type 0} (taken : Option (List ℕ)) (failures file : ℕ) → SendsFile {A = A} d d taken taken failures failures file (Err StoreFails)
+  busy_sends taken failures file = record {
+    streams = ([], Appends-nil taken, λ clean s at. inl refl);
+    does = busy_tries;
+    count = record { kept = tt; cause = λ is. cc is; others = λ other. refl };
+    stays = record { shut = busy_fails; back = tt; opened = λ clean. tt };
+  }
 
 -- ---- tables that stay
 

@@ -3,6 +3,8 @@ use Rattle.std.specs.Prelude.{◌≡◌, ◌⊎◌, ℕ, List, [], None}
 use Rattle.std.specs.FinMap as map
 use Rattle.dep_types.specs.State.{State}
 use Rattle.dep_bag.specs.Exports.{OfObject, IsGivenInPart, bag_transcript}
+use Rattle.dep_bag.specs.declared.export_fault.ExportFault.{ExportFault}
+use Rattle.dep_bag.specs.declared.export_fault.ExportFault.TheVariants as fault
 use Rattle.dep_program.specs.declared.outcome.Outcome.{Outcome}
 use Rattle.dep_program.specs.declared.outcome.Outcome.TheVariants.{Done, Usage, NoSuchObject, StoreFault, TransferFault, Damaged}
 
@@ -15,3 +17,10 @@ Exports s n given TransferFault = IsGivenInPart s n given
 Exports s n given StoreFault = (given ≡ []) ⊎ IsGivenInPart s n given
 Exports s n given Usage = ⊥
 Exports s n given Damaged = ⊥
+
+-- how it ends that failed
+abbrev pub outcome_of_export : ExportFault → Outcome
+outcome_of_export fault.NoSuchObject = NoSuchObject
+outcome_of_export fault.Sink = TransferFault
+outcome_of_export fault.Store = StoreFault
+outcome_of_export fault.Memory = StoreFault

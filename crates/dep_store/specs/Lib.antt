@@ -4,6 +4,7 @@ pub mod Auditing
 pub mod Remembering
 pub mod Shut
 pub mod Staying
+pub mod Glancing
 pub mod Archive
 pub mod Exports
 pub mod Audits

@@ -9,7 +9,6 @@ use Rattle.dep_staging.specs.HashedAhead.{AreRunning}
 use Rattle.dep_staging.specs.declared.running.RunningHashes.{RunningHashes}
 use Rattle.dep_schema.specs.Standing.{Holds, Stands}
 use Rattle.dep_schema.specs.States.{StandsFor, Leaves}
-use Rattle.dep_schema.specs.Transactions.{IsRestored}
 use Rattle.dep_store.specs.Archive.{shown_by}
 
 -- whatever its tables are, they stay, while it is open
@@ -26,11 +25,6 @@ LeavesOnly old new = db.HasCleanDisk new → (trees : Trees) → new.may_leave t
 abbrev pub KeepsRunning : (old new : db.State) → (running_before running : RunningHashes) → Type 0
 KeepsRunning old new running_before running = IsTrue new.is_open
     → (s : State) → StandsFor old s → AreRunning s running_before → AreRunning s running
-
--- so it is, in a transaction that is given back
-pub record RestoresRunning (old new : db.State) (before after : RunningHashes) : Type 0 where
-  pub running : KeepsRunning old new before after
-  pub restored : IsRestored old new
 
 -- so it is, and nothing that is kept changes
 pub record HashesOn (old new : db.State) (before after : RunningHashes) : Type 0 where

@@ -4,7 +4,7 @@ ghost use Rattle.std.specs.Io.KnownBytes.{Appends, Keeps};
 ghost use Rattle.dep_types.specs.State.{State};
 ghost use Rattle.dep_types.specs.Conditions.{StandsFor, HasCleanDisk};
 ghost use Rattle.dep_bag.specs.Source.{StandsStill};
-ghost use Rattle.dep_store.specs.Exports.{Exports};
+ghost use Rattle.dep_store.specs.Exports.{Exports, outcome_of_export};
 ghost use Rattle.dep_store.specs.Reporting.{BlamesTransfer};
 
 use dep_bag::{BagSource, ExportFault, export};
@@ -32,8 +32,16 @@ pub fn export_object<S: BagSource, K: BagSink>(
 {
     match export(alloc, source, object, sink) {
         Ok(()) => Outcome::Done,
-        Err(ExportFault::NoSuchObject) => Outcome::NoSuchObject,
-        Err(ExportFault::Sink) => Outcome::TransferFault,
-        Err(ExportFault::Store | ExportFault::Memory) => Outcome::StoreFault,
+        Err(fault) => outcome_of(fault),
+    }
+}
+
+fn outcome_of(fault: ExportFault) -> Outcome
+    ensures { result ≡ outcome_of_export fault }
+{
+    match fault {
+        ExportFault::NoSuchObject => Outcome::NoSuchObject,
+        ExportFault::Sink => Outcome::TransferFault,
+        ExportFault::Store | ExportFault::Memory => Outcome::StoreFault,
     }
 }

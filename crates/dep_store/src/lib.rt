@@ -7,7 +7,7 @@
 mod archive;
 mod audit_fault;
 mod exporting;
-mod hashing;
+mod glancing;
 mod lines;
 mod log_copy;
 mod opening;

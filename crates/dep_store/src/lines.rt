@@ -9,6 +9,15 @@ use dep_types::Outlet;
 use itoa::Buffer;
 use std::alloc::{AllocError, Global};
 
+/// A line of two numbers, each behind a text.
+#[derive(Clone, Copy)]
+struct Line<'a> {
+    before: &'a str,
+    first: u64,
+    between: &'a str,
+    second: u64,
+}
+
 /// Writes a line for each of the damaged files of an object.
 pub(crate) fn write_damaged<W: Outlet>(
     alloc: Global,
@@ -20,21 +29,15 @@ pub(crate) fn write_damaged<W: Outlet>(
         (flat_map (damaged_line object) files.now) result }
 {
     'files: for file in files {
-        write_file(alloc, object, *file, out)?;
+        let line = Line {
+            before: "damaged ",
+            first: object,
+            between: " ",
+            second: *file,
+        };
+        write_line(alloc, &line, out)?;
     }
     Ok(())
-}
-
-fn write_file<W: Outlet>(
-    alloc: Global,
-    object: u64,
-    file: u64,
-    out: &mut W,
-) -> Result<(), AuditFault>
-    ensures { WritesTo W.taken W.failures out.old out.new (damaged_line object file) result }
-{
-    let line = spell(alloc, "damaged ", object, " ", file)?;
-    write_line(line.as_str(), out)
 }
 
 /// Writes the last line.
@@ -46,33 +49,36 @@ pub(crate) fn write_count<W: Outlet>(
     ensures { WritesTo W.taken W.failures out.old out.new
         (count_line tally.checked tally.damaged) result }
 {
-    let line = spell(alloc, "files ", tally.checked, " damaged ", tally.damaged)?;
-    write_line(line.as_str(), out)
+    let line = Line {
+        before: "files ",
+        first: tally.checked,
+        between: " damaged ",
+        second: tally.damaged,
+    };
+    write_line(alloc, &line, out)
 }
 
-// A line of two numbers.
-fn spell(
-    alloc: Global,
-    before: &str,
-    first: u64,
-    between: &str,
-    second: u64,
-) -> Result<String, AllocError>
-    ensures { IfOk result (λ line.
-        string_bytes line ≡ two_numbers before.now first between.now second) }
+fn write_line<W: Outlet>(alloc: Global, line: &Line<'_>, out: &mut W) -> Result<(), AuditFault>
+    ensures { WritesTo W.taken W.failures out.old out.new
+        (two_numbers line.now.before.now line.now.first line.now.between.now line.now.second) result }
 {
-    let mut digits = Buffer::new();
-    let mut line = String::from_str(alloc, before)?;
-    line.push_str(digits.format(first))?;
-    line.push_str(between)?;
-    line.push_str(digits.format(second))?;
-    line.push_str("\n")?;
-    Ok(line)
-}
-
-fn write_line<W: Outlet>(line: &str, out: &mut W) -> Result<(), AuditFault>
-    ensures { WritesTo W.taken W.failures out.old out.new line.now result }
-{
-    out.write(line.as_bytes())?;
+    let text = spell(alloc, line)?;
+    out.write(text.as_bytes())?;
     Ok(())
+}
+
+fn spell(alloc: Global, line: &Line<'_>) -> Result<String, AllocError>
+    ensures { IfOk result (λ text. string_bytes text
+        ≡ two_numbers line.now.before.now line.now.first line.now.between.now line.now.second) }
+{
+    let mut first = Buffer::new();
+    let mut second = Buffer::new();
+    [
+        line.before,
+        first.format(line.first),
+        line.between,
+        second.format(line.second),
+        "\n",
+    ]
+    .concat(alloc)
 }

@@ -6,9 +6,10 @@ ghost use Rattle.dep_tables.specs.Faults.{fault_for};
 ghost use Rattle.dep_store.specs.Remembering.{LooksBack};
 ghost use Rattle.dep_store.specs.Shut.{AsksIfOpen};
 
+use crate::glancing::{Glance, glance_at};
 use dep_requests::{Remembered, read_still};
-use dep_schema::{Lent, check_open, probe};
-use dep_tables::fault_of;
+use dep_schema::{check_open, probe};
+use dep_tables::{Statements, fault_of};
 use dep_types::{Config, StoreFault};
 use sqlite::{Alter, Connection, Error, ErrorCode};
 
@@ -36,8 +37,27 @@ pub(crate) fn tell_open<S: Alter>(connection: &mut Connection<S>) -> Result<bool
     }
 }
 
-/// Reads what may be remembered, where a tick at this moment changes nothing, in a transaction that is given back. Then it
-/// looks whether the store is open.
+/// What may be remembered, where a tick at this moment changes nothing.
+#[derive(Clone, Copy)]
+struct Still<'a> {
+    config: &'a Config,
+    moment: u64,
+}
+
+impl<'a> Glance for Still<'a> {
+    ghost use Rattle.std.specs.Prelude.{IfOk};
+    ghost use Rattle.dep_store.specs.Remembering.{MayRemember};
+
+    type Answer = Option<Remembered>;
+
+    ghost told = { λ asked after result s. IfOk result (MayRemember asked.config.now asked.moment s) };
+
+    fn read<T: Statements>(&mut self, tx: &mut T) -> Result<Option<Remembered>, StoreFault> {
+        read_still(tx, self.config, self.moment)
+    }
+}
+
+/// Reads what may be remembered, where a tick at this moment changes nothing, and looks whether the store is open.
 pub(crate) fn look<S: Alter>(
     connection: &mut Connection<S>,
     config: &Config,
@@ -47,10 +67,7 @@ pub(crate) fn look<S: Alter>(
     ensures { LooksBack (state S.Store connection.old) (state S.Store connection.new)
         config.now moment result }
 {
-    let _between = connection.is_autocommit();
-    let mut tx = connection.transaction();
-    let found = read_still(&mut Lent { tx: &mut tx }, config, moment)?;
-    tx.rollback();
+    let found = glance_at(connection, &mut Still { config, moment })?;
     check_open(connection)?;
     Ok(found)
 }

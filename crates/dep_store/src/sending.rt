@@ -1,6 +1,6 @@
 //! The content of a file, sent over a store that is open.
 
-ghost use Rattle.std.specs.Prelude.{◌≡◌, Some, false};
+ghost use Rattle.std.specs.Prelude.{◌≡◌, false};
 ghost use Rattle.sqlite.specs.Held.{state};
 ghost use Rattle.dep_store.specs.Remembering.{IsKnownFile};
 ghost use Rattle.dep_store.specs.Shut.{SendsFile};
@@ -12,22 +12,8 @@ use dep_tables::BlockOwner;
 use dep_types::{Outlet, StreamFault};
 use sqlite::{Alter, Connection};
 
-/// Sends the content of a file that is there, over a store that is open.
-fn stream_file<S: Alter, O: Outlet>(
-    connection: &mut Connection<S>,
-    known: StoredFile,
-    out: &mut O,
-) -> Result<(), StreamFault>
-    requires settled { (state S.Store connection.old).in_transaction ≡ false }
-    requires there { IsKnownFile (state S.Store connection.old) (Some known) }
-    ensures sends { SendsFile (state S.Store connection.old) (state S.Store connection.new)
-        (O.taken out.old) (O.taken out.new) (O.failures out.old) (O.failures out.new) known.file result }
-{
-    stream_blocks(connection, BlockOwner::File(known.file), known.size, out)
-}
-
-/// Sends the content of the file of this number, one block at a time. Where another file is known, or none, its size is
-/// asked for; over a store that was shut it isn't.
+/// Sends the content of the file of this number, one block at a time. Of a file that is known to be there the store is known
+/// to be open. Where another one is known, or none, its size is asked for; over a store that was shut it isn't.
 pub(crate) fn stream_known<S: Alter, O: Outlet>(
     connection: &mut Connection<S>,
     known: Option<StoredFile>,
@@ -41,7 +27,7 @@ pub(crate) fn stream_known<S: Alter, O: Outlet>(
 {
     if let Some(it) = known {
         if it.file == file {
-            return stream_file(connection, it, out);
+            return stream_blocks(connection, BlockOwner::File(file), it.size, out);
         }
     }
     check_open(connection)?;

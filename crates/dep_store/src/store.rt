@@ -25,19 +25,19 @@ ghost use Rattle.dep_store.specs.Copying.{CopiesLog};
 ghost use Rattle.dep_store.specs.Shut.{FailsIfShut, FailsToTell, SendsFile, TicksIfOpen};
 ghost use Rattle.dep_store.specs.Staying.{TablesStay, TellsTables, LeavesOnly, HashesOn};
 
-use crate::hashing::hash_running;
+use crate::glancing::glance_at;
 use crate::opening::open_tables;
 use crate::reading::{ListFiles, NextObject, ViewObject};
 use crate::remembering::{look, tell_open};
 use crate::sending::stream_known;
 use crate::showing::perform_if_open;
 use crate::tasks::transact;
-use crate::ticking::{MoveClock, copy_log};
+use crate::ticking::{MoveClock, WriteClock};
 use dep_answers::{Performed, Service, StoredFile};
 use dep_decisions::Operation;
 use dep_moment::Moment;
 use dep_requests::{Remembered, clock_still, file_shown, recalled, show_service, still_known};
-use dep_schema::OpenFault;
+use dep_schema::{OpenFault, check_open};
 use dep_staging::RunningHashes;
 use dep_streams::{Audit, Watch, audit_files};
 use dep_types::{Config, ObjectView, Outlet, StoreFault, StreamFault};
@@ -220,7 +220,7 @@ impl<S: Alter> Store<S> {
         }
         self.remembered = None;
         self.shown = None;
-        hash_running(&mut self.connection, running)
+        glance_at(&mut self.connection, running)
     }
 
     /// Commits the clock as it is. Before a commit SQLite copies a log of 1,000 pages and more into the file, so behind
@@ -233,7 +233,8 @@ impl<S: Alter> Store<S> {
         }
         self.remembered = None;
         self.shown = None;
-        copy_log(&mut self.connection)
+        check_open(&mut self.connection)?;
+        transact(&mut self.connection, &WriteClock)
     }
 
     /// Sends the content of the file of this number, one block at a time.
@@ -261,9 +262,6 @@ impl<S: Alter> Store<S> {
             (λ s found. found ≡ view_at s object) result }
         ensures still { TablesStay (state S.Store self.old) (state S.Store self.new) }
     {
-        if !self.connection.is_autocommit() {
-            return Err(StoreFault::Store);
-        }
         self.remembered = None;
         self.shown = None;
         let task = ViewObject {
@@ -283,9 +281,6 @@ impl<S: Alter> Store<S> {
         ensures opened { HasCleanDisk (state S.Store self.new)
             → OnOk result (IsTrue (state S.Store self.old).is_open) }
     {
-        if !self.connection.is_autocommit() {
-            return Err(StoreFault::Store);
-        }
         self.remembered = None;
         self.shown = None;
         transact(&mut self.connection, &NextObject { after })
@@ -298,9 +293,6 @@ impl<S: Alter> Store<S> {
         ensures { TellsTables (state S.Store self.old) (state S.Store self.new)
             (λ t audit. IsObjectAudited t object audit) result }
     {
-        if !self.connection.is_autocommit() {
-            return Err(StoreFault::Store);
-        }
         self.remembered = None;
         self.shown = None;
         let task = ListFiles {

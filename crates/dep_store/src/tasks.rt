@@ -1,6 +1,5 @@
 //! What is done in a transaction that is committed.
 
-ghost use Rattle.std.specs.Prelude.{◌≡◌, false};
 ghost use Rattle.sqlite.specs.Held.{state};
 ghost use Rattle.dep_tables.specs.Tables.{Tables};
 ghost use Rattle.dep_store.specs.Tasks.{Makes, TransactsIfOpen};
@@ -23,15 +22,17 @@ pub(crate) trait Task {
         ensures { Makes T.lenders T.state tx.old tx.new result (makes self.now) };
 }
 
-/// Does it in a transaction of its own, and commits that.
+/// Does it in a transaction of its own, and commits that. It fails where one is under way.
 pub(crate) fn transact<S: Alter, K: Task>(
     connection: &mut Connection<S>,
     task: &K,
 ) -> Result<K::Answer, StoreFault>
-    requires settled { (state S.Store connection.old).in_transaction ≡ false }
     ensures { TransactsIfOpen (state S.Store connection.old) (state S.Store connection.new) result
         (K.makes task.now) }
 {
+    if !connection.is_autocommit() {
+        return Err(StoreFault::Store);
+    }
     let mut tx = connection.transaction();
     let answer = task.run(&mut Lent { tx: &mut tx })?;
     commit(tx)?;

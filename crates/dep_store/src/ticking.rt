@@ -1,15 +1,9 @@
 //! The clock.
 
-ghost use Rattle.std.specs.Prelude.{◌≡◌, false};
-ghost use Rattle.sqlite.specs.Held.{state};
-ghost use Rattle.dep_store.specs.Copying.{CopiesLog};
-
-use crate::tasks::{Task, transact};
+use crate::tasks::Task;
 use dep_moment::Moment;
-use dep_schema::check_open;
 use dep_tables::{Statements, read_state, write_state};
 use dep_types::{Config, StoreFault};
-use sqlite::{Alter, Connection};
 
 /// Moves the clock to the moment, and never back, and ends the uploads that were left idle.
 #[derive(Clone, Copy)]
@@ -36,9 +30,9 @@ impl<'a> Task for MoveClock<'a> {
     }
 }
 
-/// Writes the row of the clock and the counters as it is read.
+/// Writes the row of the clock and the counters as it is read. Before its commit SQLite copies a long log into the file.
 #[derive(Clone, Copy)]
-struct WriteClock;
+pub(crate) struct WriteClock;
 
 impl Task for WriteClock {
     ghost use Rattle.dep_store.specs.Copying.{RewritesClock};
@@ -51,14 +45,4 @@ impl Task for WriteClock {
         let row = read_state(tx)?;
         write_state(tx, &row)
     }
-}
-
-/// Has the log copied into the file, by a transaction that writes the row of the clock as it is. Over a store that was
-/// shut none is begun.
-pub(crate) fn copy_log<S: Alter>(connection: &mut Connection<S>) -> Result<(), StoreFault>
-    requires settled { (state S.Store connection.old).in_transaction ≡ false }
-    ensures { CopiesLog (state S.Store connection.old) (state S.Store connection.new) result }
-{
-    check_open(connection)?;
-    transact(connection, &WriteClock)
 }

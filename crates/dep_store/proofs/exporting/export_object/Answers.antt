@@ -1,5 +1,9 @@
-use Rattle.std.proofs.Common.{◌≡◌, Err, ap, refl}
+use Rattle.std.proofs.Common.{◌≡◌, ◌∙◌, Err, ap, sym, subst}
+use Rattle.dep_program.specs.declared.outcome.Outcome.{Outcome}
 use Rattle.dep_program.specs.declared.outcome.Outcome.TheVariants.{Done, NoSuchObject, TransferFault}
+use Rattle.dep_store.specs.Exports.{Exports}
+use Rattle.dep_store.specs.Reporting.{BlamesTransfer}
+use Rattle.dep_store.proofs.Exported.{gives, only_absent, never_done, blames}
 use Rattle.dep_store.proofs.ReportLemmas.{no_transfer}
 use Rattle.dep_store.proofs.exporting.export_object.Goals as goal
 
@@ -8,18 +12,6 @@ done_is_there said = cc said
 
 done_transfers : Done ≡ TransferFault → ⊥
 done_transfers said = cc said
-
-absent_transfers : NoSuchObject ≡ TransferFault → ⊥
-absent_transfers said = cc said
-
-absent_is_undone : NoSuchObject ≡ Done → ⊥
-absent_is_undone said = cc said
-
-failed_is_there : TransferFault ≡ NoSuchObject → ⊥
-failed_is_there said = cc said
-
-failed_is_undone : TransferFault ≡ Done → ⊥
-failed_is_undone said = cc said
 
 pub returns-in-Ok : goal.returns-in-Ok
 returns-in-Ok g c =
@@ -32,24 +24,16 @@ returns-in-Ok g c =
       still = did.still;
     }
 
-pub returns-in-Err-NoSuchObject : goal.returns-in-Err-NoSuchObject
-returns-in-Err-NoSuchObject g c =
-    let its = c.in-Err-NoSuchObject in
+pub returns-in-Err : goal.returns-in-Err
+returns-in-Err g c =
+    let did = c.in-Err.ensures in
+    let fault = c.in-Err.fault in
+    let outcome = c.outcome_of.result in
+    let is = c.outcome_of.ensures in
     record {
-      gives = rw its.field-0-is at its.ensures.gives;
-      absent = λ said. its.ensures.absent (ap Err its.field-0-is);
-      blames = no_transfer _ _ NoSuchObject absent_transfers (rw its.field-0-is at its.ensures.cause);
-      kept = λ done. absurd (absent_is_undone done);
-      still = its.ensures.still;
-    }
-
-pub returns-in-Err-Sink : goal.returns-in-Err-Sink
-returns-in-Err-Sink g c =
-    let its = c.in-Err-Sink in
-    record {
-      gives = rw its.field-0-is at its.ensures.gives;
-      absent = λ said. absurd (failed_is_there said);
-      blames = record { count = λ other. absurd (other refl); cause = λ said. rw its.field-0-is at its.ensures.cause };
-      kept = λ done. absurd (failed_is_undone done);
-      still = its.ensures.still;
+      gives = (did.gives.0, did.gives.1, λ clean s stands. subst (λ (o : Outcome). Exports s c.args.object did.gives.0 o) (sym is) (gives s c.args.object did.gives.0 fault (did.gives.2 clean s stands)));
+      absent = λ said. did.absent (ap Err (only_absent fault (sym is ∙ said)));
+      blames = subst (λ (o : Outcome). BlamesTransfer (g.K.Outlet.failures c.args.sink.now) (g.K.Outlet.failures c.export.new.sink) o) (sym is) (blames _ _ fault did.cause);
+      kept = λ done. absurd (never_done fault (sym is ∙ done));
+      still = did.still;
     }

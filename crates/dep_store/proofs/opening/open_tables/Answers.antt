@@ -1,244 +1,136 @@
 use Rattle.std.proofs.Common.{◌≡◌, ℕ, inl, inr, refl, sym, subst, ◌∙◌, rules, arith}
 use Rattle.sqlite.specs.Held.{state}
 use Rattle.sqlite.proofs.StateLemmas.{clean_if_open}
-use Rattle.dep_store.proofs.Migrated.{ok_states, err_states, stop_states}
+use Rattle.dep_store.proofs.Migrated.{ok_states, err_states}
 use Rattle.dep_schema.proofs.Refusing.{clean_last}
 use Rattle.dep_tables.specs.Schema.{our_schema, older_schema}
 use Rattle.dep_tables.specs.Versions.{our_version, HasVersion}
-use Rattle.dep_store.proofs.Opened.{opened_stood, first_means, leaves_opened, is_openable, stood_back}
+use Rattle.dep_store.proofs.Opened.{opened_stood, first_means, leaves_migrated, leaves_opened, is_openable, stood_back}
+use Rattle.dep_schema.proofs.Version.{not_older}
 use Rattle.dep_store.proofs.Older.{never_unknown, one_left, tells_older, known_since, back_since, had_free, not_upgraded}
 use Rattle.dep_schema.specs.OpenFaults.{begun, ShowsOrMakes}
 use Rattle.dep_schema.specs.Standing.{Stands, first_tables}
 use Rattle.dep_streams.proofs.Told.{passed_on}
 use Rattle.dep_store.proofs.opening.open_tables.Goals as goal
 
-pub returns-then-version-eq2-clause-found : goal.returns-then-version-eq2-clause-found
-returns-then-version-eq2-clause-found g c clean s left =
-    let old = state g.S.Store c.args.connection in
+pub returns-then-version-eq2 : goal.returns-then-version-eq2
+returns-then-version-eq2 g c =
+    let first = c.args.connection in
+    let old = state g.S.Store first in
     let new = state g.S.Store c.in_ok-schema.schema.connection in
-    elim (opened_stood old new c.in_ok-schema.schema.found s (c.in_ok-schema.ensures.found clean) left) [
-      | inl it ↦ it.1
-      | inr it ↦ absurd (let is = it.0 in omega (arith, is, c.if-version-eq2.true, c.version-version.ensures))
-    ]
-
-pub returns-then-version-eq2-clause-fresh : goal.returns-then-version-eq2-clause-fresh
-returns-then-version-eq2-clause-fresh g c clean none = record { tables = first_tables; stands = (c.in_ok-schema.ensures.fresh clean none).0; means = first_means }
-
-pub returns-then-version-eq2-clause-tables : goal.returns-then-version-eq2-clause-tables
-returns-then-version-eq2-clause-tables g c clean t holds =
+    let did = c.in_ok-schema.ensures in
     let two : c.in_ok-schema.schema.found ≡ our_version = omega (arith, c.if-version-eq2.true, c.version-version.ensures) in
-    subst (λ (n : ℕ). HasVersion n t × Stands (state g.S.Store c.in_ok-schema.schema.connection) t) two (c.in_ok-schema.ensures.found clean our_schema (inl refl) t holds)
-
-pub returns-then-version-eq2-clause-older : goal.returns-then-version-eq2-clause-older
-returns-then-version-eq2-clause-older g c clean t holds =
-    let two : c.in_ok-schema.schema.found ≡ our_version = omega (arith, c.if-version-eq2.true, c.version-version.ensures) in
-    let it = c.in_ok-schema.ensures.found clean older_schema (inr refl) t holds in
-    inr (subst (λ (n : ℕ). HasVersion n t) two it.0, it.1)
-
-pub returns-then-version-eq2-clause-told : goal.returns-then-version-eq2-clause-told
-returns-then-version-eq2-clause-told g c clean =
-    let two : c.in_ok-schema.schema.found ≡ our_version = omega (arith, c.if-version-eq2.true, c.version-version.ensures) in
-    inl (subst (ShowsOrMakes g.S.Store (begun c.args.connection)) two (c.in_ok-schema.ensures.told clean))
-
-pub returns-then-version-eq2-clause-stop : goal.returns-then-version-eq2-clause-stop
-returns-then-version-eq2-clause-stop g c =
-    let old = c.args.connection in
-    leaves_opened (state g.S.Store old) (state g.S.Store c.in_ok-schema.schema.connection) (λ is_open trees h. g.met.S.Store.settled old.store trees is_open h) (c.is_autocommit-between.ensures.settled (search rules)) c.in_ok-schema.ensures.crash
-
-pub returns-in-Ok-clause-found : goal.returns-in-Ok-clause-found
-returns-in-Ok-clause-found g c clean s left =
-    let old = state g.S.Store c.args.connection in
-    let mid = state g.S.Store c.in_ok-schema.schema.connection in
-    let new = state g.S.Store c.migrate.new.connection in
-    let it = c.in-Ok.ensures.migrates in
-    elim (opened_stood old mid c.in_ok-schema.schema.found s (c.in_ok-schema.ensures.found (it.honest clean)) left) [
-      | inl newest ↦ absurd (let is = newest.0 in omega (arith, is, c.if-version-eq2.false, c.version-version.ensures))
-      | inr older ↦ ok_states mid new _ it clean s older.1
-    ]
-
--- an empty database has version 2
-pub returns-in-Ok-clause-fresh : goal.returns-in-Ok-clause-fresh
-returns-in-Ok-clause-fresh g c clean none =
-    let is = (c.in_ok-schema.ensures.fresh (c.in-Ok.ensures.migrates.honest clean) none).1 in
-    absurd (omega (arith, is, c.if-version-eq2.false, c.version-version.ensures))
-
-pub returns-in-Ok-clause-tables : goal.returns-in-Ok-clause-tables
-returns-in-Ok-clause-tables g c clean t holds =
-    let before = c.in-Ok.ensures.migrates.honest clean in
-    let one = one_left c.in_ok-schema.schema.found c.in_ok-schema.ensures.known (λ two. omega (arith, two, c.if-version-eq2.false, c.version-version.ensures)) in
-    let still = c.in_ok-schema.ensures.still before one in
-    let at = (c.in_ok-schema.ensures.found before our_schema (inl refl) t holds).1 in
-    absurd (not_upgraded g.S.Store c.in_ok-schema.schema.connection at.ours (c.in-Ok.ensures.free clean still.is_open))
-
-pub returns-in-Ok-clause-older : goal.returns-in-Ok-clause-older
-returns-in-Ok-clause-older g c clean t holds =
-    let migrated = c.in-Ok.ensures.migrates in
-    let one = one_left c.in_ok-schema.schema.found c.in_ok-schema.ensures.known (λ two. omega (arith, two, c.if-version-eq2.false, c.version-version.ensures)) in
-    let it = c.in_ok-schema.ensures.found (migrated.honest clean) older_schema (inr refl) t holds in
-    inl (subst (λ (n : ℕ). HasVersion n t) one it.0, migrated.ok clean t it.1)
-
-pub returns-in-Ok-clause-told : goal.returns-in-Ok-clause-told
-returns-in-Ok-clause-told g c clean =
-    let before = c.in-Ok.ensures.migrates.honest clean in
-    let one = one_left c.in_ok-schema.schema.found c.in_ok-schema.ensures.known (λ two. omega (arith, two, c.if-version-eq2.false, c.version-version.ensures)) in
-    let still = c.in_ok-schema.ensures.still before one in
-    inr (tells_older g.S.Store c.args.connection c.in_ok-schema.schema.found one (c.in_ok-schema.ensures.told before), had_free g.S.Store c.args.connection c.in_ok-schema.schema.connection still (c.in-Ok.ensures.free clean still.is_open))
-
-pub returns-in-Ok-clause-honest : goal.returns-in-Ok-clause-honest
-returns-in-Ok-clause-honest g c clean =
-    clean_last (state g.S.Store c.args.connection) (state g.S.Store c.in_ok-schema.schema.connection) _ c.in_ok-schema.ensures.crash (c.in-Ok.ensures.migrates.honest clean)
-
-pub returns-in-Ok-clause-open : goal.returns-in-Ok-clause-open
-returns-in-Ok-clause-open g c is_open = c.in_ok-schema.ensures.opened (c.in-Ok.ensures.«open» is_open)
-
-pub returns-in-Ok-clause-stop : goal.returns-in-Ok-clause-stop
-returns-in-Ok-clause-stop g c =
-    let old = state g.S.Store c.args.connection in
-    let mid = state g.S.Store c.in_ok-schema.schema.connection in
-    let new = state g.S.Store c.migrate.new.connection in
-    let it = c.in-Ok.ensures.migrates in
     record {
-      fresh = λ clean is_open none trees h.
-          let is = (c.in_ok-schema.ensures.fresh (it.honest clean) none).1 in
-          absurd (omega (arith, is, c.if-version-eq2.false, c.version-version.ensures));
-      found = λ clean is_open s left trees h. (
-        s,
-        elim (opened_stood old mid c.in_ok-schema.schema.found s (c.in_ok-schema.ensures.found (it.honest clean)) left) [
-          | inl newest ↦ absurd (let is = newest.0 in omega (arith, is, c.if-version-eq2.false, c.version-version.ensures))
-          | inr older ↦ stop_states mid new _ it clean s older.1 trees h
-        ],
-        refl,
-      );
+      fresh = λ clean none. record { tables = first_tables; stands = (did.fresh clean none).0; means = first_means };
+      found = λ clean s left. elim (opened_stood old new c.in_ok-schema.schema.found s (did.found clean) left) [
+        | inl it ↦ it.1
+        | inr it ↦ absurd (not_older (sym two ∙ it.0))
+      ];
+      tables = λ clean t holds. subst (λ (n : ℕ). HasVersion n t × Stands new t) two (did.found clean our_schema (inl refl) t holds);
+      older = λ clean t holds.
+          let it = did.found clean older_schema (inr refl) t holds in
+          inr (subst (λ (n : ℕ). HasVersion n t) two it.0, it.1);
+      told = λ clean. inl (subst (ShowsOrMakes g.S.Store (begun first)) two (did.told clean));
+      refused = tt;
+      known = tt;
+      left = tt;
+      stood = tt;
+      mode = did.mode;
+      honest = clean_last old new _ did.crash;
+      «open» = did.opened;
+      stop = leaves_opened old new (λ is_open trees h. g.met.S.Store.settled first.store trees is_open h) (c.is_autocommit-between.ensures.settled (search rules)) did.crash;
     }
 
-pub returns-in-Err-clause-left : goal.returns-in-Err-clause-left
-returns-in-Err-clause-left g c is_open =
-    let old = state g.S.Store c.args.connection in
-    let store = c.migrate.new.connection.store in
-    let it = c.in-Err.ensures in
-    let before = it.migrates.honest (clean_if_open (g.S.Store.view store) (g.met.S.Store.shut_if_dirty store) is_open) in
-    let one = one_left c.in_ok-schema.schema.found c.in_ok-schema.ensures.known (λ two. omega (arith, two, c.if-version-eq2.false, c.version-version.ensures)) in
-    let still = c.in_ok-schema.ensures.still before one in
-    let between = c.is_autocommit-between.ensures.settled (search rules) still.was_open in
+-- tables of version 1 became those of version 2
+pub returns-in-Ok : goal.returns-in-Ok
+returns-in-Ok g c =
+    let first = c.args.connection in
+    let opened = c.in_ok-schema.schema.connection in
+    let old = state g.S.Store first in
+    let mid = state g.S.Store opened in
+    let new = state g.S.Store c.migrate.new.connection in
+    let found = c.in_ok-schema.schema.found in
+    let did = c.in_ok-schema.ensures in
+    let moved = c.in-Ok.ensures in
+    let it = moved.migrates in
+    let one = one_left found did.known (λ two. omega (arith, two, c.if-version-eq2.false, c.version-version.ensures)) in
     record {
-      known = λ known. back_since old (state g.S.Store c.in_ok-schema.schema.connection) (state g.S.Store c.migrate.new.connection) between still
-          (it.left is_open (still.now ∙ sym still.committed) (known_since old (state g.S.Store c.in_ok-schema.schema.connection) still known));
-      other = λ none. absurd (none (tells_older g.S.Store c.args.connection c.in_ok-schema.schema.found one (c.in_ok-schema.ensures.told before)));
+      -- an empty database has version 2
+      fresh = λ clean none. absurd (not_older (sym (did.fresh (it.honest clean) none).1 ∙ one));
+      found = λ clean s left. elim (opened_stood old mid found s (did.found (it.honest clean)) left) [
+        | inl newest ↦ absurd (not_older (sym newest.0 ∙ one))
+        | inr older ↦ ok_states mid new _ it clean s older.1
+      ];
+      tables = λ clean t holds.
+          let before = it.honest clean in
+          absurd (not_upgraded g.S.Store opened (did.found before our_schema (inl refl) t holds).1.ours (moved.free clean (did.still before one).is_open));
+      older = λ clean t holds.
+          let its = did.found (it.honest clean) older_schema (inr refl) t holds in
+          inl (subst (λ (n : ℕ). HasVersion n t) one its.0, it.ok clean t its.1);
+      told = λ clean.
+          let before = it.honest clean in
+          let still = did.still before one in
+          inr (tells_older g.S.Store first found one (did.told before), had_free g.S.Store first opened still (moved.free clean still.is_open));
+      refused = tt;
+      known = tt;
+      left = tt;
+      stood = tt;
+      mode = moved.mode;
+      honest = λ clean. clean_last old mid _ did.crash (it.honest clean);
+      «open» = λ is_open. did.opened (moved.«open» is_open);
+      stop = leaves_migrated old mid new _ found one did.found (λ clean none. (did.fresh clean none).1) it;
     }
 
-pub returns-in-Err-clause-told : goal.returns-in-Err-clause-told
-returns-in-Err-clause-told g c clean =
-    let old = state g.S.Store c.args.connection in
-    let it = c.in-Err.ensures in
-    let before = it.migrates.honest clean in
-    let one = one_left c.in_ok-schema.schema.found c.in_ok-schema.ensures.known (λ two. omega (arith, two, c.if-version-eq2.false, c.version-version.ensures)) in
-    let still = c.in_ok-schema.ensures.still before one in
-    inr (
-      tells_older g.S.Store c.args.connection c.in_ok-schema.schema.found one (c.in_ok-schema.ensures.told before),
-      c.in_ok-schema.schema.connection,
-      still,
-      c.in-Err.fault,
-      c.from.ensures,
-      (λ known. it.cause clean still.is_open (known_since old (state g.S.Store c.in_ok-schema.schema.connection) still known)),
-    )
-
-pub returns-in-Err-clause-stood : goal.returns-in-Err-clause-stood
-returns-in-Err-clause-stood g c is_open s left =
-    let old = state g.S.Store c.args.connection in
-    let mid = state g.S.Store c.in_ok-schema.schema.connection in
-    let store = c.migrate.new.connection.store in
-    let new = state g.S.Store c.migrate.new.connection in
-    let it = c.in-Err.ensures.migrates in
-    let clean = clean_if_open (g.S.Store.view store) (g.met.S.Store.shut_if_dirty store) is_open in
-    elim (opened_stood old mid c.in_ok-schema.schema.found s (c.in_ok-schema.ensures.found (it.honest clean)) left) [
-      | inl newest ↦ absurd (let is = newest.0 in omega (arith, is, c.if-version-eq2.false, c.version-version.ensures))
-      | inr older ↦ inr (err_states mid new _ it is_open s older.1)
-    ]
-
-pub returns-in-Err-clause-honest : goal.returns-in-Err-clause-honest
-returns-in-Err-clause-honest g c clean =
-    clean_last (state g.S.Store c.args.connection) (state g.S.Store c.in_ok-schema.schema.connection) _ c.in_ok-schema.ensures.crash (c.in-Err.ensures.migrates.honest clean)
-
-pub returns-in-Err-clause-open : goal.returns-in-Err-clause-open
-returns-in-Err-clause-open g c is_open = c.in_ok-schema.ensures.opened (c.in-Err.ensures.«open» is_open)
-
-pub returns-in-Err-clause-stop : goal.returns-in-Err-clause-stop
-returns-in-Err-clause-stop g c =
-    let old = state g.S.Store c.args.connection in
-    let mid = state g.S.Store c.in_ok-schema.schema.connection in
-    let new = state g.S.Store c.migrate.new.connection in
-    let it = c.in-Err.ensures.migrates in
+-- or the migration failed
+pub returns-in-Err : goal.returns-in-Err
+returns-in-Err g c =
+    let first = c.args.connection in
+    let opened = c.in_ok-schema.schema.connection in
+    let last = c.migrate.new.connection in
+    let old = state g.S.Store first in
+    let mid = state g.S.Store opened in
+    let new = state g.S.Store last in
+    let found = c.in_ok-schema.schema.found in
+    let did = c.in_ok-schema.ensures in
+    let moved = c.in-Err.ensures in
+    let it = moved.migrates in
+    let shut = clean_if_open (g.S.Store.view last.store) (g.met.S.Store.shut_if_dirty last.store) in
+    let one = one_left found did.known (λ two. omega (arith, two, c.if-version-eq2.false, c.version-version.ensures)) in
     record {
-      fresh = λ clean is_open none trees h.
-          let is = (c.in_ok-schema.ensures.fresh (it.honest clean) none).1 in
-          absurd (omega (arith, is, c.if-version-eq2.false, c.version-version.ensures));
-      found = λ clean is_open s left trees h. (
-        s,
-        elim (opened_stood old mid c.in_ok-schema.schema.found s (c.in_ok-schema.ensures.found (it.honest clean)) left) [
-          | inl newest ↦ absurd (let is = newest.0 in omega (arith, is, c.if-version-eq2.false, c.version-version.ensures))
-          | inr older ↦ stop_states mid new _ it clean s older.1 trees h
-        ],
-        refl,
-      );
+      fresh = tt;
+      found = tt;
+      tables = tt;
+      older = tt;
+      told = λ clean.
+          let before = it.honest clean in
+          let still = did.still before one in
+          inr (
+            tells_older g.S.Store first found one (did.told before),
+            opened,
+            still,
+            c.in-Err.fault,
+            c.from.ensures,
+            (λ known. moved.cause clean still.is_open (known_since old mid still known)),
+          );
+      refused = λ clean said openable. never_unknown c.in-Err.fault (sym c.from.ensures ∙ said);
+      known = λ clean is_open s left said. never_unknown c.in-Err.fault (sym c.from.ensures ∙ said);
+      left = λ is_open.
+          let before = it.honest (shut is_open) in
+          let still = did.still before one in
+          let between = c.is_autocommit-between.ensures.settled (search rules) still.was_open in
+          record {
+            known = λ known. back_since old mid new between still (moved.left is_open (still.now ∙ sym still.committed) (known_since old mid still known));
+            other = λ none. absurd (none (tells_older g.S.Store first found one (did.told before)));
+          };
+      stood = λ is_open s left. elim (opened_stood old mid found s (did.found (it.honest (shut is_open))) left) [
+        | inl newest ↦ absurd (not_older (sym newest.0 ∙ one))
+        | inr older ↦ inr (err_states mid new _ it is_open s older.1)
+      ];
+      mode = moved.mode;
+      honest = λ clean. clean_last old mid _ did.crash (it.honest clean);
+      «open» = λ is_open. did.opened (moved.«open» is_open);
+      stop = leaves_migrated old mid new _ found one did.found (λ clean none. (did.fresh clean none).1) it;
     }
-
-pub returns-then-version-eq2-clause-refused : goal.returns-then-version-eq2-clause-refused
-returns-then-version-eq2-clause-refused g c = tt
-
-pub returns-then-version-eq2-clause-known : goal.returns-then-version-eq2-clause-known
-returns-then-version-eq2-clause-known g c = tt
-
-pub returns-then-version-eq2-clause-left : goal.returns-then-version-eq2-clause-left
-returns-then-version-eq2-clause-left g c = tt
-
-pub returns-then-version-eq2-clause-stood : goal.returns-then-version-eq2-clause-stood
-returns-then-version-eq2-clause-stood g c = tt
-
-pub returns-then-version-eq2-clause-mode : goal.returns-then-version-eq2-clause-mode
-returns-then-version-eq2-clause-mode g c = c.in_ok-schema.ensures.mode
-
-pub returns-then-version-eq2-clause-honest : goal.returns-then-version-eq2-clause-honest
-returns-then-version-eq2-clause-honest g c =
-    clean_last (state g.S.Store c.args.connection) (state g.S.Store c.in_ok-schema.schema.connection) _ c.in_ok-schema.ensures.crash
-
-pub returns-then-version-eq2-clause-open : goal.returns-then-version-eq2-clause-open
-returns-then-version-eq2-clause-open g c = c.in_ok-schema.ensures.opened
-
-pub returns-in-Ok-clause-refused : goal.returns-in-Ok-clause-refused
-returns-in-Ok-clause-refused g c = tt
-
-pub returns-in-Ok-clause-known : goal.returns-in-Ok-clause-known
-returns-in-Ok-clause-known g c = tt
-
-pub returns-in-Ok-clause-left : goal.returns-in-Ok-clause-left
-returns-in-Ok-clause-left g c = tt
-
-pub returns-in-Ok-clause-stood : goal.returns-in-Ok-clause-stood
-returns-in-Ok-clause-stood g c = tt
-
-pub returns-in-Ok-clause-mode : goal.returns-in-Ok-clause-mode
-returns-in-Ok-clause-mode g c = c.in-Ok.ensures.mode
-
-pub returns-in-Err-clause-fresh : goal.returns-in-Err-clause-fresh
-returns-in-Err-clause-fresh g c = tt
-
-pub returns-in-Err-clause-found : goal.returns-in-Err-clause-found
-returns-in-Err-clause-found g c = tt
-
-pub returns-in-Err-clause-tables : goal.returns-in-Err-clause-tables
-returns-in-Err-clause-tables g c = tt
-
-pub returns-in-Err-clause-older : goal.returns-in-Err-clause-older
-returns-in-Err-clause-older g c = tt
-
-pub returns-in-Err-clause-refused : goal.returns-in-Err-clause-refused
-returns-in-Err-clause-refused g c clean said openable = never_unknown c.in-Err.fault (sym c.from.ensures ∙ said)
-
-pub returns-in-Err-clause-known : goal.returns-in-Err-clause-known
-returns-in-Err-clause-known g c clean is_open s left said = never_unknown c.in-Err.fault (sym c.from.ensures ∙ said)
-
-pub returns-in-Err-clause-mode : goal.returns-in-Err-clause-mode
-returns-in-Err-clause-mode g c = c.in-Err.ensures.mode
 
 pub returns-in_err-schema : goal.returns-in_err-schema
 returns-in_err-schema g c =

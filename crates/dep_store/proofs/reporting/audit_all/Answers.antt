@@ -21,54 +21,53 @@ returns-in-Err g c =
       blames = transfer_of _ _ c.in-Err.fault c.outcome_of.result c.outcome_of.ensures did.blames;
     }
 
-pub returns-in-Ok-write_count-clause-stays : goal.returns-in-Ok-write_count-clause-stays
-returns-in-Ok-write_count-clause-stays g c = c.in-Ok.ensures.stays
+pub returns-in-Ok-write_count : goal.returns-in-Ok-write_count
+returns-in-Ok-write_count g c =
+    let told = c.in-Ok.ensures in
+    let lines = told.writes in
+    let last = c.in-Ok-write_count.ensures in
+    record {
+      writes = (
+        lines.0 ++ last.writes.0,
+        Appends-trans (g.W.Outlet.taken c.args.out.now) (g.W.Outlet.taken c.report_objects.new.out) (g.W.Outlet.taken c.write_count.new.out) lines.0 last.writes.0 lines.1 last.writes.1,
+        λ clean t at. subst (λ (l : List ℕ). IsWhole t (lines.0 ++ l) Done) (sym last.writes.2)
+            (all_whole t lines.0 c.in-Ok.tally (lines.2 clean t at) Done (ap outcome_of_audit (sym c.if-tally-eq0.true))),
+      );
+      stays = told.stays;
+      blames = no_transfer _ _ Done done_otherwise (last.blames.count ∙ told.blames.count);
+    }
 
-pub returns-in-Ok-write_count-clause-blames : goal.returns-in-Ok-write_count-clause-blames
-returns-in-Ok-write_count-clause-blames g c = no_transfer _ _ Done done_otherwise (c.in-Ok-write_count.ensures.blames.count ∙ c.in-Ok.ensures.blames.count)
+pub returns-in-Ok-2 : goal.returns-in-Ok-2
+returns-in-Ok-2 g c =
+    let told = c.in-Ok.ensures in
+    let lines = told.writes in
+    let last = c.in-Ok-2.ensures in
+    let some : 0 < c.in-Ok.tally.damaged = omega (arith, c.if-tally-eq0.false) in
+    record {
+      writes = (
+        lines.0 ++ last.writes.0,
+        Appends-trans (g.W.Outlet.taken c.args.out.now) (g.W.Outlet.taken c.report_objects.new.out) (g.W.Outlet.taken c.write_count.new.out) lines.0 last.writes.0 lines.1 last.writes.1,
+        λ clean t at. subst (λ (l : List ℕ). IsWhole t (lines.0 ++ l) Damaged) (sym last.writes.2)
+            (all_whole t lines.0 c.in-Ok.tally (lines.2 clean t at) Damaged (is_damaged c.in-Ok.tally.damaged some)),
+      );
+      stays = told.stays;
+      blames = no_transfer _ _ Damaged damaged_otherwise (last.blames.count ∙ told.blames.count);
+    }
 
-pub returns-in-Ok-2-clause-stays : goal.returns-in-Ok-2-clause-stays
-returns-in-Ok-2-clause-stays g c = c.in-Ok.ensures.stays
-
-pub returns-in-Ok-2-clause-blames : goal.returns-in-Ok-2-clause-blames
-returns-in-Ok-2-clause-blames g c = no_transfer _ _ Damaged damaged_otherwise (c.in-Ok-2.ensures.blames.count ∙ c.in-Ok.ensures.blames.count)
-
-pub returns-in-Err-write_count-clause-stays : goal.returns-in-Err-write_count-clause-stays
-returns-in-Err-write_count-clause-stays g c = c.in-Ok.ensures.stays
-
-pub returns-in-Err-write_count-clause-blames : goal.returns-in-Err-write_count-clause-blames
-returns-in-Err-write_count-clause-blames g c =
+pub returns-in-Err-write_count : goal.returns-in-Err-write_count
+returns-in-Err-write_count g c =
+    let told = c.in-Ok.ensures in
+    let lines = told.writes in
+    let failed = c.in-Err-write_count in
+    let part = failed.ensures in
     let outcome = c.outcome_of-in-Err-write_count in
-    transfer_of {X = Unit {0}} _ _ c.in-Err-write_count.fault outcome.result outcome.ensures
-    (subst (λ n. BlamesWriter {X = Unit {0}} n (g.W.Outlet.failures c.write_count.new.out) (Err c.in-Err-write_count.fault)) c.in-Ok.ensures.blames.count c.in-Err-write_count.ensures.blames)
-
-pub returns-in-Ok-write_count-clause-writes : goal.returns-in-Ok-write_count-clause-writes
-returns-in-Ok-write_count-clause-writes g c =
-    let lines = c.in-Ok.ensures.writes in
-    let last = c.in-Ok-write_count.ensures.writes in (
-      lines.0 ++ last.0,
-      Appends-trans (g.W.Outlet.taken c.args.out.now) (g.W.Outlet.taken c.report_objects.new.out) (g.W.Outlet.taken c.write_count.new.out) lines.0 last.0 lines.1 last.1,
-      λ clean t at. subst (λ (l : List ℕ). IsWhole t (lines.0 ++ l) Done) (sym last.2)
-          (all_whole t lines.0 c.in-Ok.tally (lines.2 clean t at) Done (ap outcome_of_audit (sym c.if-tally-eq0.true))),
-    )
-
-pub returns-in-Ok-2-clause-writes : goal.returns-in-Ok-2-clause-writes
-returns-in-Ok-2-clause-writes g c =
-    let lines = c.in-Ok.ensures.writes in
-    let last = c.in-Ok-2.ensures.writes in
-    let some : 0 < c.in-Ok.tally.damaged = omega (arith, c.if-tally-eq0.false) in (
-      lines.0 ++ last.0,
-      Appends-trans (g.W.Outlet.taken c.args.out.now) (g.W.Outlet.taken c.report_objects.new.out) (g.W.Outlet.taken c.write_count.new.out) lines.0 last.0 lines.1 last.1,
-      λ clean t at. subst (λ (l : List ℕ). IsWhole t (lines.0 ++ l) Damaged) (sym last.2)
-          (all_whole t lines.0 c.in-Ok.tally (lines.2 clean t at) Damaged (is_damaged c.in-Ok.tally.damaged some)),
-    )
-
-pub returns-in-Err-write_count-clause-writes : goal.returns-in-Err-write_count-clause-writes
-returns-in-Err-write_count-clause-writes g c =
-    let lines = c.in-Ok.ensures.writes in
-    let part = c.in-Err-write_count.ensures.writes in (
-      lines.0 ++ part.0,
-      Appends-trans (g.W.Outlet.taken c.args.out.now) (g.W.Outlet.taken c.report_objects.new.out) (g.W.Outlet.taken c.write_count.new.out) lines.0 part.0 lines.1 part.1,
-      λ clean t at. fault_begun t (lines.0 ++ part.0) c.in-Err-write_count.fault c.outcome_of-in-Err-write_count.result c.outcome_of-in-Err-write_count.ensures
-          (all_begun t lines.0 c.in-Ok.tally (lines.2 clean t at) part.0 part.2),
-    )
+    record {
+      writes = (
+        lines.0 ++ part.writes.0,
+        Appends-trans (g.W.Outlet.taken c.args.out.now) (g.W.Outlet.taken c.report_objects.new.out) (g.W.Outlet.taken c.write_count.new.out) lines.0 part.writes.0 lines.1 part.writes.1,
+        λ clean t at. fault_begun t (lines.0 ++ part.writes.0) failed.fault outcome.result outcome.ensures (all_begun t lines.0 c.in-Ok.tally (lines.2 clean t at) part.writes.0 part.writes.2),
+      );
+      stays = told.stays;
+      blames = transfer_of {X = Unit {0}} _ _ failed.fault outcome.result outcome.ensures
+          (subst (λ n. BlamesWriter {X = Unit {0}} n (g.W.Outlet.failures c.write_count.new.out) (Err failed.fault)) told.blames.count part.blames);
+    }

@@ -1,5 +1,6 @@
 use Rattle.std.proofs.Common.{◌++◌, [], Err, refl, subst, ◌∙◌}
 use Rattle.std.proofs.KnownBytes.{Appends-nil, Appends-trans}
+use Rattle.sqlite.specs.Held.{state}
 use Rattle.dep_tables.specs.Edits.{IsObjectAfter}
 use Rattle.dep_store.specs.declared.tally.Tally.{Tally}
 use Rattle.dep_store.specs.declared.audit_fault.AuditFault.TheVariants.{Store}
@@ -20,7 +21,7 @@ returns-in_default g c =
       );
       stays =
           let inv = c.objects.invariant in
-          keeps_then _ _ _ inv.kept inv.stays (tells_keeps _ _ _ _ c.in_ok-object.ensures.rows);
+          keeps_then (state g.S.Store c.args.store.now) (state g.S.Store c.objects.store) (state g.S.Store c.next_object.new.self) inv.kept inv.stays (tells_keeps (state g.S.Store c.objects.store) (state g.S.Store c.next_object.new.self) _ _ c.in_ok-object.ensures.rows);
       blames = blame_none _ _ _ c.objects.invariant.count (λ is. cc is);
     }
 
@@ -42,7 +43,7 @@ returns-in_err-more g c =
       stays =
           let inv = c.objects.invariant in
           let rows = c.in_ok-object.ensures.rows in
-          keeps_then _ _ _ (λ clean t at. (rows.ok clean t (inv.kept (rows.honest clean) t at)).1) (keeps_then _ _ _ inv.kept inv.stays (tells_keeps _ _ _ _ rows)) c.in_err-more.ensures.reports.stays;
+          keeps_then (state g.S.Store c.args.store.now) (state g.S.Store c.next_object.new.self) (state g.S.Store c.report_object.new.store) (λ clean t at. (rows.ok clean t (inv.kept (rows.honest clean) t at)).1) (keeps_then (state g.S.Store c.args.store.now) (state g.S.Store c.objects.store) (state g.S.Store c.next_object.new.self) inv.kept inv.stays (tells_keeps (state g.S.Store c.objects.store) (state g.S.Store c.next_object.new.self) _ _ rows)) c.in_err-more.ensures.reports.stays;
       blames = blame_passed _ _ _ c.objects.invariant.count c.in_err-more.field-0.0 c.in_err-more.ensures.reports.blames c.from_residual-in_err-more.result c.from_residual-in_err-more.ensures.1;
     }
 
@@ -64,7 +65,7 @@ returns-in_err-tally g c =
       stays =
           let inv = c.objects.invariant in
           let rows = c.in_ok-object.ensures.rows in
-          keeps_then _ _ _ (λ clean t at. (rows.ok clean t (inv.kept (rows.honest clean) t at)).1) (keeps_then _ _ _ inv.kept inv.stays (tells_keeps _ _ _ _ rows)) c.in_ok-more.ensures.reports.stays;
+          keeps_then (state g.S.Store c.args.store.now) (state g.S.Store c.next_object.new.self) (state g.S.Store c.report_object.new.store) (λ clean t at. (rows.ok clean t (inv.kept (rows.honest clean) t at)).1) (keeps_then (state g.S.Store c.args.store.now) (state g.S.Store c.objects.store) (state g.S.Store c.next_object.new.self) inv.kept inv.stays (tells_keeps (state g.S.Store c.objects.store) (state g.S.Store c.next_object.new.self) _ _ rows)) c.in_ok-more.ensures.reports.stays;
       blames = blame_passed {X = Tally} _ _ _ c.objects.invariant.count c.in_err-tally.field-0.0 (blame_none _ _ (Err c.in_err-tally.field-0.0) c.in_ok-more.ensures.reports.blames.count c.in_err-tally.ensures.fault) c.from_residual-in_err-tally.result c.from_residual-in_err-tally.ensures.1;
     }
 
@@ -73,7 +74,7 @@ objects-preserved g c =
     let inv = c.objects.invariant in
     let before = inv.writes in
     let more = c.in_ok-more.ensures.reports.writes in record {
-      stays = keeps_then _ _ _ (λ clean t at. (c.in_ok-object.ensures.rows.ok clean t (inv.kept (c.in_ok-object.ensures.rows.honest clean) t at)).1) (keeps_then _ _ _ inv.kept inv.stays (tells_keeps _ _ _ _ c.in_ok-object.ensures.rows)) c.in_ok-more.ensures.reports.stays;
+      stays = keeps_then (state g.S.Store c.args.store.now) (state g.S.Store c.next_object.new.self) (state g.S.Store c.report_object.new.store) (λ clean t at. (c.in_ok-object.ensures.rows.ok clean t (inv.kept (c.in_ok-object.ensures.rows.honest clean) t at)).1) (keeps_then (state g.S.Store c.args.store.now) (state g.S.Store c.objects.store) (state g.S.Store c.next_object.new.self) inv.kept inv.stays (tells_keeps (state g.S.Store c.objects.store) (state g.S.Store c.next_object.new.self) _ _ c.in_ok-object.ensures.rows)) c.in_ok-more.ensures.reports.stays;
       kept = λ clean t at. let mid = c.in_ok-more.ensures.reports.stays.honest clean in
           c.in_ok-more.ensures.kept clean t (c.in_ok-object.ensures.rows.ok mid t (inv.kept (c.in_ok-object.ensures.rows.honest mid) t at)).1;
       writes = (
@@ -92,7 +93,7 @@ objects-preserved g c =
 
 pub objects-init : goal.objects-init
 objects-init g c = record {
-  stays = keeps_still _ (λ is_open trees may. g.met.S.Store.settled c.args.store.now.store trees is_open may);
+  stays = keeps_still (state g.S.Store c.args.store.now) (λ is_open trees may. g.met.S.Store.settled c.args.store.now.store trees is_open may);
   kept = λ clean t at. at;
   writes = ([], Appends-nil (g.W.Outlet.taken c.args.out.now), λ clean t at. told_none t _ refl refl);
   count = refl;
@@ -109,7 +110,7 @@ returns-in_err-object g c =
       );
       stays =
           let inv = c.objects.invariant in
-          keeps_then _ _ _ inv.kept inv.stays (tells_keeps _ _ _ _ c.in_err-object.ensures.rows);
+          keeps_then (state g.S.Store c.args.store.now) (state g.S.Store c.objects.store) (state g.S.Store c.next_object.new.self) inv.kept inv.stays (tells_keeps (state g.S.Store c.objects.store) (state g.S.Store c.next_object.new.self) _ _ c.in_err-object.ensures.rows);
       blames = blame_passed {X = Tally} _ _ _ c.objects.invariant.count Store (blame_none _ _ (Err Store) refl (λ is. cc is)) c.from_residual.result c.from_residual.ensures.1;
     }
 

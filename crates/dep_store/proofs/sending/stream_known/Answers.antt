@@ -1,23 +1,62 @@
-use Rattle.std.proofs.Common.{Option, sym, subst, rules}
+use Rattle.std.proofs.Common.{IsTrue, refl, sym, subst, rules}
 use Rattle.std.proofs.lemmas.Result.{IfOk-from_err}
 use Rattle.sqlite.specs.State.{HasCleanDisk}
 use Rattle.sqlite.specs.Held.{state}
 use Rattle.sqlite.proofs.StateLemmas.{clean_if_open}
-use Rattle.dep_tables.specs.Tables.{Tables}
+use Rattle.dep_tables.specs.Tables.{Tables, tables_of}
+use Rattle.dep_tables.proofs.Results.{ok_then}
 use Rattle.dep_row_maps.specs.TablesAre.{TablesAre}
+use Rattle.dep_streams.proofs.Stills.{still_left}
+use Rattle.dep_streams.proofs.Streams.{streamed, IsSized}
 use Rattle.dep_types.specs.State.{State}
 use Rattle.dep_schema.specs.States.{StandsFor}
 use Rattle.dep_schema.proofs.Transacting.{leaves_still}
 use Rattle.dep_store.proofs.Carrying.{ok_unchanged, err_kept}
 use Rattle.dep_store.proofs.ShutLemmas.{back_on_ok, fails_still, open_still, state_back, was_open_then}
 use Rattle.dep_store.proofs.Tries.{keeps_state, failed_keeping, honest_back, counts}
-use Rattle.dep_answers.specs.declared.performed.StoredFile.{StoredFile}
-use Rattle.dep_store.specs.Remembering.{IsKnownFile}
+use Rattle.dep_store.proofs.KnownFiles.{sized_file}
 use Rattle.dep_store.proofs.sending.stream_known.Goals as goal
 
-pub stream_file-requires-clause-there : goal.stream_file-requires-clause-there
-stream_file-requires-clause-there g c =
-    subst (λ (o : Option StoredFile). IsKnownFile (state g.S.Store c.args.connection.now) o) c.in-Some.is c.requires.there
+-- the file is known to be there
+pub returns-then-it-file : goal.returns-then-it-file
+returns-then-it-file g c =
+    let first = c.args.connection.now in
+    let last = c.stream_blocks.new.connection in
+    let old = state g.S.Store first in
+    let new = state g.S.Store last in
+    let it = c.in-Some.it in
+    let there = c.requires.there it c.in-Some.is in
+    let did = c.stream_blocks.ensures in
+    let result = c.stream_blocks.result in
+    let stays = did.leaves.stays in
+    let sent = did.streams in
+    let clean_now = clean_if_open (g.S.Store.view last.store) (g.met.S.Store.shut_if_dirty last.store) in
+    let was = λ (clean : HasCleanDisk new). there.1 (stays.honest clean) in
+    let same = λ (clean : HasCleanDisk new) (is_open : IsTrue old.is_open). ok_then result (did.leaves.same clean) (λ left. (still_left g.S.Store first last left).unchanged is_open) in
+    record {
+      sends = record {
+        streams = (
+          sent.0,
+          sent.1,
+          λ clean s stands.
+              streamed (tables_of old) s c.args.file it.size sent.0 result (subst (λ (t : Tables). TablesAre t s) (sym stands.stands.rows) stands.means.are)
+              (subst (λ n. IsSized s n it.size) c.if-it-file.true (sized_file s it (there.0 s stands))) (sent.2 clean stands.stands.ours),
+        );
+        does =
+            keeps_state old new result
+            (λ clean s at. ok_unchanged old new result s at (same clean at.stands.is_open))
+            (λ is_open s at. err_kept old new result s at is_open (stays.kept (clean_now is_open)))
+            stays.honest
+            (λ is_open. stays.was_open (clean_now is_open) is_open)
+            (λ clean s at. leaves_still old new s (λ trees h. g.met.S.Store.settled first.store trees at.stands.is_open h) at stays.survives clean);
+        count = counts _ _ result did.outlet;
+        stays = record {
+          shut = was_open_then old new result was;
+          back = back_on_ok old old new result clean_now (λ is_open. (is_open, refl, refl, c.requires.settled)) (λ clean. same clean (was clean));
+          opened = λ clean. open_still old new result (same clean (was clean));
+        };
+      };
+    }
 
 pub returns : goal.returns
 returns g c =

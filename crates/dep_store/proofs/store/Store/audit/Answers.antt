@@ -1,4 +1,3 @@
-use Rattle.std.proofs.Common.{IsTrue}
 use Rattle.sqlite.specs.State.{HasCleanDisk}
 use Rattle.sqlite.specs.Held.{state}
 use Rattle.sqlite.proofs.StateLemmas.{clean_if_open}
@@ -13,8 +12,6 @@ use Rattle.dep_tables.specs.Tables.{Tables}
 use Rattle.dep_tables.proofs.Results.{ok_then}
 use Rattle.dep_schema.specs.Standing.{Stands}
 use Rattle.dep_schema.proofs.Transacting.{ok_tells, still_tells, left_tells, left_still}
-use Rattle.dep_store.proofs.ShutLemmas.{under_way}
-use Rattle.dep_store.proofs.Tries.{busy_tells}
 use Rattle.dep_store.proofs.Remembered.{forgotten}
 use Rattle.dep_store.proofs.store.Store.audit.Goals as goal
 
@@ -58,12 +55,6 @@ returns g c =
           left_still mid new t (λ trees h. g.met.S.Store.settled c.transact.new.connection.store trees it.1.is_open h) it.1 stays.survives clean;
     } in
     rw c.self.view_is at told
-
-pub returns-then-not-is_autocommit : goal.returns-then-not-is_autocommit
-returns-then-not-is_autocommit g c =
-    let d = state g.S.Store c.args.self.now in
-    let busy : IsTrue d.in_transaction = rw c.self.view_is at (under_way c.self.inside.connection.in_transaction c.if-not-is_autocommit.ensures.value) in
-    busy_tells d busy
 
 pub invariant_of-self : goal.invariant_of-self
 invariant_of-self g c = forgotten (state g.S.Store c.transact.new.connection)

@@ -5,8 +5,8 @@ use Rattle.dep_store.proofs.store.Store.hash_ahead.Goals as goal
 
 pub returns : goal.returns
 returns g c =
-    let ran = c.hash_running.ensures in
-    rw c.self.view_is at (hashes_on (state g.S.Store c.self.inside.connection) (state g.S.Store c.hash_running.new.connection) c.args.running.now c.hash_running.new.running ran.running ran.restored)
+    let ran = c.glance_at.ensures in
+    rw c.self.view_is at (hashes_on (state g.S.Store c.self.inside.connection) (state g.S.Store c.glance_at.new.connection) c.args.running.now c.glance_at.new.what ran.tells ran.restored)
 
 pub invariant_of-self : goal.invariant_of-self
-invariant_of-self g c = forgotten (state g.S.Store c.hash_running.new.connection)
+invariant_of-self g c = forgotten (state g.S.Store c.glance_at.new.connection)

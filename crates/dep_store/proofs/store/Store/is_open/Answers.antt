@@ -1,5 +1,10 @@
-use Rattle.std.proofs.Common.{◌∙◌, inl, refl, sym}
-use Rattle.sqlite.specs.Held.{state}
+use Rattle.std.proofs.Common.{◌∙◌, inl, IfErr, refl, sym, subst}
+use Rattle.sqlite.specs.State.{HasCleanDisk}
+use Rattle.sqlite.specs.Held.{Held, state}
+use Rattle.dep_hub.specs.Archives.{KeepsAll}
+use Rattle.dep_store.specs.Archive.{shown_by}
+use Rattle.dep_store.specs.Shut.{FailsToTell}
+use Rattle.dep_store.specs.Staying.{LeavesOnly}
 use Rattle.dep_store.proofs.ShutLemmas.{under_way}
 use Rattle.dep_store.proofs.Tries.{keeps_back, keeps_same, leaves_only}
 use Rattle.dep_store.proofs.store.Store.is_open.Goals as goal
@@ -21,9 +26,9 @@ returns-else-not-is_autocommit g c =
     let asked = c.tell_open.ensures in
     record {
       told = asked.told;
-      cause = rw c.self.view_is at asked.cause;
-      rests = rw c.self.view_is at (keeps_back old new asked.restored);
-      left = rw c.self.view_is at (leaves_only old new asked.restored.survives);
+      cause = subst (λ (h : Held _). HasCleanDisk new → IfErr c.tell_open.result (FailsToTell (state g.S.Store h) new)) c.self.view_is asked.cause;
+      rests = subst (λ (h : Held _). KeepsAll (shown_by (state g.S.Store h)) (shown_by new)) c.self.view_is (keeps_back old new asked.restored);
+      left = subst (λ (h : Held _). LeavesOnly (state g.S.Store h) new) c.self.view_is (leaves_only old new asked.restored.survives);
     }
 
 pub invariant_of-self : goal.invariant_of-self

@@ -1,12 +1,11 @@
-use Rattle.std.proofs.Common.{IsTrue, ◌≡◌, ℕ, Option}
+use Rattle.std.proofs.Common.{◌≡◌, ℕ, Option}
 use Rattle.std.specs.Prelude.{option_map}
 use Rattle.sqlite.specs.Held.{state}
 use Rattle.sqlite.proofs.StateLemmas.{clean_if_open}
 use Rattle.dep_types.specs.State.{State}
 use Rattle.dep_row_maps.specs.Keyed.{next_entry}
 use Rattle.dep_row_maps.proofs.Readings.{next_object_read}
-use Rattle.dep_store.proofs.Tries.{busy_tries, busy_tells, tells_over, tells_tables}
-use Rattle.dep_store.proofs.ShutLemmas.{under_way}
+use Rattle.dep_store.proofs.Tries.{tells_over, tells_tables}
 use Rattle.dep_store.proofs.Remembered.{forgotten}
 use Rattle.dep_store.proofs.store.Store.next_object.Goals as goal
 
@@ -24,12 +23,6 @@ returns-clause-rows g c =
 
 pub returns-clause-opened : goal.returns-clause-opened
 returns-clause-opened g c = rw c.self.view_is at c.transact.ensures.opened
-
-pub returns-then-not-is_autocommit : goal.returns-then-not-is_autocommit
-returns-then-not-is_autocommit g c =
-    let d = state g.S.Store c.args.self.now in
-    let busy : IsTrue d.in_transaction = rw c.self.view_is at (under_way c.self.inside.connection.in_transaction c.if-not-is_autocommit.ensures.value) in
-    record { does = busy_tries d busy; rows = busy_tells d busy; opened = λ clean. tt }
 
 pub invariant_of-self : goal.invariant_of-self
 invariant_of-self g c = forgotten (state g.S.Store c.transact.new.connection)

@@ -7,8 +7,8 @@ use Rattle.dep_answers.specs.Steps.{operation_step}
 use Rattle.dep_answers.specs.declared.performed.Performed.{Performed}
 use Rattle.dep_fields.specs.Fit.{AreFit}
 use Rattle.dep_tables.specs.Tables.{Tables}
-use Rattle.dep_tables.proofs.Results.{if_failed}
-use Rattle.std.proofs.Common.{IsTrue, ◌≡◌, ◌∙◌, Option, Some, rules, sym, subst}
+use Rattle.dep_tables.proofs.Results.{if_failed, if_ok}
+use Rattle.std.proofs.Common.{IsTrue, ◌≡◌, ◌∙◌, Option, Some, false, rules, sym, subst}
 use Rattle.std.specs.Prelude.{IfSome}
 use Rattle.sqlite.proofs.StateLemmas.{clean_if_open}
 use Rattle.dep_answers.specs.declared.performed.StoredFile.{StoredFile}
@@ -21,7 +21,7 @@ use Rattle.dep_schema.proofs.Transacting.{unmoved}
 use Rattle.dep_requests.specs.declared.remembering.Remembered.{Remembered}
 use Rattle.dep_requests.proofs.Recalling.{known_still}
 use Rattle.dep_store.proofs.Remembered.{forgotten, service_made}
-use Rattle.dep_store.proofs.Tries.{busy_tries, busy_fails, tries_over}
+use Rattle.dep_store.proofs.Tries.{back_as_was, busy_tries, busy_fails, tries_over}
 use Rattle.dep_store.specs.Shut.{FailsIfShut}
 use Rattle.dep_store.proofs.ShutLemmas.{under_way, was_open_then}
 use Rattle.dep_store.proofs.store.Store.perform.Goals as goal
@@ -39,44 +39,74 @@ module _ (config : Config) (op : Operation) where
   abbrev Made : Tables → Performed → Tables → Type 0
   Made t p after = AreFit op.fields → OverStates ready next t p after
 
-pub returns-in-Some-clause-does : goal.returns-in-Some-clause-does
-returns-in-Some-clause-does g c =
+pub returns-in-Some : goal.returns-in-Some
+returns-in-Some g c =
     let d = state g.S.Store c.self.inside.connection in
     let config = c.args.service.now in
     let op = c.args.operation.now in
     let told = c.recalled.ensures.told c.in-Some.it c.in-Some.is in
-    let still : Transacts d d c.show_service.result (Made config op) = unmoved d c.show_service.result (Made config op) (λ is_open trees h. g.met.S.Store.settled c.self.inside.connection.store trees is_open h)
-    (λ t stands. service_made d t config op c.in-Some.it c.show_service.result stands (c.self.invariant.0 c.in-Some.it told.0) c.show_service.ensures) in
-    tries_over (state g.S.Store c.args.self.now) (state g.S.Store c.args.self.now) c.show_service.result (Made config op) _ (ready config op) (next config op)
-    (λ s its t p after made means. made its.0 s means) (rw c.self.view_is at still)
-
-pub returns-in_err-done-clause-does : goal.returns-in_err-done-clause-does
-returns-in_err-done-clause-does g c =
-    let config = c.args.service.now in
-    let op = c.args.operation.now in
-    let did = tries_over (state g.S.Store c.args.self.now) (state g.S.Store c.perform_if_open.new.connection) _ _ _ (done_ready config op) (next config op)
-    (λ s its t p after made means. made its.0 s means its.1) (rw c.self.view_is at c.in_err-done.ensures.transacts) in
+    let result = c.show_service.result in
+    let still : Transacts d d result (Made config op) = unmoved d result (Made config op) (λ is_open trees h. g.met.S.Store.settled c.self.inside.connection.store trees is_open h)
+    (λ t stands. service_made d t config op c.in-Some.it result stands (c.self.invariant.0 c.in-Some.it told.0) c.show_service.ensures) in
+    let was_open = c.self.invariant.1 c.in-Some.it told.0 in
+    let between : d.in_transaction ≡ false = search rules in
+    let back : IsGivenBack d d = back_as_was d was_open between in
+    let shut : FailsIfShut d d result = was_open_then d d _ was_open in
     record {
-      ok = λ clean s at its. IfOk-from_err c.from_residual.result _ c.from_residual.ensures.0;
-      err = λ is_open s at. if_failed c.from_residual.result (did.err is_open s at);
-      honest = did.honest;
-      was_open = did.was_open;
-      stop = did.stop;
+      does = tries_over _ _ result (Made config op) _ (ready config op) (next config op) (λ s its t p after made means. made its.0 s means) (rw c.self.view_is at still);
+      unchanged = λ clean s given running nothing. if_ok result (rw c.self.view_is at back);
+      shut = rw c.self.view_is at shut;
     }
 
-pub returns-clause-does : goal.returns-clause-does
-returns-clause-does g c =
+pub returns-in_err-done : goal.returns-in_err-done
+returns-in_err-done g c =
+    let d = state g.S.Store c.self.inside.connection in
     let config = c.args.service.now in
     let op = c.args.operation.now in
+    let result = c.from_residual.result in
+    let is_err = c.from_residual.ensures.0 in
     let did = tries_over (state g.S.Store c.args.self.now) (state g.S.Store c.perform_if_open.new.connection) _ _ _ (done_ready config op) (next config op)
-    (λ s its t p after made means. made its.0 s means its.1) (rw c.self.view_is at c.in_ok-done.ensures.transacts) in
-    record { ok = did.ok; err = λ is_open s at. tt; honest = did.honest; was_open = did.was_open; stop = did.stop }
+    (λ s its t p after made means. made its.0 s means its.1) (rw c.self.view_is at c.in_err-done.ensures.transacts) in
+    let shut : FailsIfShut d (state g.S.Store c.perform_if_open.new.connection) result = record {
+      opened = λ clean. IfOk-from_err result (λ _. IsTrue d.is_open) is_err;
+      left = c.in_err-done.ensures.shut.left;
+    } in
+    record {
+      does = record {
+        ok = λ clean s at its. IfOk-from_err result _ is_err;
+        err = λ is_open s at. if_failed result (did.err is_open s at);
+        honest = did.honest;
+        was_open = did.was_open;
+        stop = did.stop;
+      };
+      unchanged = λ clean s given running nothing. IfOk-from_err result _ is_err;
+      shut = rw c.self.view_is at shut;
+    }
 
-pub returns-clause-unchanged : goal.returns-clause-unchanged
-returns-clause-unchanged g c clean s given running nothing =
-    let stands = rw (← c.self.view_is) at given in
-    subst (λ h. IsGivenBack (state g.S.Store h) (state g.S.Store c.perform_if_open.new.connection)) c.self.view_is
-    (c.in_ok-done.ensures.back ((c.in_ok-done.ensures.changes clean s stands running).1 nothing))
+pub returns : goal.returns
+returns g c =
+    let config = c.args.service.now in
+    let op = c.args.operation.now in
+    let done = c.in_ok-done.ensures in
+    let did = tries_over (state g.S.Store c.args.self.now) (state g.S.Store c.perform_if_open.new.connection) _ _ _ (done_ready config op) (next config op)
+    (λ s its t p after made means. made its.0 s means its.1) (rw c.self.view_is at done.transacts) in
+    let shut = rw c.self.view_is at done.shut in
+    record {
+      does = record { ok = did.ok; err = λ is_open s at. tt; honest = did.honest; was_open = did.was_open; stop = did.stop };
+      unchanged = λ clean s given running nothing.
+          let stands = rw (← c.self.view_is) at given in
+          subst (λ h. IsGivenBack (state g.S.Store h) (state g.S.Store c.perform_if_open.new.connection)) c.self.view_is (done.back ((done.changes clean s stands running).1 nothing));
+      shut = record { opened = shut.opened; left = shut.left };
+    }
+
+pub returns-then-not-is_autocommit : goal.returns-then-not-is_autocommit
+returns-then-not-is_autocommit g c =
+    let d = state g.S.Store c.args.self.now in
+    let busy : IsTrue d.in_transaction = rw c.self.view_is at (under_way c.self.inside.connection.in_transaction c.if-not-is_autocommit.ensures.value) in
+    record { does = busy_tries d busy; unchanged = λ clean s given running nothing. tt; shut = busy_fails d busy }
+
+pub invariant_of-self : goal.invariant_of-self
+invariant_of-self g c = forgotten (state g.S.Store c.perform_if_open.new.connection)
 
 pub invariant_of-self-2 : goal.invariant_of-self-2
 invariant_of-self-2 g c =
@@ -95,35 +125,3 @@ invariant_of-self-2 g c =
             λ clean. given.opened clean,
           ),
     )
-
-pub returns-then-not-is_autocommit : goal.returns-then-not-is_autocommit
-returns-then-not-is_autocommit g c =
-    let d = state g.S.Store c.args.self.now in
-    let busy : IsTrue d.in_transaction = rw c.self.view_is at (under_way c.self.inside.connection.in_transaction c.if-not-is_autocommit.ensures.value) in
-    record { does = busy_tries d busy; unchanged = λ clean s given running nothing. tt; shut = busy_fails d busy }
-
-pub invariant_of-self : goal.invariant_of-self
-invariant_of-self g c = forgotten (state g.S.Store c.perform_if_open.new.connection)
-
-pub returns-in-Some-clause-shut : goal.returns-in-Some-clause-shut
-returns-in-Some-clause-shut g c =
-    let d = state g.S.Store c.self.inside.connection in
-    let shut : FailsIfShut d d c.show_service.result = was_open_then d d _ (c.self.invariant.1 c.in-Some.it (c.recalled.ensures.told c.in-Some.it c.in-Some.is).0) in
-    rw c.self.view_is at shut
-
-pub returns-in_err-done-clause-unchanged : goal.returns-in_err-done-clause-unchanged
-returns-in_err-done-clause-unchanged g c clean s given running nothing = IfOk-from_err c.from_residual.result _ c.from_residual.ensures.0
-
-pub returns-in_err-done-clause-shut : goal.returns-in_err-done-clause-shut
-returns-in_err-done-clause-shut g c =
-    let d = state g.S.Store c.self.inside.connection in
-    let shut : FailsIfShut d (state g.S.Store c.perform_if_open.new.connection) c.from_residual.result = record {
-      opened = λ clean. IfOk-from_err c.from_residual.result (λ _. IsTrue d.is_open) c.from_residual.ensures.0;
-      left = c.in_err-done.ensures.shut.left;
-    } in
-    rw c.self.view_is at shut
-
-pub returns-clause-shut : goal.returns-clause-shut
-returns-clause-shut g c =
-    let shut = rw c.self.view_is at c.in_ok-done.ensures.shut in
-    record { opened = shut.opened; left = shut.left }

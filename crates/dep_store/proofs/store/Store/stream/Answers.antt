@@ -1,9 +1,11 @@
-use Rattle.std.proofs.Common.{rules}
+use Rattle.std.proofs.Common.{IsTrue, rules}
 use Rattle.std.proofs.lemmas.Result.{err_from_is_err_and}
 use Rattle.sqlite.specs.Held.{state}
 use Rattle.dep_schema.proofs.Transacting.{stood_before}
 use Rattle.dep_requests.proofs.Recalling.{none_is}
 use Rattle.dep_store.proofs.Remembered.{forgotten}
+use Rattle.dep_store.proofs.ShutLemmas.{under_way}
+use Rattle.dep_store.proofs.Tries.{busy_sends}
 use Rattle.dep_store.proofs.store.Store.stream.Goals as goal
 
 -- what was remembered is so still, since all is as it was
@@ -18,6 +20,12 @@ invariant_of-self-2 g c = (
 
 pub stream_known-requires-clause-there : goal.stream_known-requires-clause-there
 stream_known-requires-clause-there g c = c.self.invariant.2
+
+pub returns-then-not-is_autocommit : goal.returns-then-not-is_autocommit
+returns-then-not-is_autocommit g c =
+    let d = state g.S.Store c.args.self.now in
+    let busy : IsTrue d.in_transaction = rw c.self.view_is at (under_way c.self.inside.connection.in_transaction c.if-not-is_autocommit.ensures.value) in
+    busy_sends d busy (g.O.Outlet.taken c.args.out.now) (g.O.Outlet.failures c.args.out.now) c.args.file
 
 pub returns-in_err-stream_known : goal.returns-in_err-stream_known
 returns-in_err-stream_known g c =

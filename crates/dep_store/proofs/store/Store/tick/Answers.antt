@@ -22,7 +22,7 @@ returns-in-Some g c =
     let its = c.clock_still.ensures.told c.in-Some.clock c.in-Some.is in
     let shown = told c.new-shown.result in
     let still : Transacts d d shown (Clocked config c.secs-secs.result) = unmoved d _ _ (λ is_open trees h. g.met.S.Store.settled c.self.inside.connection.store trees is_open h)
-    (λ t stands. clock_made d t config c.secs-secs.result its.0 c.new-shown.result stands (c.self.invariant.0 its.0 its.1) its.3 its.4
+    (λ t stands. clock_made d t config c.secs-secs.result its.0 c.new-shown.result stands (λ s at. (c.self.invariant.0 its.0 its.1 s at, its.3, sym its.4))
     (c.new-shown.ensures ∙ ap (λ (n : ℕ). min n greatest_moment) its.2)) in
     let shut : FailsIfShut d d shown = was_open_then d d _ (c.self.invariant.1 its.0 its.1) in
     record {
@@ -52,12 +52,11 @@ returns-in-Some-found g c =
     let config = c.args.config.now in
     let looked = c.in_ok-found.ensures in
     let restored = looked.finds.restored in
-    let covers = looked.covers c.in-Some-found.it c.in-Some-found.is in
     let shown = told c.new-told.result in
     let moved : Transacts old mid shown (Clocked config c.secs-secs.result) = after_back old mid mid _ _ (λ is_open trees h. g.met.S.Store.settled c.self.inside.connection.store trees is_open h)
     (clean_if_open (g.S.Store.view store) (g.met.S.Store.shut_if_dirty store)) restored.back restored.survives looked.finds.opened
     (unmoved mid _ _ (λ is_open trees h. g.met.S.Store.settled store trees is_open h)
-    (λ t stands. clock_made mid t config c.secs-secs.result c.in-Some-found.it c.new-told.result stands (looked.recalls c.in-Some-found.it c.in-Some-found.is) covers.0 (sym covers.1) c.new-told.ensures)) in
+    (λ t stands. clock_made mid t config c.secs-secs.result c.in-Some-found.it c.new-told.result stands (λ s at. looked.recalls s at c.in-Some-found.it c.in-Some-found.is) c.new-told.ensures)) in
     let shut : FailsIfShut old mid shown = was_open_then old mid _ (λ clean. (restored.back (looked.finds.opened clean)).0) in
     record {
       does = ticks_over _ _ _ config _ _ c.secs-secs.ensures.seconds (rw c.self.view_is at moved);
@@ -82,7 +81,7 @@ returns-in-None g c =
 
 -- what was read is remembered
 pub invariant_of-self-in-Some-found : goal.invariant_of-self-in-Some-found
-invariant_of-self-in-Some-found g c = (λ m is s stands. c.in_ok-found.ensures.recalls m (c.in-Some-found.is ∙ is) s stands, λ m is clean. c.in_ok-found.ensures.finds.opened clean, λ it is. absurd (none_is is))
+invariant_of-self-in-Some-found g c = (λ m is s stands. (c.in_ok-found.ensures.recalls s stands m (c.in-Some-found.is ∙ is)).0, λ m is clean. c.in_ok-found.ensures.finds.opened clean, λ it is. absurd (none_is is))
 
 pub returns-then-not-is_autocommit : goal.returns-then-not-is_autocommit
 returns-then-not-is_autocommit g c =
@@ -92,3 +91,6 @@ returns-then-not-is_autocommit g c =
 
 pub invariant_of-self : goal.invariant_of-self
 invariant_of-self g c = forgotten (state g.S.Store c.look.new.connection)
+
+pub invariant_of-self-in-None : goal.invariant_of-self-in-None
+invariant_of-self-in-None g c = forgotten (state g.S.Store c.transact.new.connection)

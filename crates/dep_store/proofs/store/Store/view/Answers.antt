@@ -1,12 +1,11 @@
-use Rattle.std.proofs.Common.{IsTrue, ◌≡◌, Option}
+use Rattle.std.proofs.Common.{◌≡◌, Option}
 use Rattle.sqlite.specs.Held.{state}
 use Rattle.sqlite.proofs.StateLemmas.{clean_if_open}
 use Rattle.dep_types.specs.State.{State}
 use Rattle.dep_types.specs.declared.rows.ObjectView.{ObjectView}
 use Rattle.dep_bag.specs.Source.{view_at}
 use Rattle.dep_schema.proofs.Transacting.{still_tells}
-use Rattle.dep_store.proofs.Tries.{busy_tries, tells_over}
-use Rattle.dep_store.proofs.ShutLemmas.{under_way}
+use Rattle.dep_store.proofs.Tries.{tells_over}
 use Rattle.dep_store.proofs.Remembered.{forgotten}
 use Rattle.dep_store.proofs.store.Store.view.Goals as goal
 
@@ -19,12 +18,6 @@ pub returns-clause-still : goal.returns-clause-still
 returns-clause-still g c is_open t given =
     let store = c.transact.new.connection.store in
     still_tells _ _ _ _ c.transact.ensures.transacts (clean_if_open (g.S.Store.view store) (g.met.S.Store.shut_if_dirty store)) is_open t (rw (← c.self.view_is) at given)
-
-pub returns-then-not-is_autocommit : goal.returns-then-not-is_autocommit
-returns-then-not-is_autocommit g c =
-    let d = state g.S.Store c.args.self.now in
-    let busy : IsTrue d.in_transaction = rw c.self.view_is at (under_way c.self.inside.connection.in_transaction c.if-not-is_autocommit.ensures.value) in
-    record { does = busy_tries d busy; still = λ is_open t given. given }
 
 pub invariant_of-self : goal.invariant_of-self
 invariant_of-self g c = forgotten (state g.S.Store c.transact.new.connection)

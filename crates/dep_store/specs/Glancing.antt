@@ -1,0 +1,17 @@
+-- What is read in a transaction that is given back.
+use Rattle.std.specs.Prelude.{IsTrue}
+use Rattle.sqlite.specs.State as db
+use Rattle.dep_types.specs.State.{State}
+use Rattle.dep_types.specs.Sound.{IsSound}
+use Rattle.dep_row_maps.specs.Clauses.{FromMaps}
+use Rattle.dep_schema.specs.States.{StandsFor}
+use Rattle.dep_schema.specs.Transactions.{IsRestored}
+
+-- in a transaction, while the store is open, this is told of each state that the tables stand for
+abbrev pub TellsFrom : (old new : db.State) → (State → Type 0) → Type 0
+TellsFrom old new told = IsTrue old.is_open → FromMaps old new (λ s. IsSound s → told s)
+
+-- so it is of each state that the store stood for, and all was given back
+pub record GivesBack (old new : db.State) (told : State → Type 0) : Type 0 where
+  pub tells : IsTrue new.is_open → (s : State) → StandsFor old s → told s
+  pub restored : IsRestored old new
