@@ -1,5 +1,6 @@
-use Rattle.std.proofs.Common.{inr, sym, subst}
+use Rattle.std.proofs.Common.{IsTrue, inr, sym, subst}
 use Rattle.sqlite.specs.Held.{Held, state}
+use Rattle.sqlite.specs.State.{HasCleanDisk}
 use Rattle.sqlite.proofs.StateLemmas.{clean_if_open}
 use Rattle.swordd.specs.Examinations.{ExportsDatabase}
 use Rattle.swordd.proofs.ExaminationLemmas.{exports_none, exports_into}
@@ -17,3 +18,17 @@ returns-in-Ok-clause-exports g c =
 pub returns-in-Err-clause-exports : goal.returns-in-Err-clause-exports
 returns-in-Err-clause-exports g c =
     exports_none (state g.S.Store c.args.connection) (state g.S.Store c.in-Err.connection) (record { back = λ is_open. inr (c.in-Err.ensures.left is_open); stop = c.in-Err.ensures.stop }) c.args.object
+
+pub returns-in-Ok-clause-honest : goal.returns-in-Ok-clause-honest
+returns-in-Ok-clause-honest g c honest =
+    c.in-Ok.ensures.honest (c.export_into-outcome.ensures.still.honest_before (subst (λ (h : Held _). HasCleanDisk (state g.S.Store h)) c.close.ensures honest))
+
+pub returns-in-Err-clause-honest : goal.returns-in-Err-clause-honest
+returns-in-Err-clause-honest g c = c.in-Err.ensures.honest
+
+pub returns-in-Ok-clause-open : goal.returns-in-Ok-clause-open
+returns-in-Ok-clause-open g c is_open =
+    c.in-Ok.ensures.open (c.export_into-outcome.ensures.still.open_before (subst (λ (h : Held _). IsTrue (state g.S.Store h).is_open) c.close.ensures is_open))
+
+pub returns-in-Err-clause-open : goal.returns-in-Err-clause-open
+returns-in-Err-clause-open g c = c.in-Err.ensures.open
