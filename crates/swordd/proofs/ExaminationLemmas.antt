@@ -6,14 +6,13 @@ use Rattle.sqlite.specs.State.{HasCleanDisk}
 use Rattle.std.specs.declared.io.ErrorKind.{ErrorKind}
 use Rattle.std.specs.declared.io.ErrorKind.TheVariants.{OutOfMemory}
 use Rattle.dep_types.specs.State.{State, empty_state}
-use Rattle.dep_types.specs.Conditions.{Condition, Leaves as LeavesOf}
 use Rattle.dep_tables.specs.Tables.{Tables}
-use Rattle.dep_bag.specs.Source.{StandsStill}
 use Rattle.dep_tables.specs.Versions.{our_version, older_version, HasVersion}
 use Rattle.dep_schema.specs.Standing.{Holds, HoldsOlder, HoldsNone, Stands, first_tables}
 use Rattle.dep_schema.specs.States.{StandsFor, IsLeftAs, Leaves}
 use Rattle.dep_store.specs.Auditing.{IsObjectAudited}
 use Rattle.dep_store.specs.Audits.{Audited, Audits, IsBegun, object_rows}
+use Rattle.dep_schema.proofs.Transacting.{IsSettled, leaves_as_was}
 use Rattle.dep_schema.proofs.Version.{not_older}
 use Rattle.dep_store.proofs.Opened.{first_means, version_is}
 use Rattle.dep_store.specs.Migrating.{IsUpgraded, OpensOlder}
@@ -37,18 +36,9 @@ none_begun t = record {
 }
 
 -- no folder was filled
-pub unfilled : (s : State) (object : ℕ) (kind : ErrorKind) → ExportsInto s object [] (without_folder kind)
+unfilled : (s : State) (object : ℕ) (kind : ErrorKind) → ExportsInto s object [] (without_folder kind)
 unfilled s object OutOfMemory = inl (inl refl)
 unfilled s object _ = inr (refl, refl)
-
--- nothing was done with an archive
-pub rests : (c : Condition) → ((s : State) → c.keeps s → LeavesOf c (λ left. left ≡ s)) → StandsStill c c
-rests c settled = record {
-  honest_before = λ honest. honest;
-  open_before = λ is_open. is_open;
-  stays = λ is_open s at. at;
-  stop = λ honest s at. settled s at;
-}
 
 -- a database that was not opened
 module _ (old new : db.State) (refused : IsRefused old new) where
@@ -112,3 +102,12 @@ module _ (given mid new : db.State) (clean : IsTrue new.is_open → HasCleanDisk
     found = λ is_honest s left. gives is_honest s (found (honest is_honest) s left);
     stays = inl (kept_still given mid new clean honest fresh found still stop);
   }
+
+-- there was no folder to fill
+pub exports_nothing : (given mid : db.State) → (IsTrue mid.is_open → HasCleanDisk mid) → (IsTrue mid.is_open → IsSettled mid)
+    → (HasCleanDisk mid → HoldsNone given.now.trees → StandsFor mid empty_state)
+    → (HasCleanDisk mid → (s : State) → IsLeftAs given.now.trees s → StandsFor mid s)
+    → (object : ℕ) (kind : ErrorKind) → ExportsDatabase given mid object (without_folder kind)
+exports_nothing given mid clean settled fresh found object kind =
+    exports_into given mid mid clean (λ honest. honest) fresh found object [] (without_folder kind)
+    (λ is_honest s at. unfilled s object kind) (λ is_open s at. at) (λ is_honest s at. leaves_as_was mid s (settled at.stands.is_open) at)

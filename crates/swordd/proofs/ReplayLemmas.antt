@@ -1,6 +1,7 @@
 -- A replay is a run of one connection.
-use Rattle.std.proofs.Common.{◌≡◌, ℕ, Bool, true, false, zero, suc, List, [], ◌∷◌, ◌++◌, inl, inr, refl, sym, subst, arith}
+use Rattle.std.proofs.Common.{◌≡◌, ℕ, Bool, true, false, List, [], ◌∷◌, ◌++◌, refl, subst}
 use Rattle.std.specs.Prelude.{All}
+use Rattle.std.proofs.lemmas.List.Elements.{All-nil, All-cons}
 use Rattle.std.specs.List.{FoldsTo}
 use Rattle.sqlite.specs.State as db
 use Rattle.sqlite.specs.Steps.{IsEmpty}
@@ -24,7 +25,7 @@ use Rattle.dep_hub.specs.declared.faults.HubFault.TheVariants as hub
 use Rattle.dep_store.specs.Starting.{outcome_of_start}
 use Rattle.dep_store.specs.declared.starting.StartFault.{StartFault}
 use Rattle.dep_store.specs.declared.starting.StartFault.TheVariants as fault
-use Rattle.swordd.specs.Replays.{IsReplayed, Replays, replayed, refused, not_begun, IsNotBegun}
+use Rattle.swordd.specs.Replays.{IsReplayed, Replays, replayed, refused, not_begun}
 use Rattle.dep_program.specs.declared.outcome.Outcome.{Outcome}
 use Rattle.dep_program.specs.declared.outcome.Outcome.TheVariants.{Done, Usage, NoSuchObject, StoreFault, TransferFault, Damaged}
 
@@ -37,13 +38,6 @@ done_open true NoSuchObject e = cc
 done_open true StoreFault e = cc
 done_open true TransferFault e = cc
 done_open true Damaged e = cc
-
-all_none : (P : Turn → Type 0) → All P []
-all_none P k d l = absurd (omega arith)
-
-all_more : (P : Turn → Type 0) (t : Turn) (turns : List Turn) → P t → All P turns → All P (t ∷ turns)
-all_more P t turns p ps zero d l = p
-all_more P t turns p ps (suc k) d l = ps k d (omega arith)
 
 not_nil : (records : List Record) (r : Record) → records ++ r ∷ [] ≡ [] → ⊥
 not_nil [] r e = cc
@@ -66,10 +60,10 @@ module _ {A : Type 0} (condition : A → Condition) {C : Type 0} (ticks : C → 
   -- a clock that tells one moment tells it at each turn
   all_at : (turns : List Turn) (clock last : C) → tells clock → FoldsTo (λ before (t : Turn) after. ticks before t.moment after) clock turns last
       → All (λ (t : Turn). t.moment ≡ moment) turns
-  all_at [] clock last p f = all_none (λ (t : Turn). t.moment ≡ moment)
+  all_at [] clock last p f = All-nil (λ (t : Turn). t.moment ≡ moment)
   all_at (t ∷ turns) clock last p f =
       let s = same clock f.0 t.moment p f.1 in
-      all_more (λ (u : Turn). u.moment ≡ moment) t turns s.0 (all_at turns f.0 last s.1 f.2)
+      All-cons (λ (u : Turn). u.moment ≡ moment) t turns s.0 (all_at turns f.0 last s.1 f.2)
 
   module _ (base : List ℕ) (before after : Session A C) (first : StandsAfter condition before.hub empty_state [])
       (honest : IsHonest condition after.hub) (given : before.hub.config ≡ program_config base) (told : tells before.clock) where
@@ -102,19 +96,15 @@ module _ {A : Type 0} (condition : A → Condition) {C : Type 0} (ticks : C → 
     comes_to WriteFault v = replayed WriteFault (replays WriteFault v)
     comes_to Bound v = replayed Bound (replays Bound v)
 
--- no hub was made for it
-pub begins_not : (base : List ℕ) (why : StartFault) → (why ≡ fault.Hub hub.Config → ¬ IsChecked (program_config base)) → IsNotBegun base (outcome_of_start why)
-begins_not base (fault.Hub hub.Config) refuses = inl (refl, refuses refl)
-begins_not base (fault.Hub hub.Memory) refuses = inr refl
-begins_not base (fault.Open its) refuses = inr refl
-
-rests_same : (at : Wire) → Rests at at
+pub rests_same : (at : Wire) → Rests at at
 rests_same at = record { pieces = keeps_same at.unread; reads = refl; last = refl; replies = keeps_same at.taken; failures = refl }
 
--- nothing was read or written then
-pub not_replayed : (base : List ℕ) (moment : ℕ) (at : Wire) (outcome : Outcome) → IsNotBegun base outcome → Replays base moment at at outcome
-not_replayed base moment at outcome (inl (same, not)) = subst (λ (o : Outcome). Replays base moment at at o) (sym same) (refused not (rests_same at))
-not_replayed base moment at outcome (inr same) = subst (λ (o : Outcome). Replays base moment at at o) (sym same) (not_begun (rests_same at))
+-- no hub was made for it: nothing was read or written
+pub not_replayed : (base : List ℕ) (moment : ℕ) (at : Wire) (why : StartFault) → (why ≡ fault.Hub hub.Config → ¬ IsChecked (program_config base))
+    → Replays base moment at at (outcome_of_start why)
+not_replayed base moment at (fault.Hub hub.Config) refuses = refused (refuses refl) (rests_same at)
+not_replayed base moment at (fault.Hub hub.Memory) refuses = not_begun (rests_same at)
+not_replayed base moment at (fault.Open its) refuses = not_begun (rests_same at)
 
 -- a new database in memory has no table
 pub empty_holds_none : (d : db.State) → IsEmpty d → HoldsNone d.now.trees

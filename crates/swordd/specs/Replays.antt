@@ -1,5 +1,5 @@
 -- One connection, replayed over an archive that is empty at first.
-use Rattle.std.specs.Prelude.{◌≡◌, ◌⊎◌, ◌≤◌, ◌+◌, ℕ, Bool, List, All, Option}
+use Rattle.std.specs.Prelude.{◌≡◌, ◌≤◌, ◌+◌, ℕ, Bool, List, All, Option}
 use Rattle.sqlite.specs.State as db
 use Rattle.dep_types.specs.State.{empty_state}
 use Rattle.dep_types.specs.Config.{IsChecked}
@@ -55,11 +55,6 @@ pub record IsReplayed (base : List ℕ) (moment : ℕ) (before after : Wire) (se
   pub reads : after.reads ≡ reads_after before.reads (reads_made turns served)
   pub few_reads : after.reads ≤ before.reads + most_reads
   pub last : HasLastRead after.last served
-
--- how it ends where a replay is not begun: its base is refused, or memory ran out
-abbrev pub IsNotBegun : (base : List ℕ) → Outcome → Type 0
-IsNotBegun base outcome =
-    ((outcome ≡ Usage) × (IsChecked (program_config base) → ⊥)) ⊎ (outcome ≡ StoreFault)
 
 -- how a replay ends, and what it does
 pub data Replays (base : List ℕ) (moment : ℕ) (before after : Wire) : Outcome → Type 0 where

@@ -13,7 +13,7 @@ const HOST_NAME_BEHIND: &[u8] = b"/swordd_host";
 const LONGEST_PATH: usize = 4_096;
 
 /// Whether the program was called as `swordd_host`, behind any folder. It needs no memory, and the other words may be anything.
-pub fn is_called_host<R: Env>(rt: &R) -> bool {
+pub fn is_called_host(rt: &HostRuntime) -> bool {
     let mut path = [0; LONGEST_PATH];
     match rt.arg(0, &mut path) {
         Ok(length) => is_host_name(&path[..length]),

@@ -1,27 +1,24 @@
 //! A database, looked through: it stays as it is.
-ghost use Rattle.std.specs.Prelude.{◌≡◌, ◌≢◌, ◌⊎◌, ℕ, List, false, IsTrue};
+ghost use Rattle.std.specs.Prelude.{◌≡◌, ◌≢◌, ℕ, List, false, IsTrue};
 ghost use Rattle.std.specs.Io.KnownBytes.{Appends};
 ghost use Rattle.sqlite.specs.Held.{state};
 ghost use Rattle.sqlite.specs.State.{HasCleanDisk};
-ghost use Rattle.dep_types.specs.State.{State};
 ghost use Rattle.dep_types.specs.Writing.{HasRisen};
-ghost use Rattle.dep_types.specs.Conditions.{StandsFor, HasCleanDisk as HasCleanArchive};
-ghost use Rattle.dep_bag.specs.Source.{StandsStill};
-ghost use Rattle.swordd.specs.Examinations.{AuditsDatabase, ExportsInto, ExportsDatabase};
+ghost use Rattle.swordd.specs.Examinations.{AuditsDatabase, ExportsDatabase};
 
-use dep_bag::BagSource;
+use crate::progress::Told;
 use dep_program::{Folder, FolderSink, Outcome, without_folder};
-use dep_store::{Store, Watch, audit_all, export_object};
+use dep_store::{Store, audit_all, export_object};
 use dep_types::Outlet;
 use sqlite::{Alter, Connection};
 use std::alloc::Global;
 
 /// Opens the store in the database, checks all its files, and hands the database back. The lines go to the outlet.
-pub fn audit_database<S: Alter, W: Outlet, P: Watch>(
+pub fn audit_database<S: Alter, W: Outlet>(
     alloc: Global,
     connection: Connection<S>,
     lines: &mut W,
-    watch: &mut P,
+    watch: &mut Told<'_>,
 ) -> (Outcome, Connection<S>)
     requires settled { (state S.Store connection).in_transaction ≡ false }
     ensures audits { (written : List ℕ) × Appends (W.taken lines.old) (W.taken lines.new) written
@@ -42,12 +39,12 @@ pub fn audit_database<S: Alter, W: Outlet, P: Watch>(
 
 /// Opens the store in the database, makes the folder, which must not be there, and fills it with the bag of the
 /// object. Hands the database back.
-pub fn export_database<S: Alter, P: Watch>(
+pub fn export_database<S: Alter>(
     rt: &HostRuntime,
     connection: Connection<S>,
     object: u64,
     folder: &str,
-    watch: &mut P,
+    watch: &mut Told<'_>,
 ) -> (Outcome, Connection<S>)
     requires settled { (state S.Store connection).in_transaction ≡ false }
     ensures exports { ExportsDatabase (state S.Store connection) (state S.Store result.1) object result.0 }
@@ -56,23 +53,15 @@ pub fn export_database<S: Alter, P: Watch>(
         → IsTrue (state S.Store connection).is_open }
 {
     match Store::open(rt.alloc(), connection, watch) {
-        Ok(mut store) => {
-            let outcome = export_into(rt, &mut store, object, folder);
-            (outcome, store.close())
-        }
+        // The folder is made before the object is looked up.
+        Ok(mut store) => match Folder::new(rt, folder) {
+            Ok(folder) => {
+                let mut sink = FolderSink::new(folder);
+                let outcome = export_object(rt.alloc(), &mut store, object, &mut sink);
+                (outcome, store.close())
+            }
+            Err(error) => (without_folder(error.kind()), store.close()),
+        },
         Err((_, connection)) => (Outcome::StoreFault, connection),
-    }
-}
-
-// The folder is made before the object is looked up.
-fn export_into<B: BagSource>(rt: &HostRuntime, source: &mut B, object: u64, folder: &str) -> Outcome
-    ensures gives { (given : List ℕ) × (HasCleanArchive (B.condition source.new)
-        → (s : State) → StandsFor (B.condition source.old) s
-        → ExportsInto s object given result) }
-    ensures still { StandsStill (B.condition source.old) (B.condition source.new) }
-{
-    match Folder::new(rt, folder) {
-        Ok(folder) => export_object(rt.alloc(), source, object, &mut FolderSink::new(folder)),
-        Err(error) => without_folder(error.kind()),
     }
 }

@@ -2,8 +2,7 @@
 
 use dep_configuration::{Configuration, Field};
 use std::error::Error;
-use std::fmt;
-use std::fs::{self, Files};
+use std::{fmt, fs};
 
 /// A folder that a configuration needs isn't there. It is displayed as one line, which begins with the field's name.
 #[derive(Clone, Copy, Debug)]
@@ -28,22 +27,19 @@ impl Error for FolderFault {}
 
 /// Returns `Ok` where the folder of the database and that of the spools are there, and the database is no folder, else the
 /// first fault.
-pub fn check_folders<R: Files>(
-    files: &R,
-    configuration: &Configuration,
-) -> Result<(), FolderFault> {
+pub fn check_folders(rt: &HostRuntime, configuration: &Configuration) -> Result<(), FolderFault> {
     let database = configuration.database.as_str();
-    if is_folder(files, database) || !is_folder(files, folder_of(database)) {
+    if is_folder(rt, database) || !is_folder(rt, folder_of(database)) {
         return Err(FolderFault::OfDatabase);
     }
-    if !is_folder(files, configuration.spool_folder.as_str()) {
+    if !is_folder(rt, configuration.spool_folder.as_str()) {
         return Err(FolderFault::OfSpools);
     }
     Ok(())
 }
 
-fn is_folder<R: Files>(files: &R, path: &str) -> bool {
-    match fs::metadata(files, path) {
+fn is_folder(rt: &HostRuntime, path: &str) -> bool {
+    match fs::metadata(rt, path) {
         Ok(metadata) => metadata.is_dir(),
         Err(_) => false,
     }

@@ -1,20 +1,15 @@
 //! One connection over a store in memory.
-ghost use Rattle.std.specs.Prelude.{◌≡◌, [], false, IfErr, IfOk};
+ghost use Rattle.std.specs.Prelude.{◌≡◌, false};
 ghost use Rattle.std.specs.Io.KnownBytes.{Keeps};
 ghost use Rattle.sqlite.specs.Held.{state};
-ghost use Rattle.dep_types.specs.State.{empty_state};
-ghost use Rattle.dep_schema.specs.Standing.{HoldsNone};
-ghost use Rattle.dep_store.specs.HashingStores.{condition_of};
 ghost use Rattle.dep_hub.specs.Flushing.{IsFlushed};
-ghost use Rattle.dep_hub.specs.Standing.{IsHonest, StandsAfter};
 ghost use Rattle.dep_program.specs.Gathering.{told, held_in, given};
-ghost use Rattle.dep_program.specs.Setup.{program_config};
-ghost use Rattle.swordd.specs.Replays.{FromNothing, IsNotBegun, Replays, ReplaysIn, ReplaysSent, wire_gathered, wire_of};
+ghost use Rattle.swordd.specs.Replays.{FromNothing, Replays, ReplaysIn, ReplaysSent, wire_gathered, wire_of};
 
-use dep_hub::{Flush, Hub, serve_connection};
+use dep_hub::{Flush, serve_connection};
 use dep_moment::Moment;
 use dep_program::{Gathered, Outcome, configuration, outcome_of, outcome_sent};
-use dep_store::{HashingStore, Unwatched, close_hub, open_hub};
+use dep_store::{Unwatched, close_hub, open_hub};
 use dep_types::Inlet;
 use sqlite::{Alter, Connection};
 use std::alloc::Global;
@@ -89,7 +84,10 @@ fn replay_database<S: Alter, R: Inlet, W: Flush>(
     ensures flushed { IsFlushed (W.held writer.old) (W.has_failed writer.old)
         → IsFlushed (W.held writer.new) (W.has_failed writer.new) }
 {
-    match new_hub(alloc, setting.base, connection) {
+    let Ok(config) = configuration(alloc, setting.base) else {
+        return (Outcome::StoreFault, connection);
+    };
+    match open_hub(alloc, config, connection, &mut Unwatched) {
         Ok(mut hub) => {
             let moment = setting.moment;
             let mut clock = move || -> Moment
@@ -98,28 +96,6 @@ fn replay_database<S: Alter, R: Inlet, W: Flush>(
             let served = serve_connection(alloc, reader, writer, &mut hub, &mut clock);
             (outcome_of(served), close_hub(hub))
         }
-        Err(refused) => refused,
-    }
-}
-
-/// A hub over the store in a database that has no table.
-fn new_hub<S: Alter>(
-    alloc: Global,
-    base: &str,
-    connection: Connection<S>,
-) -> Result<Hub<HashingStore<S>>, (Outcome, Connection<S>)>
-    requires settled { (state S.Store connection).in_transaction ≡ false }
-    ensures config { IfOk result (λ hub. hub.config ≡ program_config base.now) }
-    ensures stands { IfOk result (λ hub. IsHonest (condition_of S.Store) hub
-        → HoldsNone (state S.Store connection).now.trees
-        → StandsAfter (condition_of S.Store) hub empty_state []) }
-    ensures refused { IfErr result (λ e. IsNotBegun base.now e.0) }
-{
-    let Ok(config) = configuration(alloc, base) else {
-        return Err((Outcome::StoreFault, connection));
-    };
-    match open_hub(alloc, config, connection, &mut Unwatched) {
-        Ok(hub) => Ok(hub),
-        Err((fault, connection)) => Err((fault.outcome(), connection)),
+        Err((fault, connection)) => (fault.outcome(), connection),
     }
 }

@@ -5,17 +5,18 @@ ghost use Rattle.sqlite.specs.State.{HasCleanDisk};
 ghost use Rattle.dep_program.specs.Setup.{program_config, base_at};
 ghost use Rattle.swordd.specs.Databases.{ServesDatabase};
 
+use crate::progress::Told;
 use dep_program::{Door, Outcome, configuration_at, serve_at};
-use dep_store::{Watch, close_hub, open_hub};
+use dep_store::{close_hub, open_hub};
 use sqlite::{Alter, Connection};
 
 /// Opens the store in the database, serves so many connections of 127.0.0.1 at the port, one after another, and hands
 /// the database back. The watch is told of what is read where version 1 becomes version 2.
-pub fn serve_database<S: Alter, W: Watch>(
+pub fn serve_database<S: Alter>(
     rt: &HostRuntime,
     door: Door,
     connection: Connection<S>,
-    watch: &mut W,
+    watch: &mut Told<'_>,
 ) -> (Outcome, Connection<S>)
     requires settled { (state S.Store connection).in_transaction ≡ false }
     ensures serves { ServesDatabase (program_config (base_at door.port)) door.count

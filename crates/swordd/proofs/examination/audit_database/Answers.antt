@@ -1,6 +1,7 @@
-use Rattle.std.proofs.Common.{[], inr, sym, subst}
+use Rattle.std.proofs.Common.{[], inr, refl, sym, subst}
 use Rattle.std.proofs.KnownBytes.{Appends-nil}
 use Rattle.sqlite.specs.Held.{Held, state}
+use Rattle.sqlite.specs.State.{HasCleanDisk}
 use Rattle.sqlite.proofs.StateLemmas.{clean_if_open}
 use Rattle.swordd.specs.Examinations.{AuditsDatabase}
 use Rattle.swordd.proofs.ExaminationLemmas.{audits_none, audits_all}
@@ -24,3 +25,19 @@ returns-in-Err-clause-audits g c = (
   Appends-nil (g.W.Outlet.taken c.args.lines.now),
   audits_none (state g.S.Store c.args.connection) (state g.S.Store c.in-Err.connection) (record { back = λ is_open. inr (c.in-Err.ensures.left is_open); stop = c.in-Err.ensures.stop }),
 )
+
+pub returns-in-Ok-clause-honest : goal.returns-in-Ok-clause-honest
+returns-in-Ok-clause-honest g c honest =
+    c.in-Ok.ensures.honest (c.audit_all-outcome.ensures.stays.honest (subst (λ (h : Held _). HasCleanDisk (state g.S.Store h)) c.close.ensures honest))
+
+pub returns-in-Err-clause-honest : goal.returns-in-Err-clause-honest
+returns-in-Err-clause-honest g c = c.in-Err.ensures.honest
+
+pub returns-in-Ok-clause-count : goal.returns-in-Ok-clause-count
+returns-in-Ok-clause-count g c = c.audit_all-outcome.ensures.blames.count
+
+pub returns-in-Err-clause-count : goal.returns-in-Err-clause-count
+returns-in-Err-clause-count g c other = refl
+
+pub returns-in-Ok-clause-cause : goal.returns-in-Ok-clause-cause
+returns-in-Ok-clause-cause g c = c.audit_all-outcome.ensures.blames.cause

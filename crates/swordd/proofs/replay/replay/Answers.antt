@@ -1,10 +1,9 @@
-use Rattle.std.proofs.Common.{inr, refl}
 use Rattle.sqlite.specs.Held.{state}
 use Rattle.sqlite.specs.Steps.{over_memory}
 use Rattle.sqlite.proofs.Callers.{memory_is_clean}
 use Rattle.dep_hub.specs.Conversation.{wire}
-use Rattle.dep_program.specs.declared.outcome.Outcome.TheVariants.{StoreFault}
-use Rattle.swordd.proofs.ReplayLemmas.{empty_holds_none, not_replayed}
+use Rattle.swordd.specs.Replays.{not_begun}
+use Rattle.swordd.proofs.ReplayLemmas.{empty_holds_none, rests_same}
 use Rattle.swordd.proofs.replay.replay.Goals as goal
 
 pub returns-in-Ok-clause-replays : goal.returns-in-Ok-clause-replays
@@ -14,5 +13,4 @@ returns-in-Ok-clause-replays g c =
 
 pub returns-in-Err-clause-replays : goal.returns-in-Err-clause-replays
 returns-in-Err-clause-replays g c =
-    not_replayed c.args.base.now c.args.moment (wire (g.R.Inlet.unread c.args.reader.now) (g.R.Inlet.reads c.args.reader.now) (g.R.Inlet.last c.args.reader.now) (g.W.Outlet.taken c.args.writer.now) (g.W.Outlet.failures c.args.writer.now))
-    StoreFault (inr refl)
+    not_begun (rests_same (wire (g.R.Inlet.unread c.args.reader.now) (g.R.Inlet.reads c.args.reader.now) (g.R.Inlet.last c.args.reader.now) (g.W.Outlet.taken c.args.writer.now) (g.W.Outlet.failures c.args.writer.now)))

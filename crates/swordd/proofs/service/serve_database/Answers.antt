@@ -1,5 +1,6 @@
-use Rattle.std.proofs.Common.{◌≡◌, ℕ, ◌∙◌, ap, sym, subst, rules, arith}
-use Rattle.sqlite.specs.Held.{state}
+use Rattle.std.proofs.Common.{◌≡◌, ℕ, ◌∙◌, ap, sym, subst, IsTrue, rules, arith}
+use Rattle.sqlite.specs.Held.{Held, state}
+use Rattle.sqlite.specs.State.{HasCleanDisk}
 use Rattle.sqlite.proofs.StateLemmas.{clean_if_open}
 use Rattle.dep_types.specs.declared.config.Config.{Config}
 use Rattle.dep_program.specs.Setup.{program_config, base_at}
@@ -33,3 +34,17 @@ returns-in-Err-clause-serves g c =
     (fails (state g.S.Store c.args.connection) (state g.S.Store it.connection)
     (λ is_open. clean_if_open (g.S.Store.view it.connection.store) (g.met.S.Store.shut_if_dirty it.connection.store) is_open)
     (opening_left _ _ it.ensures.stop) c.in-Ok.config c.args.door.count it.fault it.ensures.left it.ensures.kept it.ensures.refused))
+
+pub returns-in-Ok-open_hub-clause-honest : goal.returns-in-Ok-open_hub-clause-honest
+returns-in-Ok-open_hub-clause-honest g c honest =
+    c.in-Ok-open_hub.ensures.honest (c.serve_at-outcome.ensures.honest (subst (λ (h : Held _). HasCleanDisk (state g.S.Store h)) c.close_hub.ensures honest))
+
+pub returns-in-Err-clause-honest : goal.returns-in-Err-clause-honest
+returns-in-Err-clause-honest g c = c.in-Err.ensures.honest
+
+pub returns-in-Ok-open_hub-clause-open : goal.returns-in-Ok-open_hub-clause-open
+returns-in-Ok-open_hub-clause-open g c is_open =
+    c.in-Ok-open_hub.ensures.clean (c.serve_at-outcome.ensures.clean (subst (λ (h : Held _). IsTrue (state g.S.Store h).is_open) c.close_hub.ensures is_open))
+
+pub returns-in-Err-clause-open : goal.returns-in-Err-clause-open
+returns-in-Err-clause-open g c = c.in-Err.ensures.clean
