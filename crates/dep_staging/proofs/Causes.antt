@@ -1,23 +1,17 @@
 -- The statements of a call on uploads are among those of the tables.
 use Rattle.std.proofs.Common.{◌≡◌, ◌∙◌, ℕ, Result, Ok, Err, IsErrAnd, ap, subst}
 use Rattle.sqlite.specs.State as db
-use Rattle.dep_types.specs.Maps.{Numbered}
-use Rattle.dep_types.specs.State.{State, Upload, clock_at}
-use Rattle.dep_types.specs.declared.config.Config.{Config}
 use Rattle.dep_types.specs.declared.rows.UploadRow.{UploadRow}
 use Rattle.dep_types.specs.declared.store_fault.StoreFault.{StoreFault}
 use Rattle.dep_types.specs.declared.store_fault.StoreFault.TheVariants.{Store}
 use Rattle.dep_tables.specs.declared.segments.SegmentRow.{SegmentRow}
 use Rattle.dep_row_maps.specs.Causes.{FailsByStatement}
-use Rattle.dep_row_maps.specs.Causes.FailsByStatement.{state_read, state_written, timed_out_added, upload_added, upload_left, upload_deleted, segments_deleted, block_read, sha512_added, sha512_deleted}
+use Rattle.dep_row_maps.specs.Causes.FailsByStatement.{upload_added, upload_deleted, segments_deleted, block_read, sha512_added, sha512_deleted}
 use Rattle.dep_tables.specs.declared.owner.BlockOwner.TheVariants as owner
 use Rattle.dep_objects.proofs.Causes.{deletes_among}
-use Rattle.dep_staging.specs.Causes.{FailsToDrop, FailsToOpen, FailsToExpire, FailsToExpireAll, FailsToTick, FailsToHash, FailsToReadBlock}
+use Rattle.dep_staging.specs.Causes.{FailsToDrop, FailsToOpen, FailsToHash, FailsToReadBlock}
 use Rattle.dep_staging.specs.Causes.FailsToDrop.{blocks, promise, segments, row}
 use Rattle.dep_staging.specs.Causes.FailsToOpen.{row as columns, promise as promised}
-use Rattle.dep_staging.specs.Causes.FailsToExpire.{drop, number}
-use Rattle.dep_staging.specs.Causes.FailsToExpireAll.{looked, ended}
-use Rattle.dep_staging.specs.Causes.FailsToTick.{read, written, expired}
 
 module _ (at now : db.State) (fault : StoreFault) where
   pub open_among : (opened : UploadRow) → FailsToOpen opened at now fault → FailsByStatement at now fault
@@ -29,19 +23,6 @@ module _ (at now : db.State) (fault : StoreFault) where
   drop_among u (promise failed) = sha512_deleted _ failed
   drop_among u (segments failed) = segments_deleted _ failed
   drop_among u (row failed) = upload_deleted _ failed
-
-  pub expire_among : (u : ℕ) → FailsToExpire u at now fault → FailsByStatement at now fault
-  expire_among u (drop failed) = drop_among u failed
-  expire_among u (number failed) = timed_out_added _ failed
-
-  pub expire_all_among : (config : Config) (clock : ℕ) (uploads : Numbered Upload) → FailsToExpireAll config clock uploads at now fault → FailsByStatement at now fault
-  expire_all_among config clock uploads (looked failed) = upload_left _ failed
-  expire_all_among config clock uploads (ended u idle failed) = expire_among u failed
-
-  pub tick_among : (config : Config) (s : State) (moment : ℕ) → FailsToTick config s moment at now fault → FailsByStatement at now fault
-  tick_among config s moment (read failed) = state_read _ failed
-  tick_among config s moment (written failed) = state_written _ failed
-  tick_among config s moment (expired failed) = expire_all_among config (clock_at s moment) s.uploads failed
 
   pub block_among : (u k : ℕ) → FailsToReadBlock u k at now fault → FailsByStatement at now fault
   block_among u k failed = block_read _ failed.1

@@ -1,5 +1,5 @@
 -- Uploads that time out one after another.
-use Rattle.std.proofs.Common.{◌≡◌, ◌≢◌, ◌⊎◌, inl, inr, ℕ, ◌+◌, ◌-◌, ◌<◌, ◌≤◌, ◌^◌, max, min, IsTrue, Bool, true, false, not, ◌||◌, cond, Option, Some, None, is_some, refl, sym, ap, subst, ◌∙◌, nat_cmp, is_eq, arith}
+use Rattle.std.proofs.Common.{◌≡◌, ◌≢◌, ◌⊎◌, inl, inr, ℕ, ◌+◌, ◌-◌, ◌<◌, ◌≤◌, ◌^◌, IsTrue, Bool, true, false, not, ◌||◌, cond, Option, Some, None, is_some, refl, sym, ap, subst, ◌∙◌, nat_cmp, is_eq, arith}
 use Rattle.std.specs.Prelude.{nat_lt}
 use Rattle.std.specs.Option.{option_map_or}
 use Rattle.std.specs.Ordering.{eq_by_cmp}
@@ -11,7 +11,6 @@ use Rattle.dep_types.specs.Maps.{Numbered, Numbers}
 use Rattle.dep_types.specs.State.{State, Upload, is_idle, expires, expired, unexpired, clock_at, tick}
 use Rattle.dep_types.specs.declared.counters.Counters.{Counters}
 use Rattle.dep_types.specs.declared.config.Config.{Config}
-use Rattle.dep_types.specs.Limits.{greatest_moment}
 use Rattle.dep_types.specs.Sound.{IsSound}
 use Rattle.dep_types.proofs.TickLemmas.{get-unexpired, contains-expired}
 use Rattle.dep_tables.specs.Rows.{IsStorableState}
@@ -199,9 +198,6 @@ tick_is config s moment clock next now given =
     ∙ ap (λ (n : Counters). expired_all config (clock_at s moment) (record s { clock = clock_at s moment; next = n })) given
 
 -- ---- its row and its numbers
-
-pub ticked_clock : (s : State) (moment : ℕ) (row : StateRow) (clock : ℕ) → row ≡ state_row s → clock ≡ max row.clock (min moment greatest_moment) → clock ≡ clock_at s moment
-ticked_clock s moment row clock is e = e ∙ ap (λ (r : StateRow). max r.clock (min moment greatest_moment)) is
 
 pub ticked_row : (config : Config) (s : State) (moment : ℕ) (row : StateRow) (clock : ℕ) → row ≡ state_row s → clock ≡ clock_at s moment → record row { clock = clock } ≡ state_row (tick config s moment)
 ticked_row config s moment row clock is now = ap (λ (r : StateRow). record r { clock = clock }) is ∙ ap (λ k. record (state_row s) { clock = k }) now

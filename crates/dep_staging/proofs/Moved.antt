@@ -7,7 +7,7 @@ use Rattle.dep_types.specs.Uploads.{assembled}
 use Rattle.dep_types.specs.declared.rows.UploadRow.{UploadRow}
 use Rattle.dep_types.specs.declared.rows.FileRow.{FileRow}
 use Rattle.dep_statements.specs.Rows.{IsOrdered, row_at}
-use Rattle.dep_tables.specs.Edits.{with_blocks_moved, LacksFileRow, with_new_file_row, with_new_sha512, without_segment_rows, without_sha512, without_upload_row}
+use Rattle.dep_tables.specs.Edits.{with_blocks_moved, LacksFileRow, with_new_file_row, with_new_sha512}
 use Rattle.dep_tables.specs.Tables.{Tables}
 use Rattle.dep_tables.specs.declared.owner.BlockOwner.TheVariants as owner
 use Rattle.dep_row_maps.specs.Laws.{without_upload_rows}
@@ -17,28 +17,26 @@ use Rattle.dep_row_maps.proofs.Whole.{file_assembled}
 use Rattle.dep_objects.proofs.FileCalls.{file_is}
 use Rattle.dep_staging.specs.Assembling.{HasItsSegments, deposited}
 
-module _ (a b c d e f now : Tables) (upload : UploadRow) (row : FileRow)
-    (first : b ≡ with_blocks_moved (owner.Upload upload.upload) (owner.File row.file) a) (second : c ≡ without_sha512 (owner.Upload upload.upload) b) (third : d ≡ without_segment_rows upload.upload c)
-    (fourth : e ≡ without_upload_row upload.upload d) (fifth : f ≡ with_new_sha512 (owner.File row.file) row.sha512 e) (sixth : now ≡ with_new_file_row row f) where
+module _ (a b c d now : Tables) (upload : UploadRow) (row : FileRow)
+    (first : b ≡ with_blocks_moved (owner.Upload upload.upload) (owner.File row.file) a) (second : c ≡ without_upload_rows upload.upload b)
+    (third : d ≡ with_new_sha512 (owner.File row.file) row.sha512 c) (fourth : now ≡ with_new_file_row row d) where
   abbrev left : Tables
   left = without_upload_rows upload.upload (with_blocks_moved (owner.Upload upload.upload) (owner.File row.file) a)
 
   abbrev made_of : FileRow → Tables
   made_of r = with_new_file_row r (with_new_sha512 (owner.File row.file) r.sha512 left)
 
-  made_so_far : f ≡ with_new_sha512 (owner.File row.file) row.sha512 left
-  made_so_far =
-      fifth ∙ ap (with_new_sha512 (owner.File row.file) row.sha512)
-      (fourth ∙ ap (without_upload_row upload.upload) (third ∙ ap (without_segment_rows upload.upload) (second ∙ ap (without_sha512 (owner.Upload upload.upload)) first)))
+  made_so_far : d ≡ with_new_sha512 (owner.File row.file) row.sha512 left
+  made_so_far = third ∙ ap (with_new_sha512 (owner.File row.file) row.sha512) (second ∙ ap (without_upload_rows upload.upload) first)
 
-  was_free : LacksFileRow row.file f → LacksFileRow row.file a
+  was_free : LacksFileRow row.file d → LacksFileRow row.file a
   was_free free = sym (ap (λ (t : Tables). row_at t.files row.file) made_so_far) ∙ free
 
-  pub file_was_free : (s : State) → TablesAre a s → IsOrdered a.files → LacksFileRow row.file f → (n : ℕ) → file_at s n row.file ≡ None
+  pub file_was_free : (s : State) → TablesAre a s → IsOrdered a.files → LacksFileRow row.file d → (n : ℕ) → file_at s n row.file ≡ None
   file_was_free s h up free n = sym (file_is s n row.file) ∙ free_file a.files (files_at s.objects) (files_at s.objects) h.common.files up n row.file (was_free free)
 
   pub made : (s : State) (o : Object) (it : Upload) (file : File) → TablesAre a s → IsOrdered a.files → IsOrdered a.sha512s → finmap.get s.objects row.object ≡ Some o → finmap.get s.uploads upload.upload ≡ Some it → HasItsSegments it
-      → row ≡ file_row row.object row.file file → file.content ≡ assembled it → LacksFileRow row.file f → TablesAre now (deposited s row.object o row.file file upload.upload)
+      → row ≡ file_row row.object row.file file → file.content ≡ assembled it → LacksFileRow row.file d → TablesAre now (deposited s row.object o row.file file upload.upload)
   made s o it file h up values_up there held whole row_is content free =
-      subst (λ (t : Tables). TablesAre t (deposited s row.object o row.file file upload.upload)) (sym (sixth ∙ ap (with_new_file_row row) made_so_far ∙ ap made_of row_is))
+      subst (λ (t : Tables). TablesAre t (deposited s row.object o row.file file upload.upload)) (sym (fourth ∙ ap (with_new_file_row row) made_so_far ∙ ap made_of row_is))
       (file_assembled a s h up values_up row.object o there row.file file (was_free free) upload.upload it held whole.within content)

@@ -8,7 +8,7 @@ use Rattle.dep_fixity.specs.Fixity.{digests_of}
 use Rattle.dep_fixity.specs.declared.hasher.Digests.{Digests}
 use Rattle.dep_row_maps.specs.Laws.{HasSegmentsWithin}
 use Rattle.dep_row_maps.specs.Stored.{blocks_of}
-use Rattle.dep_row_maps.specs.TablesAre.{segments_at, joined}
+use Rattle.dep_row_maps.specs.TablesAre.{segments_at}
 use Rattle.dep_staging.specs.Causes.{AreStorableKeys}
 use Rattle.dep_staging.specs.Found.{IsLiveAs}
 use Rattle.dep_staging.specs.HashedAhead.{AreRunning, first_blocks}
@@ -19,10 +19,6 @@ use Rattle.dep_staging.specs.declared.running.RunningHashes.{RunningHashes}
 pub record IsSegmentOf (s : State) (row : SegmentRow) (bytes : List ℕ) : Type 0 where
   pub received : map.get (segments_at s.uploads row.upload) row.number ≡ Some bytes
   pub sized : row.size ≡ length bytes
-
--- what was received of an upload, by the numbers of its segments
-abbrev pub received_bytes : Upload → List ℕ
-received_bytes it = joined it.segments
 
 -- where the segment has a block at this place, and its numbers are SQL's, this is so
 abbrev pub ForBlockOf : State → SegmentRow → (place : ℕ) → Type 0 → Type 0

@@ -10,9 +10,10 @@ ghost use Rattle.dep_row_maps.specs.Clauses.{ChangesMaps, ChangesTables, FromMap
 ghost use Rattle.dep_row_maps.specs.Causes.{FailsByStatement};
 ghost use Rattle.dep_staging.specs.Changing.{Assembles};
 
+use crate::uploads::forget_upload;
 use dep_tables::{
-    BlockKey, BlockOwner, Statements, delete_segments, delete_sha512, delete_upload, first_block,
-    insert_file, insert_sha512, move_blocks, move_run, run_end,
+    BlockKey, BlockOwner, Statements, first_block, insert_file, insert_sha512, move_blocks,
+    move_run, run_end,
 };
 use dep_types::{FileRow, StoreFault, UploadRow};
 
@@ -52,9 +53,7 @@ pub fn assemble<T: Statements>(
         (λ s. OnOk result ((n : ℕ) → file_at s n row.now.file ≡ None)) }
 {
     move_content(tx, upload.upload, row.file)?;
-    delete_sha512(tx, BlockOwner::Upload(upload.upload))?;
-    delete_segments(tx, upload.upload)?;
-    delete_upload(tx, upload.upload)?;
+    forget_upload(tx, upload.upload)?;
     insert_sha512(tx, BlockOwner::File(row.file), &row.sha512)?;
     insert_file(tx, row)
 }

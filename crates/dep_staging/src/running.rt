@@ -140,8 +140,12 @@ impl RunningHashes {
         ensures others { (s : State) → AreRunning s self.old → AreRunning s self.new }
         ensures taken { IfSome result (λ run. (s : State) → AreRunning s self.old → IsRunning s run) }
     {
-        let due = self.uploads.iter().position(|run| run.is_due)?;
-        Some(self.uploads.remove(due))
+        for at in 0..self.uploads.len() {
+            if self.uploads[at].is_due {
+                return Some(self.uploads.remove(at));
+            }
+        }
+        None
     }
 
     /// Puts one behind the others, or drops it where memory is refused.
@@ -156,6 +160,11 @@ impl RunningHashes {
         ensures its { IfSome result (λ at. (none : RunningHash)
             → (get_or self.now.uploads.items at none).upload ≡ upload) }
     {
-        self.uploads.iter().position(|run| run.upload == upload)
+        for at in 0..self.uploads.len() {
+            if self.uploads[at].upload == upload {
+                return Some(at);
+            }
+        }
+        None
     }
 }

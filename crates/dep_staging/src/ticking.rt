@@ -1,9 +1,9 @@
 //! The clock, and the uploads that it ends.
 
-ghost use Rattle.std.specs.Prelude.{◌≡◌, ◌<◌, ◌^◌, None, IfOk, IfErr};
+ghost use Rattle.std.specs.Prelude.{◌≡◌, ◌<◌, ◌-◌, ◌^◌, None, IfOk, IfErr};
 ghost use Rattle.std.specs.FinMap as finmap;
 ghost use Rattle.dep_types.specs.Sound.{IsSound};
-ghost use Rattle.dep_types.specs.State as machine;
+ghost use Rattle.dep_types.specs.State.{State, clock_at};
 ghost use Rattle.dep_tables.specs.Clauses.{FailsByRunning};
 ghost use Rattle.dep_tables.specs.Rows.{IsStorableState, state_values};
 ghost use Rattle.dep_tables.specs.Texts.{write_state_text};
@@ -27,6 +27,13 @@ fn expire<T: Statements>(tx: &mut T, upload: u64) -> Result<(), StoreFault>
     insert_timed_out(tx, upload)
 }
 
+// The moment before which an upload was left for longer than is allowed.
+fn idle_before(config: &Config, clock: u64) -> u64
+    ensures { result ≡ clock - config.now.staging_max_idle }
+{
+    clock.saturating_sub(config.staging_max_idle)
+}
+
 /// Ends the upload that was left the longest, as long as one was left for longer than is allowed.
 fn expire_idle<T: Statements>(tx: &mut T, config: &Config, clock: u64) -> Result<(), StoreFault>
     ensures does { MakesMaps T.lenders T.state tx.old tx.new result
@@ -36,7 +43,7 @@ fn expire_idle<T: Statements>(tx: &mut T, config: &Config, clock: u64) -> Result
         → IfErr result (FailsSince T.state (FailsToExpireAll config.now clock s.uploads)
         tx.old tx.new)) }
 {
-    let moment = clock.saturating_sub(config.staging_max_idle);
+    let moment = idle_before(config, clock);
     'uploads: for passed in 0..u64::MAX {
         let Some(left) = left_before(tx, moment)? else {
             return Ok(());
@@ -44,6 +51,13 @@ fn expire_idle<T: Statements>(tx: &mut T, config: &Config, clock: u64) -> Result
         expire(tx, left.upload)?;
     }
     Err(StoreFault::Store)
+}
+
+// The clock at a moment, which moves it on and never back.
+fn clock_at(row: &StateRow, moment: u64) -> u64
+    ensures { (s : State) → row.now ≡ state_row s → result ≡ clock_at s moment }
+{
+    row.clock.max(moment.min(GREATEST_MOMENT))
 }
 
 // Writes the clock where it moves: a tick within the same second writes nothing.
@@ -78,7 +92,7 @@ pub fn tick<T: Statements>(tx: &mut T, config: &Config, moment: u64) -> Result<u
         → IfErr result (FailsSince T.state (FailsToTick config.now s moment) tx.old tx.new)) }
 {
     let row = read_state(tx)?;
-    let clock = row.clock.max(moment.min(GREATEST_MOMENT));
+    let clock = clock_at(&row, moment);
     set_clock(tx, &row, clock)?;
     expire_idle(tx, config, clock)?;
     Ok(clock)

@@ -5,7 +5,8 @@ ghost use Rattle.std.specs.FinMap as finmap;
 ghost use Rattle.dep_types.specs.State.{Upload};
 ghost use Rattle.dep_tables.specs.Clauses.{RefusesNumbers};
 ghost use Rattle.dep_tables.specs.Rows.{IsStorableUpload, columns_of_upload};
-ghost use Rattle.dep_row_maps.specs.Clauses.{ChangesMaps, FromMaps};
+ghost use Rattle.dep_row_maps.specs.Clauses.{ChangesMaps, ChangesTables, FromMaps};
+ghost use Rattle.dep_row_maps.specs.Laws.{without_upload_rows};
 ghost use Rattle.dep_staging.specs.Causes.{FailsToDrop, FailsToOpen};
 ghost use Rattle.dep_staging.specs.Changing.{Opens};
 
@@ -42,6 +43,15 @@ pub fn drop_upload<T: Statements>(tx: &mut T, upload: u64) -> Result<(), StoreFa
     ensures numbers { RefusesNumbers (T.state tx.old) (T.state tx.new) result (upload < 2 ^ 63) }
 {
     delete_blocks(tx, BlockOwner::Upload(upload))?;
+    forget_upload(tx, upload)
+}
+
+/// Deletes the row of an upload, those of its segments and the SHA-512 that was promised of it, and
+/// leaves the bytes.
+pub(crate) fn forget_upload<T: Statements>(tx: &mut T, upload: u64) -> Result<(), StoreFault>
+    ensures does { ChangesTables T.lenders T.state tx.old tx.new result
+        (upload < 2 ^ 63) (FailsToDrop upload) (without_upload_rows upload) }
+{
     delete_sha512(tx, BlockOwner::Upload(upload))?;
     delete_segments(tx, upload)?;
     delete_upload(tx, upload)

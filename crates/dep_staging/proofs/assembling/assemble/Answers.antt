@@ -1,9 +1,11 @@
 use Rattle.dep_tables.proofs.Chains.{clean_before, stays_then}
 use Rattle.dep_tables.specs.Tables.{tables_of}
 use Rattle.dep_row_maps.specs.Causes.{FailsByStatement}
-use Rattle.dep_row_maps.specs.Causes.FailsByStatement.{file_added, segments_deleted, sha512_added, sha512_deleted, upload_deleted}
-use Rattle.dep_row_maps.proofs.Causes.{fails_then, if_err_then}
+use Rattle.dep_row_maps.specs.Causes.FailsByStatement.{file_added, sha512_added}
+use Rattle.dep_row_maps.proofs.Causes.{fails_later, fails_then, if_err_then}
 use Rattle.dep_objects.proofs.Results.{ok_both}
+use Rattle.dep_staging.specs.Causes.{FailsToDrop}
+use Rattle.dep_staging.proofs.Causes.{drop_among}
 use Rattle.dep_staging.proofs.Moved.{made, file_was_free}
 use Rattle.dep_row_maps.proofs.Changing.{by_leads, by_sees, changes_then}
 use Rattle.dep_row_maps.proofs.Calling.{changes_failed}
@@ -14,110 +16,75 @@ returns-clause-does g c = record {
   map = λ clean inside ours s are o it file there held whole upload_is row_is content.
       let old = g.T.Statements.state c.args.tx.now in
       let one = g.T.Statements.state c.move_content.new.tx in
-      let two = g.T.Statements.state c.delete_sha512.new.tx in
-      let three = g.T.Statements.state c.delete_segments.new.tx in
-      let four = g.T.Statements.state c.delete_upload.new.tx in
-      let five = g.T.Statements.state c.insert_sha512.new.tx in
+      let two = g.T.Statements.state c.forget_upload.new.tx in
+      let three = g.T.Statements.state c.insert_sha512.new.tx in
       let new = g.T.Statements.state c.insert_file.new.tx in
-      let clean_five = clean_before c.insert_file.ensures.does.keeps.stays clean in
-      let clean_four = clean_before c.insert_sha512.ensures.does.keeps.stays clean_five in
-      let clean_three = clean_before c.delete_upload.ensures.does.keeps.stays clean_four in
-      let clean_two = clean_before c.delete_segments.ensures.does.keeps.stays clean_three in
-      let clean_one = clean_before c.delete_sha512.ensures.does.keeps.stays clean_two in
+      let clean_three = clean_before c.insert_file.ensures.does.keeps.stays clean in
+      let clean_two = clean_before c.insert_sha512.ensures.does.keeps.stays clean_three in
+      let clean_one = clean_before c.forget_upload.ensures.does.stays clean_two in
+      let inside_one = c.in_ok-move_content.ensures.does.stays.inside clean_one inside in
       let first = c.in_ok-move_content.ensures.does.ok clean_one inside ours in
-      let second = c.in_ok-delete_sha512.ensures.does.ok clean_two (c.in_ok-move_content.ensures.does.stays.inside clean_one inside) first.ours in
-      let third = c.in_ok-delete_segments.ensures.does.ok clean_three second.shows.mode second.ours in
-      let fourth = c.in_ok-delete_upload.ensures.does.ok clean_four third.shows.mode third.ours in
-      let fifth = c.in_ok-insert_sha512.ensures.does.ok clean_five fourth.shows.mode fourth.ours in
-      ok_both c.insert_file.result (c.insert_file.ensures.does.ok clean fifth.shows.mode fifth.ours) (c.insert_file.ensures.free clean fifth.shows.mode fifth.ours)
-      (λ leads free. made (tables_of old) (tables_of one) (tables_of two) (tables_of three) (tables_of four) (tables_of five) (tables_of new) c.args.upload.now c.args.row.now first.rows second.rows third.rows fourth.rows fifth.rows leads.rows
+      let second = c.in_ok-forget_upload.ensures.does.ok clean_two inside_one first.ours in
+      let third = c.in_ok-insert_sha512.ensures.does.ok clean_three (c.in_ok-forget_upload.ensures.does.stays.inside clean_two inside_one) second.ours in
+      ok_both c.insert_file.result (c.insert_file.ensures.does.ok clean third.shows.mode third.ours) (c.insert_file.ensures.free clean third.shows.mode third.ours)
+      (λ leads free. made (tables_of old) (tables_of one) (tables_of two) (tables_of three) (tables_of new) c.args.upload.now c.args.row.now first.rows second.rows third.rows leads.rows
       s o it file are ours.trees.ordered.1.1.1.1.0 ours.trees.ordered.1.1.1.1.1.1.1.1.1.0 there held whole row_is content free);
   cause = λ storable clean inside.
       let old = c.args.tx.now in
-      let five = c.insert_sha512.new.tx in
+      let three = c.insert_sha512.new.tx in
       let new = c.insert_file.new.tx in
-      let stays = stays_then (stays_then (stays_then (stays_then c.in_ok-move_content.ensures.does.stays c.in_ok-delete_sha512.ensures.does.keeps.stays) c.in_ok-delete_segments.ensures.does.keeps.stays) c.in_ok-delete_upload.ensures.does.keeps.stays) c.in_ok-insert_sha512.ensures.does.keeps.stays in
+      let stays = stays_then (stays_then c.in_ok-move_content.ensures.does.stays c.in_ok-forget_upload.ensures.does.stays) c.in_ok-insert_sha512.ensures.does.keeps.stays in
       let within = stays.inside (clean_before c.insert_file.ensures.does.keeps.stays clean) inside in
       if_err_then c.insert_file.result (c.insert_file.ensures.does.cause storable.1 clean within)
-      (λ fault failed. fails_then g.T.Statements.state old five new stays.survives FailsByStatement fault (file_added _ failed));
+      (λ fault failed. fails_then g.T.Statements.state old three new stays.survives FailsByStatement fault (file_added _ failed));
   keeps =
-      changes_then (changes_then (changes_then (changes_then (changes_then (by_sees _ c.in_ok-move_content.ensures.does.stays c.in_ok-move_content.ensures.does.ok) (by_leads _ c.in_ok-delete_sha512.ensures.does.keeps.stays c.in_ok-delete_sha512.ensures.does.ok)) (by_leads _ c.in_ok-delete_segments.ensures.does.keeps.stays c.in_ok-delete_segments.ensures.does.ok)) (by_leads _ c.in_ok-delete_upload.ensures.does.keeps.stays c.in_ok-delete_upload.ensures.does.ok)) (by_leads _ c.in_ok-insert_sha512.ensures.does.keeps.stays c.in_ok-insert_sha512.ensures.does.ok)) (by_leads _ c.insert_file.ensures.does.keeps.stays c.insert_file.ensures.does.ok);
+      changes_then (changes_then (changes_then (by_sees _ c.in_ok-move_content.ensures.does.stays c.in_ok-move_content.ensures.does.ok) (by_sees _ c.in_ok-forget_upload.ensures.does.stays c.in_ok-forget_upload.ensures.does.ok)) (by_leads _ c.in_ok-insert_sha512.ensures.does.keeps.stays c.in_ok-insert_sha512.ensures.does.ok)) (by_leads _ c.insert_file.ensures.does.keeps.stays c.insert_file.ensures.does.ok);
 }
 
 pub returns-clause-free : goal.returns-clause-free
 returns-clause-free g c clean inside ours s are =
     let old = g.T.Statements.state c.args.tx.now in
     let one = g.T.Statements.state c.move_content.new.tx in
-    let two = g.T.Statements.state c.delete_sha512.new.tx in
-    let three = g.T.Statements.state c.delete_segments.new.tx in
-    let four = g.T.Statements.state c.delete_upload.new.tx in
-    let five = g.T.Statements.state c.insert_sha512.new.tx in
+    let two = g.T.Statements.state c.forget_upload.new.tx in
+    let three = g.T.Statements.state c.insert_sha512.new.tx in
     let new = g.T.Statements.state c.insert_file.new.tx in
-    let clean_five = clean_before c.insert_file.ensures.does.keeps.stays clean in
-    let clean_four = clean_before c.insert_sha512.ensures.does.keeps.stays clean_five in
-    let clean_three = clean_before c.delete_upload.ensures.does.keeps.stays clean_four in
-    let clean_two = clean_before c.delete_segments.ensures.does.keeps.stays clean_three in
-    let clean_one = clean_before c.delete_sha512.ensures.does.keeps.stays clean_two in
+    let clean_three = clean_before c.insert_file.ensures.does.keeps.stays clean in
+    let clean_two = clean_before c.insert_sha512.ensures.does.keeps.stays clean_three in
+    let clean_one = clean_before c.forget_upload.ensures.does.stays clean_two in
+    let inside_one = c.in_ok-move_content.ensures.does.stays.inside clean_one inside in
     let first = c.in_ok-move_content.ensures.does.ok clean_one inside ours in
-    let second = c.in_ok-delete_sha512.ensures.does.ok clean_two (c.in_ok-move_content.ensures.does.stays.inside clean_one inside) first.ours in
-    let third = c.in_ok-delete_segments.ensures.does.ok clean_three second.shows.mode second.ours in
-    let fourth = c.in_ok-delete_upload.ensures.does.ok clean_four third.shows.mode third.ours in
-    let fifth = c.in_ok-insert_sha512.ensures.does.ok clean_five fourth.shows.mode fourth.ours in
-    ok_both c.insert_file.result (c.insert_file.ensures.does.ok clean fifth.shows.mode fifth.ours) (c.insert_file.ensures.free clean fifth.shows.mode fifth.ours)
-    (λ leads free. file_was_free (tables_of old) (tables_of one) (tables_of two) (tables_of three) (tables_of four) (tables_of five) (tables_of new) c.args.upload.now c.args.row.now first.rows second.rows third.rows fourth.rows fifth.rows leads.rows
+    let second = c.in_ok-forget_upload.ensures.does.ok clean_two inside_one first.ours in
+    let third = c.in_ok-insert_sha512.ensures.does.ok clean_three (c.in_ok-forget_upload.ensures.does.stays.inside clean_two inside_one) second.ours in
+    ok_both c.insert_file.result (c.insert_file.ensures.does.ok clean third.shows.mode third.ours) (c.insert_file.ensures.free clean third.shows.mode third.ours)
+    (λ leads free. file_was_free (tables_of old) (tables_of one) (tables_of two) (tables_of three) (tables_of new) c.args.upload.now c.args.row.now first.rows second.rows third.rows leads.rows
     s are ours.trees.ordered.1.1.1.1.0 free)
 
-pub returns-in_err-delete_sha512-clause-does : goal.returns-in_err-delete_sha512-clause-does
-returns-in_err-delete_sha512-clause-does g c =
-    changes_failed c.from_residual-in_err-delete_sha512.ensures.1 (λ s o it file there held whole upload_is row_is content. tt)
+pub returns-in_err-forget_upload-clause-does : goal.returns-in_err-forget_upload-clause-does
+returns-in_err-forget_upload-clause-does g c =
+    changes_failed c.from_residual-in_err-forget_upload.ensures.1 (λ s o it file there held whole upload_is row_is content. tt)
     (λ storable clean inside.
     let old = c.args.tx.now in
     let one = c.move_content.new.tx in
-    let new = c.delete_sha512.new.tx in
+    let new = c.forget_upload.new.tx in
+    let u = c.args.upload.now.upload in
     let stays = c.in_ok-move_content.ensures.does.stays in
-    let within = stays.inside (clean_before c.delete_sha512.ensures.does.keeps.stays clean) inside in
-    fails_then g.T.Statements.state old one new stays.survives FailsByStatement _
-    (sha512_deleted _ (c.in_err-delete_sha512.ensures.does.cause storable.0.upload clean within)))
-    (stays_then c.in_ok-move_content.ensures.does.stays c.in_err-delete_sha512.ensures.does.keeps.stays)
-
-pub returns-in_err-delete_segments-clause-does : goal.returns-in_err-delete_segments-clause-does
-returns-in_err-delete_segments-clause-does g c =
-    changes_failed c.from_residual-in_err-delete_segments.ensures.1 (λ s o it file there held whole upload_is row_is content. tt)
-    (λ storable clean inside.
-    let old = c.args.tx.now in
-    let two = c.delete_sha512.new.tx in
-    let new = c.delete_segments.new.tx in
-    let stays = stays_then c.in_ok-move_content.ensures.does.stays c.in_ok-delete_sha512.ensures.does.keeps.stays in
-    let within = stays.inside (clean_before c.delete_segments.ensures.does.keeps.stays clean) inside in
-    fails_then g.T.Statements.state old two new stays.survives FailsByStatement _
-    (segments_deleted _ (c.in_err-delete_segments.ensures.does.cause storable.0.upload clean within)))
-    (stays_then (stays_then c.in_ok-move_content.ensures.does.stays c.in_ok-delete_sha512.ensures.does.keeps.stays) c.in_err-delete_segments.ensures.does.keeps.stays)
-
-pub returns-in_err-delete_upload-clause-does : goal.returns-in_err-delete_upload-clause-does
-returns-in_err-delete_upload-clause-does g c =
-    changes_failed c.from_residual-in_err-delete_upload.ensures.1 (λ s o it file there held whole upload_is row_is content. tt)
-    (λ storable clean inside.
-    let old = c.args.tx.now in
-    let three = c.delete_segments.new.tx in
-    let new = c.delete_upload.new.tx in
-    let stays = stays_then (stays_then c.in_ok-move_content.ensures.does.stays c.in_ok-delete_sha512.ensures.does.keeps.stays) c.in_ok-delete_segments.ensures.does.keeps.stays in
-    let within = stays.inside (clean_before c.delete_upload.ensures.does.keeps.stays clean) inside in
-    fails_then g.T.Statements.state old three new stays.survives FailsByStatement _
-    (upload_deleted _ (c.in_err-delete_upload.ensures.does.cause storable.0.upload clean within)))
-    (stays_then (stays_then (stays_then c.in_ok-move_content.ensures.does.stays c.in_ok-delete_sha512.ensures.does.keeps.stays) c.in_ok-delete_segments.ensures.does.keeps.stays) c.in_err-delete_upload.ensures.does.keeps.stays)
+    let within = stays.inside (clean_before c.forget_upload.ensures.does.stays clean) inside in
+    fails_later g.T.Statements.state old one new stays.survives (FailsToDrop u) FailsByStatement (λ at now fault failed. drop_among at now fault u failed) _
+    (c.in_err-forget_upload.ensures.does.cause storable.0.upload clean within))
+    (stays_then c.in_ok-move_content.ensures.does.stays c.in_err-forget_upload.ensures.does.stays)
 
 pub returns-in_err-insert_sha512-clause-does : goal.returns-in_err-insert_sha512-clause-does
 returns-in_err-insert_sha512-clause-does g c =
     changes_failed c.from_residual-in_err-insert_sha512.ensures.1 (λ s o it file there held whole upload_is row_is content. tt)
     (λ storable clean inside.
     let old = c.args.tx.now in
-    let four = c.delete_upload.new.tx in
+    let two = c.forget_upload.new.tx in
     let new = c.insert_sha512.new.tx in
-    let stays = stays_then (stays_then (stays_then c.in_ok-move_content.ensures.does.stays c.in_ok-delete_sha512.ensures.does.keeps.stays) c.in_ok-delete_segments.ensures.does.keeps.stays) c.in_ok-delete_upload.ensures.does.keeps.stays in
+    let stays = stays_then c.in_ok-move_content.ensures.does.stays c.in_ok-forget_upload.ensures.does.stays in
     let within = stays.inside (clean_before c.insert_sha512.ensures.does.keeps.stays clean) inside in
-    fails_then g.T.Statements.state old four new stays.survives FailsByStatement _
+    fails_then g.T.Statements.state old two new stays.survives FailsByStatement _
     (sha512_added _ (c.in_err-insert_sha512.ensures.does.cause storable.1.file clean within)))
-    (stays_then (stays_then (stays_then (stays_then c.in_ok-move_content.ensures.does.stays c.in_ok-delete_sha512.ensures.does.keeps.stays) c.in_ok-delete_segments.ensures.does.keeps.stays) c.in_ok-delete_upload.ensures.does.keeps.stays) c.in_err-insert_sha512.ensures.does.keeps.stays)
+    (stays_then (stays_then c.in_ok-move_content.ensures.does.stays c.in_ok-forget_upload.ensures.does.stays) c.in_err-insert_sha512.ensures.does.keeps.stays)
 
 pub returns-in_err-move_content-clause-does : goal.returns-in_err-move_content-clause-does
 returns-in_err-move_content-clause-does g c =

@@ -41,7 +41,7 @@ uploads-preserved g c =
           let ours_mid = inv.1 (clean_mid before) inside ours in
           let z = inv.2 (clean_mid before) inside ours s are in
           let same = c.in_ok-left.ensures.does.keeps.same before ours_mid in
-          let read = subst (λ m. IsLeftBefore m (tables_of mid) c.in_ok-left.field-0) c.saturating_sub-moment.ensures (c.in_ok-left.ensures.does.ok before ours_mid) in
+          let read = subst (λ m. IsLeftBefore m (tables_of mid) c.in_ok-left.field-0) c.idle_before-moment.ensures (c.in_ok-left.ensures.does.ok before ours_mid) in
           one_more config clock c.uploads.passed s (tables_of mid) z c.in_ok-left.field-0 read c.in-Some.left c.in-Some.is (tables_of new)
           (c.in_ok-expire.ensures.does.map clean (saw.inside before inside) (still_ours mid seen same ours_mid) z.left (subst (λ (t : Tables). TablesAre t z.left) (sym (same_tables mid seen same)) z.are)),
     )
@@ -56,7 +56,7 @@ returns-in_default-clause-does g c = record {
       let ours_mid = inv.1 before inside ours in
       let z = inv.2 before inside ours s are in
       let same = c.in_ok-left.ensures.does.keeps.same clean ours_mid in
-      let read = subst (λ m. IsLeftBefore m (tables_of mid) c.in_ok-left.field-0) c.saturating_sub-moment.ensures (c.in_ok-left.ensures.does.ok clean ours_mid) in
+      let read = subst (λ m. IsLeftBefore m (tables_of mid) c.in_ok-left.field-0) c.idle_before-moment.ensures (c.in_ok-left.ensures.does.ok clean ours_mid) in
       subst (λ (t : Tables). TablesAre t (expired_all c.args.config.now c.args.clock s)) (sym (same_tables mid seen same))
       (all_expired c.args.config.now c.args.clock c.uploads.passed s (tables_of mid) z c.in_ok-left.field-0 read c.in_default.is);
   keeps =
@@ -75,7 +75,7 @@ returns-in_err-left-clause-cause g c clean inside ours s are below storable =
     let old = c.args.tx.now in
     let mid = c.uploads.tx in
     let new = c.left_before.new.tx in
-    let moment : c.saturating_sub-moment.result ≡ clock - config.staging_max_idle = c.saturating_sub-moment.ensures in
+    let moment : c.idle_before-moment.result ≡ clock - config.staging_max_idle = c.idle_before-moment.ensures in
     if_err_is _ c.from_residual.result c.in_err-left.field-0.0 c.from_residual.ensures.1 (fails_then g.T.Statements.state old mid new c.uploads.invariant.0.survives (FailsToExpireAll config clock s.uploads) _
     (looked (rw moment at (c.in_err-left.ensures.does.cause (omega (arith, below, moment)) clean))))
 
@@ -93,7 +93,7 @@ returns-in_err-expire-clause-cause g c clean inside ours s are below storable =
     let saw = stays_then inv.0 c.in_ok-left.ensures.does.keeps.stays in
     let ours_mid = inv.1 clean_mid inside ours in
     let z = inv.2 clean_mid inside ours s are in
-    let read = subst (λ m. IsLeftBefore m (tables_of (g.T.Statements.state mid)) c.in_ok-left.field-0) c.saturating_sub-moment.ensures (c.in_ok-left.ensures.does.ok clean_seen ours_mid) in
+    let read = subst (λ m. IsLeftBefore m (tables_of (g.T.Statements.state mid)) c.in_ok-left.field-0) c.idle_before-moment.ensures (c.in_ok-left.ensures.does.ok clean_seen ours_mid) in
     let u = c.in-Some.left.upload in
     let idle = z.idle u (found_idle config clock c.uploads.passed s (tables_of (g.T.Statements.state mid)) z c.in_ok-left.field-0 read c.in-Some.left c.in-Some.is) in
     if_err_is _ c.from_residual-in_err-expire.result c.in_err-expire.field-0.0 c.from_residual-in_err-expire.ensures.1 (fails_later g.T.Statements.state old seen new saw.survives (FailsToExpire u) (FailsToExpireAll config clock s.uploads)

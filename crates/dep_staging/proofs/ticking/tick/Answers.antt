@@ -1,4 +1,4 @@
-use Rattle.std.proofs.Common.{◌≡◌, ◌<◌, ◌^◌, max, ap, refl, sym, subst, ◌∙◌}
+use Rattle.std.proofs.Common.{◌≡◌, ◌<◌, ◌^◌, refl, sym, subst}
 use Rattle.dep_types.specs.State.{State}
 use Rattle.dep_tables.specs.Tables.{Tables, tables_of}
 use Rattle.dep_tables.specs.declared.state.StateRow.{StateRow}
@@ -6,7 +6,7 @@ use Rattle.dep_row_maps.specs.Stored.{state_row}
 use Rattle.dep_row_maps.specs.TablesAre.{TablesAre}
 use Rattle.dep_row_maps.proofs.Readings.{state_read}
 use Rattle.dep_objects.proofs.Results.{same_tables}
-use Rattle.dep_staging.proofs.Expired.{tick_is, ticked_clock, ticked_row, storable_tick, storable_uploads}
+use Rattle.dep_staging.proofs.Expired.{tick_is, ticked_row, storable_tick, storable_uploads}
 use Rattle.dep_tables.proofs.Chains.{clean_before, stays_then, still_ours}
 use Rattle.dep_tables.specs.Clauses.{FailsToRun}
 use Rattle.dep_tables.specs.Rows.{IsStorableState, state_values}
@@ -29,9 +29,9 @@ returns-clause-does g c = record {
       let clean_one = clean_before c.set_clock.ensures.does.keeps.stays clean_two in
       let same = c.in_ok-row.ensures.does.keeps.same clean_one ours in
       let row = c.in_ok-row.row in
-      let clock = c.max-clock.result in
+      let clock = c.clock_at-clock.result in
       let is : row ≡ state_row s = state_read (tables_of old) s are row (c.in_ok-row.ensures.does.ok clean_one ours) in
-      let now = ticked_clock s c.args.moment row clock is (c.max-clock.ensures ∙ ap (max row.clock) c.min.ensures) in
+      let now = c.clock_at-clock.ensures s is in
       let inside_one = c.in_ok-row.ensures.does.keeps.stays.inside clean_one inside in
       let ours_one = still_ours old one same ours in
       let are_one = subst (λ (t : Tables). TablesAre t s) (sym (same_tables old one same)) are in
@@ -56,8 +56,8 @@ returns-in_err-set_clock-clause-cause g c clean inside ours s are sound =
     let before = clean_before c.set_clock.ensures.does.keeps.stays clean in
     let row = c.in_ok-row.row in
     let is : row ≡ state_row s = state_read (tables_of (g.T.Statements.state old)) s are row (c.in_ok-row.ensures.does.ok before ours) in
-    let now = ticked_clock s c.args.moment row c.max-clock.result is (c.max-clock.ensures ∙ ap (max row.clock) c.min.ensures) in
-    let told = ticked_row c.args.config.now s c.args.moment row c.max-clock.result is now in
+    let now = c.clock_at-clock.ensures s is in
+    let told = ticked_row c.args.config.now s c.args.moment row c.clock_at-clock.result is now in
     if_err_is _ c.from_residual-in_err-set_clock.result c.in_err-set_clock.field-0.0 c.from_residual-in_err-set_clock.ensures.1 (fails_then g.T.Statements.state old one new c.read_state.ensures.does.keeps.stays.survives (FailsToTick c.args.config.now s c.args.moment) c.in_err-set_clock.field-0.0
     (written (subst (λ (r : StateRow). FailsToRun write_state_text (state_values r) (g.T.Statements.state one) (g.T.Statements.state new) c.in_err-set_clock.field-0.0) told
     (c.in_err-set_clock.ensures.cause (subst IsStorableState (sym told) (storable_tick c.args.config.now s c.args.moment sound)) clean (c.in_ok-row.ensures.does.keeps.stays.inside before inside)))))
@@ -73,9 +73,9 @@ returns-in_err-expire_idle-clause-cause g c clean inside ours s are sound =
     let clean_one = clean_before c.set_clock.ensures.does.keeps.stays clean_two in
     let same = c.in_ok-row.ensures.does.keeps.same clean_one ours in
     let row = c.in_ok-row.row in
-    let clock = c.max-clock.result in
+    let clock = c.clock_at-clock.result in
     let is : row ≡ state_row s = state_read (tables_of (g.T.Statements.state old)) s are row (c.in_ok-row.ensures.does.ok clean_one ours) in
-    let now = ticked_clock s c.args.moment row clock is (c.max-clock.ensures ∙ ap (max row.clock) c.min.ensures) in
+    let now = c.clock_at-clock.ensures s is in
     let inside_one = c.in_ok-row.ensures.does.keeps.stays.inside clean_one inside in
     let ours_one = still_ours (g.T.Statements.state old) (g.T.Statements.state one) same ours in
     let are_one = subst (λ (t : Tables). TablesAre t s) (sym (same_tables (g.T.Statements.state old) (g.T.Statements.state one) same)) are in
