@@ -15,12 +15,6 @@ use Rattle.dep_tables.proofs.Results.{if_ok, if_failed, ok_then}
 use Rattle.dep_schema.specs.Standing.{StaysOn}
 use Rattle.dep_schema.specs.declared.lending.Lent.{Lent}
 
--- what an Ok tells, where it is told as it is
-pub passed_ok : {A B E F P Q : Type 0} (r : Result A E) (told : Result B F) → is_ok told ≡ is_ok r → OnOk r P → (P → Q) → OnOk told Q
-passed_ok r (Err f) same p q = tt
-passed_ok (Ok x) (Ok y) same p q = q p
-passed_ok (Err e) (Ok y) same p q = absurd (cc same)
-
 failed_keeps : (old new : db.State) → IsUnchanged old new ⊎ IsRolledBack old new → KeepsCommit old new
 failed_keeps old new (inl same) = record { was_open = λ _. same.0.was_open; committed = λ _. same.0.committed_is }
 failed_keeps old new (inr back) = record { was_open = back.was_open; committed = λ is_open. (back.undone is_open).1 }
@@ -48,7 +42,7 @@ module _ {S : Type 0} (g : Ghosts S) (old new : MutBor (Held S)) (same_reference
     }
 
     -- it has failed
-    asks_stay : (e : Error) {A E : Type 0} {fault : E} → (HasCleanDisk (state g new.now) → Failed e) → StaysOn {A = A} g old new (Err fault)
+    pub asks_stay : (e : Error) {A E : Type 0} {fault : E} → (HasCleanDisk (state g new.now) → Failed e) → StaysOn {A = A} g old new (Err fault)
     asks_stay e failed = record {
       same_reference = same_reference;
       survives = survives;
@@ -56,19 +50,6 @@ module _ {S : Type 0} (g : Ghosts S) (old new : MutBor (Held S)) (same_reference
       kept = λ clean inside. asks_keep sql params (state g old.now) (state g new.now) inside e (failed clean);
       fails = λ clean inside is_open. left_whole (state g old.now) (state g new.now) inside is_open (asks_leave sql params (state g old.now) (state g new.now) e (failed clean));
     }
-
-    -- it has done either, which is told as it is
-    pub asked_stays : {R A E : Type 0} (rows_of : R → List Row) (r : Result R Error) (told : Result A E) → is_ok told ≡ is_ok r
-        → (HasCleanDisk (state g new.now) → IfOk r (λ rows. Shown sql params (state g old.now) (state g new.now) (rows_of rows))) → (HasCleanDisk (state g new.now) → IfErr r Failed) → StaysOn g old new told
-    asked_stays rows_of (Ok rows) told same shown failed = shown_stays (rows_of rows) shown
-    asked_stays rows_of (Err e) (Ok x) same shown failed = absurd (cc)
-    asked_stays rows_of (Err e) (Err fault) same shown failed = asks_stay e failed
-
-    pub asked_leaves : {R A E : Type 0} (r : Result R Error) (told : Result A E) → is_ok told ≡ is_ok r → IfErr r Failed
-        → OnErr told (IsUnchanged (state g old.now) (state g new.now) ⊎ IsRolledBack (state g old.now) (state g new.now))
-    asked_leaves r (Ok x) same failed = tt
-    asked_leaves (Ok rows) (Err fault) same failed = absurd (cc)
-    asked_leaves (Err e) (Err fault) same failed = asks_leave sql params (state g old.now) (state g new.now) e failed
 
     -- it has failed, which may be told as an answer where it has changed nothing
     pub tells_stay : (e : Error) {A E : Type 0} {r : Result A E} → (HasCleanDisk (state g new.now) → Failed e)

@@ -20,5 +20,8 @@ pub fn commit<S: Alter>(tx: Transaction<'_, S>) -> Result<(), StoreFault>
     ensures survives { Survives (state S.Store tx.entry.conn.now) (state S.Store tx.exit.0.now)
         (λ trees. trees ≡ (state S.Store tx.entry.conn.now).now.trees) }
 {
-    tx.commit().map_err(|error| fault_of(error))
+    match tx.commit() {
+        Ok(()) => Ok(()),
+        Err(error) => Err(fault_of(error)),
+    }
 }

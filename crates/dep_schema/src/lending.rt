@@ -27,8 +27,9 @@ impl<'a, 'b, S: Alter> Statements for Lent<'a, 'b, S> {
     }
 
     fn ask(&mut self, sql: &str, params: &[ValueRef<'_>]) -> Result<Vec<Row>, StoreFault> {
-        self.tx
-            .query_all(sql, params)
-            .map_err(|error| fault_of(error))
+        match self.tx.query_all(sql, params) {
+            Ok(rows) => Ok(rows),
+            Err(error) => Err(fault_of(error)),
+        }
     }
 }

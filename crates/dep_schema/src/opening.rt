@@ -1,6 +1,6 @@
 //! Opening a database of the store.
 
-ghost use Rattle.std.specs.Prelude.{◌≡◌, false, ◌↔◌, pos, Some, None, IsTrue, IfSome, IfOk, IfErr, OnOk, OnErr, MatchResult, Err};
+ghost use Rattle.std.specs.Prelude.{◌≡◌, false, ◌↔◌, Some, None, IsTrue, IfSome, IfOk, IfErr, OnOk, OnErr, MatchResult, Err};
 ghost use Rattle.sqlite.specs.declared.types.Value.TheVariants.{Int};
 ghost use Rattle.sqlite.specs.Order.{column};
 ghost use Rattle.sqlite.specs.State.{HasCleanDisk, IsUnchanged, Survives};
@@ -90,16 +90,14 @@ impl<S: Alter> Schema<S> {
     }
 }
 
-/// Whether the row is of id 1 and this version.
-fn is_known(row: &Row, version: i64) -> bool
-    ensures { IsTrue
-        result ↔ ((column row.now 0 ≡ Int (pos 1)) × (column row.now 1 ≡ Int version)) }
+/// Whether this column of the row is this number.
+fn has_number(row: &Row, at: usize, number: i64) -> bool
+    ensures { IsTrue result ↔ column row.now at ≡ Int number }
 {
-    matches!(row.get_ref(0), Ok(ValueRef::Int(1)))
-        && match row.get_ref(1) {
-            Ok(ValueRef::Int(found)) => found == version,
-            _ => false,
-        }
+    match row.get_ref(at) {
+        Ok(ValueRef::Int(found)) => found == number,
+        _ => false,
+    }
 }
 
 /// Whether it is the one row of id 1 and this version.
@@ -107,7 +105,7 @@ fn are_known(rows: &[Row], version: i64) -> bool
     ensures { IsTrue result ↔ AreVersion version rows.now }
 {
     match rows {
-        [row] => is_known(row, version),
+        [row] => has_number(row, 0, 1) && has_number(row, 1, version),
         _ => false,
     }
 }

@@ -53,10 +53,8 @@ pub fn perform_request<S: Alter>(
     let mut tx = connection.transaction();
     let performed = answer_within(&mut tx, alloc, running, service, operation)?;
     if performed.has_changes {
-        commit(tx)?;
-        return Ok(performed);
+        return commit(tx).and(Ok(performed));
     }
     tx.rollback();
-    check_open(connection)?;
-    Ok(performed)
+    check_open(connection).and(Ok(performed))
 }

@@ -20,7 +20,7 @@ pub fn probe<S: Alter>(connection: &mut Connection<S>) -> Result<(), Error>
     ensures restored { IsRestored (state S.Store connection.old) (state S.Store connection.new) }
 {
     let _between = connection.is_autocommit();
-    connection.prepare("SELECT 1")?;
+    drop(connection.prepare("SELECT 1")?);
     Ok(())
 }
 
@@ -29,5 +29,8 @@ pub fn check_open<S: Alter>(connection: &mut Connection<S>) -> Result<(), StoreF
     requires settled { (state S.Store connection.old).in_transaction ≡ false }
     ensures { FindsOpen (state S.Store connection.old) (state S.Store connection.new) result }
 {
-    probe(connection).map_err(|error| fault_of(error))
+    match probe(connection) {
+        Ok(()) => Ok(()),
+        Err(error) => Err(fault_of(error)),
+    }
 }

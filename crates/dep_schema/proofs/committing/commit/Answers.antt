@@ -1,11 +1,17 @@
-use Rattle.dep_schema.proofs.Asking.{passed_ok}
 use Rattle.dep_schema.proofs.committing.commit.Goals as goal
 
-pub returns-clause-ok : goal.returns-clause-ok
-returns-clause-ok g c clean = passed_ok c.commit.result c.map_err.result c.map_err.ensures.variant (c.commit.ensures.ok clean) (λ ended. (ended.1, ended.2, ended.3))
+pub returns-in-Ok : goal.returns-in-Ok
+returns-in-Ok g c = record {
+  ok = λ clean. let ended = c.in-Ok.ensures.ok clean in (ended.1, ended.2, ended.3);
+  err = λ clean. tt;
+  ended = c.commit.ensures.ended;
+  survives = c.commit.ensures.survives;
+}
 
-pub returns-clause-ended : goal.returns-clause-ended
-returns-clause-ended g c = c.commit.ensures.ended
-
-pub returns-clause-survives : goal.returns-clause-survives
-returns-clause-survives g c = c.commit.ensures.survives
+pub returns-in-Err : goal.returns-in-Err
+returns-in-Err g c = record {
+  ok = λ clean. tt;
+  err = λ clean. (c.in-Err.error, c.in-Err.ensures.err clean, c.fault_of.ensures);
+  ended = c.commit.ensures.ended;
+  survives = c.commit.ensures.survives;
+}
