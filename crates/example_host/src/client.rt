@@ -2,6 +2,7 @@
 ghost use Rattle.std.specs.Prelude.{◌≡◌, ◌<◌, ◌≤◌, ◌++◌, [], length, Some, None, IsOk, OnOk, OnErr, true, false};
 ghost use Rattle.dep_outbox.specs.Sockets.{Receives, Delivers};
 
+use crate::fate::{FATES, Fate};
 use dep_outbox::{Delivered, Received};
 use example_text::{Exchange, Trouble};
 use std::alloc::{AllocError, Global};
@@ -24,6 +25,7 @@ pub enum Silence {
 /// A client as the script has it: what it sends and takes.
 #[derive(Drop)]
 pub struct Client {
+    alloc: Global,
     given: Vec<u8>,
     received: usize,
     /// At most so many bytes are received at once.
@@ -54,6 +56,7 @@ impl Client {
         ensures taken { result.taken.items ≡ [] }
     {
         Client {
+            alloc,
             given: Vec::new(alloc),
             received: 0,
             at_once: usize::MAX,
@@ -97,8 +100,10 @@ impl Client {
         if taken == exchange.want.as_slice() && fate == word {
             return Ok(());
         }
-        exchange.has_come(alloc, taken, fate, word)?;
-        Err(Trouble::Line("the client got something else"))
+        match exchange.has_come(alloc, taken, fate, word) {
+            Ok(()) => Err(Trouble::Line("the client got something else")),
+            Err(why) => Err(why),
+        }
     }
 
     /// What it took so far isn't compared.
@@ -176,10 +181,19 @@ impl Client {
         Delivered::Bytes(count)
     }
 
-    /// Does what a line says of it: how it behaves from here on, or what it was told, or what isn't compared.
-    pub fn line(&mut self, word: &str, count: usize) -> Result<(), Trouble> {
+    /// Does what a line says of it: what it sends, how it behaves from here on, what it was told, or what it got and what
+    /// became of it, which is this.
+    pub fn line(
+        &mut self,
+        exchange: &mut Exchange,
+        fate: Fate,
+        word: &str,
+        count: usize,
+    ) -> Result<(), Trouble> {
         match word {
-            "finished" | "unfinished" => return self.is_told_as(word),
+            "sends" => return self.sends(exchange),
+            "finished" => return self.is_told_as(true),
+            "unfinished" => return self.is_told_as(false),
             "forget" => return Ok(self.forget()),
             "receives" => self.at_once = count,
             "takes" => self.room = count,
@@ -188,18 +202,35 @@ impl Client {
             "ends" => self.silence = Silence::Ended,
             "breaks" => self.silence = Silence::Failed,
             "fails" => self.is_broken = true,
-            _ => return Err(Trouble::Line("no line of an example begins so")),
+            _ => return self.ends(exchange, fate, word),
         }
         self.is_ready = true;
         Ok(())
     }
 
-    // It was told that nothing more is sent, or wasn't, as the word says.
-    fn is_told_as(&self, word: &str) -> Result<(), Trouble> {
-        match (self.is_finished, word) {
-            (false, "finished") => Err(NOT_TOLD),
-            (true, "unfinished") => Err(TOLD),
-            _ => Ok(()),
+    // It sends the bytes that are written.
+    fn sends(&mut self, exchange: &mut Exchange) -> Result<(), Trouble> {
+        self.give(exchange.stream.as_slice())?;
+        exchange.clear();
+        Ok(())
+    }
+
+    // It was told that nothing more is sent, or wasn't.
+    fn is_told_as(&self, is_finished: bool) -> Result<(), Trouble> {
+        if self.is_finished == is_finished {
+            return Ok(());
         }
+        Err(if is_finished { NOT_TOLD } else { TOLD })
+    }
+
+    // What it got and what became of it is as it is written, and from here on the next is written.
+    fn ends(&mut self, exchange: &mut Exchange, fate: Fate, word: &str) -> Result<(), Trouble> {
+        if !FATES.contains(&word) {
+            return Err(Trouble::Line("no line of an example begins so"));
+        }
+        self.is_as_written(self.alloc, exchange, fate.name(), word)?;
+        self.forget();
+        exchange.clear();
+        Ok(())
     }
 }

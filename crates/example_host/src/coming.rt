@@ -4,9 +4,20 @@ ghost use Rattle.std.specs.Prelude.{true};
 use crate::socket::Shared;
 use crate::spool::MemorySpool;
 use dep_host::{Client, Event, Events, Time};
+use dep_outbox::Wire;
+use example_text::Trouble;
+use std::alloc::Global;
+use std::net::IpAddr;
 
 /// A client that connects to a host of this player.
 pub type Guest = Client<Shared, Shared, MemorySpool>;
+
+/// The two halves of the client's socket, and a spool of its own.
+pub fn guest_of(alloc: Global, client: &Shared, address: IpAddr) -> Result<Guest, Trouble> {
+    let (source, sink, owner) = (client.share()?, client.share()?, client.share()?);
+    let wire = Wire::new(alloc, sink, MemorySpool::new(alloc, owner));
+    Ok(Client::new(source, wire, address))
+}
 
 /// What comes to a host by one line: a client, or rounds, before which each socket that may be ready is told.
 #[derive(Drop)]

@@ -3,7 +3,6 @@
 #![tactic(auto)]
 
 mod client;
-mod clients;
 mod coming;
 mod fate;
 mod file;
@@ -11,5 +10,6 @@ mod play;
 mod roll;
 mod socket;
 mod spool;
+mod stage;
 
 pub use file::play_files;

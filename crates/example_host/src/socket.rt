@@ -1,10 +1,11 @@
 //! A client as its player and its socket share it.
 
 use crate::client::Client;
+use crate::fate::Fate;
 use dep_outbox::{Delivered, Received, Sink, Source};
-use example_text::Trouble;
+use example_text::{Exchange, Trouble};
 use std::alloc::{AllocError, Global};
-use std::cell::{RefCell, RefMut};
+use std::cell::RefCell;
 use std::rc::Rc;
 
 /// A client as its player and the two halves of its socket share it.
@@ -28,10 +29,16 @@ impl Shared {
         })
     }
 
-    /// The client, which no call of its socket uses meanwhile.
-    pub fn client(&self) -> Result<RefMut<'_, Client>, Trouble> {
+    /// Does what a line says of the client, of which this has become.
+    pub fn line(
+        &self,
+        exchange: &mut Exchange,
+        fate: Fate,
+        word: &str,
+        count: usize,
+    ) -> Result<(), Trouble> {
         match self.client.try_borrow_mut() {
-            Ok(client) => Ok(client),
+            Ok(mut client) => client.line(exchange, fate, word, count),
             Err(_) => Err(Trouble::Line("the client is in use")),
         }
     }

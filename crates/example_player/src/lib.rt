@@ -1,6 +1,7 @@
 //! Plays examples on an archive: over a hub, over an intake by itself, and by calls that no request makes.
 #![tactic(auto)]
 
+mod asked;
 mod example;
 mod file;
 mod intake;

@@ -74,10 +74,8 @@ impl<T: ExampleTables> Player for Play<T> {
 impl<T: ExampleTables> Play<T> {
     fn sets(&mut self, word: &str, rest: &str) -> Result<(), Trouble> {
         let written = &mut self.written;
-        if written.line(word, rest)? {
-            return self.side.line(written.alloc, &written.settings, word, rest);
-        }
-        Ok(())
+        let asked = written.line(word, rest)?;
+        self.side.does(written.alloc, &written.settings, asked)
     }
 
     // An exchange ends. Where a file fails or stops it was on a connection of its own, and is played with that too.

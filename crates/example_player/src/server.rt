@@ -1,5 +1,6 @@
 //! A hub and its connections.
 
+use crate::asked::Command;
 use crate::tables::ExampleTables;
 use dep_hub::{Archive, ConnId, ConnectFault, Hub, Served, serve_connection};
 use dep_moment::Moment;
@@ -30,22 +31,22 @@ impl<A: Archive + Drop> Server<A> {
         }
     }
 
-    /// Goes on at a connection, closes one, or opens so many without a number. Or else there has to be room for none.
-    pub fn command(&mut self, word: &str, number: u64) -> Result<(), Trouble> {
-        match word {
-            "connection" => self.turn(number),
-            "close" => {
+    /// Does what is asked of its connections.
+    pub fn does(&mut self, command: Command, number: u64) -> Result<(), Trouble> {
+        match command {
+            Command::Turn => self.turn(number),
+            Command::Close => {
                 let connection = self.numbered(number)?;
                 self.hub.close(connection);
                 Ok(())
             }
-            "crowd" => {
+            Command::Crowd => {
                 for _ in 0..number {
                     let _ = connected(&mut self.hub)?;
                 }
                 Ok(())
             }
-            _ => self.is_full(),
+            Command::Full => self.is_full(),
         }
     }
 

@@ -1,5 +1,6 @@
 //! What an example is played against.
 
+use crate::asked::{Asked, Command};
 use crate::intake::takes;
 use crate::server::{Server, new_archive, new_hub};
 use crate::tables::ExampleTables;
@@ -7,12 +8,9 @@ use crate::written::numbering;
 use dep_hub::HubFault;
 use dep_message::Intake;
 use example_faults::hub_over;
-use example_text::{Exchange, Page, Settings, Trouble, blank, number};
+use example_text::{Exchange, Page, Settings, Trouble};
 use std::alloc::Global;
 use std::mem;
-
-/// The words of lines that name connections by a number.
-const COMMANDS: [&str; 3] = ["connection", "close", "crowd"];
 
 /// What an example is played against.
 #[derive(Drop)]
@@ -64,45 +62,31 @@ impl<T: ExampleTables> Side<T> {
         self.turn_to_new()
     }
 
-    /// Does what a line asks that stands between two exchanges, or above the first. A call of the archive is made without a
-    /// hub.
-    pub fn line(
+    /// Does what a line asks that stands between two exchanges, or above the first.
+    pub fn does(
         &mut self,
         alloc: Global,
         settings: &Settings,
-        word: &str,
-        rest: &str,
+        asked: Asked<'_>,
     ) -> Result<(), Trouble> {
-        match word {
-            "store" => self.fill(alloc, rest),
-            "export" | "audit" => self.leave(alloc),
-            "sql" => self.change(alloc, rest),
-            "next" => self.number_next(alloc, rest),
-            "unopened" => self.fail_to_open(alloc, rest),
-            _ if COMMANDS.contains(&word) => self.command(alloc, settings, word, number(rest)?),
-            _ => {
-                blank(rest)?;
-                self.turns(alloc, settings, word)
-            }
-        }
-    }
-
-    // Another side, or the same anew.
-    fn turns(&mut self, alloc: Global, settings: &Settings, word: &str) -> Result<(), Trouble> {
-        match word {
-            "full" => self.command(alloc, settings, word, 0),
-            "restart" => self.leave(alloc),
-            "reopen" => {
+        match asked {
+            Asked::Nothing => Ok(()),
+            Asked::Store(statements) => self.fill(alloc, statements),
+            Asked::Change(statement) => self.change(alloc, statement),
+            Asked::Number(line) => self.number_next(alloc, line),
+            Asked::Unopened(fault) => self.fail_to_open(alloc, fault),
+            Asked::Leave => self.leave(alloc),
+            Asked::Reopen => {
                 self.close(alloc)?;
                 self.leave(alloc)
             }
-            "refused" => self.refuse(alloc, settings),
-            "intake" => {
+            Asked::Refuse => self.refuse(alloc, settings),
+            Asked::Intake => {
                 self.change_to(Side::Intake(Intake::new(alloc, settings.max_upload())));
                 Ok(())
             }
-            "shut" => self.shut(),
-            _ => Err(Trouble::Line("no line of an example begins so")),
+            Asked::Shut => self.shut(),
+            Asked::Connections(command, number) => self.command(alloc, settings, command, number),
         }
     }
 
@@ -111,12 +95,12 @@ impl<T: ExampleTables> Side<T> {
         &mut self,
         alloc: Global,
         settings: &Settings,
-        word: &str,
+        command: Command,
         number: u64,
     ) -> Result<(), Trouble> {
         self.open(alloc, settings)?;
         match self {
-            Side::Server(server) => server.command(word, number),
+            Side::Server(server) => server.does(command, number),
             _ => Err(Trouble::Line("no connections are there")),
         }
     }

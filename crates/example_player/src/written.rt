@@ -1,17 +1,10 @@
 //! What an example has written, whatever it is played against.
 
+use crate::asked::Asked;
 use crate::intake::is_one_request;
 use example_faults::{Fault, Script};
-use example_text::{
-    ArchiveCall, Cut, Exchange, Page, Settings, Trouble, blank, first_word, number,
-};
+use example_text::{ArchiveCall, Cut, Exchange, Page, Settings, Trouble, first_word, number};
 use std::alloc::Global;
-
-/// The words of lines that may stand where a file fails or stops too.
-const WORDS: [&str; 6] = ["at", "fails", "stops", "looks", "config", "store"];
-
-/// The words of calls of the archive.
-const CALLS: [&str; 2] = ["export", "audit"];
 
 /// The kinds of what has numbers in an archive.
 const KINDS: [&str; 4] = ["object", "file", "upload", "change"];
@@ -47,54 +40,54 @@ impl Written {
         })
     }
 
-    /// Does what a line says, and returns whether it asks something of the archive too.
-    pub fn line(&mut self, word: &str, rest: &str) -> Result<bool, Trouble> {
-        let has_faults = self.script.has_faults();
-        if !has_faults && self.exchange.set(word, rest)? {
-            return Ok(false);
+    /// Does what a line says, and returns what it asks of the archive.
+    pub fn line<'a>(&mut self, word: &str, rest: &'a str) -> Result<Asked<'a>, Trouble> {
+        if !self.script.has_faults() && self.exchange.set(word, rest)? {
+            return Ok(Asked::Nothing);
         }
         self.exchange.is_answered()?;
-        if WORDS.contains(&word) {
-            self.sets(word, rest)?;
-            return Ok(word == "store");
-        }
-        if has_faults {
-            return Err(Trouble::Line("no such line stands where a file fails or stops"));
-        }
-        if CALLS.contains(&word) {
-            self.calls(word, rest)?;
-        }
-        Ok(true)
+        self.sets(word, rest)
     }
 
-    fn sets(&mut self, word: &str, rest: &str) -> Result<(), Trouble> {
-        match word {
+    // What may stand where a file fails or stops too, or else what `asks` does.
+    fn sets<'a>(&mut self, word: &str, rest: &'a str) -> Result<Asked<'a>, Trouble> {
+        let set = match word {
             "fails" => self.script.add_faults(Fault::Fails, rest),
             "stops" => self.script.add_faults(Fault::Stops, rest),
             "looks" => self.script.add_looks(self.alloc, rest),
+            "at" => {
+                self.exchange.moment = number(rest)?;
+                Ok(())
+            }
             // Where a file fails or stops it holds from the first exchange on.
             "config" => {
                 self.script.is_unbegun()?;
                 self.settings.configure(self.alloc, rest)
             }
             // These statements make the tables, before the archive is opened first.
-            "store" => Ok(self.script.fill(self.alloc, rest)?),
-            _ => {
-                self.exchange.moment = number(rest)?;
-                Ok(())
+            "store" => {
+                self.script.fill(self.alloc, rest)?;
+                return Ok(Asked::Store(rest));
             }
-        }
+            _ => return self.asks(word, rest),
+        };
+        set?;
+        Ok(Asked::Nothing)
     }
 
-    // An exchange begins that is a call of the archive.
-    fn calls(&mut self, word: &str, rest: &str) -> Result<(), Trouble> {
+    // What stands only where no file fails or stops. A call of the archive begins an exchange, and is made without a hub.
+    fn asks<'a>(&mut self, word: &str, rest: &'a str) -> Result<Asked<'a>, Trouble> {
+        if self.script.has_faults() {
+            return Err(Trouble::Line("no such line stands where a file fails or stops"));
+        }
         let call = match word {
             "export" => ArchiveCall::export(rest),
-            _ => ArchiveCall::audit(rest),
+            "audit" => ArchiveCall::audit(rest),
+            _ => return Asked::of(word, rest),
         };
         self.exchange.call = Some(call?);
         self.exchange.begin();
-        Ok(())
+        Ok(Asked::Leave)
     }
 
     /// Whether the exchange is played on a connection of its own too, as where a file fails or stops.
