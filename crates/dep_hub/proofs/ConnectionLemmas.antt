@@ -1,6 +1,6 @@
 -- Lists of connections.
-use Rattle.std.proofs.Common.{◌≡◌, ℕ, suc, zero, ◌+◌, ◌<◌, ◌≤◌, ◌==◌, Bool, true, false, not, nat_lt, List, [], ◌∷◌, ◌++◌, get_or, set, length, Option, Some, None, if◌then◌else◌, refl, sym, ap, subst, ◌∙◌, arith}
-use Rattle.std.specs.List.{remove, position_or_len}
+use Rattle.std.proofs.Common.{◌≡◌, ℕ, suc, zero, ◌+◌, ◌<◌, ◌≤◌, ◌==◌, Bool, true, false, List, [], ◌∷◌, ◌++◌, get_or, set, take, length, Option, Some, None, if◌then◌else◌, refl, sym, ap, subst, ◌∙◌, arith}
+use Rattle.std.specs.List.{remove}
 use Rattle.std.specs.Option.{option_map}
 use Rattle.std.specs.Prelude.{IsSome}
 use Rattle.std.proofs.lemmas.Bool.{eq-eqb}
@@ -9,27 +9,43 @@ use Rattle.dep_hub.specs.Numbers.{index_of, Ascends}
 use Rattle.dep_hub.specs.Standing.{intake_of}
 use Rattle.dep_hub.specs.declared.connections.Connection.{Connection}
 
-further : (b : Bool) (k : ℕ) → (if b then Some (suc k) else None) ≡ option_map suc (if b then Some k else None)
-further true k = refl
-further false k = refl
-
-one_step : (b : Bool) (k l : ℕ)
-    → (if nat_lt (if not b then 1 + k else 0) (suc l) then Some (if not b then 1 + k else 0) else None)
-    ≡ (if b then Some 0 else option_map suc (if nat_lt k l then Some k else None))
-one_step true k l =
-    let low : nat_lt 0 (suc l) ≡ true = grind (arith, nat_tests) in
-    ap (λ b. if b then Some 0 else None) low
-one_step false k l =
-    let same : nat_lt (1 + k) (suc l) ≡ nat_lt k l = grind (arith, nat_tests) in
-    let next : 1 + k ≡ suc k = omega arith in
-    (λ i. if same i then Some (next i) else None) ∙ further (nat_lt k l) k
-
-index_step : (n : ℕ) (c : Connection) (cs : List Connection) → index_of n (c ∷ cs) ≡ (if c.number == n then Some 0 else option_map suc (index_of n cs))
-index_step n c cs = one_step (c.number == n) (position_or_len (λ (x : Connection). x.number == n) cs) (length cs)
-
 some_not_none : (o : Option ℕ) → option_map suc o ≡ None → o ≡ None
 some_not_none None e = refl
 some_not_none (Some j) e = cc
+
+-- the first of the connections with the number
+found_next : (i : ℕ) (b : Bool) (o p : Option ℕ) → (if b then Some 0 else option_map suc o) ≡ None → (o ≡ None → p ≡ Some i)
+    → (if b then Some 0 else option_map suc p) ≡ Some (suc i)
+found_next i true o p e k = cc
+found_next i false o p e k = ap (option_map suc) (k (some_not_none o e))
+
+pub found_at : (n i : ℕ) (cs : List Connection) (c : Connection) → i < length cs → get_or cs i c ≡ c → index_of n (take i cs) ≡ None → c.number ≡ n → index_of n cs ≡ Some i
+found_at n i [] c l at none e = absurd (omega (arith, l))
+found_at n zero (d ∷ cs) c l at none e =
+    ap (λ b. if b then Some 0 else option_map suc (index_of n cs)) (eq-eqb d.number n (ap (λ (x : Connection). x.number) at ∙ e))
+found_at n (suc i) (d ∷ cs) c l at none e =
+    found_next i (d.number == n) (index_of n (take i cs)) (index_of n cs) none (λ before. found_at n i cs c (omega (arith, l)) at before e)
+
+-- none of those so far has it
+none_next : (b : Bool) (o p : Option ℕ) → (if b then Some 0 else option_map suc o) ≡ None → (o ≡ None → p ≡ None)
+    → (if b then Some 0 else option_map suc p) ≡ None
+none_next true o p e k = cc
+none_next false o p e k = ap (option_map suc) (k (some_not_none o e))
+
+none_then : (n i : ℕ) (cs : List Connection) (c : Connection) → i < length cs → get_or cs i c ≡ c → index_of n (take i cs) ≡ None → (c.number == n) ≡ false
+    → index_of n (take (suc i) cs) ≡ None
+none_then n i [] c l at none e = absurd (omega (arith, l))
+none_then n zero (d ∷ cs) c l at none e =
+    ap (λ b. if b then Some 0 else None) (ap (λ (x : Connection). x.number == n) at ∙ e)
+none_then n (suc i) (d ∷ cs) c l at none e =
+    none_next (d.number == n) (index_of n (take i cs)) (index_of n (take (suc i) cs)) none (λ before. none_then n i cs c (omega (arith, l)) at before e)
+
+pub none_so_far : (n i : ℕ) (cs : List Connection) (c : Connection) → i < length cs → get_or cs i c ≡ c → index_of n (take i cs) ≡ None → (c.number ≡ n → ⊥)
+    → index_of n (take (i + 1) cs) ≡ None
+none_so_far n i cs c l at none other =
+    let more : suc i ≡ i + 1 = omega arith in
+    let differs : (c.number == n) ≡ false = grind (arith, nat_tests, other) in
+    subst (λ (k : ℕ). index_of n (take k cs) ≡ None) more (none_then n i cs c l at none differs)
 
 none_at : (n : ℕ) (c : Connection) (cs : List Connection) (b : Bool) → b ≡ (c.number == n)
     → (if b then Some 0 else option_map suc (index_of n cs)) ≡ None → (index_of n cs ≡ None → intake_of cs n ≡ None)
@@ -40,7 +56,7 @@ none_at n c cs false e i k = k (some_not_none (index_of n cs) i)
 -- who is not there has no index, and the other way round
 pub index_none : (n : ℕ) (cs : List Connection) → index_of n cs ≡ None → intake_of cs n ≡ None
 index_none n [] e = refl
-index_none n (c ∷ cs) e = none_at n c cs (c.number == n) refl (sym (index_step n c cs) ∙ e) (index_none n cs)
+index_none n (c ∷ cs) e = none_at n c cs (c.number == n) refl e (index_none n cs)
 
 pub ascends_le : (low high : ℕ) (cs : List Connection) → Ascends low cs high → low ≤ high
 ascends_le low high [] a = a
@@ -67,7 +83,7 @@ some_at n (suc i) d cs c false e i' f k = k i (some_suc (index_of n cs) i i') f
 pub index_some : (n i : ℕ) (cs : List Connection) (c : Connection) → index_of n cs ≡ Some i → c ≡ get_or cs i c
     → (c.number ≡ n) × (intake_of cs n ≡ Some c.intake)
 index_some n i [] c e f = cc
-index_some n i (d ∷ cs) c e f = some_at n i d cs c (d.number == n) refl (sym (index_step n d cs) ∙ e) f (λ j. index_some n j cs c)
+index_some n i (d ∷ cs) c e f = some_at n i d cs c (d.number == n) refl e f (λ j. index_some n j cs c)
 
 -- a connection is added
 pub intake_push : (low : ℕ) (cs : List Connection) (d : Connection) → Ascends low cs d.number
@@ -99,7 +115,7 @@ set_at n (suc i) c cs d false e i' f m k = let h = k i (some_suc (index_of n cs)
 pub intake_set : (n i : ℕ) (cs : List Connection) (d : Connection) → index_of n cs ≡ Some i → d.number ≡ n
     → (m : ℕ) → intake_of (set cs i d) m ≡ (if m == n then Some d.intake else intake_of cs m)
 intake_set n i [] d e f m = cc
-intake_set n i (c ∷ cs) d e f m = set_at n i c cs d (c.number == n) refl (sym (index_step n c cs) ∙ e) f m (λ j h. intake_set n j cs d h f m)
+intake_set n i (c ∷ cs) d e f m = set_at n i c cs d (c.number == n) refl e f m (λ j h. intake_set n j cs d h f m)
 
 pub ascends_set : (low high i : ℕ) (cs : List Connection) (c d : Connection) → c ≡ get_or cs i c → d.number ≡ c.number → Ascends low cs high → Ascends low (set cs i d) high
 ascends_set low high i [] c d f e a = a
@@ -135,7 +151,7 @@ remove_at n low high (suc i) c cs false e i' a m k = let h = k i (some_suc (inde
 pub intake_remove : (n low high i : ℕ) (cs : List Connection) → index_of n cs ≡ Some i → Ascends low cs high
     → (m : ℕ) → intake_of (remove cs i) m ≡ (if m == n then None else intake_of cs m)
 intake_remove n low high i [] e a m = cc
-intake_remove n low high i (c ∷ cs) e a m = remove_at n low high i c cs (c.number == n) refl (sym (index_step n c cs) ∙ e) a m (λ j h. intake_remove n (c.number + 1) high j cs h a.1 m)
+intake_remove n low high i (c ∷ cs) e a m = remove_at n low high i c cs (c.number == n) refl e a m (λ j h. intake_remove n (c.number + 1) high j cs h a.1 m)
 
 ascends_weaker : (low lower high : ℕ) (cs : List Connection) → lower ≤ low → Ascends low cs high → Ascends lower cs high
 ascends_weaker low lower high [] l a = omega (arith, a)

@@ -1,5 +1,5 @@
 -- One turn of a connection.
-use Rattle.std.proofs.Common.{◌≡◌, ◌≤◌, ◌<◌, ℕ, zero, suc, Ok, List, ◌++◌, length, take, sym, ap, subst, ◌∙◌, arith, Option, Some, None, refl, take_at}
+use Rattle.std.proofs.Common.{◌≡◌, ◌≤◌, ◌<◌, ℕ, zero, suc, Ok, List, ◌++◌, length, take, drop, sym, ap, subst, ◌∙◌, arith, Option, Some, None, refl, take_at}
 use Rattle.std.proofs.KnownBytes.{Appends-kept}
 use Rattle.std.specs.Io.KnownBytes.{Consumes, Keeps}
 use Rattle.dep_types.specs.Conditions.{Condition}
@@ -15,27 +15,29 @@ use Rattle.dep_hub.specs.Conversation.{Session, OneTurn, NoTurn}
 use Rattle.dep_hub.specs.declared.hub.Hub.{Hub}
 use Rattle.dep_hub.specs.declared.arrived.Arrived.{Arrived}
 
+-- the buffer has room
+pub has_room : (buffer given items : List ℕ) → length buffer ≡ length given → given ≡ items → length items ≡ most_read → length buffer ≡ most_read
+has_room buffer given items b same room = b ∙ (ap (λ (xs : List ℕ). length xs) same ∙ room)
+
+pub some_room : (room : ℕ) → room ≡ most_read → 0 < room
+some_room room e = omega (arith, e)
+
 -- the whole buffer, as the slice of it that was read into
-read_whole : (len : ℕ) (buffer rest given whole : List ℕ) → whole ≡ take len (buffer ++ rest)
+pub read_whole : (len : ℕ) (buffer rest given whole : List ℕ) → whole ≡ take len (buffer ++ rest)
     → length buffer ≡ length given → length given ≡ len → whole ≡ buffer
 read_whole len buffer rest given whole e b s =
     e ∙ take_at buffer rest len (b ∙ s)
+
+-- so what was read is a part of it
+pub read_within : (n : ℕ) (buffer whole : List ℕ) → whole ≡ buffer → n ≡ length (take n buffer) → n ≡ length (take n whole)
+read_within n buffer whole e fits = fits ∙ ap (λ (xs : List ℕ). length (take n xs)) (sym e)
 
 -- what is read is some bytes, and no more than the buffer has
 some_read : (n : ℕ) (buffer : List ℕ) → n ≡ length (take n buffer) → (n ≡ 0 → ⊥) → 0 < length (take n buffer)
 some_read n buffer e not_none = omega arith
 
-small_read : (n : ℕ) (buffer given items : List ℕ) → n ≤ length buffer → n ≡ length (take n buffer)
-    → length buffer ≡ length given → given ≡ items → length items ≡ most_read → length (take n buffer) ≤ most_read
-small_read n buffer given items fits e b same room =
-    let known : length given ≡ most_read = ap (λ (xs : List ℕ). length xs) same ∙ room in
-    omega arith
-
--- the buffer has room
-pub has_room : (buffer given items : List ℕ) → length buffer ≡ length given → given ≡ items → length items ≡ most_read → 0 < length buffer
-has_room buffer given items b same room =
-    let known : length buffer ≡ most_read = b ∙ (ap (λ (xs : List ℕ). length xs) same ∙ room) in
-    omega arith
+small_read : (n : ℕ) (buffer : List ℕ) → n ≤ length buffer → n ≡ length (take n buffer) → length buffer ≡ most_read → length (take n buffer) ≤ most_read
+small_read n buffer fits e room = omega (arith, fits, e, room)
 
 -- where no byte was read, the reader keeps what it had
 pub none_read : (n : ℕ) (buffer : List ℕ) (unread left : Option (List ℕ)) → n ≡ 0
@@ -89,9 +91,7 @@ module _ {A : Type 0} (condition : A → Condition) where
 
   -- a piece was read, and it arrived
   pub one_turn : {C : Type 0} (ticks : C → ℕ → C → Type 0) (number : ℕ) (before after : Session A C) (answer : Arrived)
-      (n len moment : ℕ) (buffer rest given items whole : List ℕ)
-      → whole ≡ take len (buffer ++ rest) → length buffer ≡ length given → length given ≡ len
-      → given ≡ items → length items ≡ most_read
+      (n moment : ℕ) (buffer whole : List ℕ) → whole ≡ buffer → length buffer ≡ most_read
       → n ≤ length buffer → n ≡ length (take n buffer) → (n ≡ 0 → ⊥)
       → Consumes before.wire.unread after.wire.unread (take n buffer)
       → after.wire.reads ≡ next_count before.wire.reads → after.wire.last ≡ Bytes
@@ -99,8 +99,7 @@ module _ {A : Type 0} (condition : A → Condition) where
       → ArrivesOver condition before.wire.taken after.wire.taken before.wire.failures after.wire.failures
       before.hub after.hub number (take n whole) moment answer
       → OneTurn condition ticks number before after answer
-  one_turn ticks number before after answer n len moment buffer rest given items whole e b s same room fits long not_none read count last ticked arrival =
-      let is_whole : whole ≡ buffer = read_whole len buffer rest given whole e b s in
+  one_turn ticks number before after answer n moment buffer whole is_whole room fits long not_none read count last ticked arrival =
       let came : ArrivesOver condition before.wire.taken after.wire.taken before.wire.failures after.wire.failures
       before.hub after.hub number (take n buffer) moment answer = subst (λ (xs : List ℕ). ArrivesOver condition before.wire.taken after.wire.taken before.wire.failures after.wire.failures
       before.hub after.hub number (take n xs) moment answer) is_whole arrival in
@@ -112,7 +111,7 @@ module _ {A : Type 0} (condition : A → Condition) where
         reads = count;
         last = last;
         some = some_read n buffer long not_none;
-        small = small_read n buffer given items fits long b same room;
+        small = small_read n buffer fits long room;
         transfers = record { pieces = read; replies = came.appends };
         ticked = ticked;
         goes = came.goes;

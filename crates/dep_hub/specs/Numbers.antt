@@ -1,12 +1,15 @@
 -- Where a connection stands in the list, how the numbers follow one another, and how far
 -- connections go.
-use Rattle.std.specs.Prelude.{◌==◌, ◌+◌, ◌≤◌, ℕ, List, [], ◌∷◌, Option, position}
+use Rattle.std.specs.Prelude.{◌==◌, ◌+◌, ◌≤◌, ℕ, suc, List, [], ◌∷◌, Option, None, Some, if◌then◌else◌}
+use Rattle.std.specs.Option.{option_map}
 use Rattle.std.specs.Coded.{×_prop, le_prop}
 use Rattle.dep_hub.specs.declared.connections.Connection.{Connection}
 
 -- the first place at which the number stands
 abbrev pub index_of : ℕ → List Connection → Option ℕ
-index_of number connections = position (λ c. c.number == number) connections
+index_of number [] = None
+index_of number (c ∷ connections) =
+    if c.number == number then Some 0 else option_map suc (index_of number connections)
 
 -- the numbers ascend, from one and below the other
 abbrev pub Ascends : ℕ → List Connection → ℕ → Type 0

@@ -45,11 +45,14 @@ pub(crate) struct Connection {
 }
 
 /// Where a connection stands in the list.
-pub(crate) fn index_among(connections: &[Connection], number: u64) -> Option<usize>
-    ensures value { result ≡ index_of number connections.now }
+pub(crate) fn index_among(connections: &[Connection], id: ConnId) -> Option<usize>
+    ensures value { result ≡ index_of id connections.now }
     ensures within { IfSome result (λ i. i < length connections.now) }
 {
-    connections
-        .iter()
-        .position(|connection| connection.number == number)
+    for (i, connection) in connections.iter().enumerate() {
+        if connection.number == id.number {
+            return Some(i);
+        }
+    }
+    None
 }

@@ -138,7 +138,7 @@ impl<A: Archive> Hub<A> {
             (O.failures out.old) (O.failures out.new)
             self.old self.new connection piece.now moment result }
     {
-        let Some(i) = index_among(self.connections.as_slice(), connection.number()) else {
+        let Some(i) = index_among(self.connections.as_slice(), connection) else {
             return Arrived::NoSuch;
         };
         let kept = &mut self.connections[i];
@@ -164,7 +164,7 @@ impl<A: Archive> Hub<A> {
             (O.failures out.old) (O.failures out.new)
             self.old self.new connection piece.now result }
     {
-        let Some(i) = index_among(self.connections.as_slice(), connection.number()) else {
+        let Some(i) = index_among(self.connections.as_slice(), connection) else {
             return Arrived::NoSuch;
         };
         let kept = &mut self.connections[i];
@@ -192,7 +192,7 @@ impl<A: Archive> Hub<A> {
         ensures answers { ComesToNext A.condition (O.taken out.old) (O.taken out.new)
             (O.failures out.old) (O.failures out.new) self.old self.new connection moment result }
     {
-        let Some(i) = index_among(self.connections.as_slice(), connection.number()) else {
+        let Some(i) = index_among(self.connections.as_slice(), connection) else {
             return Next::NoSuch;
         };
         let kept = &mut self.connections[i];
@@ -236,7 +236,7 @@ impl<A: Archive> Hub<A> {
         // So what a stop now leaves.
         ensures kept { LeavesStore A.condition self.old self.new }
     {
-        if let Some(i) = index_among(self.connections.as_slice(), connection.number()) {
+        if let Some(i) = index_among(self.connections.as_slice(), connection) {
             drop(self.connections.remove(i));
         }
     }

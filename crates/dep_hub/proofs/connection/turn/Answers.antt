@@ -3,7 +3,8 @@ use Rattle.dep_hub.specs.Conversation.{session, wire}
 use Rattle.dep_hub.specs.Standing.{intake_of}
 use Rattle.dep_hub.specs.declared.connections.Connection.{Connection}
 use Rattle.dep_hub.specs.declared.arrived.Arrived.TheVariants.{Open as StaysOpen, Closed as HasClosed, Cut}
-use Rattle.dep_hub.proofs.TurnLemmas.{arrives_flushed, one_turn, no_turn, none_read, gives_bytes, gives_none, has_room, goes_then, goes_ahead}
+use Rattle.dep_hub.proofs.TurnLemmas.{has_room, some_room, read_whole, read_within, none_read, gives_bytes, gives_none, goes_then, goes_ahead, arrives_flushed, one_turn, no_turn}
+use Rattle.dep_hub.proofs.HubLemmas.{none_there}
 use Rattle.dep_hub.proofs.connection.turn.Goals as goal
 use Rattle.dep_hub.proofs.connection.turn.Given as given
 
@@ -18,9 +19,9 @@ returns-in-Open g c = record {
     turn = one_turn g.A.Archive.condition (given.C-step g) c.args.incoming.now.connection
         (session c.args.hub.now (wire (g.R.Inlet.unread c.args.reader.now) (g.R.Inlet.reads c.args.reader.now) (g.R.Inlet.last c.args.reader.now) (g.W.Outlet.taken c.args.writer.now) (g.W.Outlet.failures c.args.writer.now)) c.args.clock.now)
         (session c.arrive-arrived.new.self (wire (g.R.Inlet.unread c.read.new.self) (g.R.Inlet.reads c.read.new.self) (g.R.Inlet.last c.read.new.self) (g.W.Outlet.taken c.flush.new.self) (g.W.Outlet.failures c.flush.new.self)) c.clock-moment.new.self)
-        StaysOpen c.in-Ok.n c.args.incoming.now.buffer.len c.clock-moment.result
-        c.read.new.buffer (drop (length c.read.new.buffer) c.args.incoming.now.buffer.items) c.as_mut_slice.result.now c.args.incoming.now.buffer.items c.deref.result.now
-        c.deref.ensures.value c.read.auto.buffer c.as_mut_slice.ensures.len c.as_mut_slice.ensures.value c.args.incoming.now.room
+        StaysOpen c.in-Ok.n c.clock-moment.result c.read.new.buffer c.deref.result.now
+        (read_whole c.args.incoming.now.buffer.len c.read.new.buffer (drop (length c.read.new.buffer) c.args.incoming.now.buffer.items) c.as_mut_slice.result.now c.deref.result.now c.deref.ensures.value c.read.auto.buffer c.as_mut_slice.ensures.len)
+        (has_room c.read.new.buffer c.as_mut_slice.result.now c.args.incoming.now.buffer.items c.read.auto.buffer c.as_mut_slice.ensures.value c.args.incoming.now.room)
         c.in-Ok.ensures.bound.0 c.in-Ok.ensures.bound.1 c.in-Ok.n-test.1 c.in-Ok.ensures.bytes.0 c.read.ensures.count (c.in-Ok.ensures.last ∙ gives_bytes c.in-Ok.n c.in-Ok.n-test.1) c.clock-moment.ensures (arrives_flushed g.A.Archive.condition _ _ _ _ _ _ _ _ _ _ _ _ c.flush.ensures.taken c.flush.ensures.failures c.in-Open.ensures.arrival);
     ahead = record {
       same_config = c.work_ahead-left.ensures.rests.config;
@@ -40,9 +41,9 @@ returns-in-Closed g c = record {
   turn = one_turn g.A.Archive.condition (given.C-step g) c.args.incoming.now.connection
       (session c.args.hub.now (wire (g.R.Inlet.unread c.args.reader.now) (g.R.Inlet.reads c.args.reader.now) (g.R.Inlet.last c.args.reader.now) (g.W.Outlet.taken c.args.writer.now) (g.W.Outlet.failures c.args.writer.now)) c.args.clock.now)
       (session c.arrive-arrived.new.self (wire (g.R.Inlet.unread c.read.new.self) (g.R.Inlet.reads c.read.new.self) (g.R.Inlet.last c.read.new.self) (g.W.Outlet.taken c.flush.new.self) (g.W.Outlet.failures c.flush.new.self)) c.clock-moment.new.self)
-      HasClosed c.in-Ok.n c.args.incoming.now.buffer.len c.clock-moment.result
-      c.read.new.buffer (drop (length c.read.new.buffer) c.args.incoming.now.buffer.items) c.as_mut_slice.result.now c.args.incoming.now.buffer.items c.deref.result.now
-      c.deref.ensures.value c.read.auto.buffer c.as_mut_slice.ensures.len c.as_mut_slice.ensures.value c.args.incoming.now.room
+      HasClosed c.in-Ok.n c.clock-moment.result c.read.new.buffer c.deref.result.now
+      (read_whole c.args.incoming.now.buffer.len c.read.new.buffer (drop (length c.read.new.buffer) c.args.incoming.now.buffer.items) c.as_mut_slice.result.now c.deref.result.now c.deref.ensures.value c.read.auto.buffer c.as_mut_slice.ensures.len)
+      (has_room c.read.new.buffer c.as_mut_slice.result.now c.args.incoming.now.buffer.items c.read.auto.buffer c.as_mut_slice.ensures.value c.args.incoming.now.room)
       c.in-Ok.ensures.bound.0 c.in-Ok.ensures.bound.1 c.in-Ok.n-test.1 c.in-Ok.ensures.bytes.0 c.read.ensures.count (c.in-Ok.ensures.last ∙ gives_bytes c.in-Ok.n c.in-Ok.n-test.1) c.clock-moment.ensures (arrives_flushed g.A.Archive.condition _ _ _ _ _ _ _ _ _ _ _ _ c.flush.ensures.taken c.flush.ensures.failures c.in-Closed.ensures.arrival);
   flushed = λ _. c.flush.ensures.sends;
 }
@@ -55,9 +56,9 @@ returns-in-Cut g c = record {
   turn = one_turn g.A.Archive.condition (given.C-step g) c.args.incoming.now.connection
       (session c.args.hub.now (wire (g.R.Inlet.unread c.args.reader.now) (g.R.Inlet.reads c.args.reader.now) (g.R.Inlet.last c.args.reader.now) (g.W.Outlet.taken c.args.writer.now) (g.W.Outlet.failures c.args.writer.now)) c.args.clock.now)
       (session c.arrive-arrived.new.self (wire (g.R.Inlet.unread c.read.new.self) (g.R.Inlet.reads c.read.new.self) (g.R.Inlet.last c.read.new.self) (g.W.Outlet.taken c.flush.new.self) (g.W.Outlet.failures c.flush.new.self)) c.clock-moment.new.self)
-      Cut c.in-Ok.n c.args.incoming.now.buffer.len c.clock-moment.result
-      c.read.new.buffer (drop (length c.read.new.buffer) c.args.incoming.now.buffer.items) c.as_mut_slice.result.now c.args.incoming.now.buffer.items c.deref.result.now
-      c.deref.ensures.value c.read.auto.buffer c.as_mut_slice.ensures.len c.as_mut_slice.ensures.value c.args.incoming.now.room
+      Cut c.in-Ok.n c.clock-moment.result c.read.new.buffer c.deref.result.now
+      (read_whole c.args.incoming.now.buffer.len c.read.new.buffer (drop (length c.read.new.buffer) c.args.incoming.now.buffer.items) c.as_mut_slice.result.now c.deref.result.now c.deref.ensures.value c.read.auto.buffer c.as_mut_slice.ensures.len)
+      (has_room c.read.new.buffer c.as_mut_slice.result.now c.args.incoming.now.buffer.items c.read.auto.buffer c.as_mut_slice.ensures.value c.args.incoming.now.room)
       c.in-Ok.ensures.bound.0 c.in-Ok.ensures.bound.1 c.in-Ok.n-test.1 c.in-Ok.ensures.bytes.0 c.read.ensures.count (c.in-Ok.ensures.last ∙ gives_bytes c.in-Ok.n c.in-Ok.n-test.1) c.clock-moment.ensures (arrives_flushed g.A.Archive.condition _ _ _ _ _ _ _ _ _ _ _ _ c.flush.ensures.taken c.flush.ensures.failures c.in-Cut.ensures.arrival);
   flushed = λ _. c.flush.ensures.sends;
 }
@@ -89,8 +90,19 @@ returns-in-Ok-eq0 g c =
             (session c.args.hub.now (wire (g.R.Inlet.unread c.read.new.self) (g.R.Inlet.reads c.read.new.self) (g.R.Inlet.last c.read.new.self) (g.W.Outlet.taken c.args.writer.now) (g.W.Outlet.failures c.args.writer.now)) c.args.clock.now)
             refl refl refl refl
             (none_read c.in-Ok-eq0.field-0 c.read.new.buffer (g.R.Inlet.unread c.args.reader.now) (g.R.Inlet.unread c.read.new.self) none c.in-Ok-eq0.ensures.bytes.0) c.read.ensures.count,
-        c.in-Ok-eq0.ensures.bytes.1 none (has_room c.read.new.buffer c.as_mut_slice.result.now c.args.incoming.now.buffer.items c.read.auto.buffer c.as_mut_slice.ensures.value c.args.incoming.now.room),
+        c.in-Ok-eq0.ensures.bytes.1 none (some_room (length c.read.new.buffer) (has_room c.read.new.buffer c.as_mut_slice.result.now c.args.incoming.now.buffer.items c.read.auto.buffer c.as_mut_slice.ensures.value c.args.incoming.now.room)),
         c.in-Ok-eq0.ensures.last ∙ gives_none c.in-Ok-eq0.field-0 none,
       );
       flushed = λ flushed. flushed;
     }
+
+-- what was read is a part of the buffer
+pub slice_bounds-arrive-end : goal.slice_bounds-arrive-end
+slice_bounds-arrive-end g c =
+    read_within c.in-Ok.n c.read.new.buffer c.deref.result.now
+    (read_whole c.args.incoming.now.buffer.len c.read.new.buffer (drop (length c.read.new.buffer) c.args.incoming.now.buffer.items) c.as_mut_slice.result.now c.deref.result.now c.deref.ensures.value c.read.auto.buffer c.as_mut_slice.ensures.len)
+    c.in-Ok.ensures.bound.1
+
+-- the connection is there
+pub unreachable-unreachable : goal.unreachable-unreachable
+unreachable-unreachable g c = none_there _ c.in-NoSuch.ensures.arrival.absent c.requires.there

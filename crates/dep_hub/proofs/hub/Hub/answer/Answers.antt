@@ -1,4 +1,4 @@
-use Rattle.std.proofs.Common.{refl, sym, ◌∙◌}
+use Rattle.std.proofs.Common.{refl, sym, ap, ◌∙◌}
 use Rattle.dep_hub.specs.Sending.{outside}
 use Rattle.dep_hub.specs.Numbers.{index_of}
 use Rattle.dep_hub.proofs.ConnectionLemmas.{index_none, ascends_set}
@@ -10,7 +10,7 @@ use Rattle.dep_hub.proofs.hub.Hub.answer.Goals as goal
 -- there is no such connection
 pub returns-in_default : goal.returns-in_default
 returns-in_default g c =
-    let none = index_none c.args.connection c.args.self.now.connections.items ((λ i. index_of (sym c.number.ensures i) (sym c.as_slice.ensures.value i)) ∙ (sym c.index_among.ensures.value ∙ c.in_default.is)) in
+    let none = index_none c.args.connection c.args.self.now.connections.items (ap (index_of c.args.connection) (sym c.as_slice.ensures.value) ∙ (sym c.index_among.ensures.value ∙ c.in_default.is)) in
     record {
       goes = record { config = refl; next = refl; clean = λ is_open. is_open; honest = λ honest. honest };
       absent = λ _. refl;
@@ -21,7 +21,7 @@ returns-in_default g c =
 -- its next item was answered
 pub returns : goal.returns
 returns g c =
-    let index = (λ i. index_of (sym c.number.ensures i) (sym c.as_slice.ensures.value i)) ∙ sym c.in-Some.ensures.value in
+    let index = ap (index_of c.args.connection) (sym c.as_slice.ensures.value) ∙ sym c.in-Some.ensures.value in
     let old = outside (g.O.Outlet.taken c.args.out.now) (g.O.Outlet.failures c.args.out.now) (g.A.Archive.condition c.args.self.now.store) in
     let new = outside (g.O.Outlet.taken c.answer_next.new.out) (g.O.Outlet.failures c.answer_next.new.out) (g.A.Archive.condition c.answer_next.new.store) in
     let passes = (next_passes c.args.self.now.config c.index_mut-kept.result.now.intake c.args.moment old new c.answer_next.new.intake.place c.answer_next.result c.answer_next.ensures.answers).1 in

@@ -11,7 +11,7 @@ use Rattle.dep_hub.proofs.hub.Hub.offer.Goals as goal
 -- there is no such connection
 pub returns-in_default : goal.returns-in_default
 returns-in_default g c =
-    let none = index_none c.args.connection c.args.self.now.connections.items ((λ i. index_of (sym c.number.ensures i) (sym c.as_slice.ensures.value i)) ∙ (sym c.index_among.ensures.value ∙ c.in_default.is)) in
+    let none = index_none c.args.connection c.args.self.now.connections.items (ap (index_of c.args.connection) (sym c.as_slice.ensures.value) ∙ (sym c.index_among.ensures.value ∙ c.in_default.is)) in
     record {
       kept = record { config = refl; next = refl; store = refl };
       absent = λ _. refl;
@@ -22,7 +22,7 @@ returns-in_default g c =
 -- the piece was taken
 pub returns-in-Ok : goal.returns-in-Ok
 returns-in-Ok g c =
-    let index = (λ i. index_of (sym c.number.ensures i) (sym c.as_slice.ensures.value i)) ∙ sym c.in-Some.ensures.value in
+    let index = ap (index_of c.args.connection) (sym c.as_slice.ensures.value) ∙ sym c.in-Some.ensures.value in
     record {
       kept = record { config = refl; next = refl; store = refl };
       absent = λ none. absurd (not_absent c.args.connection c.in-Some.i c.args.self.now.connections.items c.index_mut-kept.result.now index c.index_mut-kept.ensures.value none);
@@ -41,7 +41,7 @@ returns-in-Ok g c =
 -- memory ran out
 pub returns-in-Err : goal.returns-in-Err
 returns-in-Err g c =
-    let index = (λ i. index_of (sym c.number.ensures i) (sym c.as_slice.ensures.value i)) ∙ sym c.in-Some.ensures.value in
+    let index = ap (index_of c.args.connection) (sym c.as_slice.ensures.value) ∙ sym c.in-Some.ensures.value in
     let e = c.in-Err.ensures.err in
     record {
       kept = record { config = refl; next = refl; store = refl };

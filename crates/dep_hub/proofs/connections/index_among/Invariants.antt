@@ -1,0 +1,7 @@
+use Rattle.std.proofs.Common.{◌≡◌, None, take}
+use Rattle.dep_hub.specs.Numbers.{index_of}
+use Rattle.dep_hub.proofs.connections.index_among.Given as goal
+
+-- it stands nowhere before
+abbrev pub invariant-loop-i : goal.invariant-loop-i
+invariant-loop-i l = index_of l.fn.id (take l.i l.connections) ≡ None
