@@ -1,4 +1,4 @@
-use Rattle.std.proofs.Common.{◌<◌, ◌≤◌, ◌^◌, ◌++◌, length, arith, rules, sym, ap, subst, ◌∙◌, append_assoc}
+use Rattle.std.proofs.Common.{◌<◌, ◌≤◌, ◌^◌, ◌++◌, length, arith, sym, ap, subst, ◌∙◌, append_assoc}
 use Rattle.dep_fixity.specs.Fixity.{Holds}
 use Rattle.dep_tables.proofs.Chains.{clean_before, may_then, may_err, may_read, still_ours, may_put, may_ok}
 use Rattle.dep_tables.specs.Tables.{Tables}
@@ -7,7 +7,7 @@ use Rattle.dep_row_maps.specs.TablesAre.{TablesAre}
 use Rattle.dep_objects.proofs.Results.{same_tables}
 use Rattle.dep_objects.proofs.Cuts.{one_block_more, all_blocks, few_blocks}
 use Rattle.dep_staging.specs.Causes.{FailsToReadBlock}
-use Rattle.dep_row_maps.proofs.Causes.{fails_then}
+use Rattle.dep_row_maps.proofs.Causes.{fails_then, if_err_is}
 use Rattle.dep_staging.proofs.Hashed.{counted}
 use Rattle.std.proofs.lemmas.Result.{IfOk-from_err}
 use Rattle.dep_staging.proofs.hashing.hash_segment.Goals as goal
@@ -63,6 +63,6 @@ returns-in_err-block-clause-cause g c clean ours is_open s are bytes its storabl
     let are_mid = subst (λ (t : Tables). TablesAre t s) (sym (same_tables (g.T.Statements.state old) (g.T.Statements.state mid) same)) are in
     let within : c.loop-place.place < length (blocks_of bytes) = subst (λ n. c.loop-place.place < n) (inv.0 ∙ counted s c.args.segment.now bytes its) c.loop-place-test.true in
     let below : c.loop-place.place < 2 ^ 63 = omega (arith, inv.3, c.loop-place-test.true) in
-    let known = fails_then g.T.Statements.state old mid new inv.1.stays.survives (FailsToReadBlock c.args.segment.now.upload c.args.segment.now.number) _
-    (c.in_err-block.ensures.cause clean (still_ours (g.T.Statements.state old) (g.T.Statements.state mid) same ours) s are_mid bytes its within storable below) in
-    search rules
+    if_err_is _ c.from_residual.result c.in_err-block.field-0.0 c.from_residual.ensures.1
+    (fails_then g.T.Statements.state old mid new inv.1.stays.survives (FailsToReadBlock c.args.segment.now.upload c.args.segment.now.number) _
+    (c.in_err-block.ensures.cause clean (still_ours (g.T.Statements.state old) (g.T.Statements.state mid) same ours) s are_mid bytes its within storable below))
