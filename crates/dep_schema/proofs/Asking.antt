@@ -1,5 +1,5 @@
 -- What a statement inside a transaction keeps, whatever its text is.
-use Rattle.std.proofs.Common.{◌≡◌, ◌⊎◌, ℕ, List, IsTrue, Result, Ok, Err, IfOk, IfErr, OnOk, OnErr, is_ok, inl, inr, sym, ap, ◌∙◌}
+use Rattle.std.proofs.Common.{◌≡◌, ◌⊎◌, ℕ, List, IsTrue, Result, Ok, Err, OnOk, OnErr, is_ok, inl, inr, sym, ap, ◌∙◌}
 use Rattle.std.specs.Borrow.{GName, MutBor}
 use Rattle.sqlite_trees.specs.declared.store.Store.{Ghosts}
 use Rattle.sqlite.specs.Order.{Row}
