@@ -1,5 +1,5 @@
 -- One turn of a connection.
-use Rattle.std.proofs.Common.{◌≡◌, ◌≤◌, ◌<◌, ℕ, zero, suc, Ok, List, ◌++◌, length, take, drop, sym, ap, subst, ◌∙◌, arith, Option, Some, None, refl, take_at}
+use Rattle.std.proofs.Common.{◌≡◌, ◌≤◌, ◌<◌, ℕ, zero, suc, Ok, List, ◌++◌, length, take, sym, ap, subst, ◌∙◌, arith, Option, Some, None, refl, take_at}
 use Rattle.std.proofs.KnownBytes.{Appends-kept}
 use Rattle.std.specs.Io.KnownBytes.{Consumes, Keeps}
 use Rattle.dep_types.specs.Conditions.{Condition}

@@ -1,4 +1,5 @@
-use Rattle.std.proofs.Common.{IsSome, Vec, Global, refl, sym, subst, length, drop, ◌∙◌}
+use Rattle.std.proofs.Common.{IsSome, ℕ, List, Vec, Global, refl, sym, ap, subst, length, drop, ◌∙◌}
+use Rattle.std.proofs.lemmas.List.{with_items_is}
 use Rattle.dep_hub.specs.Conversation.{session, wire}
 use Rattle.dep_hub.specs.Standing.{intake_of}
 use Rattle.dep_hub.specs.declared.connections.Connection.{Connection}
@@ -95,6 +96,13 @@ returns-in-Ok-eq0 g c =
       );
       flushed = λ flushed. flushed;
     }
+
+-- the buffer keeps its room
+pub invariant_of-incoming : goal.invariant_of-incoming
+invariant_of-incoming g c = record {
+  room = ap (λ (xs : List ℕ). length xs) (with_items_is c.args.incoming.now.buffer c.read.new.buffer (c.read.auto.buffer ∙ c.as_mut_slice.ensures.len))
+      ∙ has_room c.read.new.buffer c.as_mut_slice.result.now c.args.incoming.now.buffer.items c.read.auto.buffer c.as_mut_slice.ensures.value c.args.incoming.now.room;
+}
 
 -- what was read is a part of the buffer
 pub slice_bounds-arrive-end : goal.slice_bounds-arrive-end
