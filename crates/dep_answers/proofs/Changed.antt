@@ -17,7 +17,8 @@ use Rattle.dep_fields.specs.declared.kind.Kind.TheVariants as of
 use Rattle.dep_docs_in.specs.declared.reference.Reference.{Reference}
 use Rattle.dep_decisions.specs.Kinds.{kind_of, kind_without, is_completion, may_complete, takes_kind}
 use Rattle.dep_decisions.specs.Decisions.{decision_at, deposit_of, ingests, references_in}
-use Rattle.dep_decisions.specs.Rules.{has_object, document_rule, kind_rule, presence_rule, presence_refusal, refusal, rules_met, tag_at}
+use Rattle.dep_decisions.specs.LookUps.{has_object, in_state, tag_at}
+use Rattle.dep_decisions.specs.Rules.{document_rule, kind_rule, presence_rule, presence_refusal, refusal, rules_met}
 use Rattle.dep_decisions.specs.Effects.{appended, at, changed, effect, effect_of, filled, ingested_by}
 use Rattle.dep_decisions.specs.declared.operation.Operation.{Operation}
 use Rattle.dep_decisions.specs.declared.decision.Deposit.{Deposit}
@@ -91,14 +92,14 @@ module _ (config : Config) (s : State) (op : Operation) where
   put_kinds n (of.Segment k) e = absurd (cc)
 
   -- the deposit of a content that is taken
-  deposit_is : (kind : Kind) → kind_of op ≡ Some kind → takes_kind Service Post kind ≡ true → document_rule config s op ≡ None
+  deposit_is : (kind : Kind) → kind_of op ≡ Some kind → takes_kind Service Post kind ≡ true → document_rule config (in_state s) op ≡ None
       → (d : Deposit) × (deposit_of entries op ≡ Some d)
   deposit_is kind is takes e =
       let d = deposit_for config s op kind takes (document_passed config s op kind is e) in
       (d.0, deposited config s op kind d.0 is d.1)
 
   grown_or_completed : (n : ℕ) (o : state.Object) → finmap.get s.objects n ≡ Some o → op.target.resource ≡ Object n → op.target.method ≡ Post
-      → kind_rule op ≡ None → document_rule config s op ≡ None → (b : Bool) → is_completion op ≡ b → IsAsked (Object n) Post
+      → kind_rule op ≡ None → document_rule config (in_state s) op ≡ None → (b : Bool) → is_completion op ≡ b → IsAsked (Object n) Post
   grown_or_completed n o there r m kinds document true is =
       (Complete n, (ap (λ (b : Bool). if b then Some (Complete n) else option_map (λ d. Append n d (ingests op)) (deposit_of entries op)) is, completed n o there))
   grown_or_completed n o there r m kinds document false is =
@@ -114,7 +115,7 @@ module _ (config : Config) (s : State) (op : Operation) where
       )
 
   in_its_place : (n : ℕ) (o : state.Object) → finmap.get s.objects n ≡ Some o → op.target.resource ≡ Object n → op.target.method ≡ Put
-      → kind_rule op ≡ None → document_rule config s op ≡ None → IsAsked (Object n) Put
+      → kind_rule op ≡ None → document_rule config (in_state s) op ≡ None → IsAsked (Object n) Put
   in_its_place n o there r m kinds document =
       let kind = told_kind op (λ i. may_complete (r i) (m i)) kinds in
       let takes = put_kinds n kind.0 ((λ i. takes_kind (sym r i) (sym m i) kind.0) ∙ taken op kind.0 (λ i. kind_without (r i) (m i)) kind.1) in
@@ -123,9 +124,9 @@ module _ (config : Config) (s : State) (op : Operation) where
 
   -- ---- objects
 
-  object_there : (n : ℕ) → op.target.resource ≡ Object n → presence_rule s op ≡ None → (o : state.Object) × (finmap.get s.objects n ≡ Some o)
+  object_there : (n : ℕ) → op.target.resource ≡ Object n → presence_rule (in_state s) op ≡ None → (o : state.Object) × (finmap.get s.objects n ≡ Some o)
   unfolding presence_rule
-  object_there n r e = it_is (finmap.get s.objects n) (unless-none (has_object s n) NotFound (ap (presence_refusal s) (sym r) ∙ e))
+  object_there n r e = it_is (finmap.get s.objects n) (unless-none (has_object s n) NotFound (ap (presence_refusal (in_state s)) (sym r) ∙ e))
 
   tells : (r : Resource) (m : Method) → op.target.resource ≡ r → op.target.method ≡ m → IsAsked r m → tag_at (effect config s op) r ≡ Some s.next.change
   tells r m at by asked =
@@ -134,7 +135,7 @@ module _ (config : Config) (s : State) (op : Operation) where
   pub posted_tag : (n : ℕ) → op.target.resource ≡ Object n → op.target.method ≡ Post → refusal config s op ≡ None
       → (accepted_answer config (effect config s op) op).tag ≡ Some s.next.change
   posted_tag n r m e =
-      let all = all_passed (rules_met config s op (Object n) Post) (as_asked config s op (Object n) Post r m e) in
+      let all = all_passed (rules_met config (in_state s) op (Object n) Post) (as_asked config s op (Object n) Post r m e) in
       let o = object_there n r all.1.0 in
       ap (λ (a : Answer). a.tag) (answered config s op (Object n) Post r m (effect config s op))
       ∙ tells (Object n) Post r m (grown_or_completed n o.0 o.1 r m all.1.1.1.1.0 all.1.1.1.1.1.1.1.1.1.0 (is_completion op) refl)
@@ -142,7 +143,7 @@ module _ (config : Config) (s : State) (op : Operation) where
   pub put_tag : (n : ℕ) → op.target.resource ≡ Object n → op.target.method ≡ Put → refusal config s op ≡ None
       → (accepted_answer config (effect config s op) op).tag ≡ Some s.next.change
   put_tag n r m e =
-      let all = all_passed (rules_met config s op (Object n) Put) (as_asked config s op (Object n) Put r m e) in
+      let all = all_passed (rules_met config (in_state s) op (Object n) Put) (as_asked config s op (Object n) Put r m e) in
       let o = object_there n r all.1.0 in
       ap (λ (a : Answer). a.tag) (answered config s op (Object n) Put r m (effect config s op))
       ∙ tells (Object n) Put r m (in_its_place n o.0 o.1 r m all.1.1.1.1.0 all.1.1.1.1.1.1.1.1.1.0)

@@ -24,7 +24,8 @@ use Rattle.dep_docs_in.specs.declared.reference.Reference.{Reference}
 use Rattle.dep_docs_out.specs.Documents.{status_document, object_url, upload_document, upload_url}
 use Rattle.dep_decisions.specs.Kinds.{kind_of, kind_by, kind_without, is_completion, may_complete, may_hold, takes_kind}
 use Rattle.dep_decisions.specs.Decisions.{decision, decision_at, decision_with, deposit_by, deposit_of, ingests, opened, references_in, referred_files}
-use Rattle.dep_decisions.specs.Rules.{document_refusal, document_rule, kind_rule, references_refusal, refusal, rules_met}
+use Rattle.dep_decisions.specs.LookUps.{in_state}
+use Rattle.dep_decisions.specs.Rules.{document_refusal, document_rule, kind_rule, references_refusal, refusal, rules_met, refusal_by}
 use Rattle.dep_decisions.specs.Effects.{effect, effect_of, filled, fresh}
 use Rattle.dep_decisions.specs.declared.operation.Operation.{Operation}
 use Rattle.dep_decisions.specs.declared.decision.Deposit.{Deposit}
@@ -99,15 +100,15 @@ module _ (config : Config) (s : State) (op : Operation) where
   abbrev refs : Option (List Reference)
   refs = references_in config op
 
-  pub document_passed : (kind : Kind) → kind_of op ≡ Some kind → document_rule config s op ≡ None → document_refusal config s op kind ≡ None
+  pub document_passed : (kind : Kind) → kind_of op ≡ Some kind → document_rule config (in_state s) op ≡ None → document_refusal config (in_state s) op kind ≡ None
   unfolding document_rule
-  document_passed kind is e = ap (option_and_then (document_refusal config s op)) (sym is) ∙ e
+  document_passed kind is e = ap (option_and_then (document_refusal config (in_state s) op)) (sym is) ∙ e
 
-  references_there : (o : Option (List Reference)) → references_refusal s o ≡ None → (entries : List Reference) × (o ≡ Some entries)
+  references_there : (o : Option (List Reference)) → references_refusal (in_state s) o ≡ None → (entries : List Reference) × (o ≡ Some entries)
   references_there None e = absurd (cc)
   references_there (Some entries) e = (entries, refl)
 
-  pub deposit_for : (kind : Kind) → takes_kind Service Post kind ≡ true → document_refusal config s op kind ≡ None
+  pub deposit_for : (kind : Kind) → takes_kind Service Post kind ≡ true → document_refusal config (in_state s) op kind ≡ None
       → (d : Deposit) × (deposit_by refs op kind ≡ Some d)
   deposit_for (of.File name) takes e = (_, refl)
   deposit_for of.Metadata takes e =
@@ -124,9 +125,9 @@ module _ (config : Config) (s : State) (op : Operation) where
   deposited kind d is e = ap (option_and_then (deposit_by refs op)) is ∙ e
 
   pub as_asked : (r : Resource) (m : Method) → op.target.resource ≡ r → op.target.method ≡ m → refusal config s op ≡ None
-      → first_of (rules_met config s op r m) ≡ None
-  unfolding refusal
-  as_asked r m at by e = (λ i. first_of (rules_met config s op (sym at i) (sym by i))) ∙ e
+      → first_of (rules_met config (in_state s) op r m) ≡ None
+  unfolding refusal_by
+  as_asked r m at by e = (λ i. first_of (rules_met config (in_state s) op (sym at i) (sym by i))) ∙ e
 
   pub decided : (r : Resource) (m : Method) (d : Decision) → op.target.resource ≡ r → op.target.method ≡ m → decision_at refs op r m ≡ Some d
       → decision config op ≡ d
@@ -169,7 +170,7 @@ module _ (config : Config) (s : State) (op : Operation) where
 
   pub told_object : op.target.resource ≡ Service → op.target.method ≡ Post → refusal config s op ≡ None → IsToldObject config s op
   told_object at by e =
-      let all = all_passed (rules_met config s op Service Post) (as_asked Service Post at by e) in
+      let all = all_passed (rules_met config (in_state s) op Service Post) (as_asked Service Post at by e) in
       let kind = told_kind op ((λ i. may_complete (at i) (by i))) all.1.1.1.1.0 in
       let takes = (λ i. takes_kind (sym at i) (sym by i) kind.0) ∙ taken op kind.0 (λ i. kind_without (at i) (by i)) kind.1 in
       let d = deposit_for kind.0 takes (document_passed kind.0 kind.1 all.1.1.1.1.1.1.1.1.1.0) in
@@ -205,7 +206,7 @@ module _ (config : Config) (s : State) (op : Operation) where
 
   pub told_upload : op.target.resource ≡ Staging → op.target.method ≡ Post → refusal config s op ≡ None → IsToldUpload config s op
   told_upload at by e =
-      let all = all_passed (rules_met config s op Staging Post) (as_asked Staging Post at by e) in
+      let all = all_passed (rules_met config (in_state s) op Staging Post) (as_asked Staging Post at by e) in
       let kind = told_kind op ((λ i. may_complete (at i) (by i))) all.1.1.1.1.0 in
       let takes = (λ i. takes_kind (sym at i) (sym by i) kind.0) ∙ taken op kind.0 (λ i. kind_without (at i) (by i)) kind.1 in
       let o = opening_for kind.0 takes in

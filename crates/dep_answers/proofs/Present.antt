@@ -11,7 +11,8 @@ use Rattle.dep_types.specs.declared.config.Config.{Config}
 use Rattle.dep_types.specs.declared.refusal.Refusal.TheVariants.{NotFound, SegmentedUploadTimedOut}
 use Rattle.dep_types.specs.declared.target.Resource.{Resource}
 use Rattle.dep_types.specs.declared.target.Resource.TheVariants as at
-use Rattle.dep_decisions.specs.Rules.{presence_refusal, has_object, has_bag_path}
+use Rattle.dep_decisions.specs.LookUps.{has_bag_path, has_object, in_state}
+use Rattle.dep_decisions.specs.Rules.{presence_refusal}
 use Rattle.dep_decisions.proofs.FoundInMaps.{unless-none}
 use Rattle.dep_answers.specs.Bags.{BagEntry, bag_entries, payload_shown, shown_in_bag}
 use Rattle.dep_answers.specs.Laws.{is_shown}
@@ -56,7 +57,7 @@ bag_shown path (Some o) e = found_path path (bag_entries o) (ap (list_any (bytes
 
 -- ---- resources
 
-pub shown_if_there : (config : Config) (s : State) (r : Resource) → IsTrue (is_shown r) → presence_refusal s r ≡ None
+pub shown_if_there : (config : Config) (s : State) (r : Resource) → IsTrue (is_shown r) → presence_refusal (in_state s) r ≡ None
     → is_some (content_at config s r) ≡ true
 shown_if_there config s at.Service shows e = refl
 shown_if_there config s (at.Object n) shows e = mapped _ (finmap.get s.objects n) (unless-none (has_object s n) NotFound e)

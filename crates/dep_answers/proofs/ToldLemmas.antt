@@ -17,7 +17,7 @@ use Rattle.dep_docs_out.specs.Segments.{are_segments}
 use Rattle.dep_docs_out.specs.Documents.{status_document, metadata_document, upload_document, object_url, upload_url}
 use Rattle.dep_bag.specs.Bag.{list_text}
 use Rattle.dep_manifest.specs.Told.{row_path}
-use Rattle.dep_decisions.specs.Rules.{tag_at}
+use Rattle.dep_decisions.specs.LookUps.{tag_at}
 use Rattle.dep_answers.specs.Answers.{Answer, Document, PlainText, answer}
 use Rattle.dep_answers.specs.Replies.{answer_to, last_object, last_upload, status_answer, created_answer, opened_answer, shown_answer}
 use Rattle.dep_answers.specs.Subjects.{shown_at, subject_at, subject_of}

@@ -14,7 +14,7 @@ use Rattle.dep_types.specs.declared.target.Method.TheVariants.{Get, Head, Post, 
 use Rattle.dep_reply.specs.Head.{head_text}
 use Rattle.dep_docs_out.specs.Documents.{service_document, status_document, metadata_document, upload_document, error_document, object_url, upload_url}
 use Rattle.dep_bag.specs.Bag.{list_text}
-use Rattle.dep_decisions.specs.Rules.{tag_at}
+use Rattle.dep_decisions.specs.LookUps.{tag_at}
 use Rattle.dep_answers.specs.Answers.{Answer, ReplyContent, Document, PlainText, StoredContent, document_of, stored_of, answer, head_of}
 use Rattle.dep_answers.specs.Bags.{shown_in_bag}
 

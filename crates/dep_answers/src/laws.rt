@@ -9,6 +9,7 @@ ghost use Rattle.dep_types.specs.declared.target.Method.{Method as AMethod};
 ghost use Rattle.dep_types.specs.declared.target.Resource.{Resource as AResource};
 ghost use Rattle.dep_types.specs.declared.target.Method.TheVariants.{Get as AGet, Post as APost, Put as APut};
 ghost use Rattle.dep_types.specs.declared.target.Resource.TheVariants.{Service as AService, Object as AnObject, Staging as AStaging, Upload as AnUpload, File as AFile, Metadata as AMetadata};
+ghost use Rattle.dep_decisions.specs.LookUps.{in_state};
 ghost use Rattle.dep_decisions.specs.Rules.{refusal, presence_refusal};
 ghost use Rattle.dep_decisions.specs.declared.operation.Operation.{Operation as AnOperation};
 ghost use Rattle.dep_reply.specs.Lines.{is_unbroken, IsUnbroken};
@@ -42,7 +43,7 @@ pub fn answers_are_unbroken()
 /// A GET of what is there is answered with something to show.
 pub fn what_is_there_is_shown()
     ensures { (config : AConfig) (s : State) (r : AResource) → IsTrue (is_shown r)
-        → presence_refusal s r ≡ None → is_some (content_at config s r) ≡ true }
+        → presence_refusal (in_state s) r ≡ None → is_some (content_at config s r) ≡ true }
 {}
 
 /// A deposit on the Service-URL is answered with the object that it made, under the number that was

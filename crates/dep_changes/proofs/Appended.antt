@@ -2,27 +2,23 @@
 use Rattle.std.proofs.Common.{◌≡◌, ℕ, ◌||◌, Bool, List, Some, Result, refl, subst}
 use Rattle.sqlite.specs.State as db
 use Rattle.dep_types.specs.Rows.{object_row}
-use Rattle.dep_types.specs.State.{State, Object, Texts}
+use Rattle.dep_types.specs.State.{State, Object}
 use Rattle.dep_types.specs.declared.rows.ObjectRow.{ObjectRow}
 use Rattle.dep_types.specs.declared.store_fault.StoreFault.{StoreFault}
 use Rattle.dep_tables.proofs.Results.{ok_then}
 use Rattle.dep_tables.specs.Tables.{Tables, tables_of}
-use Rattle.dep_row_maps.specs.TablesAre.{TablesAre, metadata_at}
-use Rattle.dep_row_maps.specs.Causes.{FailsHolding}
-use Rattle.dep_row_maps.proofs.Causes.{holding_more}
+use Rattle.dep_row_maps.specs.TablesAre.{TablesAre}
 use Rattle.dep_decisions.specs.Effects.{appended, ingested_by, uploads_in, without}
 use Rattle.dep_decisions.specs.declared.decision.Deposit.{Deposit}
 use Rattle.dep_decisions.specs.declared.decision.Deposit.TheVariants.{Files, Metadata}
 use Rattle.dep_decisions.specs.declared.decision.Decision.TheVariants.{Append}
 use Rattle.dep_changes.specs.declared.change.Change.{Change}
-use Rattle.dep_changes.specs.Causes.{CopiesBeside}
 use Rattle.dep_changes.specs.Changed.{with_deposit}
-use Rattle.dep_changes.specs.Clauses.{Appends, CarriesOut, FailsAppending, FailsCarryingMaps}
+use Rattle.dep_changes.specs.Clauses.{Appends, CarriesOut}
 use Rattle.dep_changes.specs.Told.{Rewrites, TellsObject}
 use Rattle.dep_changes.proofs.Carried.{at_object}
-use Rattle.dep_changes.proofs.Causes.{caused_among, found_fits, ingested_fits}
 use Rattle.dep_changes.proofs.Filled.{ingested_row}
-use Rattle.dep_changes.proofs.Steps.{row_is, its_number, rewritten, texts_of}
+use Rattle.dep_changes.proofs.Steps.{row_is, its_number, rewritten}
 
 -- it is the same whether the object becomes ingested before or after it
 pub ingested_after : (s : State) (content : List ℕ) (d : Deposit) (ingests : Bool) (o : Object) → appended s content d (ingested_by ingests o) ≡ ingested_by ingests (appended s content d o)
@@ -53,12 +49,3 @@ module _ {T : Type 0} (state : T → db.State) (old new : T) (r : Result (Unit {
         (λ added. appended_at (tables_of (state new)) s content row.object n o d ingests (its_number n it row (row_of s o told.1.1)) added));
     keeps = made.keeps;
   }
-
-  pub append_fails : FailsAppending state old new r change row d → FailsCarryingMaps state old new r change (Append n d ingests)
-  append_fails why clean inside ours s are storable =
-      let o = storable.0 in
-      let object = storable.3 in
-      let have : o.metadata ≡ metadata_at s.objects n = texts_of s n o storable.2.1 in
-      let fits = ingested_fits found row ingests (found_fits change.view.now object found seen) is in
-      caused_among state (FailsHolding (CopiesBeside o.metadata d)) (FailsHolding (CopiesBeside (metadata_at s.objects n) d)) (holding_more (λ some. subst (λ (m : Texts). CopiesBeside m d) have some)) r old new
-      (why (ingested_by ingests o) clean inside ours s are (storable.1, rewrites s o storable.2, (object.numbers, fits, storable.4)))

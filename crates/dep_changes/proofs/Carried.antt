@@ -22,7 +22,7 @@ use Rattle.dep_operations.specs.Views.{true_view}
 use Rattle.dep_operations.specs.declared.view.View.{View}
 use Rattle.dep_changes.specs.Told.{IsAccepted, TellsFor, TellsNumbers}
 use Rattle.dep_changes.specs.Changed.{with_maps}
-use Rattle.dep_changes.specs.Clauses.{CarriesOut, FailsCarrying, FailsCarryingMaps}
+use Rattle.dep_changes.specs.Clauses.{CarriesOut}
 use Rattle.dep_changes.specs.declared.change.Change.{Change}
 use Rattle.dep_changes.proofs.Accepted.{told_for}
 
@@ -102,13 +102,6 @@ equal_counters a b same =
 module _ {T : Type 0} (state : T → db.State) (old new : T) (r : Result (Unit {0}) StoreFault) (change : Change) (decision d : Decision) (is : decision ≡ d) where
   pub carried_as : {L : Type 0} {lenders : T → L} → CarriesOut lenders state old new r change d → CarriesOut lenders state old new r change decision
   carried_as {lenders = lenders} made = subst (CarriesOut lenders state old new r change) (sym is) made
-
-  pub fails_as : FailsCarryingMaps state old new r change d → FailsCarryingMaps state old new r change decision
-  fails_as why = subst (FailsCarryingMaps state old new r change) (sym is) why
-
-  -- over any tables
-  pub fails_alike : FailsCarrying state old new r change d → FailsCarryingMaps state old new r change decision
-  fails_alike why = fails_as (λ clean inside ours s are storable. why s storable clean inside)
 
 -- what becomes of an object that is there
 pub at_object : (s : State) (uploads : Numbered Upload) (now : db.State) (r : Result (Unit {0}) StoreFault) (n : ℕ) (o : Object) (f : Object → Object) → finmap.get s.objects n ≡ Some o

@@ -64,10 +64,6 @@ module _ (s : State) (content : List ℕ) (n : ℕ) (o : Kept) (there : finmap.g
       ap (λ (r : FileRow). Some (shown.File r)) is
       ∙ sym (ap (λ (x : Option Content). Some (option_map_or (λ (y : Content). shown.File (file_row n f y)) x shown.Nothing)) found)
 
--- an object that is told is not absent
-pub never_told : {P : Type 0} (s : State) (view : View) (n : ℕ) (o : Kept) → TellsObject view s n o → view.object ≡ None → P
-never_told s view n o told none = absurd (let is = told.0 in cc)
-
 -- ---- the row of the object that is touched
 
 -- what is looked at of an object is what a state has at the number of its row

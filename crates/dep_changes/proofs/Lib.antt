@@ -6,10 +6,7 @@ pub mod SeenWhole
 pub mod Filled
 pub mod Accepted
 pub mod Carried
-pub mod Causes
 pub mod Appended
-pub mod Fits
-pub mod Opened
 pub mod NewObject
 pub mod CopiedNames
 pub mod KnownShown

@@ -51,11 +51,6 @@ module _ (s : State) (content : List ℕ) (seen : Option UploadView) (source : S
         its.1 ∙ ap digests_of (sym bytes),
       )
 
-  pub never_lacks : {P : Type 0} (u : ℕ) → source ≡ Assembled u → ((w : ℕ) (it : Upload) → seen ≡ Some (whole_view w it) → ⊥) → IsSource s content seen source → P
-  never_lacks u is absent told =
-      let has : IsSource s content seen (Assembled u) = subst (IsSource s content seen) is told in
-      absurd (absent u has.upload has.seen_so)
-
 -- ---- files that are added to none
 
 abbrev Entry : Type 0

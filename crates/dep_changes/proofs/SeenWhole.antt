@@ -1,6 +1,6 @@
 -- What is read of an upload that is seen whole.
-use Rattle.std.proofs.Common.{◌≡◌, ℕ, List, get_or, slice_get, Option, Some, None, Ok, Err, sym, ap, subst, ◌∙◌}
-use Rattle.std.specs.Prelude.{⊤, Result}
+use Rattle.std.proofs.Common.{◌≡◌, ℕ, List, get_or, slice_get, Option, Some, None, Ok, Err, sym, ap, ◌∙◌}
+use Rattle.std.specs.Prelude.{Result}
 use Rattle.std.specs.Option.{ok_or}
 use Rattle.std.proofs.lemmas.Option.{get_or_from_slice_get}
 use Rattle.dep_types.specs.State.{Upload}
@@ -41,10 +41,3 @@ value_in other (Err fault) = other
 
 pub same_digests : (have : Option Digests) (digests it : Digests) (fault : StoreFault) → ok_or have fault ≡ Ok digests → have ≡ Some it → digests ≡ it
 same_digests have digests it fault is there = ap (value_in it) (sym is ∙ ap (λ (x : Option Digests). ok_or x fault) there)
-
-abbrev Fails : Result Digests StoreFault → Type 0
-Fails (Ok digests) = ⊥
-Fails (Err fault) = ⊤
-
-pub never_without : (have : Option Digests) (it : Digests) (fault why : StoreFault) → ok_or have fault ≡ Err why → have ≡ Some it → ⊥
-never_without have it fault why is there = subst Fails (sym is ∙ ap (λ (x : Option Digests). ok_or x fault) there) tt

@@ -1,12 +1,11 @@
 -- What the clauses of a change say.
-use Rattle.std.specs.Prelude.{◌≡◌, ℕ, Some, Result, OnOk, IfErr}
+use Rattle.std.specs.Prelude.{◌≡◌, ℕ, Some, Result, OnOk}
 use Rattle.std.specs.FinMap as map
 use Rattle.sqlite.specs.State as db
 use Rattle.dep_types.specs.State.{State, Object}
 use Rattle.dep_types.specs.declared.rows.ObjectRow.{ObjectRow}
 use Rattle.dep_types.specs.declared.store_fault.StoreFault.{StoreFault}
 use Rattle.dep_row_maps.specs.Clauses.{Does, FromMaps, SeesState}
-use Rattle.dep_row_maps.specs.Causes.{FailsByOne, FailsHolding, FailsSince}
 use Rattle.dep_decisions.specs.Effects.{appended, bytes_from}
 use Rattle.dep_decisions.specs.declared.decision.Source.{Source}
 use Rattle.dep_decisions.specs.declared.decision.NewFile.{NewFile}
@@ -14,37 +13,14 @@ use Rattle.dep_decisions.specs.declared.decision.Deposit.{Deposit}
 use Rattle.dep_decisions.specs.declared.decision.Decision.{Decision}
 use Rattle.dep_changes.specs.declared.change.Change.{Change}
 use Rattle.dep_changes.specs.declared.new_files.FileNumbers.{FileNumbers}
-use Rattle.dep_changes.specs.Told.{Rewrites, TellsDecision, TellsDeposit, TellsNewFile, TellsNumbers}
+use Rattle.dep_changes.specs.Told.{Rewrites, TellsDecision, TellsDeposit, TellsNewFile}
 use Rattle.dep_changes.specs.Changed.{made_file, put_in, with_deposit, with_maps, with_new_file}
-use Rattle.dep_changes.specs.Causes.{CopiesBeside, IsStorableBeside, IsStorableDecision, TakesMemory}
 
 module _ {T A : Type 0} (state : T → db.State) (old new : T) (result : Result A StoreFault) where
   -- inside a transaction over a state's tables, where this holds of it, an Ok turns it into this one
   abbrev pub Turns : (told : State → Type 0) → (after : State → State) → Type 0
   Turns told after = FromMaps (state old) (state new)
       (λ s. told s → OnOk result (SeesState (state new) (after s)))
-
-  -- there a failure is that of a statement, or memory is wanting where something is held
-  abbrev pub FailsFromMaps : (told : State → Type 0) → (held : State → Type 0) → Type 0
-  FailsFromMaps told held = FromMaps (state old) (state new)
-      (λ s. told s → IfErr result (FailsSince state (FailsHolding (held s)) old new))
-
-  -- where a table can hold what the decision writes, a failure is that of a statement, or memory is
-  -- wanting for a copy
-  abbrev pub FailsCarrying : Change → Decision → Type 0
-  FailsCarrying change d = (s : State) → FailsByOne state old new result
-      (IsStorableDecision change s d) (FailsHolding (TakesMemory s d))
-
-  -- the same where rows are read for it, over the tables of a state
-  abbrev pub FailsCarryingMaps : Change → Decision → Type 0
-  FailsCarryingMaps change d =
-      FailsFromMaps (λ s. IsStorableDecision change s d) (λ s. TakesMemory s d)
-
-  -- the same of a deposit that is added to the texts of an object
-  abbrev pub FailsAppending : Change → ObjectRow → Deposit → Type 0
-  FailsAppending change row d = (o : Object)
-      → FailsFromMaps (λ s. TellsNumbers change.view.now s × Rewrites s row o
-      × IsStorableBeside change row o.metadata d) (λ _. CopiesBeside o.metadata d)
 
 module _ {T L A : Type 0} (lenders : T → L) (state : T → db.State) (old new : T)
     (result : Result A StoreFault) where

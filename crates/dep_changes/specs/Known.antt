@@ -1,5 +1,5 @@
 -- What the reply to a request shows, where that is known without a look at the tables.
-use Rattle.std.specs.Prelude.{◌≡◌, ⊤, ℕ, Bool, List, Option, Some, None, option_map}
+use Rattle.std.specs.Prelude.{◌≡◌, ℕ, Bool, List, Option, Some, None, option_map}
 use Rattle.dep_types.specs.Maps.{◌>>=◌}
 use Rattle.dep_types.specs.State.{State}
 use Rattle.std.specs.FinMap as map
@@ -18,7 +18,6 @@ use Rattle.dep_answers.specs.declared.subject.Subject.{Subject}
 use Rattle.dep_answers.specs.declared.subject.Subject.TheVariants.{File, Object, ObjectRow}
 use Rattle.dep_answers.specs.declared.subject.Shown.{Shown}
 use Rattle.dep_operations.specs.declared.view.View.{View}
-use Rattle.dep_changes.specs.Causes.{HasCopies}
 use Rattle.dep_changes.specs.Told.{TellsDeposit}
 use Rattle.dep_changes.specs.declared.change.Change.{Change}
 use Rattle.dep_changes.specs.declared.change.NumberedDeposit.{NumberedDeposit}
@@ -65,10 +64,3 @@ IsFilledView s change d n ingested view = view ≡ object_view n (filled s chang
 -- the row of a file that is the content of this change
 abbrev pub IsRowFrom : State → Change → NewFile → (n f : ℕ) → FileRow → Type 0
 IsRowFrom s change new n f row = row ≡ file_row n f (file_from s change.content.now new)
-
--- memory is taken for what is shown
-abbrev pub CopiesKnown : Decision → Type 0
-CopiesKnown (Create d ingests) = HasCopies d
-CopiesKnown (Replace n d ingests) = HasCopies d
-CopiesKnown (SetFile n f new) = ⊤
-CopiesKnown d = ⊥

@@ -5,8 +5,7 @@ ghost use Rattle.dep_types.specs.Numbers.{room_for};
 ghost use Rattle.dep_decisions.specs.Decisions.{numbers_for};
 ghost use Rattle.dep_decisions.specs.Effects.{effect_of};
 ghost use Rattle.dep_decisions.specs.declared.decision.Decision.TheVariants.{Show};
-ghost use Rattle.dep_changes.specs.Causes.{IsStorableRequest, TakesMemory};
-ghost use Rattle.dep_changes.specs.Clauses.{CarriesOut, FailsCarryingMaps, FailsFromMaps, Makes};
+ghost use Rattle.dep_changes.specs.Clauses.{CarriesOut, Makes};
 ghost use Rattle.dep_changes.specs.Told.{IsAccepted};
 
 use crate::change::{Change, NumberedDeposit, NumberedFiles};
@@ -26,9 +25,8 @@ use std::alloc::Global;
 /// Makes of the tables what an accepted request's decision makes of the state. The view is true of the state
 /// where the request touches it, and the content is that of the request. Nothing is hashed: the digests of a
 /// posted content stand in the decision, and those of uploads in the view. A number of 2^63 or more is a
-/// fault of the store, and so is that something is not there which the rules have seen. In a sound state,
-/// with sizes that a table can hold, only a statement fails, or there is no memory for the texts and files
-/// that are put in. Where nothing is changed, no statement is run.
+/// fault of the store, and so is that something is not there which the rules have seen. Where nothing is
+/// changed, no statement is run.
 pub fn carry_out<T: Statements>(
     tx: &mut T,
     alloc: Global,
@@ -41,9 +39,6 @@ pub fn carry_out<T: Statements>(
         (λ s. IsAccepted s view.now content.now decision.now)
         (λ s. effect_of s content.now decision.now) }
     ensures untouched { decision.now ≡ Show → (result ≡ Ok tt) × (tx.new ≡ tx.old) }
-    ensures cause { FailsFromMaps T.state tx.old tx.new result
-        (λ s. IsStorableRequest s view.now content.now decision.now)
-        (λ s. TakesMemory s decision.now) }
 {
     let change = Change {
         alloc,
@@ -73,7 +68,6 @@ fn change_maps<T: Statements>(
     requires { IsTrue (room_for change.now.view.now.next (numbers_for decision.now)) }
     ensures map { CarriesOut T.lenders T.state tx.old tx.new result change.now decision.now }
     ensures untouched { decision.now ≡ Show → (result ≡ Ok tt) × (tx.new ≡ tx.old) }
-    ensures cause { FailsCarryingMaps T.state tx.old tx.new result change.now decision.now }
 {
     match decision {
         Decision::Show => Ok(()),

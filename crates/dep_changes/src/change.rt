@@ -1,6 +1,6 @@
 //! What a change is made with, and the row of the object that it touches.
 
-ghost use Rattle.std.specs.Prelude.{◌≡◌, Some, None, IfOk, IfErr, IsTrue, length};
+ghost use Rattle.std.specs.Prelude.{◌≡◌, Some, IfOk, IsTrue, length};
 ghost use Rattle.dep_types.specs.Numbers.{has_room};
 ghost use Rattle.dep_decisions.specs.Decisions.{count_of};
 
@@ -37,7 +37,6 @@ pub(crate) struct NumberedDeposit<'a> {
 /// The object that is touched. That none is there is a fault of the store, as the rules let no such request through.
 pub(crate) fn touched_object(view: &View) -> Result<ObjectRow, StoreFault>
     ensures told { IfOk result (λ row. view.now.object ≡ Some row) }
-    ensures absent { IfErr result (λ _. view.now.object ≡ None) }
 {
     view.object.ok_or(StoreFault::Store)
 }

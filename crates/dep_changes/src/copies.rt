@@ -1,6 +1,6 @@
 //! Copies of metadata.
 
-ghost use Rattle.std.specs.Prelude.{◌≡◌, ◌≢◌, IfOk, OnErr};
+ghost use Rattle.std.specs.Prelude.{◌≡◌, IfOk};
 ghost use Rattle.std.specs.FinMap as map;
 
 use dep_types::{Metadata, Text, TextList};
@@ -19,7 +19,6 @@ fn copied_texts(alloc: Global, texts: &[Text]) -> Result<TextList, AllocError>
 /// A copy of the metadata. None takes no memory.
 pub(crate) fn copied_metadata(alloc: Global, metadata: &Metadata) -> Result<Metadata, AllocError>
     ensures ok { IfOk result (λ copied. copied ≡ metadata.now) }
-    ensures err { OnErr result (metadata.now ≢ map.empty) }
 {
     let mut copied = Metadata::new(alloc);
     let entries = metadata.entries();

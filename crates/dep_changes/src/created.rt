@@ -1,16 +1,14 @@
 //! Objects and files that a deposit makes or replaces, as replies show them, known without a look at the
 //! tables.
 
-ghost use Rattle.std.specs.Prelude.{◌≡◌, ◌≢◌, ℕ, Bool, [], IfOk, IfErr, IsOkAnd};
-ghost use Rattle.dep_types.specs.Rows.{file_row, object_row, object_view};
+ghost use Rattle.std.specs.Prelude.{◌≡◌, ℕ, Bool, IfOk};
+ghost use Rattle.dep_types.specs.Rows.{file_row, object_row};
 ghost use Rattle.dep_types.specs.State.{State, Object};
-ghost use Rattle.dep_types.specs.declared.store_fault.StoreFault.TheVariants.{Memory};
-ghost use Rattle.dep_decisions.specs.Effects.{blank, bytes_from, file_from, filled};
+ghost use Rattle.dep_decisions.specs.Effects.{blank, bytes_from, file_from};
 ghost use Rattle.dep_decisions.specs.declared.decision.Deposit.TheVariants.{Files};
-ghost use Rattle.dep_changes.specs.Causes.{HasCopies};
 ghost use Rattle.dep_changes.specs.Changed.{IsExtent, new_rows};
 ghost use Rattle.dep_changes.specs.Known.{IsFilledView, IsRowFrom, TellsNumbered};
-ghost use Rattle.dep_changes.specs.Told.{HasItsSources, TellsDeposit, TellsNewFile, TellsObject, TellsSource};
+ghost use Rattle.dep_changes.specs.Told.{TellsDeposit, TellsNewFile, TellsObject, TellsSource};
 
 use crate::change::{Change, NumberedDeposit, NumberedFiles, touched_object};
 use crate::copies::copied_metadata;
@@ -21,7 +19,7 @@ use dep_types::{FileRow, FileRows, Metadata, ObjectRow, ObjectView, StoreFault};
 // How many bytes a new file has, and their digests.
 fn extent_of(change: &Change<'_>, source: Source, index: usize) -> Result<Extent, StoreFault>
     ensures { (s : State) → TellsSource change.now s index source
-        → IsOkAnd result (λ extent. IsExtent extent (bytes_from s change.now.content.now source)) }
+        → IfOk result (λ extent. IsExtent extent (bytes_from s change.now.content.now source)) }
 {
     match source {
         Source::Posted(digests) => Ok(Extent {
@@ -48,8 +46,6 @@ fn row_of(
     ensures told { (s : State) → TellsNewFile change.now s index new.now.source
         → IfOk result (λ row. row
         ≡ file_row numbers.object numbers.file (file_from s change.now.content.now new.now)) }
-    ensures cause { (s : State) → TellsSource change.now s index new.now.source
-        → IfErr result (λ fault. fault ≡ Memory) }
 {
     let extent = extent_of(change, new.source, index)?;
     Ok(new_row(change, numbers, new, extent)?)
@@ -60,8 +56,6 @@ fn new_rows(numbered: &NumberedFiles<'_>, object: u64) -> Result<FileRows, Store
     ensures told { (s : State) → TellsDeposit numbered.now.change.now s (Files numbered.now.files.now)
         → IfOk result (λ rows.
         rows ≡ new_rows s numbered.now.change.now.content.now object numbered.now.files.now) }
-    ensures cause { (s : State) → HasItsSources s numbered.now.change.now (Files numbered.now.files.now)
-        → IfErr result (λ fault. (numbered.now.files.now ≢ []) × (fault ≡ Memory)) }
 {
     let change = numbered.change;
     let files = numbered.files;
@@ -85,8 +79,6 @@ pub(crate) fn filled_view(
     ensures told { (s : State) (n : ℕ) (ingested : Bool)
         → TellsNumbered numbered.now s → row ≡ object_row n (blank s ingested)
         → IfOk result (IsFilledView s numbered.now.change.now numbered.now.deposit.now n ingested) }
-    ensures cause { (s : State) → HasItsSources s numbered.now.change.now numbered.now.deposit.now
-        → IfErr result (λ fault. HasCopies numbered.now.deposit.now × (fault ≡ Memory)) }
 {
     let change = numbered.change;
     match numbered.deposit {
@@ -119,8 +111,6 @@ pub(crate) fn replaced_file(
     ensures told { (s : State) (n : ℕ) (o : Object) → TellsNewFile change.now s 0 new.now.source
         → TellsObject change.now.view.now s n o
         → IfOk result (IsRowFrom s change.now new.now n file) }
-    ensures cause { (s : State) (n : ℕ) (o : Object) → TellsSource change.now s 0 new.now.source
-        → TellsObject change.now.view.now s n o → IfErr result (λ fault. fault ≡ Memory) }
 {
     let object = touched_object(change.view)?.object;
     row_of(change, FileNumbers { object, file }, new, 0)

@@ -1,17 +1,14 @@
 //! Deposits.
 
-ghost use Rattle.std.specs.Prelude.{◌≡◌, ◌≢◌, ◌||◌, ℕ, List, [], Some};
+ghost use Rattle.std.specs.Prelude.{◌≡◌, ◌||◌, ℕ, List, Some};
 ghost use Rattle.std.specs.FinMap as map;
-ghost use Rattle.dep_types.specs.Limits.{IsStorable};
 ghost use Rattle.dep_types.specs.Rows.{object_row};
 ghost use Rattle.dep_types.specs.State.{Object, State};
 ghost use Rattle.dep_row_maps.specs.TablesAre.{with_metadata, with_object};
-ghost use Rattle.dep_row_maps.specs.Causes.{FailsByOne, FailsByStatement, FailsHolding};
 ghost use Rattle.dep_decisions.specs.Effects.{appended};
 ghost use Rattle.dep_decisions.specs.declared.decision.Decision.TheVariants.{Append, Create, Replace};
-ghost use Rattle.dep_changes.specs.Causes.{HasCopies, IsStorableAt, IsStorableBeside};
 ghost use Rattle.dep_changes.specs.Changed.{blank_row};
-ghost use Rattle.dep_changes.specs.Clauses.{Appends, CarriesOut, FailsAppending, FailsCarrying, FailsCarryingMaps, MakesOf, PutsIn};
+ghost use Rattle.dep_changes.specs.Clauses.{Appends, CarriesOut, MakesOf, PutsIn};
 ghost use Rattle.dep_changes.specs.Told.{TellsNumbers};
 
 use crate::change::{Change, NumberedDeposit, NumberedFiles, touched_object};
@@ -67,9 +64,6 @@ fn fill<T: Statements>(
 ) -> Result<(), StoreFault>
     ensures map { PutsIn T.lenders T.state tx.old tx.new result numbered.now.change.now object
         numbered.now.deposit.now }
-    ensures cause { FailsByOne T.state tx.old tx.new result
-        (IsStorableAt numbered.now.change.now object numbered.now.deposit.now)
-        (FailsHolding (HasCopies numbered.now.deposit.now)) }
 {
     let change = numbered.change;
     match numbered.deposit {
@@ -89,8 +83,6 @@ pub(crate) fn create<T: Statements>(
 ) -> Result<(), StoreFault>
     ensures map { CarriesOut T.lenders T.state tx.old tx.new result numbered.now.change.now
         (Create numbered.now.deposit.now ingests) }
-    ensures cause { FailsCarrying T.state tx.old tx.new result numbered.now.change.now
-        (Create numbered.now.deposit.now ingests) }
 {
     let change = numbered.change;
     let object = change.view.next.object;
@@ -103,7 +95,6 @@ fn clear_metadata<T: Statements>(tx: &mut T, alloc: Global, object: u64) -> Resu
     ensures map { MakesOf T.lenders T.state tx.old tx.new result
         (λ o s. map.get s.objects object ≡ Some o)
         (λ o s. with_object s object (with_metadata o map.empty)) }
-    ensures cause { FailsByOne T.state tx.old tx.new result (IsStorable object) FailsByStatement }
 {
     set_metadata(tx, alloc, object, &Metadata::new(alloc))
 }
@@ -115,8 +106,6 @@ pub(crate) fn replace<T: Statements>(
     ingests: bool,
 ) -> Result<(), StoreFault>
     ensures map { (n : ℕ) → CarriesOut T.lenders T.state tx.old tx.new result numbered.now.change.now
-        (Replace n numbered.now.deposit.now ingests) }
-    ensures cause { (n : ℕ) → FailsCarryingMaps T.state tx.old tx.new result numbered.now.change.now
         (Replace n numbered.now.deposit.now ingests) }
 {
     let change = numbered.change;
@@ -134,9 +123,6 @@ fn append_files<T: Statements>(
 ) -> Result<(), StoreFault>
     ensures map { Appends T.lenders T.state tx.old tx.new result numbered.now.change.now row
         (Deposit.Files numbered.now.files.now) }
-    ensures cause { FailsByOne T.state tx.old tx.new result
-        (IsStorableBeside numbered.now.change.now row map.empty (Deposit.Files numbered.now.files.now))
-        (FailsHolding (numbered.now.files.now ≢ [])) }
 {
     write_row(tx, &files_changed(numbered.change.view, row))?;
     put_new_files(tx, numbered, row.object)
@@ -150,8 +136,6 @@ fn append_texts<T: Statements>(
 ) -> Result<(), StoreFault>
     ensures map { Appends T.lenders T.state tx.old tx.new result change.now row
         (Deposit.Metadata metadata.now) }
-    ensures cause { FailsAppending T.state tx.old tx.new result change.now row
-        (Deposit.Metadata metadata.now) }
 {
     write_row(tx, &texts_changed(change.view, row))?;
     append_metadata(tx, change.alloc, row.object, metadata)
@@ -164,8 +148,6 @@ pub(crate) fn append<T: Statements>(
     ingests: bool,
 ) -> Result<(), StoreFault>
     ensures map { (n : ℕ) → CarriesOut T.lenders T.state tx.old tx.new result numbered.now.change.now
-        (Append n numbered.now.deposit.now ingests) }
-    ensures cause { (n : ℕ) → FailsCarryingMaps T.state tx.old tx.new result numbered.now.change.now
         (Append n numbered.now.deposit.now ingests) }
 {
     let change = numbered.change;

@@ -1,11 +1,10 @@
 //! What the reply to a request shows, where that is known without a look at the tables.
 
-ghost use Rattle.std.specs.Prelude.{◌≡◌, ℕ, List, IfOk, IfErr, IsTrue};
+ghost use Rattle.std.specs.Prelude.{◌≡◌, ℕ, List, IfOk, IsTrue};
 ghost use Rattle.dep_types.specs.Numbers.{room_for};
 ghost use Rattle.dep_types.specs.State.{State};
-ghost use Rattle.dep_types.specs.declared.store_fault.StoreFault.TheVariants.{Memory};
 ghost use Rattle.dep_decisions.specs.Decisions.{numbers_for};
-ghost use Rattle.dep_changes.specs.Known.{CopiesKnown, known_row, known_shown};
+ghost use Rattle.dep_changes.specs.Known.{known_row, known_shown};
 ghost use Rattle.dep_changes.specs.Told.{IsAccepted};
 
 use crate::change::{Change, NumberedDeposit, touched_object};
@@ -31,8 +30,6 @@ pub fn known_after(
     requires { IsTrue (room_for view.now.next (numbers_for decision.now)) }
     ensures told { (s : State) → IsAccepted s view.now content.now decision.now
         → IfOk result (λ known. known ≡ known_shown s content.now decision.now) }
-    ensures cause { (s : State) → IsAccepted s view.now content.now decision.now
-        → IfErr result (λ fault. CopiesKnown decision.now × (fault ≡ Memory)) }
 {
     let change = &Change {
         alloc,

@@ -1,18 +1,16 @@
 //! New files, each under the next number, with their contents.
 
-ghost use Rattle.std.specs.Prelude.{◌≡◌, ◌≢◌, ⊤, ℕ, [], slice_get, Some, None, IfOk, IfErr};
+ghost use Rattle.std.specs.Prelude.{◌≡◌, ⊤, ℕ, slice_get, Some, None, IfOk};
 ghost use Rattle.dep_types.specs.State.{Upload};
 ghost use Rattle.dep_types.specs.Rows.{upload_row};
 ghost use Rattle.dep_types.specs.Uploads.{assembled};
 ghost use Rattle.dep_fixity.specs.Fixity.{digests_of};
-ghost use Rattle.dep_row_maps.specs.Causes.{FailsByOne, FailsHolding};
 ghost use Rattle.dep_decisions.specs.Effects.{is_reference};
 ghost use Rattle.dep_decisions.specs.declared.decision.Decision.TheVariants.{SetFile, SetFiles};
 ghost use Rattle.dep_decisions.specs.declared.decision.Deposit.TheVariants.{Files};
 ghost use Rattle.dep_decisions.specs.declared.decision.Source.TheVariants.{Assembled, Posted};
-ghost use Rattle.dep_changes.specs.Causes.{IsStorableAt, IsStorableNewFile};
 ghost use Rattle.dep_changes.specs.Changed.{new_row};
-ghost use Rattle.dep_changes.specs.Clauses.{CarriesOut, FailsCarrying, FailsCarryingMaps, PutsFile, PutsIn};
+ghost use Rattle.dep_changes.specs.Clauses.{CarriesOut, PutsFile, PutsIn};
 ghost use Rattle.dep_changes.specs.Told.{whole_view};
 
 use crate::change::{Change, NumberedFiles, touched_object};
@@ -93,8 +91,6 @@ fn put_posted<T: Statements>(
 ) -> Result<(), StoreFault>
     ensures map { (place : ℕ) → PutsFile T.lenders T.state tx.old tx.new result change.now
         numbers new.now place (Posted digests) }
-    ensures cause { (place : ℕ) → FailsByOne T.state tx.old tx.new result
-        (IsStorableNewFile change.now numbers place (Posted digests)) (FailsHolding ⊤) }
 {
     let extent = Extent {
         size: change.content.as_slice().len() as u64,
@@ -117,8 +113,6 @@ pub(crate) fn whole_upload(view: &View, index: usize) -> Result<WholeUpload, Sto
     ensures told { IfOk result (λ whole. (u : ℕ) (it : Upload)
         → slice_get view.now.uploads index ≡ Some (whole_view u it)
         → (whole.row ≡ upload_row u it) × (whole.digests ≡ digests_of (assembled it))) }
-    ensures absent { IfErr result (λ _. (u : ℕ) (it : Upload)
-        → slice_get view.now.uploads index ≢ Some (whole_view u it)) }
 {
     let views = view.uploads.as_slice();
     if index >= views.len() {
@@ -144,8 +138,6 @@ fn put_assembled<T: Statements>(
 ) -> Result<(), StoreFault>
     ensures map { (u : ℕ) → PutsFile T.lenders T.state tx.old tx.new result change.now
         numbers new.now index (Assembled u) }
-    ensures cause { (u : ℕ) → FailsByOne T.state tx.old tx.new result
-        (IsStorableNewFile change.now numbers index (Assembled u)) (FailsHolding ⊤) }
 {
     let upload = whole_upload(change.view, index)?;
     let extent = Extent {
@@ -166,8 +158,6 @@ fn put_new_file<T: Statements>(
 ) -> Result<(), StoreFault>
     ensures map { PutsFile T.lenders T.state tx.old tx.new result change.now
         numbers new.now index new.now.source }
-    ensures cause { FailsByOne T.state tx.old tx.new result
-        (IsStorableNewFile change.now numbers index new.now.source) (FailsHolding ⊤) }
 {
     match new.source {
         Source::Posted(digests) => put_posted(tx, change, numbers, new, digests),
@@ -183,9 +173,6 @@ pub(crate) fn put_new_files<T: Statements>(
 ) -> Result<(), StoreFault>
     ensures map { PutsIn T.lenders T.state tx.old tx.new result numbered.now.change.now object
         (Files numbered.now.files.now) }
-    ensures cause { FailsByOne T.state tx.old tx.new result
-        (IsStorableAt numbered.now.change.now object (Files numbered.now.files.now))
-        (FailsHolding (numbered.now.files.now ≢ [])) }
 {
     let change = numbered.change;
     let files = numbered.files;
@@ -206,8 +193,6 @@ pub(crate) fn set_files<T: Statements>(
 ) -> Result<(), StoreFault>
     ensures map { (n : ℕ) → CarriesOut T.lenders T.state tx.old tx.new result numbered.now.change.now
         (SetFiles n numbered.now.files.now) }
-    ensures cause { (n : ℕ) → FailsCarryingMaps T.state tx.old tx.new result numbered.now.change.now
-        (SetFiles n numbered.now.files.now) }
 {
     let change = numbered.change;
     let row = touched_object(change.view)?;
@@ -224,8 +209,6 @@ pub(crate) fn set_file<T: Statements>(
     new: &NewFile,
 ) -> Result<(), StoreFault>
     ensures map { (n : ℕ) → CarriesOut T.lenders T.state tx.old tx.new result change.now
-        (SetFile n file new.now) }
-    ensures cause { (n : ℕ) → FailsCarrying T.state tx.old tx.new result change.now
         (SetFile n file new.now) }
 {
     let Source::Posted(digests) = new.source else {

@@ -2,14 +2,9 @@
 
 ghost use Rattle.std.specs.Prelude.{◌≡◌, ℕ, Some, true};
 ghost use Rattle.std.specs.FinMap as map;
-ghost use Rattle.dep_types.specs.Limits.{IsStorable};
-ghost use Rattle.dep_types.specs.Sound.{IsSound};
-ghost use Rattle.dep_tables.specs.Clauses.{FailsByRunning};
-ghost use Rattle.dep_tables.specs.Rows.{IsStorableObject, object_values};
-ghost use Rattle.dep_tables.specs.Texts.{write_object_text};
 ghost use Rattle.dep_row_maps.specs.TablesAre.{with_object, without_object};
 ghost use Rattle.dep_decisions.specs.declared.decision.Decision.TheVariants.{Complete, DropFile, SetMetadata};
-ghost use Rattle.dep_changes.specs.Clauses.{CarriesOut, FailsCarrying, FailsFromMaps, MakesOf};
+ghost use Rattle.dep_changes.specs.Clauses.{CarriesOut, MakesOf};
 ghost use Rattle.dep_changes.specs.Told.{Rewrites};
 
 use crate::change::{Change, touched_object};
@@ -23,8 +18,6 @@ use std::alloc::Global;
 pub(crate) fn write_row<T: Statements>(tx: &mut T, row: &ObjectRow) -> Result<(), StoreFault>
     ensures map { MakesOf T.lenders T.state tx.old tx.new result
         (λ o s. Rewrites s row.now o) (λ o s. with_object s row.now.object o) }
-    ensures cause { FailsByRunning (T.state tx.old) (T.state tx.new) result
-        (IsStorableObject row.now) write_object_text (object_values row.now) }
 {
     put_object(tx, row)
 }
@@ -49,7 +42,6 @@ pub(crate) fn completed(view: &View, row: ObjectRow) -> ObjectRow
 pub(crate) fn complete<T: Statements>(tx: &mut T, change: &Change<'_>) -> Result<(), StoreFault>
     ensures map { (n : ℕ) → CarriesOut T.lenders T.state tx.old tx.new result change.now
         (Complete n) }
-    ensures cause { (n : ℕ) → FailsCarrying T.state tx.old tx.new result change.now (Complete n) }
 {
     let row = touched_object(change.view)?;
     write_row(tx, &completed(change.view, row))
@@ -78,8 +70,6 @@ pub(crate) fn set_texts<T: Statements>(
     metadata: &Metadata,
 ) -> Result<(), StoreFault>
     ensures map { (n : ℕ) → CarriesOut T.lenders T.state tx.old tx.new result change.now
-        (SetMetadata n metadata.now) }
-    ensures cause { (n : ℕ) → FailsCarrying T.state tx.old tx.new result change.now
         (SetMetadata n metadata.now) }
 {
     let row = touched_object(change.view)?;
@@ -111,8 +101,6 @@ pub(crate) fn drop_file<T: Statements>(
 ) -> Result<(), StoreFault>
     ensures map { (n : ℕ) → CarriesOut T.lenders T.state tx.old tx.new result change.now
         (DropFile n file) }
-    ensures cause { (n : ℕ) → FailsCarrying T.state tx.old tx.new result change.now
-        (DropFile n file) }
 {
     let row = touched_object(change.view)?;
     write_row(tx, &files_changed(change.view, row))?;
@@ -127,8 +115,6 @@ pub(crate) fn drop_object<T: Statements>(
 ) -> Result<(), StoreFault>
     ensures map { MakesOf T.lenders T.state tx.old tx.new result
         (λ o s. map.get s.objects object ≡ Some o) (λ _ s. without_object s object) }
-    ensures cause { FailsFromMaps T.state tx.old tx.new result
-        (λ s. IsSound s × IsStorable object) (λ _. ⊥) }
 {
     delete_files(tx, alloc, object)?;
     delete_object(tx, object)

@@ -25,7 +25,8 @@ use Rattle.dep_docs_in.specs.declared.reference.Reference.{Reference}
 use Rattle.dep_docs_in.proofs.FitDocuments.{metadata-fit, references-fit, nothing-kept}
 use Rattle.dep_decisions.specs.Kinds.{kind_of, kind_by, kind_without, is_completion, may_hold, takes_kind}
 use Rattle.dep_decisions.specs.Decisions.{assembled_file, decision, decision_at, decision_with, deposit_by, deposit_of, files_of, ingests, opened, posted_file, received, referred_files, references_by, references_in, replaced_file, texts_of, upload_number, value_of}
-use Rattle.dep_decisions.specs.Rules.{presence_rule, size_rule, opening_refusal, presence_refusal, received_refusal, refusal, rules_met, segment_refusal, size_refusal, unless, when}
+use Rattle.dep_decisions.specs.LookUps.{in_state}
+use Rattle.dep_decisions.specs.Rules.{presence_rule, size_rule, opening_refusal, presence_refusal, received_refusal, refusal, rules_met, segment_refusal, size_refusal, unless, when, refusal_by}
 use Rattle.dep_decisions.specs.Effects.{effect}
 use Rattle.dep_decisions.specs.Fit.{IsFitDecision, IsFitDeposit, IsFitFile, AreFitFiles}
 use Rattle.dep_decisions.specs.declared.operation.Operation.{Operation}
@@ -181,7 +182,7 @@ opening_sizes config o e =
     (and_both (nat_le o.segment_size config.max_upload) (sizes_agree o.size o.count o.segment_size) (unless-none _ InvalidSegmentSize rows.1.1.0)).1
 
 module _ (config : Config) (s : State) (op : Operation) (fit : AreFit op.fields) where
-  opened_fit : (o : Option Kind) → kind_of op ≡ o → option_and_then (size_refusal config s op) o ≡ None → Good s op.content (option_and_then opened o)
+  opened_fit : (o : Option Kind) → kind_of op ≡ o → option_and_then (size_refusal config (in_state s) op) o ≡ None → Good s op.content (option_and_then opened o)
   opened_fit None is passed = tt
   opened_fit (Some (of.File name)) is passed = tt
   opened_fit (Some of.Metadata) is passed = tt
@@ -189,7 +190,7 @@ module _ (config : Config) (s : State) (op : Operation) (fit : AreFit op.fields)
   opened_fit (Some (of.Opening o)) is passed = (kind_fit op (of.Opening o) fit is, opening_sizes config o passed)
   opened_fit (Some (of.Segment k)) is passed = tt
 
-  received_fit : (u : ℕ) (o : Option Kind) → op.target.resource ≡ Upload u → option_and_then (size_refusal config s op) o ≡ None → Good s op.content (option_and_then (received u) o)
+  received_fit : (u : ℕ) (o : Option Kind) → op.target.resource ≡ Upload u → option_and_then (size_refusal config (in_state s) op) o ≡ None → Good s op.content (option_and_then (received u) o)
   received_fit u None at passed = tt
   received_fit u (Some (of.File name)) at passed = tt
   received_fit u (Some of.Metadata) at passed = tt
@@ -197,21 +198,21 @@ module _ (config : Config) (s : State) (op : Operation) (fit : AreFit op.fields)
   received_fit u (Some (of.Opening o)) at passed = tt
   received_fit u (Some (of.Segment k)) at passed = λ upload there.
       ap (option_and_then (λ x. segment_refusal x k op.content)) (sym there)
-      ∙ ap (λ r. received_refusal s r k op.content) (sym at)
+      ∙ ap (λ r. received_refusal (in_state s) r k op.content) (sym at)
       ∙ passed
 
-  sizes : size_rule config s op ≡ None → option_and_then (size_refusal config s op) (kind_of op) ≡ None
+  sizes : size_rule config (in_state s) op ≡ None → option_and_then (size_refusal config (in_state s) op) (kind_of op) ≡ None
   unfolding size_rule
   sizes e = e
 
-  file_there : (n f : ℕ) → op.target.resource ≡ File n f → presence_rule s op ≡ None → is_some (file_at s n f) ≡ true
+  file_there : (n f : ℕ) → op.target.resource ≡ File n f → presence_rule (in_state s) op ≡ None → is_some (file_at s n f) ≡ true
   unfolding presence_rule
-  file_there n f at e = unless-none (is_some (file_at s n f)) NotFound (ap (presence_refusal s) (sym at) ∙ e)
+  file_there n f at e = unless-none (is_some (file_at s n f)) NotFound (ap (presence_refusal (in_state s)) (sym at) ∙ e)
 
   fits : Fits (deposit_of (references_in config op) op)
   fits = deposit_fit (references_in config op) op (references_in_fit config op) fit
 
-  asked_fit : (resource : Resource) (method : Method) → op.target.resource ≡ resource → first_of (rules_met config s op resource method) ≡ None
+  asked_fit : (resource : Resource) (method : Method) → op.target.resource ≡ resource → first_of (rules_met config (in_state s) op resource method) ≡ None
       → Good s op.content (decision_at (references_in config op) op resource method)
   asked_fit Service Post at e = created s op.content (ingests op) (deposit_of (references_in config op) op) fits
   asked_fit Service Get at e = tt
@@ -234,21 +235,21 @@ module _ (config : Config) (s : State) (op : Operation) (fit : AreFit op.fields)
   asked_fit (FileSet n) Head at e = tt
   asked_fit (FileSet n) Post at e = tt
   asked_fit (File n f) Put at e =
-      let rows = all_passed (rules_met config s op (File n f) Put) e in
+      let rows = all_passed (rules_met config (in_state s) op (File n f) Put) e in
       file_set s op.content op n f (kind_of op) fit refl (file_there n f at rows.1.0)
   asked_fit (File n f) Delete at e = tt
   asked_fit (File n f) Get at e = tt
   asked_fit (File n f) Head at e = tt
   asked_fit (File n f) Post at e = tt
   asked_fit Staging Post at e =
-      let rows = all_passed (rules_met config s op Staging Post) e in
+      let rows = all_passed (rules_met config (in_state s) op Staging Post) e in
       opened_fit (kind_of op) refl (sizes rows.1.1.1.1.1.1.1.1.1.1.0)
   asked_fit Staging Get at e = tt
   asked_fit Staging Head at e = tt
   asked_fit Staging Put at e = tt
   asked_fit Staging Delete at e = tt
   asked_fit (Upload u) Post at e =
-      let rows = all_passed (rules_met config s op (Upload u) Post) e in
+      let rows = all_passed (rules_met config (in_state s) op (Upload u) Post) e in
       received_fit u (kind_of op) at (sizes rows.1.1.1.1.1.1.1.1.1.1.0)
   asked_fit (Upload u) Delete at e = tt
   asked_fit (Upload u) Get at e = tt
@@ -258,7 +259,7 @@ module _ (config : Config) (s : State) (op : Operation) (fit : AreFit op.fields)
   asked_fit (BagFile n path) method at e = tt
 
   pub decision_fit : refusal config s op ≡ None → IsFitDecision s op.content (decision config op)
-  unfolding decision_with refusal
+  unfolding decision_with refusal_by
   decision_fit e = asked_fit op.target.resource op.target.method refl e
 
   -- a request that is accepted keeps a sound state sound

@@ -1,4 +1,4 @@
--- What a request asks for, by the purpose of its content.
+-- What a request asks for, by the kind of its content.
 use Rattle.std.proofs.Common.{◌≡◌, ◌∙◌, ℕ, ◌&&◌, Bool, true, false, List, [], ◌∷◌, Option, Some, None, option_map, option_and_then, unwrap_or, if◌then◌else◌, inl, inr, refl, sym, ap}
 use Rattle.dep_types.specs.State.{Texts}
 use Rattle.dep_types.specs.declared.target.Resource.{Resource}
@@ -13,17 +13,14 @@ use Rattle.dep_fields.specs.declared.kind.Opening.{Opening}
 use Rattle.dep_fields.specs.declared.kind.Kind.TheVariants as of
 use Rattle.dep_docs_in.specs.Documents.{metadata_read}
 use Rattle.dep_docs_in.specs.declared.reference.Reference.{Reference}
-use Rattle.dep_decisions.specs.Asked.{asked_at, deposited_in, filed_in, name_in, received_in, undeposited_in}
-use Rattle.dep_decisions.specs.ContentRules.{purpose_in}
+use Rattle.dep_decisions.specs.Asked.{asked_at, deposited_in, filed_in, received_in, undeposited_in}
 use Rattle.dep_decisions.specs.Decisions.{decision_with, deposit_by, deposit_of, files_of, ingests, opened, posted_file, received, referred_files, replaced_file, texts_of}
-use Rattle.dep_decisions.specs.Kinds.{is_absent, is_completion, kind_by, kind_of, kind_without, may_complete, may_hold, takes_kind}
-use Rattle.dep_decisions.specs.Purposes.{is_deposit, purpose_of}
+use Rattle.dep_decisions.specs.Kinds.{is_absent, is_completion, is_deposit, kind_by, kind_of, kind_without, may_complete, may_hold, takes_kind}
 use Rattle.dep_decisions.specs.declared.operation.Operation.{Operation}
 use Rattle.dep_decisions.specs.declared.decision.Deposit.{Deposit}
 use Rattle.dep_decisions.specs.declared.decision.Deposit.TheVariants as deposit
 use Rattle.dep_decisions.specs.declared.decision.Decision.{Decision}
 use Rattle.dep_decisions.specs.declared.decision.Decision.TheVariants.{Show, Create, Append, Replace, Complete, SetMetadata, SetFiles, Open}
-use Rattle.dep_decisions.specs.declared.purpose.Purpose.TheVariants as purpose
 
 -- ---- a kind that there is
 
@@ -224,64 +221,33 @@ module _ (refs : Option (List Reference)) (op : Operation) (name : List ℕ) (is
   file_at_target (BagList n) m t = through (BagList n) m refl t
   file_at_target (BagFile n path) m t = through (BagFile n path) m refl t
 
-  file_alone : filed_in (ingests op) (posted_file op name) op.target.resource op.target.method ≡ decision_with refs op
+  pub file_asked : filed_in (ingests op) (posted_file op name) op.target.resource op.target.method ≡ decision_with refs op
   unfolding decision_with
-  file_alone = file_at_target op.target.resource op.target.method (taken op (of.File name) is)
+  file_asked = file_at_target op.target.resource op.target.method (taken op (of.File name) is)
 
--- ---- by the purpose of the content
+-- ---- by the kind of the content
 
 module _ (refs : Option (List Reference)) (op : Operation) where
   abbrev of_texts : Option Texts → Decision
   of_texts o = unwrap_or (option_map (λ texts. deposited_in (ingests op) (deposit.Metadata texts) op.target.resource op.target.method) o) Show
 
-  abbrev of_name : Option Kind → Decision
-  of_name o = unwrap_or (option_map (λ name. filed_in (ingests op) (posted_file op name) op.target.resource op.target.method) (option_and_then name_in o)) Show
-
   abbrev of_entries : Option (List Reference) → Decision
   of_entries o = unwrap_or (option_map (λ entries. deposited_in (ingests op) (deposit.Files (referred_files op entries)) op.target.resource op.target.method) o) Show
-
-  pub file_asked : purpose_in op ≡ Some purpose.File → of_name (kind_of op) ≡ decision_with refs op
-  file_asked e = go (kind_of op) refl e
-    where
-      go : (o : Option Kind) → kind_of op ≡ o → option_map purpose_of o ≡ Some purpose.File → of_name (kind_of op) ≡ decision_with refs op
-      go None is p = cc p
-      go (Some (of.File name)) is p = ap of_name is ∙ file_alone refs op name is
-      go (Some of.Metadata) is p = cc p
-      go (Some of.References) is p = cc p
-      go (Some (of.Opening o)) is p = cc p
-      go (Some (of.Segment k)) is p = cc p
 
   texts_through : (o : Option Texts) → of_texts o ≡ made_of op op.target.resource op.target.method (option_map (λ texts. deposit.Metadata texts) o)
   texts_through None = refl
   texts_through (Some texts) = refl
 
-  pub texts_asked : (metadata : Option Texts) → purpose_in op ≡ Some purpose.Metadata → (kind_of op ≡ Some of.Metadata → metadata ≡ metadata_read op.content)
-      → of_texts metadata ≡ decision_with refs op
-  texts_asked metadata e read = go (kind_of op) refl e
-    where
-      go : (o : Option Kind) → kind_of op ≡ o → option_map purpose_of o ≡ Some purpose.Metadata → of_texts metadata ≡ decision_with refs op
-      go None is p = cc p
-      go (Some (of.File name)) is p = cc p
-      go (Some of.Metadata) is p = ap of_texts (read is) ∙ texts_through (metadata_read op.content) ∙ by_deposit refs op of.Metadata is refl refl
-      go (Some of.References) is p = cc p
-      go (Some (of.Opening o)) is p = cc p
-      go (Some (of.Segment k)) is p = cc p
+  pub texts_asked : (metadata : Option Texts) → kind_of op ≡ Some of.Metadata → metadata ≡ metadata_read op.content → of_texts metadata ≡ decision_with refs op
+  texts_asked metadata is read = ap of_texts read ∙ texts_through (metadata_read op.content) ∙ by_deposit refs op of.Metadata is refl refl
 
   entries_through : (o : Option (List Reference))
       → of_entries o ≡ made_of op op.target.resource op.target.method (option_map (λ entries. deposit.Files (referred_files op entries)) o)
   entries_through None = refl
   entries_through (Some entries) = refl
 
-  pub entries_asked : purpose_in op ≡ Some purpose.References → of_entries refs ≡ decision_with refs op
-  entries_asked e = go (kind_of op) refl e
-    where
-      go : (o : Option Kind) → kind_of op ≡ o → option_map purpose_of o ≡ Some purpose.References → of_entries refs ≡ decision_with refs op
-      go None is p = cc p
-      go (Some (of.File name)) is p = cc p
-      go (Some of.Metadata) is p = cc p
-      go (Some of.References) is p = entries_through refs ∙ by_deposit refs op of.References is refl refl
-      go (Some (of.Opening o)) is p = cc p
-      go (Some (of.Segment k)) is p = cc p
+  pub entries_asked : kind_of op ≡ Some of.References → of_entries refs ≡ decision_with refs op
+  entries_asked is = entries_through refs ∙ by_deposit refs op of.References is refl refl
 
 -- ---- where nothing is deposited
 
@@ -380,41 +346,17 @@ module _ (refs : Option (List Reference)) (op : Operation) where
   segment_at k is (BagFile n path) Put t = cc t
   segment_at k is (BagFile n path) Delete t = cc t
 
-  pub opening_asked : (o : Opening) → purpose_in op ≡ Some (purpose.Opening o) → Open o ≡ decision_with refs op
+  pub opening_asked : (o : Opening) → kind_of op ≡ Some (of.Opening o) → Open o ≡ decision_with refs op
   unfolding decision_with
-  opening_asked o e = go (kind_of op) refl e
-    where
-      go : (x : Option Kind) → kind_of op ≡ x → option_map purpose_of x ≡ Some (purpose.Opening o) → Open o ≡ asked_at refs op op.target.resource op.target.method
-      go None is p = cc p
-      go (Some (of.File name)) is p = cc p
-      go (Some of.Metadata) is p = cc p
-      go (Some of.References) is p = cc p
-      go (Some (of.Opening q)) is p =
-          let same : q ≡ o = cc in
-          ap (λ (x : Opening). Open x) (sym same) ∙ opening_at q is op.target.resource op.target.method (taken op (of.Opening q) is)
-      go (Some (of.Segment k)) is p = cc p
+  opening_asked o is = opening_at o is op.target.resource op.target.method (taken op (of.Opening o) is)
 
-  pub segment_asked : (k : ℕ) → purpose_in op ≡ Some (purpose.Segment k) → received_in k op.target.resource ≡ decision_with refs op
+  pub segment_asked : (k : ℕ) → kind_of op ≡ Some (of.Segment k) → received_in k op.target.resource ≡ decision_with refs op
   unfolding decision_with
-  segment_asked k e = go (kind_of op) refl e
-    where
-      go : (x : Option Kind) → kind_of op ≡ x → option_map purpose_of x ≡ Some (purpose.Segment k) → received_in k op.target.resource ≡ asked_at refs op op.target.resource op.target.method
-      go None is p = cc p
-      go (Some (of.File name)) is p = cc p
-      go (Some of.Metadata) is p = cc p
-      go (Some of.References) is p = cc p
-      go (Some (of.Opening o)) is p = cc p
-      go (Some (of.Segment j)) is p =
-          let same : j ≡ k = cc in
-          ap (λ (x : ℕ). received_in x op.target.resource) (sym same) ∙ segment_at j is op.target.resource op.target.method (taken op (of.Segment j) is)
+  segment_asked k is = segment_at k is op.target.resource op.target.method (taken op (of.Segment k) is)
 
 nothing : (refs : Option (List Reference)) (op : Operation) → kind_of op ≡ None → deposit_of refs op ≡ None
 unfolding deposit_of
 nothing refs op is = ap (λ (o : Option Kind). option_and_then (deposit_by refs op) o) is
-
-no_kind : (o : Option Kind) → option_map purpose_of o ≡ None → o ≡ None
-no_kind None p = refl
-no_kind (Some k) p = cc p
 
 completed : (n : ℕ) (b i : Bool) (o : Option Deposit) → o ≡ None
     → (if b then Complete n else Show) ≡ unwrap_or (if b then Some (Complete n) else option_map (λ d. Append n d i) o) Show
@@ -477,6 +419,6 @@ module _ (refs : Option (List Reference)) (op : Operation) (none : kind_of op �
   without (BagFile n path) Head = refl
   without (BagFile n path) Delete = refl
 
-pub undeposited_asked : (refs : Option (List Reference)) (op : Operation) → purpose_in op ≡ None → undeposited_in op op.target.resource op.target.method ≡ decision_with refs op
+pub undeposited_asked : (refs : Option (List Reference)) (op : Operation) → kind_of op ≡ None → undeposited_in op op.target.resource op.target.method ≡ decision_with refs op
 unfolding decision_with
-undeposited_asked refs op e = without refs op (no_kind (kind_of op) e) op.target.resource op.target.method
+undeposited_asked refs op none = without refs op none op.target.resource op.target.method

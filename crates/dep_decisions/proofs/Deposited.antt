@@ -23,7 +23,8 @@ use Rattle.dep_fields.specs.declared.kind.Kind.TheVariants as of
 use Rattle.dep_docs_in.specs.declared.reference.Reference.{Reference}
 use Rattle.dep_decisions.specs.Kinds.{is_absent, is_completion, kind_by, kind_of, kind_without, may_complete, may_hold, takes_kind}
 use Rattle.dep_decisions.specs.Decisions.{appended_or_completed, assembled_file, decision_at, decision_with, deposit_by, deposit_of, files_of, ingests, references_by, references_in, referred_files}
-use Rattle.dep_decisions.specs.Rules.{document_refusal, has_object, document_rule, presence_rule, entries_refusal, presence_refusal, references_refusal, refusal, promised_of, rules_met, unless}
+use Rattle.dep_decisions.specs.LookUps.{has_object, in_state, promised_of}
+use Rattle.dep_decisions.specs.Rules.{document_refusal, document_rule, presence_rule, entries_refusal, presence_refusal, references_refusal, refusal, rules_met, unless, refusal_by}
 use Rattle.dep_decisions.specs.Effects.{added, appended, at, effect, effect_of, file_from, filled, ingested_by, uploads_of, with_files, without}
 use Rattle.dep_decisions.specs.declared.operation.Operation.{Operation}
 use Rattle.dep_decisions.specs.declared.decision.NewFile.{NewFile}
@@ -209,7 +210,7 @@ module _ (s : State) (op : Operation) (refs : Option (List Reference)) (new : Li
       ap (λ (b : Bool). if b then Some (Complete n) else option_map (λ d. Append n d (ingests op)) (deposit_of refs op)) whole
       ∙ ap (λ (o : Option Deposit). option_map (λ d. Append n d (ingests op)) o) deposits
 
-  by_case : (resource : Resource) (method : Method) → takes_kind resource method of.References ≡ true → presence_refusal s resource ≡ None
+  by_case : (resource : Resource) (method : Method) → takes_kind resource method of.References ≡ true → presence_refusal (in_state s) resource ≡ None
       → Has (unwrap_or (decision_at refs op resource method) Show) (deposited_object s resource)
   by_case Service Get h there = cc h
   by_case Service Head h there = cc h
@@ -270,17 +271,17 @@ module _ (config : Config) (s : State) (op : Operation) (refs : List Reference) 
   kind : kind_of op ≡ Some of.References
   kind = kind_is config op refs read
 
-  document : document_rule config s op ≡ None → entries_refusal s refs ≡ None
+  document : document_rule config (in_state s) op ≡ None → entries_refusal (in_state s) refs ≡ None
   unfolding document_rule
   document e =
-      ap (references_refusal s) (sym read)
-      ∙ ap (λ (o : Option Kind). option_and_then (document_refusal config s op) o) (sym (kind_is config op refs read))
+      ap (references_refusal (in_state s)) (sym read)
+      ∙ ap (λ (o : Option Kind). option_and_then (document_refusal config (in_state s) op) o) (sym (kind_is config op refs read))
       ∙ e
 
-  rows : (resource : Resource) (method : Method) → (method ≡ Post) ⊎ (method ≡ Put) → first_of (rules_met config s op resource method) ≡ None
-      → (presence_rule s op ≡ None) × (document_rule config s op ≡ None)
-  rows resource Post by e = let all = all_passed (rules_met config s op resource Post) e in (all.1.0, all.1.1.1.1.1.1.1.1.1.0)
-  rows resource Put by e = let all = all_passed (rules_met config s op resource Put) e in (all.1.0, all.1.1.1.1.1.1.1.1.1.0)
+  rows : (resource : Resource) (method : Method) → (method ≡ Post) ⊎ (method ≡ Put) → first_of (rules_met config (in_state s) op resource method) ≡ None
+      → (presence_rule (in_state s) op ≡ None) × (document_rule config (in_state s) op ≡ None)
+  rows resource Post by e = let all = all_passed (rules_met config (in_state s) op resource Post) e in (all.1.0, all.1.1.1.1.1.1.1.1.1.0)
+  rows resource Put by e = let all = all_passed (rules_met config (in_state s) op resource Put) e in (all.1.0, all.1.1.1.1.1.1.1.1.1.0)
   rows resource Get (inl by) e = cc by
   rows resource Get (inr by) e = cc by
   rows resource Head (inl by) e = cc by
@@ -288,11 +289,11 @@ module _ (config : Config) (s : State) (op : Operation) (refs : List Reference) 
   rows resource Delete (inl by) e = cc by
   rows resource Delete (inr by) e = cc by
 
-  passed : refusal config s op ≡ None → (presence_rule s op ≡ None) × (document_rule config s op ≡ None)
-  unfolding refusal
+  passed : refusal config s op ≡ None → (presence_rule (in_state s) op ≡ None) × (document_rule config (in_state s) op ≡ None)
+  unfolding refusal_by
   passed e = rows op.target.resource op.target.method (takes op.target.resource op.target.method (said op (kind_is config op refs read)).takes) e
 
-  present : presence_rule s op ≡ None → presence_refusal s op.target.resource ≡ None
+  present : presence_rule (in_state s) op ≡ None → presence_refusal (in_state s) op.target.resource ≡ None
   unfolding presence_rule
   present e = e
 

@@ -12,7 +12,8 @@ use Rattle.dep_types.specs.declared.target.Method.{Method}
 use Rattle.dep_types.specs.declared.target.Method.TheVariants.{Get, Head, Post, Put, Delete}
 use Rattle.dep_fields.specs.declared.field.Field.{Field}
 use Rattle.dep_decisions.specs.Decisions.{decision, decision_at, decision_with, references_in}
-use Rattle.dep_decisions.specs.Rules.{behalf_refusal, behalf_rule, presence_rule, presence_refusal, refusal, rules_met}
+use Rattle.dep_decisions.specs.LookUps.{in_state}
+use Rattle.dep_decisions.specs.Rules.{behalf_refusal, behalf_rule, presence_rule, presence_refusal, refusal, rules_met, refusal_by}
 use Rattle.dep_decisions.specs.Effects.{effect, effect_of}
 use Rattle.dep_decisions.specs.declared.operation.Operation.{Operation}
 use Rattle.dep_decisions.specs.declared.decision.Decision.{Decision}
@@ -34,7 +35,7 @@ asked_at resource method = asked_by (dropped_at resource method)
 
 -- both rules, and what is asked for
 record IsReadSo (config : Config) (s : State) (op : Operation) (resource : Resource) (method : Method) : Type 0 where
-  refused : first_of (rules_met config s op resource method) ≡ first_of (behalf_rule config op ∷ presence_rule s op ∷ [])
+  refused : first_of (rules_met config (in_state s) op resource method) ≡ first_of (behalf_rule config op ∷ presence_rule (in_state s) op ∷ [])
   asks : unwrap_or (decision_at (references_in config op) op resource method) Show ≡ asked_at resource method
 
 read_so : (config : Config) (s : State) (op : Operation) (resource : Resource) (method : Method) → IsTrue (reads_no_further resource method)
@@ -87,8 +88,8 @@ read_so config s op (BagFile n path) Put h = cc h
 read_so config s op (BagFile n path) Delete h = cc h
 
 refused_so : (config : Config) (s : State) (op : Operation) → IsTrue (reads_no_further op.target.resource op.target.method)
-    → refusal config s op ≡ first_of (behalf_rule config op ∷ presence_rule s op ∷ [])
-unfolding refusal
+    → refusal config s op ≡ first_of (behalf_rule config op ∷ presence_rule (in_state s) op ∷ [])
+unfolding refusal_by
 refused_so config s op h = (read_so config s op op.target.resource op.target.method h).refused
 
 asks_so : (config : Config) (s : State) (op : Operation) → IsTrue (reads_no_further op.target.resource op.target.method)
@@ -97,11 +98,11 @@ unfolding decision_with
 asks_so config s op h = (read_so config s op op.target.resource op.target.method h).asks
 
 by_both : (config : Config) (s : State) (op other : Operation) → op.target ≡ other.target → op.fields.on_behalf_of ≡ other.fields.on_behalf_of
-    → first_of (behalf_rule config op ∷ presence_rule s op ∷ []) ≡ first_of (behalf_rule config other ∷ presence_rule s other ∷ [])
+    → first_of (behalf_rule config op ∷ presence_rule (in_state s) op ∷ []) ≡ first_of (behalf_rule config other ∷ presence_rule (in_state s) other ∷ [])
 unfolding behalf_rule presence_rule
 by_both config s op other target behalf =
-    ap (λ (b : Field (List ℕ)). first_of (behalf_refusal config.on_behalf_of b ∷ presence_refusal s op.target.resource ∷ [])) behalf
-    ∙ ap (λ (t : Target). first_of (behalf_refusal config.on_behalf_of other.fields.on_behalf_of ∷ presence_refusal s t.resource ∷ [])) target
+    ap (λ (b : Field (List ℕ)). first_of (behalf_refusal config.on_behalf_of b ∷ presence_refusal (in_state s) op.target.resource ∷ [])) behalf
+    ∙ ap (λ (t : Target). first_of (behalf_refusal config.on_behalf_of other.fields.on_behalf_of ∷ presence_refusal (in_state s) t.resource ∷ [])) target
 
 still_read : (op other : Operation) → op.target ≡ other.target → IsTrue (reads_no_further op.target.resource op.target.method)
     → IsTrue (reads_no_further other.target.resource other.target.method)

@@ -1,5 +1,5 @@
 -- The files of an accepted deposit by reference.
-use Rattle.std.proofs.Common.{◌≡◌, ◌∙◌, ℕ, zero, suc, Bool, true, false, cond, List, [], ◌∷◌, map, slice_get, Option, Some, None, is_some, option_map, option_and_then, refl, sym, ap, subst, if◌then◌else◌}
+use Rattle.std.proofs.Common.{◌≡◌, ◌∙◌, ℕ, zero, suc, Bool, true, false, cond, List, [], ◌∷◌, map, slice_get, Option, Some, None, is_some, option_map, refl, sym, ap, subst, if◌then◌else◌}
 use Rattle.std.specs.List.{cons_option, filter_map}
 use Rattle.std.specs.Option.{option_map_or}
 use Rattle.std.specs.Cmp.{nat_cmp_total, tied_itself}
@@ -8,14 +8,16 @@ use Rattle.std.specs.FinMap as finmap
 use Rattle.std.specs.FinSet as set
 use Rattle.dep_types.specs.Maps.{Numbered, first_of}
 use Rattle.dep_types.specs.State.{State, Upload}
-use Rattle.dep_types.specs.Uploads.{is_complete}
+use Rattle.dep_types.specs.Uploads.{assembled, is_complete}
 use Rattle.dep_types.specs.declared.refusal.Refusal.{Refusal}
 use Rattle.dep_types.specs.declared.refusal.Refusal.TheVariants.{BadRequest, ByReferenceNotAllowed, DigestMismatch, NotFound, PackagingFormatNotAcceptable, SegmentedUploadTimedOut}
+use Rattle.dep_fixity.specs.Fixity.{digests_of}
 use Rattle.dep_docs_in.specs.declared.reference.Reference.{Reference}
 use Rattle.dep_docs_in.specs.declared.reference.Pointed.{Pointed}
 use Rattle.dep_docs_in.specs.declared.reference.Pointed.TheVariants.{Upload as AnUpload, Elsewhere}
 use Rattle.dep_decisions.specs.Decisions.{assembled_file, referred_files, upload_number}
-use Rattle.dep_decisions.specs.Rules.{each, has_digests, has_length, is_binary, entries_refusal, passes, stands_twice, unless, upload_refusal, when}
+use Rattle.dep_decisions.specs.LookUps.{Entry, assembled_digests, entry_at, in_state, known_of, promised_of}
+use Rattle.dep_decisions.specs.Rules.{digests_refusal, each, entries_refusal, has_digests, has_length, is_binary, length_refusal, stands_twice, there_refusal, unless, upload_refusal, when, whole_refusal}
 use Rattle.dep_decisions.specs.Effects.{upload_of, uploads_of, without}
 use Rattle.dep_decisions.specs.declared.operation.Operation.{Operation}
 use Rattle.dep_decisions.specs.declared.decision.NewFile.{NewFile}
@@ -27,12 +29,28 @@ first_two : (o : Option Refusal) (rest : List (Option Refusal)) → first_of (o 
 first_two None rest e = (refl, e)
 first_two (Some r) rest e = cc e
 
-pub one_passed : (rule : Reference → Option Refusal) (refs : List Reference) (i : ℕ) (r : Reference) → each rule refs ≡ None → slice_get refs i ≡ Some r → rule r ≡ None
-one_passed rule [] i r e at = cc at
-one_passed rule (x ∷ refs) zero r e at =
+pub one_passed : {X : Type 0} (rule : X → Option Refusal) (xs : List X) (i : ℕ) (x : X) → each rule xs ≡ None → slice_get xs i ≡ Some x → rule x ≡ None
+one_passed rule [] i x e at = cc at
+one_passed {X} rule (y ∷ xs) zero x e at =
+    let same : y ≡ x = cc at in
+    subst (λ (z : X). rule z ≡ None) same (first_two (rule y) (map rule xs) e).0
+one_passed rule (y ∷ xs) (suc i) x e at = one_passed rule xs i x (first_two (rule y) (map rule xs) e).1 at
+
+later_passed : {X : Type 0} (rule : X → Option Refusal) (o : Option X) (rest : List X) → each rule (cons_option o rest) ≡ None → each rule rest ≡ None
+later_passed rule None rest e = e
+later_passed rule (Some x) rest e = (first_two (rule x) (map rule rest) e).1
+
+-- an entry that points at an upload is looked up there
+entry_passed : (s : State) (rule : Entry Upload → Option Refusal) (refs : List Reference) (i : ℕ) (r : Reference) (u : ℕ) → each rule ((in_state s).entries refs) ≡ None
+    → slice_get refs i ≡ Some r → upload_number r.target ≡ Some u → rule (entry_at s r u) ≡ None
+entry_passed s rule [] i r u e at is = cc at
+entry_passed s rule (x ∷ refs) zero r u e at is =
     let same : x ≡ r = cc at in
-    subst (λ (y : Reference). rule y ≡ None) same (first_two (rule x) (map rule refs) e).0
-one_passed rule (x ∷ refs) (suc i) r e at = one_passed rule refs i r (first_two (rule x) (map rule refs) e).1 at
+    (first_two (rule (entry_at s r u)) (map rule ((in_state s).entries refs))
+    (ap (λ (o : Option ℕ). each rule (cons_option (option_map (entry_at s r) o) ((in_state s).entries refs))) (sym is)
+    ∙ ap (λ (y : Reference). each rule (cons_option (option_map (entry_at s y) (upload_number y.target)) ((in_state s).entries refs))) (sym same) ∙ e)).0
+entry_passed s rule (x ∷ refs) (suc i) r u e at is =
+    entry_passed s rule refs i r u (later_passed rule (option_map (entry_at s x) (upload_number x.target)) ((in_state s).entries refs) e) at is
 
 number_of : (o : Option ℕ) → unless (is_some o) ByReferenceNotAllowed ≡ None → (u : ℕ) × (o ≡ Some u)
 number_of (Some u) e = (u, refl)
@@ -47,17 +65,14 @@ there_by true gone e = refl
 there_by false true e = cc e
 there_by false false e = cc e
 
-pub upload_there : (s : State) (o : Option ℕ) (u : ℕ) → o ≡ Some u → option_and_then (upload_refusal s) o ≡ None → (x : Upload) × (finmap.get s.uploads u ≡ Some x)
-upload_there s o u is e = some_one (finmap.get s.uploads u) (there_by (finmap.contains_key s.uploads u) (set.contains s.timed_out u) (ap (option_and_then (upload_refusal s)) (sym is) ∙ e)) where
+pub upload_there : (s : State) (u : ℕ) → upload_refusal (in_state s) u ≡ None → (x : Upload) × (finmap.get s.uploads u ≡ Some x)
+upload_there s u e = some_one (finmap.get s.uploads u) (there_by (finmap.contains_key s.uploads u) (set.contains s.timed_out u) e) where
   some_one : (o : Option Upload) → is_some o ≡ true → (x : Upload) × (o ≡ Some x)
   some_one (Some x) h = (x, refl)
   some_one None h = cc h
 
-passed_by : (s : State) (r : Reference) (u : ℕ) (x : Upload) (test : Upload → Bool) (refusal : Refusal) → upload_number r.target ≡ Some u → finmap.get s.uploads u ≡ Some x
-    → unless (passes s r test) refusal ≡ None → test x ≡ true
-passed_by s r u x test refusal is there e =
-    sym (ap (λ (o : Option ℕ). option_map_or test (option_and_then (finmap.get s.uploads) o) true) is ∙ ap (λ (o : Option Upload). option_map_or test o true) there)
-    ∙ unless-none (passes s r test) refusal e
+passed_by : (test : Upload → Bool) (o : Option Upload) (x : Upload) (refusal : Refusal) → o ≡ Some x → unless (option_map_or test o true) refusal ≡ None → test x ≡ true
+passed_by test o x refusal there e = ap (λ (o : Option Upload). option_map_or test o true) (sym there) ∙ unless-none (option_map_or test o true) refusal e
 
 -- what the rules on references let through
 pub record IsReferred (s : State) (r : Reference) : Type 0 where
@@ -67,51 +82,55 @@ pub record IsReferred (s : State) (r : Reference) : Type 0 where
   pub was : Upload
   pub there : finmap.get s.uploads upload ≡ Some was
   pub complete : is_complete was ≡ true
-  pub length : has_length r.length was ≡ true
-  pub digests : has_digests r.digest was ≡ true
+  pub length : has_length r.length was.size ≡ true
+  pub digests : has_digests (promised_of was) r.digest (Some (digests_of (assembled was))) ≡ true
 
-pub all_known : (s : State) (refs : List Reference) → entries_refusal s refs ≡ None → each (λ r. unless (is_some (upload_number r.target)) ByReferenceNotAllowed) refs ≡ None
-unfolding entries_refusal
-all_known s refs e = (first_two (each (λ r. unless (is_some (upload_number r.target)) ByReferenceNotAllowed) refs) (rest s refs) e).0 where
-  rest : (s : State) (refs : List Reference) → List (Option Refusal)
-  rest s refs =
-      each (λ r. unless (is_binary r.packaging) PackagingFormatNotAcceptable) refs
-      ∷ when (stands_twice (filter_map (λ r. upload_number r.target) refs)) BadRequest
-      ∷ each (λ r. option_and_then (upload_refusal s) (upload_number r.target)) refs
-      ∷ each (λ r. unless (passes s r is_complete) BadRequest) refs
-      ∷ each (λ r. unless (passes s r (has_length r.length)) BadRequest) refs
-      ∷ each (λ r. unless (passes s r (has_digests r.digest)) DigestMismatch) refs
-      ∷ []
-
-pub referred : (s : State) (refs : List Reference) (i : ℕ) (r : Reference) → entries_refusal s refs ≡ None → slice_get refs i ≡ Some r → IsReferred s r
-unfolding entries_refusal
-referred s refs i r e at =
-    let rows = all_passed
-    (each (λ r. unless (is_some (upload_number r.target)) ByReferenceNotAllowed) refs
-    ∷ each (λ r. unless (is_binary r.packaging) PackagingFormatNotAcceptable) refs
+rules_on : (s : State) (refs : List Reference) → List (Option Refusal)
+rules_on s refs =
+    each (λ (r : Reference). unless (is_some (upload_number r.target)) ByReferenceNotAllowed) refs
+    ∷ each (λ (r : Reference). unless (is_binary r.packaging) PackagingFormatNotAcceptable) refs
     ∷ when (stands_twice (filter_map (λ r. upload_number r.target) refs)) BadRequest
-    ∷ each (λ r. option_and_then (upload_refusal s) (upload_number r.target)) refs
-    ∷ each (λ r. unless (passes s r is_complete) BadRequest) refs
-    ∷ each (λ r. unless (passes s r (has_length r.length)) BadRequest) refs
-    ∷ each (λ r. unless (passes s r (has_digests r.digest)) DigestMismatch) refs
-    ∷ []) e in
-    let number = number_of (upload_number r.target) (one_passed (λ r. unless (is_some (upload_number r.target)) ByReferenceNotAllowed) refs i r rows.0 at) in
-    let there = upload_there s (upload_number r.target) number.0 number.1 (one_passed (λ r. option_and_then (upload_refusal s) (upload_number r.target)) refs i r rows.1.1.1.0 at) in
+    ∷ each there_refusal ((in_state s).entries refs)
+    ∷ each (whole_refusal known_of) ((in_state s).entries refs)
+    ∷ each (length_refusal known_of) ((in_state s).entries refs)
+    ∷ each (digests_refusal known_of) ((in_state s).entries refs)
+    ∷ []
+
+pub all_known : (s : State) (refs : List Reference) → entries_refusal (in_state s) refs ≡ None → each (λ (r : Reference). unless (is_some (upload_number r.target)) ByReferenceNotAllowed) refs ≡ None
+unfolding entries_refusal rules_on
+all_known s refs e = (all_passed (rules_on s refs) e).0
+
+pub not_twice : (s : State) (refs : List Reference) → entries_refusal (in_state s) refs ≡ None → when (stands_twice (filter_map (λ r. upload_number r.target) refs)) BadRequest ≡ None
+unfolding entries_refusal rules_on
+not_twice s refs e = (all_passed (rules_on s refs) e).1.1.0
+
+pub referred : (s : State) (refs : List Reference) (i : ℕ) (r : Reference) → entries_refusal (in_state s) refs ≡ None → slice_get refs i ≡ Some r → IsReferred s r
+unfolding entries_refusal rules_on
+referred s refs i r e at =
+    let rows = all_passed (rules_on s refs) e in
+    let number = number_of (upload_number r.target) (one_passed (λ (r : Reference). unless (is_some (upload_number r.target)) ByReferenceNotAllowed) refs i r rows.0 at) in
+    let u = number.0 in
+    let there = upload_there s u (entry_passed s there_refusal refs i r u rows.1.1.1.0 at number.1) in
+    let x = there.0 in
+    let whole = passed_by is_complete (finmap.get s.uploads u) x BadRequest there.1 (entry_passed s (whole_refusal known_of) refs i r u rows.1.1.1.1.0 at number.1) in
     record {
-      upload = number.0;
+      upload = u;
       number = number.1;
-      target = pointed_at r.target number.0 number.1;
-      was = there.0;
+      target = pointed_at r.target u number.1;
+      was = x;
       there = there.1;
-      complete = passed_by s r number.0 there.0 is_complete BadRequest number.1 there.1 (one_passed (λ r. unless (passes s r is_complete) BadRequest) refs i r rows.1.1.1.1.0 at);
-      length = passed_by s r number.0 there.0 (has_length r.length) BadRequest number.1 there.1 (one_passed (λ r. unless (passes s r (has_length r.length)) BadRequest) refs i r rows.1.1.1.1.1.0 at);
-      digests = passed_by s r number.0 there.0 (has_digests r.digest) DigestMismatch number.1 there.1 (one_passed (λ r. unless (passes s r (has_digests r.digest)) DigestMismatch) refs i r rows.1.1.1.1.1.1.0 at);
+      complete = whole;
+      length = passed_by (λ x. has_length r.length x.size) (finmap.get s.uploads u) x BadRequest there.1 (entry_passed s (length_refusal known_of) refs i r u rows.1.1.1.1.1.0 at number.1);
+      digests =
+          ap (λ (b : Bool). has_digests (promised_of x) r.digest (if b then Some (digests_of (assembled x)) else None)) (sym whole)
+          ∙ passed_by (λ x. has_digests (promised_of x) r.digest (assembled_digests x)) (finmap.get s.uploads u) x DigestMismatch there.1
+          (entry_passed s (digests_refusal known_of) refs i r u rows.1.1.1.1.1.1.0 at number.1);
     }
 
 -- ---- the files, in their order
 
 abbrev AreKnown : List Reference → Type 0
-AreKnown refs = each (λ r. unless (is_some (upload_number r.target)) ByReferenceNotAllowed) refs ≡ None
+AreKnown refs = each (λ (r : Reference). unless (is_some (upload_number r.target)) ByReferenceNotAllowed) refs ≡ None
 
 module _ (op : Operation) (r : Reference) (u : ℕ) (is : upload_number r.target ≡ Some u) where
   first_placed : (x : Reference) (refs : List Reference) (i : ℕ) (v : ℕ) → upload_number x.target ≡ Some v → slice_get (x ∷ refs) i ≡ Some r

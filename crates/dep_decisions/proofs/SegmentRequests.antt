@@ -16,7 +16,8 @@ use Rattle.dep_fields.specs.declared.kind.Kind.{Kind}
 use Rattle.dep_fields.specs.declared.kind.Kind.TheVariants as of
 use Rattle.dep_decisions.specs.Kinds.{kind_of}
 use Rattle.dep_decisions.specs.Decisions.{decision, decision_at, decision_with, numbers_for, received, references_in}
-use Rattle.dep_decisions.specs.Rules.{document_refusal, document_rule, presence_refusal, presence_rule, received_refusal, refusal, room_rule, rules_met, segment_refusal, size_refusal, size_rule, tag_at, tag_refusal, tag_rule, unless}
+use Rattle.dep_decisions.specs.LookUps.{in_state, tag_at}
+use Rattle.dep_decisions.specs.Rules.{document_refusal, document_rule, presence_refusal, presence_rule, received_refusal, refusal, room_rule, rules_met, segment_refusal, size_refusal, size_rule, tag_refusal, tag_rule, unless, refusal_by}
 use Rattle.dep_decisions.specs.Effects.{effect, effect_of, with_segment}
 use Rattle.dep_decisions.specs.Laws.{posted_to}
 use Rattle.dep_decisions.specs.declared.operation.Operation.{Operation}
@@ -41,41 +42,41 @@ module _ (config : Config) (op : Operation) (u k : ℕ) (target : op.target ≡ 
   -- ---- the rules
 
   abbrev rows : State → List (Option Refusal)
-  rows s = rules_met config s op (at_resource.Upload u) Post
+  rows s = rules_met config (in_state s) op (at_resource.Upload u) Post
 
   rows_are : (s : State) → refusal config s op ≡ first_of (rows s)
-  unfolding refusal
-  rows_are s = ap (λ (t : Target). first_of (rules_met config s op t.resource t.method)) target
+  unfolding refusal_by
+  rows_are s = ap (λ (t : Target). first_of (rules_met config (in_state s) op t.resource t.method)) target
 
   passed : (s : State) → refusal config s op ≡ None → AllPassed (rows s)
   passed s accepted = all_passed (rows s) (sym (rows_are s) ∙ accepted)
 
-  presence_is : (s : State) → presence_rule s op ≡ presence_refusal s (at_resource.Upload u)
+  presence_is : (s : State) → presence_rule (in_state s) op ≡ presence_refusal (in_state s) (at_resource.Upload u)
   unfolding presence_rule
-  presence_is s = ap (λ (t : Target). presence_refusal s t.resource) target
+  presence_is s = ap (λ (t : Target). presence_refusal (in_state s) t.resource) target
 
-  tag_none : (s : State) → tag_rule config s op ≡ None
+  tag_none : (s : State) → tag_rule config (in_state s) op ≡ None
   unfolding tag_rule
   tag_none s = ap (λ (t : Target). tag_refusal config.require_if_match op.if_match (tag_at s t.resource)) target
 
-  document_none : (s : State) → document_rule config s op ≡ None
+  document_none : (s : State) → document_rule config (in_state s) op ≡ None
   unfolding document_rule
-  document_none s = ap (λ (o : Option Kind). option_and_then (document_refusal config s op) o) kind
+  document_none s = ap (λ (o : Option Kind). option_and_then (document_refusal config (in_state s) op) o) kind
 
-  room_none : (s : State) → room_rule config s op ≡ None
+  room_none : (s : State) → room_rule config (in_state s) op ≡ None
   unfolding room_rule room_for
   room_none s = ap (λ (d : Decision). unless (room_for s.next (numbers_for d)) why.StoreFull) asked
 
-  size_is : (s : State) → size_rule config s op ≡ option_and_then (λ upload. segment_refusal upload k op.content) (map.get s.uploads u)
+  size_is : (s : State) → size_rule config (in_state s) op ≡ option_and_then (λ upload. segment_refusal upload k op.content) (map.get s.uploads u)
   unfolding size_rule
-  size_is s = ap (λ (o : Option Kind). option_and_then (size_refusal config s op) o) kind ∙ ap (λ (t : Target). received_refusal s t.resource k op.content) target
+  size_is s = ap (λ (o : Option Kind). option_and_then (size_refusal config (in_state s) op) o) kind ∙ ap (λ (t : Target). received_refusal (in_state s) t.resource k op.content) target
 
-  pub size_at : (s : State) (x : Upload) → map.get s.uploads u ≡ Some x → size_rule config s op ≡ segment_refusal x k op.content
+  pub size_at : (s : State) (x : Upload) → map.get s.uploads u ≡ Some x → size_rule config (in_state s) op ≡ segment_refusal x k op.content
   size_at s x there = size_is s ∙ ap (option_and_then (λ upload. segment_refusal upload k op.content)) there
 
   -- where it is accepted its upload is there, and lets it through
   pub present : (s : State) → refusal config s op ≡ None → (x : Upload) × (map.get s.uploads u ≡ Some x)
-  present s accepted = upload_there s (Some u) u refl (sym (presence_is s) ∙ (passed s accepted).1.0)
+  present s accepted = upload_there s u (sym (presence_is s) ∙ (passed s accepted).1.0)
 
   pub let_through : (s : State) (x : Upload) → refusal config s op ≡ None → map.get s.uploads u ≡ Some x → segment_refusal x k op.content ≡ None
   let_through s x accepted there = sym (size_at s x there) ∙ (passed s accepted).1.1.1.1.1.1.1.1.1.1.0
@@ -84,9 +85,9 @@ module _ (config : Config) (op : Operation) (u k : ℕ) (target : op.target ≡ 
   pub accepted_again : (s t : State) (x : Upload) → refusal config s op ≡ None → map.get t.uploads u ≡ Some x → segment_refusal x k op.content ≡ None → refusal config t op ≡ None
   accepted_again s t x accepted there passes =
       let p = passed s accepted in
-      let here : presence_rule t op ≡ None = presence_is t
+      let here : presence_rule (in_state t) op ≡ None = presence_is t
       ∙ ap (λ (o : Option Upload). if is_some o then None else if set.contains t.timed_out u then Some why.SegmentedUploadTimedOut else Some why.NotFound) there in
-      let size : size_rule config t op ≡ None = size_at t x there ∙ passes in
+      let size : size_rule config (in_state t) op ≡ None = size_at t x there ∙ passes in
       rows_are t ∙ none_refuses (rows t)
       (p.0, (here, (tag_none t, (p.1.1.1.0, (p.1.1.1.1.0, (p.1.1.1.1.1.0, (p.1.1.1.1.1.1.0, (p.1.1.1.1.1.1.1.0, (p.1.1.1.1.1.1.1.1.0, (document_none t, (size, (room_none t, tt))))))))))))
 

@@ -1,12 +1,11 @@
--- What a request asks for, by the purpose of its content, and by what was read of it.
-use Rattle.std.specs.Prelude.{◌≡◌, ℕ, Bool, List, [], ◌∷◌, Option, Some, None, unwrap_or, IfSome, if◌then◌else◌}
+-- What a request asks for, by the kind of its content, and by what was read of it.
+use Rattle.std.specs.Prelude.{◌≡◌, ℕ, Bool, List, [], ◌∷◌, Option, Some, unwrap_or, IfSome, if◌then◌else◌}
 use Rattle.std.specs.FinMap as finmap
 use Rattle.dep_types.specs.declared.target.Resource.{Resource}
 use Rattle.dep_types.specs.declared.target.Resource.TheVariants.{Service, Object, Metadata, FileSet, File, Upload}
 use Rattle.dep_types.specs.declared.target.Method.{Method}
 use Rattle.dep_types.specs.declared.target.Method.TheVariants.{Post, Delete}
 use Rattle.dep_fixity.specs.Fixity.{digests_of}
-use Rattle.dep_fields.specs.declared.kind.Kind.{Kind}
 use Rattle.dep_fields.specs.declared.kind.Kind.TheVariants as of
 use Rattle.dep_docs_in.specs.Documents.{metadata_read}
 use Rattle.dep_docs_in.specs.declared.reference.Reference.{Reference}
@@ -28,11 +27,6 @@ pub record IsRead (op : Operation) (read : ReadContent) : Type 0 where
 -- what is asked for, where nothing is asked for it is shown
 abbrev pub asked_at : Option (List Reference) → Operation → Resource → Method → Decision
 asked_at refs op resource method = unwrap_or (decision_at refs op resource method) Show
-
--- the name of a file
-abbrev pub name_in : Kind → Option (List ℕ)
-name_in (of.File name) = Some name
-name_in _ = None
 
 -- what a deposit makes of a resource that takes one
 abbrev pub deposited_in : (ingests : Bool) → Deposit → Resource → Method → Decision
@@ -72,7 +66,7 @@ dropped_at (File n f) = DropFile n f
 dropped_at (Upload u) = DropUpload u
 dropped_at resource = Show
 
--- what is asked for where no content has a purpose
+-- what is asked for where there is no content of a kind
 abbrev pub undeposited_in : Operation → Resource → Method → Decision
 undeposited_in op (Object n) Post = if is_completion op then Complete n else Show
 undeposited_in op resource Delete = dropped_at resource

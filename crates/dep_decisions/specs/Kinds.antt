@@ -16,6 +16,12 @@ is_true (Value b) = b
 is_true Bad = false
 is_true Absent = false
 
+abbrev pub is_deposit : Kind → Bool
+is_deposit (of.File name) = true
+is_deposit of.Metadata = true
+is_deposit of.References = true
+is_deposit _ = false
+
 -- the kinds that this method of this resource takes
 abbrev pub takes_kind : Resource → Method → Kind → Bool
 takes_kind Service Post (of.File name) = true

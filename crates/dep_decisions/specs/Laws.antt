@@ -15,7 +15,8 @@ use Rattle.dep_docs_in.specs.declared.reference.Reference.{Reference}
 use Rattle.dep_docs_in.specs.declared.reference.Pointed.TheVariants.{Upload as Pointing}
 use Rattle.dep_decisions.specs.Kinds.{kind_of}
 use Rattle.dep_decisions.specs.Decisions.{references_in}
-use Rattle.dep_decisions.specs.Rules.{has_length, promised_of, refusal}
+use Rattle.dep_decisions.specs.LookUps.{promised_of}
+use Rattle.dep_decisions.specs.Rules.{has_length, refusal}
 use Rattle.dep_decisions.specs.Effects.{effect}
 use Rattle.dep_decisions.specs.declared.operation.Operation.{Operation}
 
@@ -143,7 +144,7 @@ pub record IsDepositedFrom (s t : State) (r : Reference) (file : File) : Type 0 
   pub there : map.get s.uploads upload ≡ Some was
   pub content : file.content ≡ assembled was
   pub size : length file.content ≡ was.size
-  pub said : IsTrue (has_length r.length was)
+  pub said : IsTrue (has_length r.length was.size)
   pub promised : IsTrue (keeps (promised_of was) (digests_of file.content))
   pub digest : IsTrue (keeps r.digest (digests_of file.content))
   pub name : file.name ≡ r.name

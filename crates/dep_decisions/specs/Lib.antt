@@ -1,10 +1,11 @@
 pub mod Asked
-pub mod ContentRules
 pub mod Decisions
 pub mod Effects
 pub mod Kinds
 pub mod Memory
+pub mod Parts
 pub mod Purposes
 pub mod Rules
 pub mod Fit
 pub mod Laws
+pub mod LookUps

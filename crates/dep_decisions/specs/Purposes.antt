@@ -1,20 +1,13 @@
--- What a content is for: its kind, without the name of a file.
-use Rattle.std.specs.Prelude.{Bool, true, false}
+-- What a content is for, as the code hands it on.
 use Rattle.dep_fields.specs.declared.kind.Kind.{Kind}
 use Rattle.dep_fields.specs.declared.kind.Kind.TheVariants as of
 use Rattle.dep_decisions.specs.declared.purpose.Purpose.{Purpose}
 use Rattle.dep_decisions.specs.declared.purpose.Purpose.TheVariants.{File, Metadata, References, Opening, Segment}
 
--- what a content is for, without the name of a file
-abbrev pub purpose_of : Kind → Purpose
-purpose_of (of.File name) = File
-purpose_of of.Metadata = Metadata
-purpose_of of.References = References
-purpose_of (of.Opening o) = Opening o
-purpose_of (of.Segment k) = Segment k
-
-abbrev pub is_deposit : Kind → Bool
-is_deposit (of.File name) = true
-is_deposit of.Metadata = true
-is_deposit of.References = true
-is_deposit _ = false
+-- the kind of such a content
+abbrev pub kind_for : Purpose → Kind
+kind_for (File name) = of.File name.now
+kind_for Metadata = of.Metadata
+kind_for References = of.References
+kind_for (Opening o) = of.Opening o
+kind_for (Segment k) = of.Segment k

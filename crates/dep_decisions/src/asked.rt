@@ -1,19 +1,20 @@
 //! What an accepted request asks for, as its content is read.
-ghost use Rattle.std.specs.Prelude.{◌≡◌, IfOk, OnErr, IfSome, IsSome, option_map, option_and_then, unwrap_or};
+ghost use Rattle.std.specs.Prelude.{◌≡◌, IfOk, OnErr, IfSome, IsSome, IsTrue, Some, option_map, unwrap_or};
 ghost use Rattle.std.specs.Option.{option_copied};
 ghost use Rattle.dep_fixity.specs.Fixity.{digests_of};
-ghost use Rattle.dep_decisions.specs.Asked.{IsRead, deposited_in, dropped_at, filed_at, name_in, received_in, referred_at, undeposited_in};
+ghost use Rattle.dep_decisions.specs.Asked.{IsRead, deposited_in, dropped_at, filed_at, received_in, referred_at, undeposited_in};
 ghost use Rattle.dep_decisions.specs.Decisions.{assembled_file, behalf_of, decision_with, ingests, posted_file, referred_files};
 ghost use Rattle.dep_decisions.specs.Kinds.{kind_of};
-ghost use Rattle.dep_decisions.specs.Memory.{MakesFiles};
+ghost use Rattle.dep_decisions.specs.Memory.{MakesFiles, makes_files};
+ghost use Rattle.dep_decisions.specs.Purposes.{kind_for};
 ghost use Rattle.dep_decisions.specs.declared.decision.Decision.TheVariants.{Show};
 ghost use Rattle.dep_decisions.specs.declared.decision.Deposit.TheVariants.{Files, Metadata as MetadataOf};
 
 use crate::decision::{Decision, Deposit, NewFile, NewFiles, Source};
 use crate::operation::Operation;
-use crate::purpose::{Purpose, content_purpose, is_completion, is_true, takes_kind};
+use crate::purpose::{Purpose, is_completion, is_true};
 use dep_docs_in::{DEFAULT_MEDIA, Pointed, Reference, References};
-use dep_fields::{Field, Kind};
+use dep_fields::Field;
 use dep_fixity::Digests;
 use dep_types::{Metadata, Method, Resource, Text};
 use std::alloc::{AllocError, Global};
@@ -27,37 +28,23 @@ pub struct ReadContent {
     pub digests: Option<Digests>,
 }
 
-/// Returns what a request asks for, with the references of its content where it deposits by reference. The
-/// content is hashed only where it is a file whose digests aren't known yet. An `Err` is want of memory.
+/// Returns what a request asks for, by what its content is for, with the references in it where it deposits by
+/// reference. The content is hashed only where it is a file whose digests aren't known yet. An `Err` is want of
+/// memory.
 pub fn decision_on(
     alloc: Global,
     operation: &Operation<'_>,
+    purpose: Option<Purpose<'_>>,
     references: Option<&References>,
     read: ReadContent,
 ) -> Result<Decision, AllocError>
-    requires { IsRead operation.now read }
+    requires purpose { option_map kind_for purpose ≡ kind_of operation.now }
+    requires read { IsRead operation.now read }
     ensures ok { IfOk result (λ d. d ≡ decision_with (option_copied references.entry) operation.now) }
     ensures err { OnErr result (MakesFiles (option_copied references.entry) operation.now) }
 {
-    match content_purpose(operation) {
-        Some(Purpose::File) => {
-            let digests = read.digests;
-            drop(read);
-            filed(alloc, operation, digests)
-        }
-        Some(Purpose::Metadata) => Ok(described(operation, read.metadata)),
-        Some(Purpose::References) => {
-            drop(read);
-            referred(alloc, operation, references)
-        }
-        Some(Purpose::Opening(opening)) => {
-            drop(read);
-            Ok(Decision::Open(opening))
-        }
-        Some(Purpose::Segment(segment)) => {
-            drop(read);
-            Ok(received(&operation.target.resource, segment))
-        }
+    match purpose {
+        Some(purpose) => decision_for(alloc, operation, purpose, references, read),
         None => {
             drop(read);
             Ok(undeposited(alloc, operation))
@@ -65,20 +52,52 @@ pub fn decision_on(
     }
 }
 
-// What the content asks for as a file, where it has the name of one.
+// Where there is a content.
+fn decision_for(
+    alloc: Global,
+    operation: &Operation<'_>,
+    purpose: Purpose<'_>,
+    references: Option<&References>,
+    read: ReadContent,
+) -> Result<Decision, AllocError>
+    requires purpose { Some (kind_for purpose) ≡ kind_of operation.now }
+    requires read { IsRead operation.now read }
+    ensures ok { IfOk result (λ d. d ≡ decision_with (option_copied references.entry) operation.now) }
+    ensures err { OnErr result
+        (IsTrue (makes_files (option_copied references.entry) (Some (kind_for purpose.entry)))) }
+{
+    match purpose {
+        Purpose::File(name) => {
+            let digests = read.digests;
+            drop(read);
+            filed(alloc, operation, name, digests)
+        }
+        Purpose::Metadata => Ok(described(operation, read.metadata)),
+        Purpose::References => {
+            drop(read);
+            referred(alloc, operation, references)
+        }
+        Purpose::Opening(opening) => {
+            drop(read);
+            Ok(Decision::Open(opening))
+        }
+        Purpose::Segment(segment) => {
+            drop(read);
+            Ok(received(&operation.target.resource, segment))
+        }
+    }
+}
+
+// What the content asks for as a file of this name.
 fn filed(
     alloc: Global,
     operation: &Operation<'_>,
+    name: &Text,
     digests: Option<Digests>,
 ) -> Result<Decision, AllocError>
     requires { IfSome digests (λ d. d ≡ digests_of operation.now.content) }
-    ensures { IfOk result (λ d. d ≡ unwrap_or (option_map
-        (λ name. filed_at operation.now name)
-        (option_and_then name_in (kind_of operation.now))) Show) }
+    ensures { IfOk result (λ d. d ≡ filed_at operation.now name.now) }
 {
-    let Some(name) = file_name(operation) else {
-        return Ok(Decision::Show);
-    };
     let new = posted_file(alloc, operation, name, digests)?;
     match operation.target.resource {
         Resource::File(object, file) => Ok(Decision::SetFile { object, file, new }),
@@ -161,7 +180,7 @@ fn received(resource: &Resource, segment: u64) -> Decision
     }
 }
 
-// What is asked for without a content that has a purpose.
+// What is asked for where there is no content of a kind.
 fn undeposited(alloc: Global, operation: &Operation<'_>) -> Decision
     ensures { result ≡ undeposited_in operation.now
         operation.now.target.resource operation.now.target.method }
@@ -192,32 +211,6 @@ fn dropped(alloc: Global, resource: &Resource) -> Decision
         Resource::File(object, file) => Decision::DropFile { object, file },
         Resource::Upload(upload) => Decision::DropUpload { upload },
         _ => Decision::Show,
-    }
-}
-
-// The name of the file that the content is.
-#[tactic(auto, unfolding(crate::specs::Kinds::kind_of))]
-fn file_name<'a>(operation: &'a Operation<'_>) -> Option<&'a Text>
-    ensures { option_copied result ≡ option_and_then name_in (kind_of operation.now) }
-{
-    match &operation.fields.disposition {
-        Field::Value(kind) => {
-            if takes_kind(&operation.target, kind) {
-                name_of(kind)
-            } else {
-                None
-            }
-        }
-        _ => None,
-    }
-}
-
-fn name_of(kind: &Kind) -> Option<&Text>
-    ensures { option_copied result ≡ name_in kind.now }
-{
-    match kind {
-        Kind::File(name) => Some(name),
-        _ => None,
     }
 }
 

@@ -1,15 +1,17 @@
 //! The rules on the fields of a content, which look at no more than the request: of the order of refusals in
 //! docs/PROFILE.md those from 8 to 12. None takes memory.
-ghost use Rattle.std.specs.Prelude.{◌≡◌, ◌==◌, bytes_eq, codes, position};
+ghost use Rattle.std.specs.Prelude.{◌≡◌, ◌==◌, option_map, bytes_eq, codes, position};
 ghost use Rattle.std.specs.List.{before_first};
 ghost use Rattle.std.specs.Str.{str_eq_ignore_ascii_case};
 ghost use Rattle.dep_types.specs.Names.{binary};
 ghost use Rattle.dep_types.specs.declared.refusal.Refusal.TheVariants as why;
-ghost use Rattle.dep_decisions.specs.ContentRules.{digests_if_promised, fields_by, fields_refusal, format_by, purpose_in, type_by};
-ghost use Rattle.dep_decisions.specs.Rules.{is_json, media_name, digest_rule, encoding_rule, in_progress_rule, kind_rule, reads_in_progress, unless, value_refusal};
+ghost use Rattle.dep_decisions.specs.Kinds.{kind_of};
+ghost use Rattle.dep_decisions.specs.Purposes.{kind_for};
+ghost use Rattle.dep_decisions.specs.Parts.{digests_if_promised, fields_refusal};
+ghost use Rattle.dep_decisions.specs.Rules.{is_json, media_name, digest_rule, encoding_rule, format_rule, in_progress_rule, kind_rule, reads_in_progress, type_rule, unless, value_refusal};
 
 use crate::operation::Operation;
-use crate::purpose::{Purpose, content_purpose, is_completion};
+use crate::purpose::{Purpose, is_completion};
 use dep_fields::Field;
 use dep_fixity::{Digests, check};
 use dep_octets::trim_ows;
@@ -19,17 +21,10 @@ use dep_types::{
 
 /// Returns the first of rules 8 to 11 that applies: what Content-Encoding, Content-Disposition, In-Progress,
 /// Packaging, Metadata-Format and Content-Type say of the content.
-pub fn fields_rule(operation: &Operation<'_>) -> Option<Refusal>
+#[tactic(auto, unfolding(crate::specs::Parts::fields_refusal))]
+pub fn fields_rule(operation: &Operation<'_>, purpose: Option<Purpose<'_>>) -> Option<Refusal>
+    requires { option_map kind_for purpose ≡ kind_of operation.now }
     ensures { result ≡ fields_refusal operation.now }
-{
-    rows_by(operation, content_purpose(operation))
-}
-
-// By what the content is for.
-#[tactic(auto, unfolding(crate::specs::ContentRules::fields_by))]
-fn rows_by(operation: &Operation<'_>, purpose: Option<Purpose>) -> Option<Refusal>
-    requires { purpose ≡ purpose_in operation.now }
-    ensures { result ≡ fields_by operation.now purpose }
 {
     if let Some(refusal) = encoding_rule(operation) {
         return Some(refusal);
@@ -72,8 +67,8 @@ fn is_identity(coding: &Octets) -> bool
 
 /// Rule 9: what the content is for.
 #[tactic(auto, unfolding(crate::specs::Rules::kind_rule))]
-fn kind_rule(operation: &Operation<'_>, purpose: Option<Purpose>) -> Option<Refusal>
-    requires { purpose ≡ purpose_in operation.now }
+fn kind_rule(operation: &Operation<'_>, purpose: Option<Purpose<'_>>) -> Option<Refusal>
+    requires { option_map kind_for purpose ≡ kind_of operation.now }
     ensures { result ≡ kind_rule operation.now }
 {
     if purpose.is_some() || is_completion(operation) {
@@ -109,12 +104,13 @@ fn reads_in_progress(target: &Target) -> bool
 }
 
 /// Rule 10: Packaging and Metadata-Format.
-#[tactic(auto, unfolding(crate::specs::ContentRules::format_by))]
-fn format_rule(operation: &Operation<'_>, purpose: Option<Purpose>) -> Option<Refusal>
-    ensures { result ≡ format_by operation.now purpose }
+#[tactic(auto, unfolding(crate::specs::Rules::format_rule))]
+fn format_rule(operation: &Operation<'_>, purpose: Option<Purpose<'_>>) -> Option<Refusal>
+    requires { option_map kind_for purpose ≡ kind_of operation.now }
+    ensures { result ≡ format_rule operation.now }
 {
     match purpose {
-        Some(Purpose::File) => unless_is(
+        Some(Purpose::File(_)) => unless_is(
             &operation.fields.packaging,
             BINARY_PACKAGING,
             Refusal::PackagingFormatNotAcceptable,
@@ -146,12 +142,13 @@ fn unless_is(field: &Field<Octets>, taken: &str, refusal: Refusal) -> Option<Ref
 }
 
 /// Rule 11: Content-Type.
-#[tactic(auto, unfolding(crate::specs::ContentRules::type_by))]
-fn type_rule(operation: &Operation<'_>, purpose: Option<Purpose>) -> Option<Refusal>
-    ensures { result ≡ type_by operation.now purpose }
+#[tactic(auto, unfolding(crate::specs::Rules::type_rule))]
+fn type_rule(operation: &Operation<'_>, purpose: Option<Purpose<'_>>) -> Option<Refusal>
+    requires { option_map kind_for purpose ≡ kind_of operation.now }
+    ensures { result ≡ type_rule operation.now }
 {
     match purpose {
-        Some(Purpose::File) => match &operation.fields.content_type {
+        Some(Purpose::File(_)) => match &operation.fields.content_type {
             Field::Bad => Some(Refusal::BadRequest),
             _ => None,
         },

@@ -1,18 +1,18 @@
 //! What the content of a request is for.
 ghost use Rattle.std.specs.Prelude.{◌≡◌, option_map};
-ghost use Rattle.dep_decisions.specs.Kinds.{is_absent, is_completion, is_true, kind_of, kind_without, may_complete, may_hold, takes_kind};
-ghost use Rattle.dep_decisions.specs.Purposes.{is_deposit, purpose_of};
+ghost use Rattle.dep_decisions.specs.Kinds.{is_absent, is_completion, is_deposit, is_true, kind_of, kind_without, may_complete, may_hold, takes_kind};
+ghost use Rattle.dep_decisions.specs.Purposes.{kind_for};
 
 use crate::operation::Operation;
 use dep_fields::{Field, Kind, Opening};
 use dep_fixity::HashedOctets;
-use dep_types::{Method, Resource, Target};
+use dep_types::{Method, Resource, Target, Text};
 
-/// What a content is for: its kind, without the name of a file.
+/// What a content is for: its kind, with the name of a file as the request has it.
 #[derive(Clone, Copy)]
-pub enum Purpose {
-    /// It is a file.
-    File,
+pub enum Purpose<'a> {
+    /// It is a file under this name.
+    File(&'a Text),
     /// It is a metadata document.
     Metadata,
     /// It is a document of references.
@@ -27,8 +27,8 @@ pub enum Purpose {
 /// the metadata document. It is `None` where the field is bad, where the method of the resource takes no such
 /// content, and for an opening that has a content. It takes no memory.
 #[tactic(auto, unfolding(crate::specs::Kinds::kind_of))]
-pub fn content_purpose(operation: &Operation<'_>) -> Option<Purpose>
-    ensures { result ≡ option_map purpose_of (kind_of operation.now) }
+pub fn content_purpose<'a>(operation: &'a Operation<'_>) -> Option<Purpose<'a>>
+    ensures { option_map kind_for result ≡ kind_of operation.now }
 {
     match &operation.fields.disposition {
         Field::Value(kind) => {
@@ -43,11 +43,11 @@ pub fn content_purpose(operation: &Operation<'_>) -> Option<Purpose>
     }
 }
 
-fn purpose_of(kind: &Kind) -> Purpose
-    ensures { result ≡ purpose_of kind.now }
+fn purpose_of(kind: &Kind) -> Purpose<'_>
+    ensures { kind_for result ≡ kind.now }
 {
     match kind {
-        Kind::File(_) => Purpose::File,
+        Kind::File(name) => Purpose::File(name),
         Kind::Metadata => Purpose::Metadata,
         Kind::References => Purpose::References,
         Kind::Opening(opening) => Purpose::Opening(*opening),
@@ -55,8 +55,17 @@ fn purpose_of(kind: &Kind) -> Purpose
     }
 }
 
+fn purpose_without<'a>(target: &Target) -> Option<Purpose<'a>>
+    ensures { option_map kind_for result ≡ kind_without target.now.resource target.now.method }
+{
+    match (&target.resource, target.method) {
+        (Resource::Metadata(_), Method::Put) => Some(Purpose::Metadata),
+        _ => None,
+    }
+}
+
 /// Whether this method of the resource takes such a content.
-pub(crate) fn takes_kind(target: &Target, kind: &Kind) -> bool
+fn takes_kind(target: &Target, kind: &Kind) -> bool
     ensures { result ≡ takes_kind target.now.resource target.now.method kind.now }
 {
     match (&target.resource, target.method) {
@@ -84,15 +93,6 @@ fn may_hold(kind: &Kind, content: &HashedOctets) -> bool
     match kind {
         Kind::Opening(_) => content.as_slice().is_empty(),
         _ => true,
-    }
-}
-
-fn purpose_without(target: &Target) -> Option<Purpose>
-    ensures { result ≡ option_map purpose_of (kind_without target.now.resource target.now.method) }
-{
-    match (&target.resource, target.method) {
-        (Resource::Metadata(_), Method::Put) => Some(Purpose::Metadata),
-        _ => None,
     }
 }
 

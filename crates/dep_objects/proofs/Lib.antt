@@ -2,11 +2,7 @@ pub mod Chains
 pub mod Puts
 pub mod Named
 pub mod Appending
-pub mod Following
-pub mod Places
 pub mod Cuts
 pub mod Written
 pub mod FileCalls
 pub mod Results
-pub mod Storable
-pub mod Causes

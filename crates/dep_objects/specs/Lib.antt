@@ -1,4 +1,3 @@
 pub mod Objects
 pub mod Texts
-pub mod Causes
 pub mod Edits

@@ -1,23 +1,15 @@
 -- Texts that are put in behind others, and texts that are gathered.
-use Rattle.std.specs.Prelude.{◌≡◌, ◌≢◌, ◌⊎◌, ◌+◌, ◌<◌, ◌≤◌, ◌^◌, ℕ, pos, All, List, [], ◌∷◌, length, map as map_each, Option, Some, None}
+use Rattle.std.specs.Prelude.{◌≡◌, ℕ, List, length, map as map_each, Option, Some, None}
 use Rattle.std.specs.List.{flat_map}
 use Rattle.std.specs.FinMap as map
-use Rattle.sqlite.specs.State as db
-use Rattle.sqlite.specs.declared.types.Value.TheVariants.{Int}
 use Rattle.sqlite_value.specs.Order.{Row}
 use Rattle.dep_types.specs.State.{State, Object, Texts}
-use Rattle.dep_types.specs.declared.store_fault.StoreFault.{StoreFault}
-use Rattle.dep_types.specs.declared.store_fault.StoreFault.TheVariants.{Memory}
 use Rattle.dep_types.specs.MetadataEntries.{joined, name_and_texts}
 use Rattle.dep_types.specs.declared.metadata.MetadataEntry.{MetadataEntry}
-use Rattle.dep_tables.specs.Clauses.{FailsToRead}
-use Rattle.dep_tables.specs.Rows.{IsMetadataRow}
 use Rattle.dep_tables.specs.Tables.{Tables}
-use Rattle.dep_tables.specs.Texts.{metadata_of_text}
-use Rattle.dep_row_maps.specs.Causes.{FailsHolding}
 use Rattle.dep_row_maps.specs.Owned.{placed, put_each}
 use Rattle.dep_row_maps.specs.Stored.{text_values, texts_in}
-use Rattle.dep_row_maps.specs.TablesAre.{metadata_at, with_metadata, with_object}
+use Rattle.dep_row_maps.specs.TablesAre.{with_metadata, with_object}
 use Rattle.dep_objects.specs.declared.gathering.NamedTexts.{NamedTexts}
 
 -- the rows of these texts, where each name's stand behind those that it has
@@ -36,34 +28,10 @@ with_entry n start e = with_texts (placed (text_values n e.name) start e.texts)
 abbrev pub with_entries : ℕ → Texts → List MetadataEntry → Tables → Tables
 with_entries n have es = with_texts (rows_beside n have (map_each name_and_texts es))
 
--- a table can hold the texts of the name, from this place on
-abbrev pub HasRoom : (n start : ℕ) → MetadataEntry → Type 0
-HasRoom n start e = (n < 2 ^ 63) × (start + length e.texts ≤ 2 ^ 63)
-
--- and those of each name behind those that it has
-abbrev pub HaveRoom : ℕ → Texts → List MetadataEntry → Type 0
-HaveRoom n have es =
-    (n < 2 ^ 63) × All (λ e. length (texts_in have e.name) + length e.texts ≤ 2 ^ 63) es
-
--- the place of each of these texts is one that a table can hold
-abbrev pub HavePlaces : Texts → List (List ℕ × List (List ℕ)) → Type 0
-HavePlaces have = All (λ e. length (texts_in have e.0) + length e.1 ≤ 2 ^ 63)
-
--- the name goes on from the texts that are gathered last, or is a new one
-abbrev pub MayFollow : Texts → Option NamedTexts → (name : List ℕ) → Type 0
-MayFollow have None name = map.get have name ≡ None
-MayFollow have (Some last) name = (last.name ≡ name) ⊎ (map.get have name ≡ None)
-
 -- the metadata with the texts of the name that is gathered last
 abbrev pub closed : Texts → Option NamedTexts → Texts
 closed kept None = kept
 closed kept (Some last) = map.insert kept last.name last.texts.items
-
--- the query of this object's metadata fails, or memory is wanting for what there is
-abbrev pub FailsToGather : (n : ℕ) → Texts → db.State → db.State → StoreFault → Type 0
-FailsToGather n have old new fault =
-    FailsToRead (All IsMetadataRow) metadata_of_text (Int (pos n) ∷ []) old new fault
-    ⊎ ((have ≢ map.empty) × (fault ≡ Memory))
 
 -- the object with more texts behind those that it has
 abbrev pub with_more : Object → Texts → Object
@@ -78,12 +46,3 @@ SetsMetadata n texts s becomes = (o : Object) → map.get s.objects n ≡ Some o
 abbrev pub AppendsMetadata : (n : ℕ) → (more : Texts) → State → (becomes : State → Type 0) → Type 0
 AppendsMetadata n more s becomes = (o : Object) → map.get s.objects n ≡ Some o
     → becomes (with_object s n (with_more o more))
-
--- the places of more texts behind those of the object's are ones that a table can hold
-abbrev pub HavePlacesIn : State → (n : ℕ) → Texts → Type 0
-HavePlacesIn s n more = HavePlaces (metadata_at s.objects n) (map.entries more)
-
--- one of the statements fails, or memory is wanting for texts that the object has or is to have
-abbrev pub FailsToAppend : State → (n : ℕ) → Texts → db.State → db.State → StoreFault → Type 0
-FailsToAppend s n more =
-    FailsHolding ((metadata_at s.objects n ≢ map.empty) ⊎ (more ≢ map.empty))

@@ -1,18 +1,13 @@
 //! The blocks of a content, written one at a time and deleted run by run.
 
 ghost use Rattle.std.specs.Prelude.{◌<◌, ◌^◌};
-ghost use Rattle.dep_tables.specs.Clauses.{RefusesNumbers};
 ghost use Rattle.dep_tables.specs.Edits.{without_blocks_of};
-ghost use Rattle.dep_tables.specs.Rows.{IsStorableOwner};
 ghost use Rattle.dep_row_maps.specs.Laws.{with_content};
 ghost use Rattle.dep_row_maps.specs.Clauses.{ChangesTables};
-ghost use Rattle.dep_row_maps.specs.Causes.{FailsByStatement};
-ghost use Rattle.dep_objects.specs.Causes.{FailsToDeleteBlocks};
 
 use crate::content::Content;
 use dep_tables::{
-    BlockKey, BlockOwner, BlockPlace, Statements, delete_run, first_block, insert_block,
-    is_storable_owner, run_end,
+    BlockKey, BlockOwner, BlockPlace, Statements, delete_run, first_block, insert_block, run_end,
 };
 use dep_types::StoreFault;
 
@@ -25,7 +20,6 @@ pub fn put_blocks<T: Statements, C: Content>(
     content: &C,
 ) -> Result<(), StoreFault>
     ensures does { ChangesTables T.lenders T.state tx.old tx.new result
-        (IsStorableOwner owner × (part < 2 ^ 63)) FailsByStatement
         (with_content owner part (C.bytes content.now)) }
 {
     for place in 0..content.count() {
@@ -41,14 +35,8 @@ pub fn put_blocks<T: Statements, C: Content>(
 /// Deletes the blocks of an owner, run by run, since one statement holds all rows that it deletes. A
 /// number of 2^63 or more is a fault of the store.
 pub fn delete_blocks<T: Statements>(tx: &mut T, owner: BlockOwner) -> Result<(), StoreFault>
-    ensures does { ChangesTables T.lenders T.state tx.old tx.new result
-        (IsStorableOwner owner) (FailsToDeleteBlocks owner) (without_blocks_of owner) }
-    ensures numbers { RefusesNumbers (T.state tx.old) (T.state tx.new) result
-        (IsStorableOwner owner) }
+    ensures does { ChangesTables T.lenders T.state tx.old tx.new result (without_blocks_of owner) }
 {
-    if !is_storable_owner(owner) {
-        return Err(StoreFault::Store);
-    }
     'runs: for passed in 0..u64::MAX {
         let Some(start) = first_block(tx, owner)? else {
             return Ok(());

@@ -1,10 +1,9 @@
 //! The clock and the numbers to be given next.
 
 ghost use Rattle.std.specs.Prelude.{◌≡◌};
-ghost use Rattle.dep_tables.specs.Statements.{query_of_state, update_of_state};
 ghost use Rattle.dep_row_maps.specs.Stored.{state_row};
 ghost use Rattle.dep_row_maps.specs.TablesAre.{with_counters};
-ghost use Rattle.dep_row_maps.specs.Clauses.{QueriesMaps, WritesMaps};
+ghost use Rattle.dep_row_maps.specs.Clauses.{ReadsMaps, WritesMaps};
 
 use dep_tables::{StateRow, Statements, read_state, write_state};
 use dep_types::StoreFault;
@@ -12,7 +11,7 @@ use dep_types::StoreFault;
 /// Returns the clock and the counters. It is a fault of the store where their row isn't there, or isn't one that
 /// `set_counters` writes.
 pub fn counters<T: Statements>(tx: &mut T) -> Result<StateRow, StoreFault>
-    ensures does { QueriesMaps T.lenders T.state tx.old tx.new result query_of_state
+    ensures does { ReadsMaps T.lenders T.state tx.old tx.new result
         (λ s row. row ≡ state_row s) }
 {
     read_state(tx)
@@ -20,7 +19,7 @@ pub fn counters<T: Statements>(tx: &mut T) -> Result<StateRow, StoreFault>
 
 /// Sets the clock and the counters. A number of 2^63 or more is a fault of the store.
 pub fn set_counters<T: Statements>(tx: &mut T, row: &StateRow) -> Result<(), StoreFault>
-    ensures does { WritesMaps T.lenders T.state tx.old tx.new result (update_of_state row.now)
+    ensures does { WritesMaps T.lenders T.state tx.old tx.new result
         (λ s becomes. becomes (with_counters s row.now.clock row.now.next)) }
 {
     write_state(tx, row)

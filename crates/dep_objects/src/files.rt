@@ -1,14 +1,10 @@
 //! The files of an object, written and deleted with their contents.
 
-ghost use Rattle.std.specs.Prelude.{◌≡◌, ◌<◌, ◌^◌, ℕ, All, Some, None, OnOk, IfErr, map};
+ghost use Rattle.std.specs.Prelude.{◌≡◌, ◌<◌, ◌^◌, ℕ, Some, None, OnOk, map};
 ghost use Rattle.std.specs.FinMap as finmap;
 ghost use Rattle.dep_types.specs.State.{Object, file_at};
-ghost use Rattle.dep_types.specs.Sound.{IsSound};
-ghost use Rattle.dep_tables.specs.Rows.{IsStorableFile};
-ghost use Rattle.dep_tables.specs.Clauses.{RefusesNumbers};
-ghost use Rattle.dep_row_maps.specs.Clauses.{Becomes, FromMaps, SeesState, ChangesMaps, ChangesTables, MakesMaps};
+ghost use Rattle.dep_row_maps.specs.Clauses.{Becomes, FromMaps, SeesState, ChangesMaps, ChangesTables};
 ghost use Rattle.dep_row_maps.specs.Laws.{without_contents};
-ghost use Rattle.dep_row_maps.specs.Causes.{FailsByStatement, FailsSince};
 ghost use Rattle.dep_objects.specs.Edits.{without_files, with_whole_file, PutsFile, DropsFile};
 
 use crate::blocks::{delete_blocks, put_blocks};
@@ -28,8 +24,7 @@ pub fn put_file<T: Statements, C: Content>(
     row: &FileRow,
     content: &C,
 ) -> Result<(), StoreFault>
-    ensures does { ChangesMaps T.lenders T.state tx.old tx.new result
-        (IsStorableFile row.now) FailsByStatement (PutsFile row.now (C.bytes content.now)) }
+    ensures does { ChangesMaps T.lenders T.state tx.old tx.new result (PutsFile row.now (C.bytes content.now)) }
     ensures rows { Becomes (T.state tx.old) (T.state tx.new) result
         (with_whole_file row.now (C.bytes content.now)) }
     ensures free { FromMaps (T.state tx.old) (T.state tx.new)
@@ -43,12 +38,10 @@ pub fn put_file<T: Statements, C: Content>(
 /// Deletes a file with its content and its SHA-512, if there is one of this number. A number of 2^63
 /// or more is a fault of the store.
 pub fn delete_file<T: Statements>(tx: &mut T, file: u64) -> Result<(), StoreFault>
-    ensures does { ChangesMaps T.lenders T.state tx.old tx.new result
-        (file < 2 ^ 63) FailsByStatement (DropsFile file) }
+    ensures does { ChangesMaps T.lenders T.state tx.old tx.new result (DropsFile file) }
     ensures absent { FromMaps (T.state tx.old) (T.state tx.new)
         (λ s. ((n : ℕ) → file_at s n file ≡ None)
         → OnOk result (SeesState (T.state tx.new) s)) }
-    ensures numbers { RefusesNumbers (T.state tx.old) (T.state tx.new) result (file < 2 ^ 63) }
 {
     delete_blocks(tx, BlockOwner::File(file))?;
     delete_sha512(tx, BlockOwner::File(file))?;
@@ -57,7 +50,6 @@ pub fn delete_file<T: Statements>(tx: &mut T, file: u64) -> Result<(), StoreFaul
 
 fn delete_contents<T: Statements>(tx: &mut T, rows: &[FileRow]) -> Result<(), StoreFault>
     ensures does { ChangesTables T.lenders T.state tx.old tx.new result
-        (All (λ row. row.file < 2 ^ 63) rows.now) FailsByStatement
         (without_contents (map (λ row. row.file) rows.now)) }
 {
     'rows: for row in rows {
@@ -70,13 +62,9 @@ fn delete_contents<T: Statements>(tx: &mut T, rows: &[FileRow]) -> Result<(), St
 /// Deletes all files of an object with their contents and their SHA-512s. It holds the rows of the
 /// files. A number of 2^63 or more is a fault of the store.
 pub fn delete_files<T: Statements>(tx: &mut T, alloc: Global, object: u64) -> Result<(), StoreFault>
-    ensures does { MakesMaps T.lenders T.state tx.old tx.new result
+    ensures does { ChangesMaps T.lenders T.state tx.old tx.new result
         (λ s becomes. (o : Object) → finmap.get s.objects object ≡ Some o
         → becomes (without_files s object o)) }
-    ensures numbers { RefusesNumbers (T.state tx.old) (T.state tx.new) result (object < 2 ^ 63) }
-    ensures cause { FromMaps (T.state tx.old) (T.state tx.new)
-        (λ s. IsSound s → object < 2 ^ 63
-        → IfErr result (FailsSince T.state FailsByStatement tx.old tx.new)) }
 {
     let rows = files_of(tx, alloc, object)?;
     delete_contents(tx, rows.as_slice())?;

@@ -1,14 +1,12 @@
 //! The rows of an object's metadata, gathered by name.
 
-ghost use Rattle.std.specs.Prelude.{◌≡◌, ◌≢◌, ◌<◌, ◌^◌, [], List, Some, None, IfOk, IfErr, map as each};
+ghost use Rattle.std.specs.Prelude.{◌≡◌, ◌<◌, ◌^◌, Some, None, IfOk, map as each};
 ghost use Rattle.std.specs.FinMap as map;
-ghost use Rattle.dep_types.specs.State.{Texts};
-ghost use Rattle.dep_types.specs.declared.store_fault.StoreFault.TheVariants.{Memory};
 ghost use Rattle.dep_row_maps.specs.Stored.{added, listed, grouped};
 ghost use Rattle.dep_row_maps.specs.Laws.{pair_of};
 ghost use Rattle.dep_row_maps.specs.TablesAre.{metadata_at};
-ghost use Rattle.dep_row_maps.specs.Clauses.{Finds, FromMaps};
-ghost use Rattle.dep_objects.specs.Texts.{closed, FailsToGather, MayFollow};
+ghost use Rattle.dep_row_maps.specs.Clauses.{Finds};
+ghost use Rattle.dep_objects.specs.Texts.{closed};
 
 use dep_tables::{MetadataRow, Statements, metadata_of};
 use dep_types::{Metadata, StoreFault, Text, TextList};
@@ -27,7 +25,6 @@ fn begin(alloc: Global, metadata: &Metadata, row: MetadataRow) -> Result<NamedTe
     ensures told { IfOk result (λ now.
         closed metadata.now (Some now) ≡ added metadata.now (pair_of row)) }
     ensures name { IfOk result (λ now. now.name ≡ row.name) }
-    ensures cause { map.get metadata.now row.name ≡ None → IfErr result (λ fault. fault ≡ Memory) }
 {
     if metadata.get(row.name.as_str()).is_some() {
         return Err(StoreFault::Store);
@@ -50,8 +47,6 @@ fn gather(
     ensures told { IfOk result (λ now.
         closed metadata.new (Some now) ≡ added (closed metadata.old last) (pair_of row)) }
     ensures name { IfOk result (λ now. now.name ≡ row.name) }
-    ensures cause { MayFollow (closed metadata.old last) last row.name
-        → IfErr result (λ fault. fault ≡ Memory) }
 {
     if let Some(mut last) = last {
         if last.name.as_str() == row.name.as_str() {
@@ -65,8 +60,6 @@ fn gather(
 
 fn gathered(alloc: Global, rows: Vec<MetadataRow>) -> Result<Metadata, StoreFault>
     ensures told { IfOk result (λ metadata. metadata ≡ grouped (each pair_of rows.items)) }
-    ensures cause { (m : Texts) → each pair_of rows.items ≡ listed m
-        → IfErr result (λ fault. (fault ≡ Memory) × (rows.items ≢ [])) }
 {
     let mut metadata = Metadata::new(alloc);
     let mut last = None;
@@ -89,10 +82,6 @@ pub(crate) fn load_metadata<T: Statements>(
     ensures does { Finds T.lenders T.state tx.old tx.new result
         (λ s. IfOk result (λ metadata.
         metadata ≡ grouped (listed (metadata_at s.objects object)))) }
-    ensures cause { FromMaps (T.state tx.old) (T.state tx.new)
-        (λ s. object < 2 ^ 63
-        → IfErr result
-        (FailsToGather object (metadata_at s.objects object) (T.state tx.old) (T.state tx.new))) }
 {
     gathered(alloc, metadata_of(tx, alloc, object)?)
 }

@@ -4,8 +4,7 @@ ghost use Rattle.std.specs.Prelude.{◌≡◌, nat_eq, map, option_map, option_a
 ghost use Rattle.std.specs.FinMap as finmap;
 ghost use Rattle.dep_types.specs.State.{file_at};
 ghost use Rattle.dep_types.specs.Rows.{file_row};
-ghost use Rattle.dep_tables.specs.Statements.{query_of_file, query_of_files};
-ghost use Rattle.dep_row_maps.specs.Clauses.{QueriesMaps};
+ghost use Rattle.dep_row_maps.specs.Clauses.{ReadsMaps};
 ghost use Rattle.dep_row_maps.specs.TablesAre.{files_at};
 ghost use Rattle.dep_types.specs.Names.{if_passes};
 
@@ -20,8 +19,7 @@ pub fn load_files<T: Statements>(
     alloc: Global,
     object: u64,
 ) -> Result<FileRows, StoreFault>
-    ensures does { QueriesMaps T.lenders T.state tx.old tx.new result
-        (query_of_files {Z = Global} object) (λ s found. found
+    ensures does { ReadsMaps T.lenders T.state tx.old tx.new result (λ s found. found
         ≡ map (λ e. file_row object e.0 e.1) (finmap.entries (files_at s.objects object))) }
 {
     Ok(FileRows::new(files_of(tx, alloc, object)?))
@@ -43,7 +41,7 @@ pub fn find_file<T: Statements>(
     object: u64,
     file: u64,
 ) -> Result<Option<FileRow>, StoreFault>
-    ensures does { QueriesMaps T.lenders T.state tx.old tx.new result (query_of_file file)
+    ensures does { ReadsMaps T.lenders T.state tx.old tx.new result
         (λ s found. found ≡ option_map (file_row object file) (file_at s object file)) }
 {
     Ok(of_object(dep_tables::find_file(tx, file)?, object))

@@ -1,13 +1,10 @@
 //! The metadata of an object.
 
-ghost use Rattle.std.specs.Prelude.{◌≡◌, ◌≢◌, ◌<◌, ◌^◌, [], IfOk, IfErr, length};
+ghost use Rattle.std.specs.Prelude.{◌≡◌, ◌<◌, ◌^◌, IfOk, length};
 ghost use Rattle.std.specs.FinMap as map;
-ghost use Rattle.dep_types.specs.MetadataEntries.{name_and_texts};
-ghost use Rattle.dep_row_maps.specs.Owned.{placed};
-ghost use Rattle.dep_row_maps.specs.Stored.{is_of, text_row, text_values, texts_in};
-ghost use Rattle.dep_row_maps.specs.Clauses.{FromMaps, ChangesMaps, ChangesTables, MakesMaps};
-ghost use Rattle.dep_row_maps.specs.Causes.{FailsHolding, FailsSince};
-ghost use Rattle.dep_objects.specs.Texts.{with_entry, with_entries, AppendsMetadata, SetsMetadata, HasRoom, HaveRoom, HavePlaces, HavePlacesIn, FailsToAppend};
+ghost use Rattle.dep_row_maps.specs.Stored.{text_row, texts_in};
+ghost use Rattle.dep_row_maps.specs.Clauses.{ChangesMaps, ChangesTables};
+ghost use Rattle.dep_objects.specs.Texts.{with_entry, with_entries, AppendsMetadata, SetsMetadata};
 
 use crate::gathering::load_metadata;
 use dep_tables::{LIMIT, MetadataRow, Statements, delete_metadata, insert_metadata};
@@ -40,7 +37,6 @@ fn put_texts<T: Statements>(
     start: u64,
 ) -> Result<(), StoreFault>
     ensures does { ChangesTables T.lenders T.state tx.old tx.new result
-        (HasRoom object start entry.now) (FailsHolding (entry.now.texts ≢ []))
         (with_entry object start entry.now) }
 {
     let mut place = start;
@@ -72,7 +68,6 @@ fn put_entries<T: Statements>(
     entries: &[MetadataEntry],
 ) -> Result<(), StoreFault>
     ensures does { ChangesTables T.lenders T.state tx.old tx.new result
-        (HaveRoom object have.now entries.now) (FailsHolding (entries.now ≢ []))
         (with_entries object have.now entries.now) }
 {
     'entries: for entry in entries {
@@ -89,9 +84,7 @@ pub fn set_metadata<T: Statements>(
     object: u64,
     metadata: &Metadata,
 ) -> Result<(), StoreFault>
-    ensures does { ChangesMaps T.lenders T.state tx.old tx.new result
-        ((object < 2 ^ 63) × HavePlaces map.empty (map.entries metadata.now))
-        (FailsHolding (metadata.now ≢ map.empty)) (SetsMetadata object metadata.now) }
+    ensures does { ChangesMaps T.lenders T.state tx.old tx.new result (SetsMetadata object metadata.now) }
 {
     delete_metadata(tx, object)?;
     put_entries(tx, alloc, object, &Metadata::new(alloc), metadata.entries())
@@ -105,12 +98,8 @@ pub fn append_metadata<T: Statements>(
     object: u64,
     more: &Metadata,
 ) -> Result<(), StoreFault>
-    ensures does { MakesMaps T.lenders T.state tx.old tx.new result
+    ensures does { ChangesMaps T.lenders T.state tx.old tx.new result
         (AppendsMetadata object more.now) }
-    ensures cause { FromMaps (T.state tx.old) (T.state tx.new)
-        (λ s. object < 2 ^ 63
-        → HavePlacesIn s object more.now
-        → IfErr result (FailsSince T.state (FailsToAppend s object more.now) tx.old tx.new)) }
 {
     let have = load_metadata(tx, alloc, object)?;
     put_entries(tx, alloc, object, &have, more.entries())

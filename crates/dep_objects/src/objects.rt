@@ -1,14 +1,12 @@
 //! The objects, by number.
 
-ghost use Rattle.std.specs.Prelude.{◌≡◌, ◌≢◌, ◌<◌, ◌^◌, None, IfOk, IfErr, OnOk, option_map};
+ghost use Rattle.std.specs.Prelude.{◌≡◌, ◌<◌, ◌^◌, None, IfOk, OnOk, option_map};
 ghost use Rattle.std.specs.FinMap as map;
 ghost use Rattle.dep_types.specs.Rows.{object_row};
 ghost use Rattle.dep_types.specs.Sound.{IsSound};
-ghost use Rattle.dep_tables.specs.Statements.{insertion_of_object, query_of_next_object, query_of_object, update_of_object};
 ghost use Rattle.dep_row_maps.specs.Keyed.{next_entry};
-ghost use Rattle.dep_row_maps.specs.TablesAre.{metadata_at, files_at, with_object, without_object};
-ghost use Rattle.dep_row_maps.specs.Clauses.{FromMaps, SeesState, ChangesMaps, Finds, QueriesMaps, WritesMaps};
-ghost use Rattle.dep_row_maps.specs.Causes.{FailsByStatement, FailsHolding, FailsSince};
+ghost use Rattle.dep_row_maps.specs.TablesAre.{files_at, with_object, without_object};
+ghost use Rattle.dep_row_maps.specs.Clauses.{FromMaps, SeesState, ChangesMaps, Finds, ReadsMaps, WritesMaps};
 ghost use Rattle.dep_objects.specs.Objects.{HasRow, IsDescribed, object_of, described_object, PutsRow};
 
 use crate::gathering::load_metadata;
@@ -34,10 +32,6 @@ pub fn describe<T: Statements>(
 ) -> Result<DescribedObject, StoreFault>
     ensures does { Finds T.lenders T.state tx.old tx.new result
         (λ s. IsSound s → HasRow s row → IfOk result (IsDescribed s row.object)) }
-    ensures cause { FromMaps (T.state tx.old) (T.state tx.new)
-        (λ s. row.object < 2 ^ 63
-        → IfErr result (FailsSince T.state
-        (FailsHolding (metadata_at s.objects row.object ≢ map.empty)) tx.old tx.new)) }
 {
     let metadata = load_metadata(tx, alloc, row.object)?;
     Ok(DescribedObject { row, metadata })
@@ -53,10 +47,6 @@ pub fn load_object<T: Statements>(
     ensures does { Finds T.lenders T.state tx.old tx.new result
         (λ s. IsSound s → IfOk result (λ found.
         found ≡ option_map (described_object object) (map.get s.objects object))) }
-    ensures cause { FromMaps (T.state tx.old) (T.state tx.new)
-        (λ s. object < 2 ^ 63
-        → IfErr result (FailsSince T.state
-        (FailsHolding (metadata_at s.objects object ≢ map.empty)) tx.old tx.new)) }
 {
     let Some(row) = dep_tables::find_object(tx, object)? else {
         return Ok(None);
@@ -68,7 +58,7 @@ pub fn load_object<T: Statements>(
 /// The row of an object, without its metadata and files, if there is one. A number of 2^63 or more is a
 /// fault of the store.
 pub fn find_object<T: Statements>(tx: &mut T, object: u64) -> Result<Option<ObjectRow>, StoreFault>
-    ensures does { QueriesMaps T.lenders T.state tx.old tx.new result (query_of_object object)
+    ensures does { ReadsMaps T.lenders T.state tx.old tx.new result
         (λ s found. found ≡ option_map (object_row object) (map.get s.objects object)) }
 {
     dep_tables::find_object(tx, object)
@@ -77,7 +67,7 @@ pub fn find_object<T: Statements>(tx: &mut T, object: u64) -> Result<Option<Obje
 /// Returns the least number of an object above this one, if there is one. A number of 2^63 or more is a fault
 /// of the store.
 pub fn next_object<T: Statements>(tx: &mut T, after: u64) -> Result<Option<u64>, StoreFault>
-    ensures does { QueriesMaps T.lenders T.state tx.old tx.new result (query_of_next_object after)
+    ensures does { ReadsMaps T.lenders T.state tx.old tx.new result
         (λ s found. found ≡ option_map (λ e. e.0) (next_entry s.objects after)) }
 {
     dep_tables::next_object(tx, after)
@@ -86,7 +76,7 @@ pub fn next_object<T: Statements>(tx: &mut T, after: u64) -> Result<Option<u64>,
 /// Adds an object that has no metadata and no files. It is a fault of the store where there is one of this
 /// number, and where a number is 2^63 or more.
 pub fn add_object<T: Statements>(tx: &mut T, row: &ObjectRow) -> Result<(), StoreFault>
-    ensures does { WritesMaps T.lenders T.state tx.old tx.new result (insertion_of_object row.now)
+    ensures does { WritesMaps T.lenders T.state tx.old tx.new result
         (λ s becomes. becomes
         (with_object s row.now.object (object_of row.now map.empty map.empty))) }
     ensures free { FromMaps (T.state tx.old) (T.state tx.new)
@@ -98,7 +88,7 @@ pub fn add_object<T: Statements>(tx: &mut T, row: &ObjectRow) -> Result<(), Stor
 /// Puts this row in the place of an object's, which keeps its metadata and files, if there is one of this number. A number
 /// of 2^63 or more is a fault of the store.
 pub fn put_object<T: Statements>(tx: &mut T, row: &ObjectRow) -> Result<(), StoreFault>
-    ensures does { WritesMaps T.lenders T.state tx.old tx.new result (update_of_object row.now)
+    ensures does { WritesMaps T.lenders T.state tx.old tx.new result
         (PutsRow row.now) }
     ensures absent { FromMaps (T.state tx.old) (T.state tx.new)
         (λ s. map.get s.objects row.now.object ≡ None
@@ -111,7 +101,6 @@ pub fn put_object<T: Statements>(tx: &mut T, row: &ObjectRow) -> Result<(), Stor
 /// a fault of the store.
 pub fn delete_object<T: Statements>(tx: &mut T, object: u64) -> Result<(), StoreFault>
     ensures does { ChangesMaps T.lenders T.state tx.old tx.new result
-        (object < 2 ^ 63) FailsByStatement
         (λ s becomes. files_at s.objects object ≡ map.empty → becomes (without_object s object)) }
 {
     delete_metadata(tx, object)?;

@@ -1,5 +1,5 @@
 -- What is known after the rules on a content.
-use Rattle.std.proofs.Common.{◌≡◌, ◌∙◌, ℕ, ◌<◌, ◌+◌, Bool, true, false, List, [], ◌∷◌, ◌++◌, take, length, get_or, Option, Some, None, option_map, if◌then◌else◌, refl, sym, ap}
+use Rattle.std.proofs.Common.{◌≡◌, ◌∙◌, ℕ, ◌<◌, ◌+◌, Bool, true, false, List, [], ◌∷◌, ◌++◌, take, length, get_or, Option, Some, None, if◌then◌else◌, refl, sym, ap}
 use Rattle.std.proofs.lemmas.List.{take_more}
 use Rattle.std.proofs.lemmas.List.Elements.{filter_map-append}
 use Rattle.std.specs.Prelude.{IfSome}
@@ -11,18 +11,13 @@ use Rattle.dep_fixity.specs.Fixity.{digests_of, promises}
 use Rattle.dep_fixity.specs.declared.field.DigestList.{DigestList}
 use Rattle.dep_fields.specs.declared.field.Field.{Field}
 use Rattle.dep_fields.specs.declared.field.Field.TheVariants.{Absent, Bad, Value}
-use Rattle.dep_fields.specs.declared.kind.Kind.{Kind}
-use Rattle.dep_fields.specs.declared.kind.Kind.TheVariants as of
 use Rattle.dep_docs_in.specs.declared.reference.Reference.{Reference}
-use Rattle.dep_decisions.specs.Decisions.{references_by, references_in, upload_number}
-use Rattle.dep_decisions.specs.Kinds.{kind_of}
-use Rattle.dep_decisions.specs.Purposes.{purpose_of}
-use Rattle.dep_decisions.specs.Rules.{digest_rule}
+use Rattle.dep_decisions.specs.Decisions.{upload_number}
+use Rattle.dep_decisions.specs.Parts.{content_by, content_refusal, digests_if_promised, fields_refusal, has_content}
+use Rattle.dep_decisions.specs.Rules.{digest_rule, document_rule, size_rule}
 use Rattle.dep_decisions.specs.declared.operation.Operation.{Operation}
-use Rattle.dep_decisions.specs.declared.purpose.Purpose.{Purpose}
 use Rattle.dep_operations.specs.Checks.{IsChecked, IsCheckedBy}
-use Rattle.dep_decisions.specs.ContentRules.{digests_if_promised, fields_refusal, purpose_in}
-use Rattle.dep_operations.specs.Rules.{content_by, content_refusal, document_by, has_content, references_for, size_by}
+use Rattle.dep_operations.specs.Seen.{in_view}
 use Rattle.dep_operations.specs.Views.{uploads_named}
 use Rattle.dep_operations.specs.declared.order.Checked.{Checked}
 use Rattle.dep_operations.specs.declared.order.Checked.TheVariants.{Refused, Passed}
@@ -39,39 +34,25 @@ promised_are op Absent = tt
 promised_are op Bad = tt
 promised_are op (Value list) = of_content op (promises list)
 
-references_for_is : (config : Config) (op : Operation) (o : Option Kind) → references_for config op (option_map purpose_of o) ≡ references_by config op o
-unfolding references_for
-references_for_is config op None = refl
-references_for_is config op (Some (of.File name)) = refl
-references_for_is config op (Some of.Metadata) = refl
-references_for_is config op (Some of.References) = refl
-references_for_is config op (Some (of.Opening o)) = refl
-references_for_is config op (Some (of.Segment k)) = refl
-
-pub references_for_purpose : (config : Config) (op : Operation) → references_for config op (purpose_in op) ≡ references_in config op
-unfolding references_in
-references_for_purpose config op = references_for_is config op (kind_of op)
-
--- the rules on a content, by what each comes to at its purpose
-pub content_told : (config : Config) (view : View) (op : Operation) (purpose : Option Purpose) (fields digest document size : Option Refusal) → purpose ≡ purpose_in op
-    → fields ≡ fields_refusal op → digest ≡ digest_rule op → document ≡ document_by view op purpose → size ≡ size_by config view op purpose
-    → content_by config view op (purpose_in op) ≡ first_of (fields ∷ digest ∷ document ∷ size ∷ [])
+-- the rules on a content, by what each comes to
+pub content_told : (config : Config) (view : View) (op : Operation) (fields digest document size : Option Refusal)
+    → fields ≡ fields_refusal op → digest ≡ digest_rule op → document ≡ document_rule config (in_view view) op → size ≡ size_rule config (in_view view) op
+    → content_by config (in_view view) op ≡ first_of (fields ∷ digest ∷ document ∷ size ∷ [])
 unfolding content_by
-content_told config view op purpose fields digest document size at a b c d =
-    ap (content_by config view op) (sym at) ∙ (λ i. first_of (sym a i ∷ sym b i ∷ sym c i ∷ sym d i ∷ []))
+content_told config view op fields digest document size a b c d = (λ i. first_of (sym a i ∷ sym b i ∷ sym c i ∷ sym d i ∷ []))
 
 -- a method with a content is checked by its rules
 pub checked_by : (config : Config) (view : View) (op : Operation) (checked : Checked) → has_content op.target.method ≡ true → IsCheckedBy config view op checked → IsChecked config view op checked
 unfolding content_refusal
-checked_by config view op (Refused r) has is = ap (λ b. if b then content_by config view op (purpose_in op) else None) has ∙ is
-checked_by config view op (Passed read) has is = (ap (λ b. if b then content_by config view op (purpose_in op) else None) has ∙ is.0, is.1)
+checked_by config view op (Refused r) has is = ap (λ b. if b then content_by config (in_view view) op else None) has ∙ is
+checked_by config view op (Passed read) has is = (ap (λ b. if b then content_by config (in_view view) op else None) has ∙ is.0, is.1)
 
 -- the others have none
 pub unchecked : (config : Config) (view : View) (op : Operation) → has_content op.target.method ≡ false
     → IsChecked config view op (Passed (record { metadata = None; digests = None }))
 unfolding content_refusal
 unchecked config view op none = (
-  ap (λ b. if b then content_by config view op (purpose_in op) else None) none,
+  ap (λ b. if b then content_by config (in_view view) op else None) none,
   record { metadata = λ is. let kind = no_kind op none in absurd (cc (kind, is)); digests = tt },
 )
 

@@ -1,6 +1,4 @@
 mod Checked
-mod Memory
-mod Presence
 mod Repeats
 mod Results
 mod SeenTruly

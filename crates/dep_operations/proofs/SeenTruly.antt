@@ -1,194 +1,249 @@
 -- A true view tells which rule is the first to apply.
-use Rattle.std.proofs.Common.{◌≡◌, ◌∙◌, ℕ, Bool, true, false, List, [], ◌∷◌, ◌++◌, map, Option, Some, None, is_some, option_map, option_and_then, if◌then◌else◌, refl, sym, ap, subst}
-use Rattle.dep_types.specs.Maps.{first_of}
+use Rattle.std.proofs.Common.{◌≡◌, ◌∙◌, ℕ, Bool, true, false, List, [], ◌∷◌, map, Option, Some, None, is_some, option_map, option_and_then, if◌then◌else◌, refl, sym, ap, subst}
+use Rattle.std.specs.List.{cons_option}
+use Rattle.std.specs.Option.{option_map_or}
+use Rattle.std.specs.FinMap as finmap
+use Rattle.std.specs.FinSet as set
+use Rattle.dep_types.specs.Maps.{◌>>=◌, first_of}
 use Rattle.dep_types.specs.Numbers.{room_for}
-use Rattle.dep_types.specs.State.{State}
+use Rattle.dep_types.specs.Rows.{object_row, file_row}
+use Rattle.dep_types.specs.State as state
+use Rattle.dep_types.specs.State.{State, file_at}
+use Rattle.dep_types.specs.Uploads.{assembled, is_complete}
 use Rattle.dep_types.specs.declared.config.Config.{Config}
 use Rattle.dep_types.specs.declared.counters.Counters.{Counters}
+use Rattle.dep_types.specs.declared.rows.ObjectRow.{ObjectRow}
+use Rattle.dep_types.specs.declared.rows.FileRow.{FileRow}
 use Rattle.dep_types.specs.declared.refusal.Refusal.{Refusal}
-use Rattle.dep_types.specs.declared.refusal.Refusal.TheVariants.{StoreFull}
+use Rattle.dep_types.specs.declared.refusal.Refusal.TheVariants.{BadRequest, DigestMismatch, NotFound, StoreFull}
 use Rattle.dep_types.specs.declared.target.Resource.{Resource}
 use Rattle.dep_types.specs.declared.target.Resource.TheVariants.{Service, Object, Metadata, FileSet, File, Staging, Upload, BagList, BagFile}
-use Rattle.dep_types.specs.declared.target.Method.{Method}
-use Rattle.dep_types.specs.declared.target.Method.TheVariants.{Get, Head, Post, Put, Delete}
+use Rattle.dep_fixity.specs.Fixity.{digests_of}
+use Rattle.dep_fixity.specs.declared.hasher.Digests.{Digests}
 use Rattle.dep_fields.specs.declared.kind.Kind.{Kind}
 use Rattle.dep_fields.specs.declared.kind.Kind.TheVariants as of
 use Rattle.dep_docs_in.specs.declared.reference.Reference.{Reference}
-use Rattle.dep_decisions.specs.Asked.{asked_at}
-use Rattle.dep_decisions.specs.Decisions.{decision, decision_with, numbers_for, references_in}
+use Rattle.dep_docs_in.specs.declared.reference.Pointed.{Pointed}
+use Rattle.dep_docs_in.specs.declared.reference.Pointed.TheVariants.{Upload as AnUpload, Elsewhere}
+use Rattle.dep_decisions.specs.Decisions.{decision_with, numbers_for, references_in, upload_number}
 use Rattle.dep_decisions.specs.Kinds.{kind_of}
-use Rattle.dep_decisions.specs.Purposes.{purpose_of}
-use Rattle.dep_decisions.specs.Rules.{document_refusal, behalf_rule, digest_rule, document_rule, encoding_rule, format_rule, in_progress_rule, kind_rule, presence_rule, room_rule, size_rule, tag_rule, type_rule, references_refusal, refusal, rules_met, size_refusal, unless}
+use Rattle.dep_decisions.specs.LookUps.{Entry, assembled_digests, entry_at, has_bag_path, in_state, known_of, repeats, tag_at}
+use Rattle.dep_decisions.specs.Parts.{access_refusal, content_by, content_refusal, fields_refusal, has_content, reads_alone}
+use Rattle.dep_decisions.specs.Rules.{behalf_rule, digest_rule, digests_refusal, document_refusal, document_rule, each, entries_refusal, has_digests, has_length, length_refusal, missing_refusal, presence_refusal, presence_rule, received_refusal, references_refusal, refusal, refusal_by, room_rule, segment_by, segment_refusal, size_refusal, size_rule, tag_refusal, tag_rule, there_refusal, unless, whole_refusal}
 use Rattle.dep_decisions.specs.declared.operation.Operation.{Operation}
 use Rattle.dep_decisions.specs.declared.decision.Decision.{Decision}
-use Rattle.dep_decisions.specs.declared.decision.Decision.TheVariants.{Show, DropUpload}
-use Rattle.dep_decisions.proofs.AskedIs.{asked_by, shown_by_get, shown_by_head}
+use Rattle.dep_decisions.proofs.InParts.{in_parts}
 use Rattle.dep_operations.specs.Checks.{IsRoomRuling}
-use Rattle.dep_decisions.specs.ContentRules.{fields_refusal, purpose_in}
-use Rattle.dep_operations.specs.Rules.{IsSeen, access_refusal, content_by, content_refusal, document_by, has_content, reads_alone, refusal_seen, room_refusal, size_by, tag_rule_seen}
+use Rattle.dep_operations.specs.Rules.{IsSeen}
 use Rattle.dep_operations.specs.Rulings.{HasRoomFor, IsRuling, RulesBy}
-use Rattle.dep_operations.specs.Views.{uploads_in, upload_view, true_view}
-use Rattle.dep_operations.specs.Walks.{references_seen}
+use Rattle.dep_operations.specs.Seen.{entries_seen, entry_before, entry_seen, in_view, is_timed_out, known_live, live_in, promised_in, row_length, tag_seen, upload_in}
+use Rattle.dep_operations.specs.Views.{file_in, live_upload, object_in, path_in, segment_in, true_view, upload_state, upload_view, uploads_in, uploads_named}
 use Rattle.dep_operations.specs.declared.ruling.Ruling.{Ruling}
 use Rattle.dep_operations.specs.declared.ruling.Ruling.TheVariants.{Do, Refuse}
+use Rattle.dep_operations.specs.declared.view.LiveUpload.{LiveUpload}
+use Rattle.dep_operations.specs.declared.view.UploadState.{UploadState}
+use Rattle.dep_operations.specs.declared.view.UploadState.TheVariants.{Unknown, TimedOut, Live}
 use Rattle.dep_operations.specs.declared.view.View.{View}
-use Rattle.dep_operations.proofs.Presence.{presence_rule_is, received_is, tag_rule_is}
 use Rattle.dep_operations.proofs.Staged.{by_reference_elsewhere}
-use Rattle.dep_operations.proofs.Walked.{references_are}
 
--- ---- the rules by purpose are those by kind
+-- ---- an upload
+
+-- what a view has of it
+abbrev shown : (by_reference : Bool) → ℕ → Option state.Upload → (timed_out : Bool) → UploadState
+shown by u o b = option_map_or (λ upload. Live (live_upload by u upload)) o (if b then TimedOut else Unknown)
+
+missing_is : (by : Bool) (u : ℕ) (o : Option state.Upload) (b : Bool) → missing_refusal (live_in (shown by u o b)) (is_timed_out (shown by u o b)) ≡ missing_refusal o b
+missing_is by u (Some x) b = refl
+missing_is by u None true = refl
+missing_is by u None false = refl
+
+passes_is : (test : LiveUpload → Bool) (by : Bool) (u : ℕ) (o : Option state.Upload) (b : Bool)
+    → option_map_or test (live_in (shown by u o b)) true ≡ option_map_or (λ x. test (live_upload by u x)) o true
+passes_is test by u (Some x) b = refl
+passes_is test by u None true = refl
+passes_is test by u None false = refl
+
+segment_is : (by : Bool) (u : ℕ) (o : Option state.Upload) (b : Bool) (k : ℕ) (bytes : List ℕ)
+    → option_and_then (λ (l : LiveUpload). segment_by l.row.count (row_length l.row k) (o >>= (λ x. repeats x k bytes)) k bytes) (live_in (shown by u o b))
+    ≡ option_and_then (λ x. segment_refusal x k bytes) o
+segment_is by u (Some x) b k bytes = refl
+segment_is by u None true k bytes = refl
+segment_is by u None false k bytes = refl
+
+has_row : {X Y : Type 0} (row : X → Y) (o : Option X) → is_some (option_map row o) ≡ is_some o
+has_row row None = refl
+has_row row (Some x) = refl
+
+tag_of : {X Y : Type 0} (row : X → Y) (tag : Y → ℕ) (o : Option X) → option_map tag (option_map row o) ≡ option_map (λ x. tag (row x)) o
+tag_of row tag None = refl
+tag_of row tag (Some x) = refl
+
+-- ---- references
+
+first_same : (a b : Option Refusal) (xs ys : List (Option Refusal)) → a ≡ b → first_of xs ≡ first_of ys → first_of (a ∷ xs) ≡ first_of (b ∷ ys)
+first_same a b xs ys e f = ap (λ x. first_of (x ∷ xs)) e ∙ under b
+  where
+    under : (o : Option Refusal) → first_of (o ∷ xs) ≡ first_of (o ∷ ys)
+    under None = f
+    under (Some r) = refl
+
+module _ (s : State) where
+  abbrev told_by : (Entry LiveUpload → Option Refusal) → (Entry state.Upload → Option Refusal) → Type 0
+  told_by rule told = (r : Reference) (u : ℕ) → rule (entry_seen r (upload_state true s u)) ≡ told (entry_at s r u)
+
+  module _ (rule : Entry LiveUpload → Option Refusal) (told : Entry state.Upload → Option Refusal) (same : told_by rule told) where
+    entries_are : (refs : List Reference) → each rule (entries_seen refs (map (upload_view true s) (uploads_named refs))) ≡ each told ((in_state s).entries refs)
+    unfolding entries_seen
+    entries_are [] = refl
+    entries_are (r ∷ refs) = one_more r.target (entries_are refs)
+      where
+        one_more : (t : Pointed) → each rule (entries_seen refs (map (upload_view true s) (uploads_named refs))) ≡ each told ((in_state s).entries refs)
+            → each rule (entry_before (entries_seen refs) r t (map (upload_view true s) (cons_option (upload_number t) (uploads_named refs))))
+            ≡ each told (cons_option (option_map (entry_at s r) (upload_number t)) ((in_state s).entries refs))
+        one_more Elsewhere later = later
+        one_more (AnUpload u) later = first_same _ _ _ _ (same r u) later
+
+  there_is : told_by there_refusal there_refusal
+  there_is r u = missing_is true u (finmap.get s.uploads u) (set.contains s.timed_out u)
+
+  told_where : (b : Bool) (d : Digests) → is_some (if b then Some d else None) ≡ b
+  told_where true d = refl
+  told_where false d = refl
+
+  whole_at : (o : Option state.Upload) → option_map_or (λ (x : state.Upload). is_some (assembled_digests x)) o true ≡ option_map_or is_complete o true
+  whole_at None = refl
+  whole_at (Some x) = told_where (is_complete x) (digests_of (assembled x))
+
+  whole_is : told_by (whole_refusal known_live) (whole_refusal known_of)
+  whole_is r u =
+      ap (λ b. unless b BadRequest)
+      (passes_is (λ l. is_some l.digests) true u (finmap.get s.uploads u) (set.contains s.timed_out u) ∙ whole_at (finmap.get s.uploads u))
+
+  length_is : told_by (length_refusal known_live) (length_refusal known_of)
+  length_is r u = ap (λ b. unless b BadRequest) (passes_is (λ l. has_length r.length l.row.size) true u (finmap.get s.uploads u) (set.contains s.timed_out u))
+
+  digests_is : told_by (digests_refusal known_live) (digests_refusal known_of)
+  digests_is r u = ap (λ b. unless b DigestMismatch) (passes_is (λ l. has_digests (promised_in l.row) r.digest l.digests) true u (finmap.get s.uploads u) (set.contains s.timed_out u))
+
+  entries_told : (view : View) (refs : List Reference) → view.uploads ≡ map (upload_view true s) (uploads_named refs)
+      → entries_refusal (in_view view) refs ≡ entries_refusal (in_state s) refs
+  unfolding entries_refusal
+  entries_told view refs are =
+      let there = ap (λ us. each there_refusal (entries_seen refs us)) are ∙ entries_are there_refusal there_refusal there_is refs in
+      let whole = ap (λ us. each (whole_refusal known_live) (entries_seen refs us)) are ∙ entries_are (whole_refusal known_live) (whole_refusal known_of) whole_is refs in
+      let long = ap (λ us. each (length_refusal known_live) (entries_seen refs us)) are ∙ entries_are (length_refusal known_live) (length_refusal known_of) length_is refs in
+      let same = ap (λ us. each (digests_refusal known_live) (entries_seen refs us)) are ∙ entries_are (digests_refusal known_live) (digests_refusal known_of) digests_is refs in
+      rw (there, whole, long, same) refl
+
+  references_told : (view : View) (o : Option (List Reference)) → view.uploads ≡ map (upload_view (is_some o) s) (uploads_in Service o)
+      → references_refusal (in_view view) o ≡ references_refusal (in_state s) o
+  references_told view None are = refl
+  references_told view (Some refs) are = entries_told view refs are
+
+-- ---- the rules
 
 module _ (config : Config) (s : State) (op : Operation) where
-  references_by_views : (refs : Option (List Reference)) → references_seen (map (upload_view (is_some refs) s) (uploads_in Service refs)) refs ≡ references_refusal s refs
-  references_by_views None = refl
-  references_by_views (Some refs) = references_are s refs
+  object_is : (n : ℕ) → object_in op.target.resource ≡ Some n
+      → unless (is_some (object_in op.target.resource >>= (λ n. option_map (object_row n) (finmap.get s.objects n)))) NotFound ≡ unless (is_some (finmap.get s.objects n)) NotFound
+  object_is n at =
+      ap (λ o. unless (is_some (o >>= (λ n. option_map (object_row n) (finmap.get s.objects n)))) NotFound) at
+      ∙ ap (λ b. unless b NotFound) (has_row (object_row n) (finmap.get s.objects n))
 
-  document_for : (o : Option Kind) → kind_of op ≡ o → document_by (true_view config s op) op (option_map purpose_of o) ≡ option_and_then (document_refusal config s op) o
-  unfolding document_by
+  presence_is : (resource : Resource) → op.target.resource ≡ resource → presence_refusal (in_view (true_view config s op)) resource ≡ presence_refusal (in_state s) resource
+  presence_is Service at = refl
+  presence_is (Object n) at = object_is n (ap object_in at)
+  presence_is (Metadata n) at = object_is n (ap object_in at)
+  presence_is (FileSet n) at = object_is n (ap object_in at)
+  presence_is (BagList n) at = object_is n (ap object_in at)
+  presence_is (File n f) at =
+      ap (λ r. unless (is_some (object_in r >>= (λ n. file_in r >>= (λ f. option_map (file_row n f) (file_at s n f))))) NotFound) at
+      ∙ ap (λ b. unless b NotFound) (has_row (file_row n f) (file_at s n f))
+  presence_is Staging at = refl
+  presence_is (Upload u) at =
+      ap (λ r. let state = upload_in (map (upload_view (is_some (references_in config op)) s) (uploads_in r (references_in config op))) in missing_refusal (live_in state) (is_timed_out state)) at
+      ∙ missing_is (is_some (references_in config op)) u (finmap.get s.uploads u) (set.contains s.timed_out u)
+  presence_is (BagFile n path) at =
+      ap (λ r. unless (option_map_or (λ n. option_map_or (has_bag_path s n) (path_in r) false) (object_in r) false) NotFound) at
+
+  tag_is : (resource : Resource) → op.target.resource ≡ resource → tag_seen (true_view config s op) resource ≡ tag_at s resource
+  tag_is Service at = refl
+  tag_is (Object n) at =
+      ap (λ r. option_map (λ (row : ObjectRow). row.object_tag) (object_in r >>= (λ n. option_map (object_row n) (finmap.get s.objects n)))) at
+      ∙ tag_of (object_row n) (λ (row : ObjectRow). row.object_tag) (finmap.get s.objects n)
+  tag_is (Metadata n) at =
+      ap (λ r. option_map (λ (row : ObjectRow). row.metadata_tag) (object_in r >>= (λ n. option_map (object_row n) (finmap.get s.objects n)))) at
+      ∙ tag_of (object_row n) (λ (row : ObjectRow). row.metadata_tag) (finmap.get s.objects n)
+  tag_is (FileSet n) at =
+      ap (λ r. option_map (λ (row : ObjectRow). row.files_tag) (object_in r >>= (λ n. option_map (object_row n) (finmap.get s.objects n)))) at
+      ∙ tag_of (object_row n) (λ (row : ObjectRow). row.files_tag) (finmap.get s.objects n)
+  tag_is (File n f) at =
+      ap (λ r. option_map (λ (row : FileRow). row.tag) (object_in r >>= (λ n. file_in r >>= (λ f. option_map (file_row n f) (file_at s n f))))) at
+      ∙ tag_of (file_row n f) (λ (row : FileRow). row.tag) (file_at s n f)
+  tag_is Staging at = refl
+  tag_is (Upload u) at = refl
+  tag_is (BagList n) at = refl
+  tag_is (BagFile n path) at = refl
+
+  abbrev repeat_in : Resource → Option Kind → Option Bool
+  repeat_in resource kind = segment_in resource kind >>= (λ id. finmap.get s.uploads id.upload >>= (λ x. repeats x id.number op.content))
+
+  received_is : (resource : Resource) (k : ℕ) → op.target.resource ≡ resource → kind_of op ≡ Some (of.Segment k)
+      → received_refusal (in_view (true_view config s op)) resource k op.content ≡ received_refusal (in_state s) resource k op.content
+  received_is (Upload u) k at for =
+      (λ i. option_and_then (λ (l : LiveUpload). segment_by l.row.count (row_length l.row k) (repeat_in (at i) (for i)) k op.content)
+      (live_in (upload_in (map (upload_view (is_some (references_in config op)) s) (uploads_in (at i) (references_in config op))))))
+      ∙ segment_is (is_some (references_in config op)) u (finmap.get s.uploads u) (set.contains s.timed_out u) k op.content
+  received_is Service k at for = refl
+  received_is (Object n) k at for = refl
+  received_is (Metadata n) k at for = refl
+  received_is (FileSet n) k at for = refl
+  received_is (File n f) k at for = refl
+  received_is Staging k at for = refl
+  received_is (BagList n) k at for = refl
+  received_is (BagFile n path) k at for = refl
+
+  document_for : (o : Option Kind) → kind_of op ≡ o → option_and_then (document_refusal config (in_view (true_view config s op)) op) o ≡ option_and_then (document_refusal config (in_state s) op) o
   document_for None is = refl
   document_for (Some (of.File name)) is = refl
   document_for (Some of.Metadata) is = refl
   document_for (Some of.References) is =
-      ap (λ us. references_seen (map (upload_view (is_some (references_in config op)) s) us) (references_in config op)) (by_reference_elsewhere config op is)
-      ∙ references_by_views (references_in config op)
+      references_told s (true_view config s op) (references_in config op)
+      (ap (map (upload_view (is_some (references_in config op)) s)) (by_reference_elsewhere config op is))
   document_for (Some (of.Opening o)) is = refl
   document_for (Some (of.Segment k)) is = refl
 
-  document_is : document_by (true_view config s op) op (purpose_in op) ≡ document_rule config s op
-  unfolding document_rule
-  document_is = document_for (kind_of op) refl
-
-  size_for : (o : Option Kind) → kind_of op ≡ o → size_by config (true_view config s op) op (option_map purpose_of o) ≡ option_and_then (size_refusal config s op) o
-  unfolding size_by
+  size_for : (o : Option Kind) → kind_of op ≡ o → option_and_then (size_refusal config (in_view (true_view config s op)) op) o ≡ option_and_then (size_refusal config (in_state s) op) o
   size_for None is = refl
   size_for (Some (of.File name)) is = refl
   size_for (Some of.Metadata) is = refl
   size_for (Some of.References) is = refl
   size_for (Some (of.Opening o)) is = refl
-  size_for (Some (of.Segment k)) is = received_is config s op op.target.resource k refl (ap (option_map purpose_of) is)
+  size_for (Some (of.Segment k)) is = received_is op.target.resource k refl is
 
-  size_is : size_by config (true_view config s op) op (purpose_in op) ≡ size_rule config s op
-  unfolding size_rule
-  size_is = size_for (kind_of op) refl
-
-  -- ---- the rules by what is seen
-
-  abbrev access_at : Resource → Method → Option Refusal
-  access_at resource method = first_of
-      (behalf_rule config op ∷ presence_rule s op ∷ (if reads_alone resource method then None else tag_rule config s op) ∷ [])
-
-  access_is : access_refusal config (true_view config s op) op ≡ access_at op.target.resource op.target.method
-  unfolding access_refusal
+  access_is : access_refusal config (in_view (true_view config s op)) op ≡ access_refusal config (in_state s) op
+  unfolding access_refusal presence_rule tag_rule
   access_is =
-      ap (λ p. first_of (behalf_rule config op ∷ p ∷ (if reads_alone op.target.resource op.target.method then None else tag_rule_seen config (true_view config s op) op) ∷ [])) (presence_rule_is config s op)
-      ∙ ap (λ t. first_of (behalf_rule config op ∷ presence_rule s op ∷ (if reads_alone op.target.resource op.target.method then None else t) ∷ [])) (tag_rule_is config s op)
+      let presence = presence_is op.target.resource refl in
+      let tag = tag_is op.target.resource refl in
+      (λ i. first_of (behalf_rule config op ∷ presence i
+      ∷ (if reads_alone op.target.resource op.target.method then None else tag_refusal config.require_if_match op.if_match (tag i)) ∷ []))
 
-  abbrev content_of : (document size : Option Refusal) → Option Refusal
-  content_of d z = first_of (fields_refusal op ∷ digest_rule op ∷ d ∷ z ∷ [])
+  content_is : content_refusal config (in_view (true_view config s op)) op ≡ content_refusal config (in_state s) op
+  unfolding content_refusal content_by document_rule size_rule
+  content_is =
+      let document = document_for (kind_of op) refl in
+      let size = size_for (kind_of op) refl in
+      (λ i. if has_content op.target.method then first_of (fields_refusal op ∷ digest_rule op ∷ document i ∷ size i ∷ []) else None)
 
-  abbrev content_at : Method → Option Refusal
-  content_at method = if has_content method then content_of (document_rule config s op) (size_rule config s op) else None
-
-  content_rows_are : content_by config (true_view config s op) op (purpose_in op) ≡ content_of (document_rule config s op) (size_rule config s op)
-  unfolding content_by
-  content_rows_are =
-      ap (λ d. content_of d (size_by config (true_view config s op) op (purpose_in op))) document_is
-      ∙ ap (λ z. content_of (document_rule config s op) z) size_is
-
-  content_is : content_refusal config (true_view config s op) op ≡ content_at op.target.method
-  unfolding content_refusal
-  content_is = ap (λ c. if has_content op.target.method then c else None) content_rows_are
-
-  room_is : room_refusal (true_view config s op) op ≡ room_rule config s op
-  unfolding room_refusal room_rule
+  room_is : room_rule config (in_view (true_view config s op)) op ≡ room_rule config (in_state s) op
+  unfolding room_rule
   room_is = refl
 
-  -- ---- nothing is taken by what is only read, or dropped
-
-  decided : (resource : Resource) (method : Method) → op.target.resource ≡ resource → op.target.method ≡ method
-      → asked_at (references_in config op) op resource method ≡ decision config op
-  decided resource method at to =
-      ap (λ r. asked_at (references_in config op) op r method) (sym at) ∙ asked_by (references_in config op) op method to
-
-  room_for_show : decision config op ≡ Show → room_rule config s op ≡ None
-  unfolding room_rule room_for
-  room_for_show e = ap (λ d. unless (room_for s.next (numbers_for d)) StoreFull) e
-
-  room_for_drop : (u : ℕ) → decision config op ≡ DropUpload u → room_rule config s op ≡ None
-  unfolding room_rule room_for
-  room_for_drop u e = ap (λ d. unless (room_for s.next (numbers_for d)) StoreFull) e
-
-  -- ---- the order, over rows that are any
-
-  read_is : (b p m : Option Refusal) → m ≡ None → first_of (b ∷ p ∷ []) ≡ first_of (first_of (b ∷ p ∷ None ∷ []) ∷ None ∷ m ∷ [])
-  read_is (Some r) p m e = refl
-  read_is None (Some r) m e = refl
-  read_is None None m e = ap (λ x. first_of (x ∷ [])) (sym e)
-
-  dropped_is : (b p t m : Option Refusal) → first_of (b ∷ p ∷ t ∷ m ∷ []) ≡ first_of (first_of (b ∷ p ∷ t ∷ []) ∷ None ∷ m ∷ [])
-  dropped_is (Some r) p t m = refl
-  dropped_is None (Some r) t m = refl
-  dropped_is None None (Some r) m = refl
-  dropped_is None None None m = refl
-
-  -- a first one among others
-  joined : (front rest : List (Option Refusal)) → first_of (front ++ rest) ≡ first_of (first_of front ∷ rest)
-  joined [] rest = refl
-  joined (None ∷ front) rest = joined front rest
-  joined (Some r ∷ front) rest = refl
-
-  under : (o : Option Refusal) (xs ys : List (Option Refusal)) → first_of xs ≡ first_of ys → first_of (o ∷ xs) ≡ first_of (o ∷ ys)
-  under None xs ys e = e
-  under (Some r) xs ys e = refl
-
-  written_is : (b p t e k i f y d o z m : Option Refusal) → first_of (b ∷ p ∷ t ∷ e ∷ k ∷ i ∷ f ∷ y ∷ d ∷ o ∷ z ∷ m ∷ [])
-      ≡ first_of (first_of (b ∷ p ∷ t ∷ []) ∷ first_of (first_of (e ∷ k ∷ i ∷ f ∷ y ∷ []) ∷ d ∷ o ∷ z ∷ []) ∷ m ∷ [])
-  written_is b p t e k i f y d o z m =
-      joined (b ∷ p ∷ t ∷ []) (e ∷ k ∷ i ∷ f ∷ y ∷ d ∷ o ∷ z ∷ m ∷ [])
-      ∙ under (first_of (b ∷ p ∷ t ∷ [])) (e ∷ k ∷ i ∷ f ∷ y ∷ d ∷ o ∷ z ∷ m ∷ [])
-      (first_of (first_of (e ∷ k ∷ i ∷ f ∷ y ∷ []) ∷ d ∷ o ∷ z ∷ []) ∷ m ∷ [])
-      (joined (e ∷ k ∷ i ∷ f ∷ y ∷ []) (d ∷ o ∷ z ∷ m ∷ [])
-      ∙ joined (first_of (e ∷ k ∷ i ∷ f ∷ y ∷ []) ∷ d ∷ o ∷ z ∷ []) (m ∷ []))
-
-  abbrev at_once : Resource → Method → Option Refusal
-  at_once resource method = first_of (access_at resource method ∷ content_at method ∷ room_rule config s op ∷ [])
-
-  dropped : (resource : Resource) → op.target.resource ≡ resource → op.target.method ≡ Delete → first_of (rules_met config s op resource Delete) ≡ at_once resource Delete
-  dropped (Upload u) at to = read_is (behalf_rule config op) (presence_rule s op) (room_rule config s op) (room_for_drop u (sym (decided (Upload u) Delete at to)))
-  dropped Service at to = dropped_is (behalf_rule config op) (presence_rule s op) (tag_rule config s op) (room_rule config s op)
-  dropped (Object n) at to = dropped_is (behalf_rule config op) (presence_rule s op) (tag_rule config s op) (room_rule config s op)
-  dropped (Metadata n) at to = dropped_is (behalf_rule config op) (presence_rule s op) (tag_rule config s op) (room_rule config s op)
-  dropped (FileSet n) at to = dropped_is (behalf_rule config op) (presence_rule s op) (tag_rule config s op) (room_rule config s op)
-  dropped (File n f) at to = dropped_is (behalf_rule config op) (presence_rule s op) (tag_rule config s op) (room_rule config s op)
-  dropped Staging at to = dropped_is (behalf_rule config op) (presence_rule s op) (tag_rule config s op) (room_rule config s op)
-  dropped (BagList n) at to = dropped_is (behalf_rule config op) (presence_rule s op) (tag_rule config s op) (room_rule config s op)
-  dropped (BagFile n path) at to = dropped_is (behalf_rule config op) (presence_rule s op) (tag_rule config s op) (room_rule config s op)
-
-  written : first_of (behalf_rule config op ∷ presence_rule s op ∷ tag_rule config s op ∷ encoding_rule op ∷ kind_rule op ∷ in_progress_rule op ∷ format_rule op ∷ type_rule op
-      ∷ digest_rule op ∷ document_rule config s op ∷ size_rule config s op ∷ room_rule config s op ∷ [])
-      ≡ first_of (first_of (behalf_rule config op ∷ presence_rule s op ∷ tag_rule config s op ∷ [])
-      ∷ content_of (document_rule config s op) (size_rule config s op) ∷ room_rule config s op ∷ [])
-  unfolding fields_refusal
-  written = written_is (behalf_rule config op) (presence_rule s op) (tag_rule config s op) (encoding_rule op) (kind_rule op) (in_progress_rule op) (format_rule op) (type_rule op)
-      (digest_rule op) (document_rule config s op) (size_rule config s op) (room_rule config s op)
-
-  in_order : (resource : Resource) (method : Method) → op.target.resource ≡ resource → op.target.method ≡ method
-      → first_of (rules_met config s op resource method) ≡ at_once resource method
-  in_order resource Get at to = read_is (behalf_rule config op) (presence_rule s op) (room_rule config s op)
-      (room_for_show (sym (decided resource Get at to) ∙ sym (shown_by_get (references_in config op) op resource)))
-  in_order resource Head at to = read_is (behalf_rule config op) (presence_rule s op) (room_rule config s op)
-      (room_for_show (sym (decided resource Head at to) ∙ sym (shown_by_head (references_in config op) op resource)))
-  in_order resource Delete at to = dropped resource at to
-  in_order resource Post at to = written
-  in_order resource Put at to = written
-
-  pub seen_truly : refusal_seen config (true_view config s op) op ≡ refusal config s op
-  unfolding refusal_seen refusal
+  seen_truly : refusal_by config (in_view (true_view config s op)) op ≡ refusal config s op
   seen_truly =
-      ap (λ a. first_of (a ∷ content_refusal config (true_view config s op) op ∷ room_refusal (true_view config s op) op ∷ [])) access_is
-      ∙ ap (λ c. first_of (access_at op.target.resource op.target.method ∷ c ∷ room_refusal (true_view config s op) op ∷ [])) content_is
-      ∙ ap (λ m. first_of (access_at op.target.resource op.target.method ∷ content_at op.target.method ∷ m ∷ [])) room_is
-      ∙ sym (in_order op.target.resource op.target.method refl refl)
+      in_parts config (in_view (true_view config s op)) op
+      ∙ (λ i. first_of (access_is i ∷ content_is i ∷ room_is i ∷ []))
+      ∙ sym (in_parts config (in_state s) op)
 
   told : (ruling : Ruling) → IsSeen config (true_view config s op) op ruling → IsRuling config s op ruling
   told (Refuse r) is = sym seen_truly ∙ is
@@ -201,48 +256,50 @@ rules_by config view op ruling is s truly = told config s op ruling (subst (λ v
 -- ---- rulings by what is seen
 
 module _ (config : Config) (view : View) (op : Operation) where
-  pub refused_access : (r : Refusal) (o : Option Refusal) → o ≡ access_refusal config view op → o ≡ Some r → IsSeen config view op (Refuse r)
-  unfolding refusal_seen
-  refused_access r o is e = ap (λ a. first_of (a ∷ content_refusal config view op ∷ room_refusal view op ∷ [])) (sym is ∙ e)
+  abbrev parts : (access content : Option Refusal) → Option Refusal
+  parts a c = first_of (a ∷ c ∷ room_rule config (in_view view) op ∷ [])
 
-  pub refused_content : (r : Refusal) (o : Option Refusal) → o ≡ access_refusal config view op → o ≡ None → content_refusal config view op ≡ Some r → IsSeen config view op (Refuse r)
-  unfolding refusal_seen
+  pub refused_access : (r : Refusal) (o : Option Refusal) → o ≡ access_refusal config (in_view view) op → o ≡ Some r → IsSeen config view op (Refuse r)
+  refused_access r o is e = in_parts config (in_view view) op ∙ ap (λ a. parts a (content_refusal config (in_view view) op)) (sym is ∙ e)
+
+  pub refused_content : (r : Refusal) (o : Option Refusal) → o ≡ access_refusal config (in_view view) op → o ≡ None → content_refusal config (in_view view) op ≡ Some r → IsSeen config view op (Refuse r)
   refused_content r o is e content =
-      ap (λ a. first_of (a ∷ content_refusal config view op ∷ room_refusal view op ∷ [])) (sym is ∙ e)
-      ∙ ap (λ c. first_of (c ∷ room_refusal view op ∷ [])) content
+      in_parts config (in_view view) op
+      ∙ ap (λ a. parts a (content_refusal config (in_view view) op)) (sym is ∙ e)
+      ∙ ap (parts None) content
 
   single : (m : Option Refusal) → first_of (m ∷ []) ≡ m
   single None = refl
   single (Some r) = refl
 
-  seen_by_room : access_refusal config view op ≡ None → content_refusal config view op ≡ None → refusal_seen config view op ≡ room_refusal view op
-  unfolding refusal_seen
+  seen_by_room : access_refusal config (in_view view) op ≡ None → content_refusal config (in_view view) op ≡ None → refusal_by config (in_view view) op ≡ room_rule config (in_view view) op
   seen_by_room access content =
-      ap (λ a. first_of (a ∷ content_refusal config view op ∷ room_refusal view op ∷ [])) access
-      ∙ ap (λ c. first_of (c ∷ room_refusal view op ∷ [])) content
-      ∙ single (room_refusal view op)
+      in_parts config (in_view view) op
+      ∙ ap (λ a. parts a (content_refusal config (in_view view) op)) access
+      ∙ ap (parts None) content
+      ∙ single (room_rule config (in_view view) op)
 
-  pub ruled_by_room : (o : Option Refusal) (ruling : Ruling) → o ≡ access_refusal config view op → o ≡ None → content_refusal config view op ≡ None
-      → IsRoomRuling view op ruling → IsSeen config view op ruling
+  pub ruled_by_room : (o : Option Refusal) (ruling : Ruling) → o ≡ access_refusal config (in_view view) op → o ≡ None → content_refusal config (in_view view) op ≡ None
+      → IsRoomRuling config view op ruling → IsSeen config view op ruling
   ruled_by_room o (Refuse r) is e content room = seen_by_room (sym is ∙ e) content ∙ room
   ruled_by_room o (Do d) is e content room = (seen_by_room (sym is ∙ e) content ∙ room.0, room.1)
 
-passed : (b : Bool) (r : Refusal) → unless b r ≡ None → b ≡ true
-passed true r e = refl
-passed false r e = absurd (cc e)
+  passed : (b : Bool) (r : Refusal) → unless b r ≡ None → b ≡ true
+  passed true r e = refl
+  passed false r e = absurd (cc e)
 
-room_left : (view : View) (op : Operation) → room_refusal view op ≡ None → room_for view.next (numbers_for (decision_with view.references op)) ≡ true
-unfolding room_refusal
-room_left view op e = passed _ StoreFull e
+  room_left : room_rule config (in_view view) op ≡ None → room_for view.next (numbers_for (decision_with view.references op)) ≡ true
+  unfolding room_rule
+  room_left e = passed _ StoreFull e
 
--- what is let through has room
-pub has_room_by : (view : View) (op : Operation) (ruling : Ruling) → IsRoomRuling view op ruling → HasRoomFor view.next ruling
-has_room_by view op (Refuse r) room = tt
-has_room_by view op (Do d) room = ap (λ (x : Decision). room_for view.next (numbers_for x)) room.1 ∙ room_left view op room.0
+  -- what is let through has room
+  pub has_room_by : (ruling : Ruling) → IsRoomRuling config view op ruling → HasRoomFor view.next ruling
+  has_room_by (Refuse r) room = tt
+  has_room_by (Do d) room = ap (λ (x : Decision). room_for view.next (numbers_for x)) room.1 ∙ room_left room.0
 
--- what the last rule says, once what is asked for is known
-pub room_told : (view : View) (op : Operation) (d : Decision) (taken : Counters) (b : Bool) → d ≡ decision_with view.references op → taken ≡ numbers_for d
-    → b ≡ room_for view.next taken → room_refusal view op ≡ unless b StoreFull
-unfolding room_refusal
-room_told view op d taken b asked numbers room =
-    ap (λ x. unless x StoreFull) (sym (room ∙ ap (room_for view.next) (numbers ∙ ap (λ (x : Decision). numbers_for x) asked)))
+  -- what the last rule says, once what is asked for is known
+  pub room_told : (d : Decision) (taken : Counters) (b : Bool) → d ≡ decision_with view.references op → taken ≡ numbers_for d
+      → b ≡ room_for view.next taken → room_rule config (in_view view) op ≡ unless b StoreFull
+  unfolding room_rule
+  room_told d taken b asked numbers room =
+      ap (λ x. unless x StoreFull) (sym (room ∙ ap (room_for view.next) (numbers ∙ ap (λ (x : Decision). numbers_for x) asked)))

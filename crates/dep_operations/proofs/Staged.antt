@@ -10,10 +10,10 @@ use Rattle.dep_fields.specs.declared.field.Field.TheVariants.{Absent, Bad, Value
 use Rattle.dep_fields.specs.declared.kind.Kind.{Kind}
 use Rattle.dep_fields.specs.declared.kind.Kind.TheVariants as of
 use Rattle.dep_docs_in.specs.declared.reference.Reference.{Reference}
-use Rattle.dep_decisions.specs.Decisions.{references_by, references_in}
+use Rattle.dep_decisions.specs.Decisions.{references_in}
 use Rattle.dep_decisions.specs.Kinds.{kind_by, kind_of, kind_without, may_hold, takes_kind}
+use Rattle.dep_decisions.specs.Parts.{has_content}
 use Rattle.dep_decisions.specs.declared.operation.Operation.{Operation}
-use Rattle.dep_operations.specs.Rules.{has_content}
 use Rattle.dep_operations.specs.Views.{uploads_in}
 
 -- what is taken, if anything
@@ -63,18 +63,6 @@ unfolding kind_of
 not_reference op u at =
     ap is_reference (kind_at op op.fields.disposition (Upload u) op.target.method at refl)
     ∙ not_reference_at op u op.fields.disposition op.target.method
-
-none_told : (config : Config) (op : Operation) (o : Option Kind) → is_reference o ≡ false → references_by config op o ≡ None
-none_told config op None e = refl
-none_told config op (Some of.References) e = absurd (cc e)
-none_told config op (Some (of.File name)) e = refl
-none_told config op (Some of.Metadata) e = refl
-none_told config op (Some (of.Opening o)) e = refl
-none_told config op (Some (of.Segment k)) e = refl
-
-pub not_by_reference : (config : Config) (op : Operation) (u : ℕ) → op.target.resource ≡ Upload u → references_in config op ≡ None
-unfolding references_in
-not_by_reference config op u at = none_told config op (kind_of op) (not_reference op u at)
 
 elsewhere : (op : Operation) (resource : Resource) → op.target.resource ≡ resource → kind_of op ≡ Some of.References → (refs : Option (List Reference))
     → uploads_in resource refs ≡ uploads_in Service refs

@@ -1,13 +1,12 @@
 -- What is known after the rules on a content, and after the last rule.
-use Rattle.std.specs.Prelude.{◌≡◌, Some, None, IsTrue}
+use Rattle.std.specs.Prelude.{◌≡◌, Some, None}
 use Rattle.dep_types.specs.declared.config.Config.{Config}
 use Rattle.dep_decisions.specs.Asked.{IsRead}
-use Rattle.dep_decisions.specs.ContentRules.{fields_refusal, purpose_in}
 use Rattle.dep_decisions.specs.Decisions.{decision_with}
-use Rattle.dep_decisions.specs.Rules.{digest_rule}
+use Rattle.dep_decisions.specs.Parts.{content_by, content_refusal}
+use Rattle.dep_decisions.specs.Rules.{room_rule}
 use Rattle.dep_decisions.specs.declared.operation.Operation.{Operation}
-use Rattle.dep_operations.specs.Memory.{is_held}
-use Rattle.dep_operations.specs.Rules.{content_by, content_refusal, room_refusal}
+use Rattle.dep_operations.specs.Seen.{in_view}
 use Rattle.dep_operations.specs.declared.order.Checked.{Checked}
 use Rattle.dep_operations.specs.declared.order.Checked.TheVariants.{Refused, Passed}
 use Rattle.dep_operations.specs.declared.ruling.Ruling.{Ruling}
@@ -16,23 +15,18 @@ use Rattle.dep_operations.specs.declared.view.View.{View}
 
 -- the first of the rules on a content that applies, or none, and then what was read of it
 abbrev pub IsChecked : Config → View → Operation → Checked → Type 0
-IsChecked config view op (Refused r) = content_refusal config view op ≡ Some r
-IsChecked config view op (Passed read) = (content_refusal config view op ≡ None) × IsRead op read
+IsChecked config view op (Refused r) = content_refusal config (in_view view) op ≡ Some r
+IsChecked config view op (Passed read) =
+    (content_refusal config (in_view view) op ≡ None) × IsRead op read
 
 -- the same for a method that has a content
 abbrev pub IsCheckedBy : Config → View → Operation → Checked → Type 0
-IsCheckedBy config view op (Refused r) = content_by config view op (purpose_in op) ≡ Some r
+IsCheckedBy config view op (Refused r) = content_by config (in_view view) op ≡ Some r
 IsCheckedBy config view op (Passed read) =
-    (content_by config view op (purpose_in op) ≡ None) × IsRead op read
+    (content_by config (in_view view) op ≡ None) × IsRead op read
 
 -- whether the numbers can be given, and then what is asked for
-abbrev pub IsRoomRuling : View → Operation → Ruling → Type 0
-IsRoomRuling view op (Refuse r) = room_refusal view op ≡ Some r
-IsRoomRuling view op (Do d) =
-    (room_refusal view op ≡ None) × (d ≡ decision_with view.references op)
-
--- the content is held, and no rule on its fields or its digest refuses it
-pub record HoldsContent (view : View) (op : Operation) : Type 0 where
-  pub fields : fields_refusal op ≡ None
-  pub digest : digest_rule op ≡ None
-  pub content : IsTrue (is_held view.references (purpose_in op))
+abbrev pub IsRoomRuling : Config → View → Operation → Ruling → Type 0
+IsRoomRuling config view op (Refuse r) = room_rule config (in_view view) op ≡ Some r
+IsRoomRuling config view op (Do d) =
+    (room_rule config (in_view view) op ≡ None) × (d ≡ decision_with view.references op)

@@ -1,5 +1,4 @@
 pub mod Checks
-pub mod Memory
 pub mod Rules
 pub mod Rulings
 pub mod Seen

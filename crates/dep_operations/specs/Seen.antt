@@ -1,37 +1,31 @@
--- What is there, and what is received, as a view shows it.
-use Rattle.std.specs.Prelude.{ℕ, ◌-◌, ◌*◌, ◌==◌, ◌&&◌, nat_le, Bool, List, [], ◌∷◌, length, is_some, Option, Some, None, option_map, if◌then◌else◌}
-use Rattle.dep_types.specs.Maps.{first_of}
+-- What the rules look up in a view.
+use Rattle.std.specs.Prelude.{ℕ, ◌-◌, ◌*◌, ◌==◌, Bool, true, false, List, [], ◌∷◌, is_some, Option, Some, None, option_map, if◌then◌else◌}
 use Rattle.dep_types.specs.declared.rows.UploadRow.{UploadRow}
-use Rattle.dep_types.specs.declared.refusal.Refusal.{Refusal}
-use Rattle.dep_types.specs.declared.refusal.Refusal.TheVariants.{UnexpectedSegment, NotFound, SegmentedUploadTimedOut}
 use Rattle.dep_types.specs.declared.target.Resource.{Resource}
-use Rattle.dep_types.specs.declared.target.Resource.TheVariants.{Service, Object, Metadata, FileSet, File, Staging, Upload, BagList, BagFile}
-use Rattle.dep_decisions.specs.Rules.{repeat_refusal, unless}
+use Rattle.dep_types.specs.declared.target.Resource.TheVariants.{Object, Metadata, FileSet, File}
+use Rattle.dep_fixity.specs.declared.field.DigestList.{DigestList}
+use Rattle.dep_docs_in.specs.declared.reference.Reference.{Reference}
+use Rattle.dep_docs_in.specs.declared.reference.Pointed.{Pointed}
+use Rattle.dep_docs_in.specs.declared.reference.Pointed.TheVariants.{Upload as AnUpload, Elsewhere}
+use Rattle.dep_decisions.specs.LookUps.{Entry, Known, LookUps}
 use Rattle.dep_operations.specs.declared.view.View.{View}
+use Rattle.dep_operations.specs.declared.view.LiveUpload.{LiveUpload}
 use Rattle.dep_operations.specs.declared.view.UploadView.{UploadView}
 use Rattle.dep_operations.specs.declared.view.UploadState.{UploadState}
 use Rattle.dep_operations.specs.declared.view.UploadState.TheVariants.{Unknown, TimedOut, Live}
 
-abbrev pub state_refusal : UploadState → Option Refusal
-state_refusal Unknown = Some NotFound
-state_refusal TimedOut = Some SegmentedUploadTimedOut
-state_refusal (Live l) = None
+abbrev pub live_in : UploadState → Option LiveUpload
+live_in (Live l) = Some l
+live_in _ = None
+
+abbrev pub is_timed_out : UploadState → Bool
+is_timed_out TimedOut = true
+is_timed_out _ = false
 
 -- of the one upload that a Temporary-URL names
-abbrev pub views_refusal : List UploadView → Option Refusal
-views_refusal (v ∷ []) = state_refusal v.state
-views_refusal _ = Some NotFound
-
-abbrev pub presence_seen : View → Resource → Option Refusal
-presence_seen view Service = None
-presence_seen view (Object n) = unless (is_some view.object) NotFound
-presence_seen view (Metadata n) = unless (is_some view.object) NotFound
-presence_seen view (FileSet n) = unless (is_some view.object) NotFound
-presence_seen view (File n f) = unless (is_some view.file) NotFound
-presence_seen view Staging = None
-presence_seen view (Upload u) = views_refusal view.uploads
-presence_seen view (BagList n) = unless (is_some view.object) NotFound
-presence_seen view (BagFile n path) = unless view.has_path NotFound
+abbrev pub upload_in : List UploadView → UploadState
+upload_in (v ∷ []) = v.state
+upload_in _ = Unknown
 
 abbrev pub tag_seen : View → Resource → Option ℕ
 tag_seen view (Object n) = option_map (λ row. row.object_tag) view.object
@@ -40,29 +34,54 @@ tag_seen view (FileSet n) = option_map (λ row. row.files_tag) view.object
 tag_seen view (File n f) = option_map (λ row. row.tag) view.file
 tag_seen view _ = None
 
--- ---- segments
-
 abbrev pub row_length : UploadRow → (segment : ℕ) → ℕ
 row_length row k =
     if k == row.count then row.size - (row.count - 1) * row.segment_size else row.segment_size
 
-unfoldable pub live_refusal : UploadRow → (same : Option Bool) → (segment : ℕ) → (bytes : List ℕ)
-    → Option Refusal
-live_refusal row same k bytes = first_of
-    (unless (nat_le 1 k && nat_le k row.count) UnexpectedSegment
-    ∷ repeat_refusal (length bytes == row_length row k) same
-    ∷ [])
+-- what was promised of an upload at its opening, as its row keeps it
+abbrev pub promised_in : UploadRow → DigestList
+promised_in row = record { sha256 = row.sha256; sha512 = row.sha512 }
 
-abbrev pub segment_by : UploadState → (same : Option Bool) → (segment : ℕ) → (bytes : List ℕ)
-    → Option Refusal
-segment_by (Live l) same k bytes = live_refusal l.row same k bytes
-segment_by _ same k bytes = None
+abbrev pub entry_seen : Reference → UploadState → Entry LiveUpload
+entry_seen r state = record {
+  reference = r;
+  upload = live_in state;
+  timed_out = is_timed_out state;
+}
 
-abbrev pub segment_seen : List UploadView → (same : Option Bool) → (segment : ℕ)
-    → (bytes : List ℕ) → Option Refusal
-segment_seen (v ∷ []) same k bytes = segment_by v.state same k bytes
-segment_seen _ same k bytes = None
+-- an entry, with the view of its upload, before those behind it
+abbrev pub entry_before : (rest : List UploadView → List (Entry LiveUpload)) → Reference → Pointed
+    → List UploadView → List (Entry LiveUpload)
+entry_before rest r Elsewhere views = rest views
+entry_before rest r (AnUpload u) [] = rest []
+entry_before rest r (AnUpload u) (v ∷ views) = entry_seen r v.state ∷ rest views
 
-abbrev pub received_seen : View → Resource → (segment : ℕ) → (bytes : List ℕ) → Option Refusal
-received_seen view (Upload u) k bytes = segment_seen view.uploads view.repeats k bytes
-received_seen view _ k bytes = None
+-- there is a view for each entry that points at an upload, in their order
+unfoldable pub entries_seen : List Reference → List UploadView → List (Entry LiveUpload)
+entries_seen [] views = []
+entries_seen (r ∷ refs) views = entry_before (entries_seen refs) r r.target views
+
+abbrev pub known_live : Known LiveUpload
+known_live = record {
+  size = λ l. l.row.size;
+  count = λ l. l.row.count;
+  segment_length = λ l k. row_length l.row k;
+  promised = λ l. promised_in l.row;
+  is_whole = λ l. is_some l.digests;
+  digests = λ l. l.digests;
+}
+
+abbrev pub in_view : View → LookUps LiveUpload
+in_view view = record {
+  next = view.next;
+  has_object = λ n. is_some view.object;
+  has_file = λ n f. is_some view.file;
+  has_path = λ n path. view.has_path;
+  tag = tag_seen view;
+  upload = λ u. live_in (upload_in view.uploads);
+  timed_out = λ u. is_timed_out (upload_in view.uploads);
+  references = λ config op. view.references;
+  entries = λ refs. entries_seen refs view.uploads;
+  known = known_live;
+  repeats = λ l k bytes. view.repeats;
+}

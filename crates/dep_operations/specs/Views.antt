@@ -9,21 +9,18 @@ use Rattle.dep_types.specs.Maps.{◌>>=◌}
 use Rattle.dep_types.specs.State as state
 use Rattle.dep_types.specs.State.{State, file_at}
 use Rattle.dep_types.specs.Rows.{object_row, file_row, upload_row}
-use Rattle.dep_types.specs.Uploads.{is_complete, assembled}
 use Rattle.dep_types.specs.declared.rows.ObjectRow.{ObjectRow}
 use Rattle.dep_types.specs.declared.rows.FileRow.{FileRow}
 use Rattle.dep_types.specs.declared.config.Config.{Config}
 use Rattle.dep_types.specs.declared.target.Resource.{Resource}
 use Rattle.dep_types.specs.declared.target.Resource.TheVariants.{Object, Metadata, FileSet, File, Upload, BagList, BagFile}
-use Rattle.dep_fixity.specs.Fixity.{digests_of}
-use Rattle.dep_fixity.specs.declared.hasher.Digests.{Digests}
+use Rattle.dep_fields.specs.declared.kind.Kind.{Kind}
+use Rattle.dep_fields.specs.declared.kind.Kind.TheVariants as of
 use Rattle.dep_docs_in.specs.declared.reference.Reference.{Reference}
-use Rattle.dep_decisions.specs.ContentRules.{purpose_in}
 use Rattle.dep_decisions.specs.Decisions.{references_in, upload_number}
-use Rattle.dep_decisions.specs.Rules.{has_bag_path, repeats}
+use Rattle.dep_decisions.specs.Kinds.{kind_of}
+use Rattle.dep_decisions.specs.LookUps.{assembled_digests, has_bag_path, repeats}
 use Rattle.dep_decisions.specs.declared.operation.Operation.{Operation}
-use Rattle.dep_decisions.specs.declared.purpose.Purpose.{Purpose}
-use Rattle.dep_decisions.specs.declared.purpose.Purpose.TheVariants.{Segment}
 use Rattle.dep_operations.specs.declared.view.SegmentId.{SegmentId}
 use Rattle.dep_operations.specs.declared.view.Touched.{Touched}
 use Rattle.dep_operations.specs.declared.view.View.{View}
@@ -64,31 +61,27 @@ abbrev pub uploads_in : Resource → Option (List Reference) → List ℕ
 uploads_in (Upload u) refs = u ∷ []
 uploads_in _ refs = referred_uploads refs
 
--- the segment of a Temporary-URL's upload that a content of this purpose is sent as
-abbrev pub segment_in : Resource → Option Purpose → Option SegmentId
-segment_in (Upload u) (Some (Segment k)) = Some (record { upload = u; number = k })
+-- the segment of a Temporary-URL's upload that a content of this kind is sent as
+abbrev pub segment_in : Resource → Option Kind → Option SegmentId
+segment_in (Upload u) (Some (of.Segment k)) = Some (record { upload = u; number = k })
 segment_in _ _ = None
 
--- with the purpose of the content, and the references in it
-abbrev pub touched_with : Resource → Option Purpose → Option (List Reference) → Touched
-touched_with resource purpose refs = record {
+-- with the kind of the content, and the references in it
+abbrev pub touched_with : Resource → Option Kind → Option (List Reference) → Touched
+touched_with resource kind refs = record {
   object = object_in resource;
   file = file_in resource;
   path = path_in resource;
   uploads = uploads_in resource refs;
-  segment = segment_in resource purpose;
+  segment = segment_in resource kind;
   references = refs;
 }
 
 -- what of the archive has to be looked up before a request can be ruled
 abbrev pub touched_by : Config → Operation → Touched
-touched_by config op = touched_with op.target.resource (purpose_in op) (references_in config op)
+touched_by config op = touched_with op.target.resource (kind_of op) (references_in config op)
 
 -- ---- the view
-
--- the digests of an upload's bytes, where none is missing
-abbrev pub assembled_digests : state.Upload → Option Digests
-assembled_digests u = if is_complete u then Some (digests_of (assembled u)) else None
 
 -- for a deposit by reference an upload is shown with its digests, and else by its row alone
 abbrev pub live_upload : (by_reference : Bool) → ℕ → state.Upload → LiveUpload

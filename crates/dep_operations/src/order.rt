@@ -1,12 +1,14 @@
 //! The ruling on a request, from a view of the archive.
-ghost use Rattle.std.specs.Prelude.{◌≡◌, IfOk, OnErr, IsTrue, Some, is_some};
+ghost use Rattle.std.specs.Prelude.{◌≡◌, IfOk, Some, is_some, option_map};
 ghost use Rattle.dep_decisions.specs.Asked.{IsRead};
-ghost use Rattle.dep_decisions.specs.declared.purpose.Purpose.TheVariants as of;
+ghost use Rattle.dep_fields.specs.declared.kind.Kind.TheVariants as of;
+ghost use Rattle.dep_decisions.specs.Kinds.{kind_of};
+ghost use Rattle.dep_decisions.specs.Purposes.{kind_for};
+ghost use Rattle.dep_decisions.specs.Parts.{access_refusal, has_content, reads_alone};
+ghost use Rattle.dep_decisions.specs.Rules.{document_rule};
 ghost use Rattle.dep_docs_in.specs.Documents.{metadata_read};
-ghost use Rattle.dep_decisions.specs.Memory.{MakesFiles};
-ghost use Rattle.dep_operations.specs.Checks.{HoldsContent, IsChecked, IsRoomRuling};
-ghost use Rattle.dep_operations.specs.Memory.{RulingTakesMemory, is_held};
-ghost use Rattle.dep_operations.specs.Rules.{access_refusal, document_by, has_content, reads_alone};
+ghost use Rattle.dep_operations.specs.Checks.{IsChecked, IsRoomRuling};
+ghost use Rattle.dep_operations.specs.Seen.{in_view};
 ghost use Rattle.dep_operations.specs.Rulings.{HasRoomFor, RulesBy};
 
 use crate::references::references_rule;
@@ -34,14 +36,13 @@ pub fn decide(
     ensures ruling { IfOk result (RulesBy config.now view.now operation.now) }
     // What is let through can be given its numbers.
     ensures room { IfOk result (HasRoomFor view.now.next) }
-    ensures err { OnErr result (RulingTakesMemory config.now view.now operation.now) }
 {
     if let Some(refusal) = access_rule(config, view, operation) {
         return Ok(Ruling::Refuse(refusal));
     }
     match check_content(alloc, config, view, operation)? {
         Checked::Refused(refusal) => Ok(Ruling::Refuse(refusal)),
-        Checked::Passed(read) => rule_by_room(alloc, view, operation, read),
+        Checked::Passed(read) => rule_by_room(alloc, config, view, operation, read),
     }
 }
 
@@ -54,9 +55,9 @@ pub(crate) enum Checked {
 }
 
 // Rules 5 to 7: who asks, for what, and of which state of it.
-#[tactic(auto, unfolding(crate::specs::Rules::access_refusal))]
+#[tactic(auto, unfolding(dep_decisions::specs::Parts::access_refusal, dep_decisions::specs::Rules::presence_rule, dep_decisions::specs::Rules::tag_rule))]
 fn access_rule(config: &Config, view: &View, operation: &Operation<'_>) -> Option<Refusal>
-    ensures { result ≡ access_refusal config.now view.now operation.now }
+    ensures { result ≡ access_refusal config.now (in_view view.now) operation.now }
 {
     if let Some(refusal) = behalf_rule(config, operation) {
         return Some(refusal);
@@ -91,7 +92,6 @@ fn check_content(
     operation: &Operation<'_>,
 ) -> Result<Checked, AllocError>
     ensures ok { IfOk result (IsChecked config.now view.now operation.now) }
-    ensures err { OnErr result (HoldsContent view.now operation.now) }
 {
     if !has_content(operation.target.method) {
         return Ok(Checked::Passed(ReadContent {
@@ -100,7 +100,7 @@ fn check_content(
         }));
     }
     let purpose = content_purpose(operation);
-    if let Some(refusal) = fields_rule(operation) {
+    if let Some(refusal) = fields_rule(operation, purpose) {
         return Ok(Checked::Refused(refusal));
     }
     let digests = digests_if_promised(operation);
@@ -109,7 +109,14 @@ fn check_content(
         return Ok(Checked::Refused(refusal));
     }
     let metadata = metadata_of(alloc, operation, purpose)?;
-    if let Some(refusal) = document_rule(alloc, view, operation, purpose, metadata.is_some())? {
+    if let Some(refusal) = document_rule(
+        alloc,
+        config,
+        view,
+        operation,
+        purpose,
+        metadata.is_some(),
+    )? {
         drop(metadata);
         return Ok(Checked::Refused(refusal));
     }
@@ -133,11 +140,11 @@ fn has_content(method: Method) -> bool
 fn metadata_of(
     alloc: Global,
     operation: &Operation<'_>,
-    purpose: Option<Purpose>,
+    purpose: Option<Purpose<'_>>,
 ) -> Result<Option<Metadata>, AllocError>
-    ensures ok { IfOk result (λ metadata. purpose ≡ Some of.Metadata
+    requires { option_map kind_for purpose ≡ kind_of operation.now }
+    ensures ok { IfOk result (λ metadata. kind_of operation.now ≡ Some of.Metadata
         → metadata ≡ metadata_read operation.now.content) }
-    ensures err { OnErr result (purpose ≡ Some of.Metadata) }
 {
     let Some(Purpose::Metadata) = purpose else {
         return Ok(None);
@@ -150,25 +157,25 @@ fn metadata_of(
 }
 
 // Rule 13: the document, where it is known whether metadata can be read.
-#[tactic(auto, unfolding(crate::specs::Rules::document_by))]
+#[tactic(auto, unfolding(dep_decisions::specs::Rules::document_rule))]
 fn document_rule(
     alloc: Global,
+    _config: &Config,
     view: &View,
     _operation: &Operation<'_>,
-    purpose: Option<Purpose>,
+    purpose: Option<Purpose<'_>>,
     is_readable: bool,
 ) -> Result<Option<Refusal>, AllocError>
-    requires { purpose ≡ Some of.Metadata
+    requires purpose { option_map kind_for purpose ≡ kind_of _operation.now }
+    requires readable { kind_of _operation.now ≡ Some of.Metadata
         → is_readable ≡ is_some (metadata_read _operation.now.content) }
-    ensures ok { IfOk result (λ refusal. refusal ≡ document_by view.now _operation.now purpose) }
-    ensures err { OnErr result (IsTrue (is_held view.now.references purpose)) }
+    ensures ok { IfOk result
+        (λ refusal. refusal ≡ document_rule _config.now (in_view view.now) _operation.now) }
 {
     match purpose {
         Some(Purpose::Metadata) if is_readable => Ok(None),
         Some(Purpose::Metadata) => Ok(Some(Refusal::ContentMalformed)),
-        Some(Purpose::References) => {
-            references_rule(alloc, view.uploads.as_slice(), view.references.as_ref())
-        }
+        Some(Purpose::References) => { references_rule(alloc, view, view.references.as_ref()) }
         _ => Ok(None),
     }
 }
@@ -176,15 +183,16 @@ fn document_rule(
 // Rule 15: whether the numbers that are asked for can be given.
 fn rule_by_room(
     alloc: Global,
+    _config: &Config,
     view: &View,
     operation: &Operation<'_>,
     read: ReadContent,
 ) -> Result<Ruling, AllocError>
     requires { IsRead operation.now read }
-    ensures ok { IfOk result (IsRoomRuling view.now operation.now) }
-    ensures err { OnErr result (MakesFiles view.now.references operation.now) }
+    ensures ok { IfOk result (IsRoomRuling _config.now view.now operation.now) }
 {
-    let decision = decision_on(alloc, operation, view.references.as_ref(), read)?;
+    let purpose = content_purpose(operation);
+    let decision = decision_on(alloc, operation, purpose, view.references.as_ref(), read)?;
     if view.next.has_room(&numbers_for(&decision)) {
         Ok(Ruling::Do(decision))
     } else {

@@ -1,14 +1,13 @@
 //! The rules on references (SWORD 3.0, by-reference deposit), one after another, each over all entries.
-ghost use Rattle.std.specs.Prelude.{◌≡◌, IfOk, OnErr, IsTrue, Some, map};
+ghost use Rattle.std.specs.Prelude.{◌≡◌, IfOk, Some};
 ghost use Rattle.std.specs.List.{list_any};
 ghost use Rattle.std.specs.Option.{option_copied};
-ghost use Rattle.dep_decisions.specs.Rules.{stands_twice};
-ghost use Rattle.dep_decisions.specs.declared.purpose.Purpose.TheVariants as of;
-ghost use Rattle.dep_operations.specs.Memory.{are_taken, is_held};
-ghost use Rattle.dep_operations.specs.Seen.{state_refusal};
-ghost use Rattle.dep_operations.specs.Walks.{upload_digest_rule, entries_seen, is_other_packaging, upload_length_rule, points_elsewhere, promised_in, references_seen, rule_of, walk, whole_upload_rule};
+ghost use Rattle.dep_decisions.specs.Rules.{digests_refusal, each, entries_refusal, length_refusal, missing_refusal, references_refusal, stands_twice, whole_refusal};
+ghost use Rattle.dep_operations.specs.Rules.{is_other_packaging, points_elsewhere, rule_of};
+ghost use Rattle.dep_operations.specs.Seen.{entries_seen, entry_seen, in_view, is_timed_out, known_live, live_in, promised_in};
+ghost use Rattle.dep_operations.specs.Views.{uploads_named};
 
-use crate::view::{UploadState, UploadView};
+use crate::view::{UploadState, UploadView, View};
 use dep_decisions::is_binary;
 use dep_docs_in::{Pointed, Reference, References};
 use dep_fixity::{DigestList, check};
@@ -32,27 +31,24 @@ pub(crate) enum UploadRule {
 /// their order.
 pub(crate) fn references_rule(
     alloc: Global,
-    views: &[UploadView],
+    view: &View,
     references: Option<&References>,
 ) -> Result<Option<Refusal>, AllocError>
     ensures ok { IfOk result
-        (λ refusal. refusal ≡ references_seen views.now (option_copied references.entry)) }
-    ensures err { OnErr result
-        (IsTrue (is_held (option_copied references.entry) (Some of.References))) }
+        (λ refusal. refusal ≡ references_refusal (in_view view.now) (option_copied references.entry)) }
 {
     match references {
-        Some(references) => entries_rule(alloc, views, references.as_slice()),
+        Some(references) => entries_rule(alloc, view, references.as_slice()),
         None => Ok(Some(Refusal::ContentMalformed)),
     }
 }
 
 fn entries_rule(
     alloc: Global,
-    views: &[UploadView],
+    view: &View,
     references: &[Reference],
 ) -> Result<Option<Refusal>, AllocError>
-    ensures ok { IfOk result (λ refusal. refusal ≡ entries_seen views.now references.now) }
-    ensures err { OnErr result (IsTrue (are_taken references.now)) }
+    ensures ok { IfOk result (λ refusal. refusal ≡ entries_refusal (in_view view.now) references.now) }
 {
     if some_points_elsewhere(references) {
         return Ok(Some(Refusal::ByReferenceNotAllowed));
@@ -60,9 +56,10 @@ fn entries_rule(
     if some_is_other_packaging(references) {
         return Ok(Some(Refusal::PackagingFormatNotAcceptable));
     }
-    if stands_twice(alloc, views)? {
+    if stands_twice(alloc, references)? {
         return Ok(Some(Refusal::BadRequest));
     }
+    let views = view.uploads.as_slice();
     if let Some(refusal) = first_refused(UploadRule::IsThere, references, views) {
         return Ok(Some(refusal));
     }
@@ -106,14 +103,16 @@ fn is_other_packaging(reference: &Reference) -> bool
 }
 
 // Whether an upload is named twice.
-fn stands_twice(alloc: Global, views: &[UploadView]) -> Result<bool, AllocError>
-    ensures { IfOk result (λ twice. twice ≡ stands_twice (map (λ v. v.upload) views.now)) }
+fn stands_twice(alloc: Global, references: &[Reference]) -> Result<bool, AllocError>
+    ensures { IfOk result (λ twice. twice ≡ stands_twice (uploads_named references.now)) }
 {
     let mut named: BTreeSet<u64> = BTreeSet::new(alloc);
-    let mut rest = views;
-    while let Some((view, behind)) = rest.split_first() {
-        if !named.insert(view.upload)? {
-            return Ok(true);
+    let mut rest = references;
+    while let Some((reference, behind)) = rest.split_first() {
+        if let Pointed::Upload(upload) = reference.target {
+            if !named.insert(upload)? {
+                return Ok(true);
+            }
         }
         rest = behind;
     }
@@ -121,13 +120,13 @@ fn stands_twice(alloc: Global, views: &[UploadView]) -> Result<bool, AllocError>
 }
 
 // What the first entry is refused for that breaks the rule.
-#[tactic(auto, unfolding(crate::specs::Walks::walk))]
+#[tactic(auto, unfolding(crate::specs::Seen::entries_seen))]
 fn first_refused(
     rule: UploadRule,
     references: &[Reference],
     views: &[UploadView],
 ) -> Option<Refusal>
-    ensures { result ≡ walk (rule_of rule) references.now views.now }
+    ensures { result ≡ each (rule_of rule) (entries_seen references.now views.now) }
 {
     let mut rest = references;
     let mut left = views;
@@ -145,13 +144,12 @@ fn first_refused(
     None
 }
 
-#[tactic(auto, unfolding(crate::specs::Walks::rule_of))]
 fn upload_rule(rule: UploadRule, reference: &Reference, state: &UploadState) -> Option<Refusal>
-    ensures { result ≡ rule_of rule reference.now state.now }
+    ensures { result ≡ rule_of rule (entry_seen reference.now state.now) }
 {
     match rule {
         UploadRule::IsThere => state_rule(state),
-        UploadRule::IsWhole => whole_rule(state),
+        UploadRule::IsWhole => whole_rule(reference, state),
         UploadRule::HasLength => length_rule(reference, state),
         UploadRule::HasDigests => digest_rule(reference, state),
     }
@@ -159,7 +157,7 @@ fn upload_rule(rule: UploadRule, reference: &Reference, state: &UploadState) -> 
 
 /// An upload that isn't there, or that timed out.
 pub(crate) fn state_rule(state: &UploadState) -> Option<Refusal>
-    ensures { result ≡ state_refusal state.now }
+    ensures { result ≡ missing_refusal (live_in state.now) (is_timed_out state.now) }
 {
     match state {
         UploadState::Unknown => Some(Refusal::NotFound),
@@ -168,8 +166,8 @@ pub(crate) fn state_rule(state: &UploadState) -> Option<Refusal>
     }
 }
 
-fn whole_rule(state: &UploadState) -> Option<Refusal>
-    ensures { result ≡ whole_upload_rule state.now }
+fn whole_rule(_reference: &Reference, state: &UploadState) -> Option<Refusal>
+    ensures { result ≡ whole_refusal known_live (entry_seen _reference.now state.now) }
 {
     match state {
         UploadState::Live(upload) if upload.digests.is_none() => Some(Refusal::BadRequest),
@@ -178,7 +176,7 @@ fn whole_rule(state: &UploadState) -> Option<Refusal>
 }
 
 fn length_rule(reference: &Reference, state: &UploadState) -> Option<Refusal>
-    ensures { result ≡ upload_length_rule reference.now state.now }
+    ensures { result ≡ length_refusal known_live (entry_seen reference.now state.now) }
 {
     let UploadState::Live(upload) = state else {
         return None;
@@ -190,7 +188,7 @@ fn length_rule(reference: &Reference, state: &UploadState) -> Option<Refusal>
 }
 
 fn digest_rule(reference: &Reference, state: &UploadState) -> Option<Refusal>
-    ensures { result ≡ upload_digest_rule reference.now state.now }
+    ensures { result ≡ digests_refusal known_live (entry_seen reference.now state.now) }
 {
     let UploadState::Live(upload) = state else {
         return None;

@@ -1,10 +1,11 @@
 //! The rules that look at a view, one function each. None takes memory.
-ghost use Rattle.std.specs.Prelude.{◌≡◌};
+ghost use Rattle.std.specs.Prelude.{◌≡◌, option_map};
 ghost use Rattle.dep_types.specs.Uploads.{sizes_agree};
 ghost use Rattle.dep_types.specs.declared.refusal.Refusal.TheVariants as why;
-ghost use Rattle.dep_decisions.specs.Rules.{behalf_rule, opening_refusal, repeat_refusal, tag_refusal, unless};
-ghost use Rattle.dep_operations.specs.Rules.{size_by};
-ghost use Rattle.dep_operations.specs.Seen.{live_refusal, presence_seen, row_length, segment_seen, tag_seen, views_refusal};
+ghost use Rattle.dep_decisions.specs.Kinds.{kind_of};
+ghost use Rattle.dep_decisions.specs.Purposes.{kind_for};
+ghost use Rattle.dep_decisions.specs.Rules.{behalf_rule, missing_refusal, opening_refusal, presence_refusal, received_refusal, repeat_refusal, segment_by, size_rule, tag_refusal, unless};
+ghost use Rattle.dep_operations.specs.Seen.{in_view, is_timed_out, live_in, row_length, tag_seen, upload_in};
 
 use crate::references::state_rule;
 use crate::view::{UploadState, UploadViews, View};
@@ -29,7 +30,7 @@ pub(crate) fn behalf_rule(config: &Config, operation: &Operation<'_>) -> Option<
 
 /// Rule 6: whether the resource is there.
 pub(crate) fn presence_rule(view: &View, resource: &Resource) -> Option<Refusal>
-    ensures { result ≡ presence_seen view.now resource.now }
+    ensures { result ≡ presence_refusal (in_view view.now) resource.now }
 {
     match *resource {
         Resource::Service | Resource::Staging => None,
@@ -53,7 +54,7 @@ fn not_found_unless(is_there: bool) -> Option<Refusal>
 
 // Of the one upload that a Temporary-URL names.
 fn upload_rule(views: &UploadViews) -> Option<Refusal>
-    ensures { result ≡ views_refusal views.now }
+    ensures { result ≡ missing_refusal (live_in (upload_in views.now)) (is_timed_out (upload_in views.now)) }
 {
     match views.as_slice() {
         [view] => state_rule(&view.state),
@@ -92,21 +93,26 @@ pub(crate) fn seen_tag(view: &View, resource: &Resource) -> Option<u64>
 }
 
 /// Rule 14: sizes and segments.
-#[tactic(auto, unfolding(crate::specs::Rules::size_by))]
+#[tactic(auto, unfolding(dep_decisions::specs::Rules::size_rule))]
 pub(crate) fn size_rule(
     config: &Config,
     view: &View,
     operation: &Operation<'_>,
-    purpose: Option<Purpose>,
+    purpose: Option<Purpose<'_>>,
 ) -> Option<Refusal>
-    ensures { result ≡ size_by config.now view.now operation.now purpose }
+    requires { option_map kind_for purpose ≡ kind_of operation.now }
+    ensures { result ≡ size_rule config.now (in_view view.now) operation.now }
 {
     match purpose {
         Some(Purpose::Opening(opening)) => opening_rule(config, opening),
-        Some(Purpose::Segment(segment)) => match operation.target.resource {
-            Resource::Upload(_) => segment_rule(view, segment, &operation.content),
-            _ => None,
-        },
+        Some(Purpose::Segment(segment)) => {
+            segment_rule(
+                view,
+                &operation.target.resource,
+                segment,
+                &operation.content,
+            )
+        }
         _ => None,
     }
 }
@@ -138,11 +144,16 @@ fn sizes_agree(size: u64, count: u64, segment_size: u64) -> bool
 }
 
 // Whether a segment is expected, and has its length or repeats what was received.
-fn segment_rule(view: &View, segment: u64, content: &HashedOctets) -> Option<Refusal>
-    ensures { result ≡ segment_seen view.now.uploads view.now.repeats segment content.now }
+fn segment_rule(
+    view: &View,
+    resource: &Resource,
+    segment: u64,
+    content: &HashedOctets,
+) -> Option<Refusal>
+    ensures { result ≡ received_refusal (in_view view.now) resource.now segment content.now }
 {
-    match view.uploads.as_slice() {
-        [upload] => match &upload.state {
+    match (resource, view.uploads.as_slice()) {
+        (Resource::Upload(_), [upload]) => match &upload.state {
             UploadState::Live(live) => live_rule(live.row, view.repeats, segment, content),
             _ => None,
         },
@@ -150,14 +161,13 @@ fn segment_rule(view: &View, segment: u64, content: &HashedOctets) -> Option<Ref
     }
 }
 
-#[tactic(auto, unfolding(crate::specs::Seen::live_refusal))]
 fn live_rule(
     row: UploadRow,
     repeats: Option<bool>,
     segment: u64,
     content: &HashedOctets,
 ) -> Option<Refusal>
-    ensures { result ≡ live_refusal row repeats segment content.now }
+    ensures { result ≡ segment_by row.count (row_length row segment) repeats segment content.now }
 {
     if segment < 1 || segment > row.count {
         return Some(Refusal::UnexpectedSegment);

@@ -1,9 +1,9 @@
 //! What a request touches of the archive.
-ghost use Rattle.std.specs.Prelude.{◌≡◌, ◌∷◌, [], false, IfOk, OnErr, IsTrue, Some, None, is_some};
+ghost use Rattle.std.specs.Prelude.{◌≡◌, IfOk, Some, None, option_map};
 ghost use Rattle.std.specs.Option.{option_copied};
-ghost use Rattle.dep_decisions.specs.declared.purpose.Purpose.TheVariants as of;
-ghost use Rattle.dep_operations.specs.Memory.{TouchTakesMemory, is_noted};
-ghost use Rattle.dep_operations.specs.Rules.{references_for};
+ghost use Rattle.dep_decisions.specs.Decisions.{references_in};
+ghost use Rattle.dep_decisions.specs.Kinds.{kind_of};
+ghost use Rattle.dep_decisions.specs.Purposes.{kind_for};
 ghost use Rattle.dep_operations.specs.Views.{file_in, object_in, path_in, segment_in, touched_by, uploads_in, uploads_named};
 
 use crate::view::{Numbers, SegmentId, Touched};
@@ -20,7 +20,6 @@ pub fn touches(
     operation: &Operation<'_>,
 ) -> Result<Touched, AllocError>
     ensures ok { IfOk result (λ touched. touched ≡ touched_by config.now operation.now) }
-    ensures err { OnErr result (TouchTakesMemory operation.now) }
 {
     let resource = &operation.target.resource;
     let purpose = content_purpose(operation);
@@ -38,15 +37,15 @@ pub fn touches(
 }
 
 // The references in a content of this purpose, where it is a document of them that can be read.
-#[tactic(auto, unfolding(crate::specs::Rules::references_for))]
+#[tactic(auto, unfolding(dep_decisions::specs::Decisions::references_in))]
 fn references_for(
     alloc: Global,
     config: &Config,
     operation: &Operation<'_>,
-    purpose: Option<Purpose>,
+    purpose: Option<Purpose<'_>>,
 ) -> Result<Option<References>, AllocError>
-    ensures ok { IfOk result (λ references. references ≡ references_for config.now operation.now purpose) }
-    ensures err { OnErr result (purpose ≡ Some of.References) }
+    requires { option_map kind_for purpose ≡ kind_of operation.now }
+    ensures ok { IfOk result (λ references. references ≡ references_in config.now operation.now) }
 {
     let Some(Purpose::References) = purpose else {
         return Ok(None);
@@ -83,7 +82,6 @@ fn file_in(resource: &Resource) -> Option<u64>
 
 fn path_in(alloc: Global, resource: &Resource) -> Result<Option<Octets>, AllocError>
     ensures ok { IfOk result (λ path. path ≡ path_in resource.now) }
-    ensures err { OnErr result (IsTrue (is_noted resource.now None)) }
 {
     match resource {
         Resource::BagFile(_, path) => Ok(Some(Octets::copied(alloc, path.as_slice())?)),
@@ -92,8 +90,8 @@ fn path_in(alloc: Global, resource: &Resource) -> Result<Option<Octets>, AllocEr
 }
 
 // The segment of a Temporary-URL's upload that a content of this purpose is sent as.
-fn segment_in(resource: &Resource, purpose: Option<Purpose>) -> Option<SegmentId>
-    ensures { result ≡ segment_in resource.now purpose }
+fn segment_in(resource: &Resource, purpose: Option<Purpose<'_>>) -> Option<SegmentId>
+    ensures { result ≡ segment_in resource.now (option_map kind_for purpose.entry) }
 {
     match (resource, purpose) {
         (Resource::Upload(upload), Some(Purpose::Segment(number))) => Some(SegmentId {
@@ -112,8 +110,6 @@ fn uploads_in(
 ) -> Result<Numbers, AllocError>
     ensures ok { IfOk result
         (λ uploads. uploads ≡ uploads_in resource.now (option_copied references.entry)) }
-    ensures err { OnErr result (is_some (option_copied references.entry) ≡ false
-        → IsTrue (is_noted resource.now None)) }
 {
     match (resource, references) {
         (Resource::Upload(upload), _) => Ok(Numbers::from_vec(vec![in alloc; *upload]?)),

@@ -18,7 +18,6 @@ use Rattle.dep_fields.specs.declared.field.Field.TheVariants.{Absent, Bad, Value
 use Rattle.dep_fields.specs.declared.kind.Kind.{Kind}
 use Rattle.dep_decisions.specs.Decisions.{references_in, references_by}
 use Rattle.dep_decisions.specs.Kinds.{kind_of, kind_by, kind_without, takes_kind, may_hold}
-use Rattle.dep_decisions.specs.Purposes.{purpose_of}
 use Rattle.dep_decisions.specs.declared.operation.Operation.{Operation}
 use Rattle.dep_operations.specs.Views.{true_view, seen_at, touched_with}
 use Rattle.dep_decisions.specs.Laws.{is_read}
@@ -159,7 +158,7 @@ pub service_seen : (config : Config) (s : State) (op : Operation) (m : Remembere
     → service_view m.clock m.next ≡ true_view config s op
 service_seen config s op m reads recalls =
     (λ i. service_view (recalls.clock i) (recalls.next i))
-    ∙ sym (λ i. seen_at s op.content (touched_with (reads.resource i) (ap (option_map purpose_of) (kind_none op reads) i) (references_none config op reads i)))
+    ∙ sym (λ i. seen_at s op.content (touched_with (reads.resource i) (kind_none op reads i) (references_none config op reads i)))
 
 shows_nothing_at : (s : State) (m : Method) → IsTrue (is_read m) → shown.Nothing ≡ shown_at s (subject_of s.next Service m)
 shows_nothing_at s Get h = refl

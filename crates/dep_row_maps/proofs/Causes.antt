@@ -5,8 +5,7 @@ use Rattle.sqlite.specs.State.{Survives}
 use Rattle.sqlite.proofs.StateLemmas.{survives_then}
 use Rattle.sqlite_trees.specs.View.{doubt}
 use Rattle.dep_types.specs.declared.store_fault.StoreFault.{StoreFault}
-use Rattle.dep_row_maps.specs.Causes.{FailsHolding, FailsSince}
-use Rattle.dep_row_maps.specs.Causes.FailsHolding.{statement, memory}
+use Rattle.dep_row_maps.specs.Causes.{FailsSince}
 
 pub as_many : (n : ℕ) → n ≤ n
 as_many n = omega arith
@@ -31,14 +30,6 @@ pub if_err_is : {A : Type 0} (P : StoreFault → Type 0) (r : Result A StoreFaul
 if_err_is P (Ok x) fault is p = tt
 if_err_is P (Err e) fault is p = subst P (sym is) p
 
--- what was Ok has no fault
-pub never_failed : {A E P : Type 0} (x : A) (e : E) → ◌≡◌ {A = Result A E} (Ok x) (Err e) → P
-never_failed x e same = absurd (cc)
-
--- the first statement fails
-pub fails_first : {T : Type 0} (state : T → db.State) (old new : T) (fails : db.State → db.State → StoreFault → Type 0) (fault : StoreFault) → fails (state old) (state new) fault → FailsSince state fails old new fault
-fails_first state old new fails fault by = record { at = old; since = survives_itself (state old); by = by }
-
 module _ {T : Type 0} (state : T → db.State) (old mid new : T) (since : Survives (state old) (state mid) (λ _. ⊥)) where
   -- a statement fails at once
   pub fails_then : (fails : db.State → db.State → StoreFault → Type 0) (fault : StoreFault) → fails (state mid) (state new) fault → FailsSince state fails old new fault
@@ -52,17 +43,3 @@ module _ {T : Type 0} (state : T → db.State) (old mid new : T) (since : Surviv
     since = survives_then (state old) (state mid) (state it.at) _ _ (λ _. ⊥) (λ _ left none. none) (λ _ left none. none) since it.since;
     by = among (state it.at) (state new) fault it.by;
   }
-
-  -- one of the same fails later
-  pub fails_behind_them : (fails : db.State → db.State → StoreFault → Type 0) (fault : StoreFault) → FailsSince state fails mid new fault → FailsSince state fails old new fault
-  fails_behind_them fails = fails_later fails fails (λ at now fault by. by)
-
--- one of fewer statements fails
-pub fails_among : {T : Type 0} (state : T → db.State) (old new : T) (few fails : db.State → db.State → StoreFault → Type 0) → ((at now : db.State) (fault : StoreFault) → few at now fault → fails at now fault)
-    → (fault : StoreFault) → FailsSince state few old new fault → FailsSince state fails old new fault
-fails_among state old new few fails among fault it = record { at = it.at; since = it.since; by = among (state it.at) (state new) fault it.by }
-
--- a call that holds more
-pub holding_more : {few more : Type 0} → (few → more) → (at now : db.State) (fault : StoreFault) → FailsHolding few at now fault → FailsHolding more at now fault
-holding_more held at now fault (statement by) = statement by
-holding_more held at now fault (memory has is) = memory (held has) is

@@ -1,12 +1,11 @@
 -- What the clauses of a call say that reads or changes the maps of the state.
-use Rattle.std.specs.Prelude.{◌≡◌, IsTrue, Result, OnOk, IfOk, IfErr}
+use Rattle.std.specs.Prelude.{◌≡◌, IsTrue, Result, OnOk, IfOk}
 use Rattle.sqlite.specs.State as db
 use Rattle.sqlite.specs.State.{HasCleanDisk}
 use Rattle.dep_types.specs.State.{State}
 use Rattle.dep_types.specs.declared.store_fault.StoreFault.{StoreFault}
-use Rattle.dep_tables.specs.Clauses.{FailsByRunning, FailsWhole, FailsWithRows, MayReadWithin, Query, ReadsWithin, RefusesNumbers, Statement, StaysWithin}
+use Rattle.dep_tables.specs.Clauses.{FailsWhole, MayReadWithin, ReadsWithin, StaysWithin}
 use Rattle.dep_tables.specs.Tables.{Tables, tables_of, IsOurs}
-use Rattle.dep_row_maps.specs.Causes.{FailsByOne}
 use Rattle.dep_row_maps.specs.TablesAre.{TablesAre}
 
 -- they are our tables, and have these rows
@@ -27,11 +26,6 @@ module _ (old new : db.State) where
   -- the same of reading, in a transaction or not
   abbrev pub OverMaps : (State → Type 0) → Type 0
   OverMaps told = HasCleanDisk new → IsOurs old → (s : State) → SeesState old s → told s
-
-  -- and of an open store
-  abbrev pub OverOpenMaps : (State → Type 0) → Type 0
-  OverOpenMaps told = HasCleanDisk new → IsOurs old → IsTrue old.is_open
-      → (s : State) → SeesState old s → told s
 
 module _ {A E : Type 0} (old new : db.State) (result : Result A E) where
   -- inside a transaction over our tables, an Ok makes this of them, were it by no statement
@@ -71,21 +65,9 @@ module _ {T L A E : Type 0} (lenders : T → L) (state : T → db.State) (old ne
 
 module _ {T L A : Type 0} (lenders : T → L) (state : T → db.State) (old new : T)
     (result : Result A StoreFault) where
-  -- what a call does that asks this query, and returns this of a state
-  pub record QueriesMaps {B : Type 0} (query : Query B) (told : State → A → Type 0) : Type 0 where
+  -- what a call does that reads, and returns this of a state
+  pub record ReadsMaps (told : State → A → Type 0) : Type 0 where
     pub map : OverMaps (state old) (state new) (λ s. IfOk result (told s))
-    pub numbers : RefusesNumbers (state old) (state new) result query.storable
-    pub cause : query.storable → HasCleanDisk (state new)
-        → IfErr result (FailsWithRows query.copies query.are_ours query.text query.values
-        (state old) (state new))
-    pub keeps : ReadsWithin lenders state old new result
-
-  -- what one does that asks several: where these numbers are SQL's, it fails so
-  pub record ReadsMaps (storable : Type 0) (fails : db.State → db.State → StoreFault → Type 0)
-      (told : State → A → Type 0) : Type 0 where
-    pub map : OverMaps (state old) (state new) (λ s. IfOk result (told s))
-    pub numbers : RefusesNumbers (state old) (state new) result storable
-    pub cause : FailsByOne state old new result storable fails
     pub keeps : ReadsWithin lenders state old new result
 
   -- inside a transaction over a state's tables, an Ok makes them those of a state that is so
@@ -98,30 +80,18 @@ module _ {T L A : Type 0} (lenders : T → L) (state : T → db.State) (old new 
     pub done : this
     pub keeps : ChangesWithin lenders state old new result
 
-  -- so it turns a state
-  abbrev pub MakesMaps : (State → (State → Type 0) → Type 0) → Type 0
-  MakesMaps told = Does (Turns told)
-
-  -- what a call does that runs this statement, and makes this of a state
-  pub record WritesMaps (statement : Statement) (told : State → (State → Type 0) → Type 0)
-      : Type 0 where
+  -- what one does that turns a state
+  pub record ChangesMaps (told : State → (State → Type 0) → Type 0) : Type 0 where
     pub map : Turns told
-    pub numbers : RefusesNumbers (state old) (state new) result statement.storable
-    pub cause : FailsByRunning (state old) (state new) result statement.storable statement.text
-        statement.values
+    pub keeps : ChangesWithin lenders state old new result
+
+  -- the same of one that runs a single statement, so that a failure has changed nothing, or is given back whole
+  pub record WritesMaps (told : State → (State → Type 0) → Type 0) : Type 0 where
+    pub map : Turns told
     pub err : FailsWhole (state old) (state new) result
     pub keeps : ChangesWithin lenders state old new result
 
-  -- what one does that runs several: where these numbers are SQL's, it fails so
-  pub record ChangesMaps (storable : Type 0) (fails : db.State → db.State → StoreFault → Type 0)
-      (told : State → (State → Type 0) → Type 0) : Type 0 where
-    pub map : Turns told
-    pub cause : FailsByOne state old new result storable fails
-    pub keeps : ChangesWithin lenders state old new result
-
-  -- the same of one that changes tables, were they no state's
-  pub record ChangesTables (storable : Type 0)
-      (fails : db.State → db.State → StoreFault → Type 0) (change : Tables → Tables) : Type 0 where
+  -- what one does that changes tables, were they no state's
+  pub record ChangesTables (change : Tables → Tables) : Type 0 where
     pub ok : Becomes (state old) (state new) result change
-    pub cause : FailsByOne state old new result storable fails
     pub stays : StaysWithin lenders state old new result

@@ -17,7 +17,8 @@ use Rattle.dep_types.specs.declared.target.Method.TheVariants.{Get, Head}
 use Rattle.dep_reply.specs.Head.{head_text}
 use Rattle.dep_docs_out.specs.Documents.{service_document, error_document, status_document, metadata_document, upload_document}
 use Rattle.dep_bag.specs.Bag.{list_text}
-use Rattle.dep_decisions.specs.Rules.{refusal, behalf_rule, presence_rule, presence_refusal}
+use Rattle.dep_decisions.specs.LookUps.{in_state}
+use Rattle.dep_decisions.specs.Rules.{refusal, behalf_rule, presence_rule, presence_refusal, refusal_by}
 use Rattle.dep_decisions.specs.declared.operation.Operation.{Operation}
 use Rattle.dep_decisions.proofs.FoundInMaps.{unless-none}
 use Rattle.dep_decisions.proofs.ReadAlone.{reads_keep}
@@ -100,7 +101,7 @@ is_shown (at.FileSet n) = false
 is_shown at.Staging = false
 is_shown resource = true
 
-shows : (config : Config) (s : State) (resource : Resource) → is_shown resource ≡ true → presence_refusal s resource ≡ None
+shows : (config : Config) (s : State) (resource : Resource) → is_shown resource ≡ true → presence_refusal (in_state s) resource ≡ None
     → (content : ReplyContent) × (content_at config s resource ≡ Some content)
 shows config s at.Service h e = (Document (service_document config), refl)
 shows config s (at.Object n) h e = there (λ (o : Object). Document (status_document config (object_view n o))) (finmap.get s.objects n) (unless-none _ why.NotFound e)
@@ -131,7 +132,7 @@ module _ (config : Config) (s : State) (m : Message) where
 
   -- both are read by these rules
   abbrev rules : Resource → Option Refusal
-  rules resource = first_of (behalf_rule config (operation_of get (record { resource = resource; method = Get })) ∷ presence_refusal s resource ∷ [])
+  rules resource = first_of (behalf_rule config (operation_of get (record { resource = resource; method = Get })) ∷ presence_refusal (in_state s) resource ∷ [])
 
   -- the accepted ones, at a state that they leave
   shown : (resource : Resource) (content : ReplyContent) → content_at config s resource ≡ Some content
@@ -166,7 +167,7 @@ module _ (config : Config) (s : State) (m : Message) where
       (subst (λ (b : Stepped). IsWithoutBody (answered_step s (shown_answer config s resource) s.clock false (closes m.head)) b) (sym (kept_head resource g)) (shown resource c.0 c.1))
 
   by_resource : (r : Option Resource) → IsWithoutBody (routed_step config s get (to_resource (codes "GET") r)) (routed_step config s head (to_resource (codes "HEAD") r))
-  unfolding operation_step refusal behalf_rule presence_rule accepted_answer closes
+  unfolding operation_step refusal_by behalf_rule presence_rule accepted_answer closes
   by_resource None = turned why.NotFound None
   by_resource (Some at.Service) = by_rules at.Service refl refl refl (rules at.Service) refl
   by_resource (Some (at.Object n)) = by_rules (at.Object n) refl refl refl (rules (at.Object n)) refl

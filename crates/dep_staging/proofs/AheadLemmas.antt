@@ -1,5 +1,5 @@
 -- Uploads that are hashed while their segments come.
-use Rattle.std.proofs.Common.{◌≡◌, ◌≢◌, ◌⊎◌, inl, inr, ℕ, zero, suc, ◌+◌, ◌-◌, ◌^◌, ◌<◌, ◌≤◌, min, Result, Ok, Err, Bool, T, List, [], ◌∷◌, ◌++◌, length, get_or, take, cond, unwrap_or, Option, Some, None, refl, sym, ap, subst, ◌∙◌, nat_cmp, is_eq, append-nil, append_assoc, arith}
+use Rattle.std.proofs.Common.{◌≡◌, ◌≢◌, ◌⊎◌, inl, inr, ℕ, zero, suc, ◌+◌, ◌<◌, ◌≤◌, min, Bool, T, List, [], ◌∷◌, ◌++◌, length, get_or, take, cond, unwrap_or, Option, Some, None, refl, sym, ap, subst, ◌∙◌, nat_cmp, is_eq, append-nil, append_assoc, arith}
 use Rattle.std.specs.Prelude.{slice_get}
 use Rattle.std.specs.List.{flat_map, range_with_len}
 use Rattle.std.specs.Option.{option_map_or}
@@ -9,8 +9,6 @@ use Rattle.std.proofs.lemmas.Cmp.{nat_cmp_total, tied_itself}
 use Rattle.std.proofs.lemmas.Bool.{cases_lt}
 use Rattle.dep_fixity.specs.Fixity.{Holds}
 use Rattle.dep_types.specs.Maps.{Numbered}
-use Rattle.dep_types.specs.declared.store_fault.StoreFault.{StoreFault}
-use Rattle.dep_types.specs.declared.store_fault.StoreFault.TheVariants.{Store}
 use Rattle.dep_types.specs.Sound.{IsSound}
 use Rattle.dep_types.specs.State.{State, Upload}
 use Rattle.dep_objects.proofs.Cuts.{one_block_more, all_blocks}
@@ -219,15 +217,6 @@ module _ (s : State) (sound : IsSound s) (was now : RunningHash) (running : IsRu
         hashed = hashed_now (λ it there. segment_done it.segments was now (begun.hashed it there)
             (ap (λ bytes. slice_get (blocks_of bytes) was.blocks) (sym (its_bytes it (was.segments + 1) there)) ∙ none) some kept next over);
       })
-
--- the number of a segment that a block was asked for
-pub next_number : {X P : Type 0} (a n number place : ℕ) (r : Result X StoreFault) (x : X) → number ≡ min (n + 1) (2 ^ 64 - 1) → r ≡ Ok x
-    → (((a < 2 ^ 63) × (number < 2 ^ 63) × (place < 2 ^ 63) → ⊥) → (r ≡ Err Store) × P) → number ≡ n + 1
-next_number a n number place r x is ok refuses = go (cases_lt number (2 ^ 63))
-  where
-    go : (number < 2 ^ 63) ⊎ (2 ^ 63 ≤ number) → number ≡ n + 1
-    go (inl below) = omega (arith, is, below)
-    go (inr above) = let failed = (refuses (λ h. let it = h.1 in omega (arith, it, above))).0 in absurd (cc (ok, failed))
 
 -- ---- the rest of an upload
 

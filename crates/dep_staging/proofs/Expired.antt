@@ -1,5 +1,5 @@
 -- Uploads that time out one after another.
-use Rattle.std.proofs.Common.{◌≡◌, ◌≢◌, ◌⊎◌, inl, inr, ℕ, ◌+◌, ◌-◌, ◌<◌, ◌≤◌, ◌^◌, IsTrue, Bool, true, false, not, ◌||◌, cond, Option, Some, None, is_some, refl, sym, ap, subst, ◌∙◌, nat_cmp, is_eq, arith}
+use Rattle.std.proofs.Common.{◌≡◌, ◌≢◌, ◌⊎◌, inl, inr, ℕ, ◌+◌, ◌-◌, ◌≤◌, IsTrue, Bool, true, false, not, ◌||◌, cond, Option, Some, None, is_some, refl, sym, ap, subst, ◌∙◌, nat_cmp, is_eq, arith}
 use Rattle.std.specs.Prelude.{nat_lt}
 use Rattle.std.specs.Option.{option_map_or}
 use Rattle.std.specs.Ordering.{eq_by_cmp}
@@ -11,22 +11,16 @@ use Rattle.dep_types.specs.Maps.{Numbered, Numbers}
 use Rattle.dep_types.specs.State.{State, Upload, is_idle, expires, expired, unexpired, clock_at, tick}
 use Rattle.dep_types.specs.declared.counters.Counters.{Counters}
 use Rattle.dep_types.specs.declared.config.Config.{Config}
-use Rattle.dep_types.specs.Sound.{IsSound}
 use Rattle.dep_types.proofs.TickLemmas.{get-unexpired, contains-expired}
-use Rattle.dep_tables.specs.Rows.{IsStorableState}
 use Rattle.dep_tables.specs.Tables.{Tables}
-use Rattle.dep_tables.specs.declared.state.StateRow.{StateRow}
 use Rattle.dep_tables.specs.declared.uploads.LeftUpload.{LeftUpload}
 use Rattle.dep_tables.specs.Edits.{IsLeftBefore}
-use Rattle.dep_row_maps.specs.Stored.{state_row}
 use Rattle.dep_row_maps.specs.TablesAre.{TablesAre}
 use Rattle.dep_row_maps.specs.Left.{was_left_before, TellsLeft}
 use Rattle.dep_row_maps.proofs.Left.{left_before_read}
 use Rattle.dep_row_maps.proofs.Files.{same_number}
 use Rattle.dep_row_maps.proofs.Lens.{tied_not, get_gone, get_left}
-use Rattle.dep_staging.specs.Causes.{HasStorableNumbers}
 use Rattle.dep_staging.specs.Expiring.{timed_out, expired_all}
-use Rattle.dep_staging.proofs.Entries.{no_more_than}
 
 -- ---- to be idle is to be left before a moment
 
@@ -178,38 +172,8 @@ module _ (config : Config) (clock passed : ℕ) (s : State) (t : Tables) (z : Is
 
 -- ---- there are no more of them than numbers
 
-pub few_uploads : (us : Numbered Upload) → HasStorableNumbers us → finmap.len us ≤ 2 ^ 63
-few_uploads us storable =
-    let short = no_more_than 0 (2 ^ 63) (finmap.entries us) (finmap.entries_sorted us) (λ q it found. (omega arith, storable q it (finmap.get-entries us q ∙ found))) (omega arith) in
-    omega (arith, short, finmap.len-entries us)
-
--- one that expires has a number
-pub idle_storable : (config : Config) (clock u : ℕ) (us : Numbered Upload) → HasStorableNumbers us → IsTrue (expires config clock us u) → u < 2 ^ 63
-idle_storable config clock u us storable idle = go (finmap.get us u) refl (held config clock us u idle)
-  where
-    go : (o : Option Upload) → finmap.get us u ≡ o → is_some o ≡ true → u < 2 ^ 63
-    go None e h = absurd (cc)
-    go (Some it) e h = storable u it e
-
 -- with the clock written, that is the tick
 pub tick_is : (config : Config) (s : State) (moment clock : ℕ) (next : Counters) → clock ≡ clock_at s moment → next ≡ s.next → expired_all config clock (record s { clock = clock; next = next }) ≡ tick config s moment
 tick_is config s moment clock next now given =
     ap (λ c. expired_all config c (record s { clock = c; next = next })) now
     ∙ ap (λ (n : Counters). expired_all config (clock_at s moment) (record s { clock = clock_at s moment; next = n })) given
-
--- ---- its row and its numbers
-
-pub ticked_row : (config : Config) (s : State) (moment : ℕ) (row : StateRow) (clock : ℕ) → row ≡ state_row s → clock ≡ clock_at s moment → record row { clock = clock } ≡ state_row (tick config s moment)
-ticked_row config s moment row clock is now = ap (λ (r : StateRow). record r { clock = clock }) is ∙ ap (λ k. record (state_row s) { clock = k }) now
-
-pub storable_tick : (config : Config) (s : State) (moment : ℕ) → IsSound s → IsStorableState (state_row (tick config s moment))
-storable_tick config s moment sound = record {
-  clock = omega (arith, sound.clock);
-  object = sound.object_bound;
-  file = sound.file_bound;
-  upload = sound.upload_bound;
-  change = sound.change_bound;
-}
-
-pub storable_uploads : (s : State) → IsSound s → HasStorableNumbers s.uploads
-storable_uploads s sound u it there = omega (arith, (sound.uploads u it there).number_given.below, sound.upload_bound)

@@ -1,5 +1,5 @@
 -- The bytes of segments, block by block.
-use Rattle.std.proofs.Common.{◌≡◌, ℕ, zero, suc, ◌+◌, ◌<◌, T, List, [], ◌∷◌, ◌++◌, length, get_or, take, cond, map, unwrap_or, Option, Some, None, IfOk, IfErr, refl, sym, ap, subst, ◌∙◌, nat_cmp, is_eq, append-nil, append_assoc, arith}
+use Rattle.std.proofs.Common.{◌≡◌, ℕ, zero, suc, ◌+◌, ◌<◌, T, List, [], ◌∷◌, ◌++◌, length, get_or, take, cond, map, unwrap_or, Option, Some, None, IfOk, refl, sym, ap, subst, ◌∙◌, nat_cmp, is_eq, append-nil, append_assoc, arith}
 use Rattle.std.specs.Prelude.{option_map, slice_get}
 use Rattle.std.specs.Option.{ok_or}
 use Rattle.std.specs.Int.{div_ceil}
@@ -12,10 +12,9 @@ use Rattle.dep_tables.specs.declared.segments.SegmentRow.{SegmentRow}
 use Rattle.dep_row_maps.specs.Stored.{segment_row, blocks_of}
 use Rattle.dep_row_maps.proofs.Whole.{segments_there}
 use Rattle.dep_objects.proofs.Cuts.{block_count}
-use Rattle.dep_staging.specs.Causes.{AreStorableKeys, HasStorableSegments}
 use Rattle.dep_staging.specs.Comparing.{stored_bytes}
 use Rattle.dep_staging.specs.Hashing.{IsSegmentOf}
-use Rattle.dep_staging.proofs.StoredBlocks.{got_by, past_by}
+use Rattle.dep_staging.proofs.StoredBlocks.{got_by}
 use Rattle.dep_staging.proofs.Entries.{both, passed, above_at}
 
 -- ---- a block
@@ -32,13 +31,6 @@ module _ {X E : Type 0} (items : X → List ℕ) (s : State) (row : SegmentRow) 
   pub block_is : (found : Option X) → IsRead found → IfOk (ok_or found fault) (λ block. (bytes : List ℕ) → IsSegmentOf s row bytes → items block ≡ get_or (blocks_of bytes) place [])
   block_is None read = tt
   block_is (Some block) read = λ bytes its. sym (got_by (blocks_of bytes) place (items block) [] (of_segment (Some block) bytes read its))
-
-  -- it is there where the segment has so many
-  pub block_there : (P : E → Type 0) (found : Option X) (bytes : List ℕ) → IsRead found → IsSegmentOf s row bytes → place < length (blocks_of bytes) → IfErr (ok_or found fault) P
-  block_there P None bytes read its within =
-      let past = past_by (blocks_of bytes) place (of_segment None bytes read its) in
-      absurd (omega (arith, past, within))
-  block_there P (Some block) bytes read its within = tt
 
 -- so many blocks has the segment
 pub counted : (s : State) (row : SegmentRow) (bytes : List ℕ) → IsSegmentOf s row bytes → div_ceil row.size 65536 ≡ length (blocks_of bytes)
@@ -99,7 +91,3 @@ module _ (u i : ℕ) (it : Upload) (row : SegmentRow) (e : IsEntryAt u (finmap.e
         received = ap (λ m. finmap.get m e.number) (segments_there s.uploads u it there) ∙ entry_there;
         sized = refl;
       })
-
-  -- its numbers are SQL's
-  pub storable_segment : HasStorableSegments u it → AreStorableKeys row
-  storable_segment storable = subst AreStorableKeys (sym e.is) (storable.upload, storable.segments e.number e.bytes entry_there)

@@ -1,5 +1,5 @@
 -- One block of a segment, which need not be there.
-use Rattle.std.proofs.Common.{◌≡◌, ◌≢◌, ◌⊎◌, inl, inr, ℕ, zero, suc, ◌<◌, ◌≤◌, List, [], ◌∷◌, length, get_or, map, filter, append-nil, unwrap_or, Option, Some, None, refl, sym, ap, subst, ◌∙◌, arith}
+use Rattle.std.proofs.Common.{◌≡◌, ◌≢◌, ◌⊎◌, inl, inr, ℕ, zero, suc, ◌<◌, ◌≤◌, ◌^◌, Result, Ok, Err, OnOk, List, [], ◌∷◌, length, get_or, map, filter, append-nil, unwrap_or, Option, Some, None, refl, sym, ap, subst, ◌∙◌, arith}
 use Rattle.std.specs.Prelude.{option_map, slice_get}
 use Rattle.std.specs.Option.{option_to_list}
 use Rattle.std.specs.List.Sorted.{IsPermutation}
@@ -8,6 +8,9 @@ use Rattle.std.proofs.lemmas.Cmp.{nat_cmp_total}
 use Rattle.std.proofs.lemmas.List.Sorted.{IsPermutation-refl, IsPermutation-trans}
 use Rattle.sqlite.specs.declared.types.Value.TheVariants.{Blob}
 use Rattle.sqlite_value.specs.Order.{Row}
+use Rattle.std.proofs.lemmas.Bool.{cases_lt}
+use Rattle.dep_types.specs.declared.store_fault.StoreFault.{StoreFault}
+use Rattle.dep_types.specs.declared.store_fault.StoreFault.TheVariants.{Store}
 use Rattle.dep_types.specs.Maps.{Numbered}
 use Rattle.dep_types.specs.State.{State}
 use Rattle.dep_tables.specs.Rows.{bytes_in, is_block, is_block_of, shown_block}
@@ -93,3 +96,12 @@ pub there_by : {X : Type 0} (xs : List X) (i : ℕ) (none : X) → i < length xs
 there_by [] i none h = absurd (omega (arith, h))
 there_by (y ∷ xs) zero none h = refl
 there_by (y ∷ xs) (suc i) none h = there_by xs i none (omega (arith, h))
+
+-- a query that was answered had a number that a table can hold
+pub asked_below : {X P Key : Type 0} (n : ℕ) (r : Result X StoreFault) → (Key → n < 2 ^ 63) → ((Key → ⊥) → (r ≡ Err Store) × P) → OnOk r (n < 2 ^ 63)
+asked_below n (Err e) below refuses = tt
+asked_below n (Ok x) below refuses = go (cases_lt n (2 ^ 63))
+  where
+    go : (n < 2 ^ 63) ⊎ (2 ^ 63 ≤ n) → n < 2 ^ 63
+    go (inl few) = few
+    go (inr above) = let failed = (refuses (λ key. let it = below key in omega (arith, it, above))).0 in absurd (cc)

@@ -1,5 +1,5 @@
 -- Segments of uploads, as their rows and their bytes.
-use Rattle.std.specs.Prelude.{◌≡◌, ◌<◌, ◌^◌, ◌++◌, ℕ, List, length, Some}
+use Rattle.std.specs.Prelude.{◌≡◌, ◌++◌, ℕ, List, length, Some}
 use Rattle.std.specs.FinMap as map
 use Rattle.dep_types.specs.State.{State, Upload}
 use Rattle.dep_tables.specs.declared.segments.SegmentRow.{SegmentRow}
@@ -7,9 +7,7 @@ use Rattle.dep_types.specs.Uploads.{assembled}
 use Rattle.dep_fixity.specs.Fixity.{digests_of}
 use Rattle.dep_fixity.specs.declared.hasher.Digests.{Digests}
 use Rattle.dep_row_maps.specs.Laws.{HasSegmentsWithin}
-use Rattle.dep_row_maps.specs.Stored.{blocks_of}
 use Rattle.dep_row_maps.specs.TablesAre.{segments_at}
-use Rattle.dep_staging.specs.Causes.{AreStorableKeys}
 use Rattle.dep_staging.specs.Found.{IsLiveAs}
 use Rattle.dep_staging.specs.HashedAhead.{AreRunning, first_blocks}
 use Rattle.dep_staging.specs.declared.loading.StagedUpload.{StagedUpload}
@@ -19,15 +17,6 @@ use Rattle.dep_staging.specs.declared.running.RunningHashes.{RunningHashes}
 pub record IsSegmentOf (s : State) (row : SegmentRow) (bytes : List ℕ) : Type 0 where
   pub received : map.get (segments_at s.uploads row.upload) row.number ≡ Some bytes
   pub sized : row.size ≡ length bytes
-
--- where the segment has a block at this place, and its numbers are SQL's, this is so
-abbrev pub ForBlockOf : State → SegmentRow → (place : ℕ) → Type 0 → Type 0
-ForBlockOf s row place holds = (bytes : List ℕ) → IsSegmentOf s row bytes
-    → place < length (blocks_of bytes) → AreStorableKeys row → place < 2 ^ 63 → holds
-
--- where these are its bytes, and its numbers are SQL's, this is so
-abbrev pub ForSegmentOf : State → SegmentRow → Type 0 → Type 0
-ForSegmentOf s row holds = (bytes : List ℕ) → IsSegmentOf s row bytes → AreStorableKeys row → holds
 
 -- where this is so of a message and the first blocks of the segment, that is of the message and all of it
 abbrev pub HashesRest : State → SegmentRow → (first : ℕ) → (was is : List ℕ → Type 0) → Type 0

@@ -4,10 +4,8 @@ ghost use Rattle.std.specs.Prelude.{◌≡◌, ◌<◌, ◌^◌, ℕ, Some, None
 ghost use Rattle.std.specs.FinMap as finmap;
 ghost use Rattle.dep_types.specs.State.{File, Upload, file_at};
 ghost use Rattle.dep_tables.specs.Edits.{with_blocks_moved};
-ghost use Rattle.dep_tables.specs.Rows.{IsStorableFile, IsStorableUpload, columns_of_upload};
 ghost use Rattle.dep_tables.specs.declared.owner.BlockOwner.TheVariants as owner;
 ghost use Rattle.dep_row_maps.specs.Clauses.{ChangesMaps, ChangesTables, FromMaps};
-ghost use Rattle.dep_row_maps.specs.Causes.{FailsByStatement};
 ghost use Rattle.dep_staging.specs.Changing.{Assembles};
 
 use crate::uploads::forget_upload;
@@ -20,7 +18,6 @@ use dep_types::{FileRow, StoreFault, UploadRow};
 /// Gives the blocks of an upload to a file, run by run, since one statement holds all rows that it moves.
 fn move_content<T: Statements>(tx: &mut T, upload: u64, file: u64) -> Result<(), StoreFault>
     ensures does { ChangesTables T.lenders T.state tx.old tx.new result
-        ((upload < 2 ^ 63) × (file < 2 ^ 63)) FailsByStatement
         (with_blocks_moved (owner.Upload upload) (owner.File file)) }
 {
     'runs: for passed in 0..u64::MAX {
@@ -46,9 +43,7 @@ pub fn assemble<T: Statements>(
     upload: &UploadRow,
     row: &FileRow,
 ) -> Result<(), StoreFault>
-    ensures does { ChangesMaps T.lenders T.state tx.old tx.new result
-        (IsStorableUpload (columns_of_upload upload.now) × IsStorableFile row.now)
-        FailsByStatement (Assembles upload.now row.now) }
+    ensures does { ChangesMaps T.lenders T.state tx.old tx.new result (Assembles upload.now row.now) }
     ensures free { FromMaps (T.state tx.old) (T.state tx.new)
         (λ s. OnOk result ((n : ℕ) → file_at s n row.now.file ≡ None)) }
 {

@@ -1,8 +1,8 @@
 //! One block of a segment.
 
-ghost use Rattle.dep_row_maps.specs.Clauses.{QueriesMaps};
+ghost use Rattle.std.specs.Prelude.{◌<◌, ◌^◌, OnOk};
+ghost use Rattle.dep_row_maps.specs.Clauses.{ReadsMaps};
 ghost use Rattle.dep_staging.specs.Comparing.{IsStoredBlock};
-ghost use Rattle.dep_staging.specs.Causes.{query_of_segment_block};
 
 use dep_tables::{BlockKey, BlockOwner, BlockPlace, Statements, read_block};
 use dep_types::StoreFault;
@@ -15,9 +15,9 @@ pub(crate) fn stored_block<T: Statements>(
     segment: u64,
     place: u64,
 ) -> Result<Option<Vec<u8>>, StoreFault>
-    ensures does { QueriesMaps T.lenders T.state tx.old tx.new result
-        (query_of_segment_block upload segment place)
+    ensures does { ReadsMaps T.lenders T.state tx.old tx.new result
         (λ s. IsStoredBlock s upload segment place) }
+    ensures few { OnOk result ((segment < 2 ^ 63) × (place < 2 ^ 63)) }
 {
     let owner = BlockOwner::Upload(upload);
     let at = BlockPlace {

@@ -1,15 +1,11 @@
 //! The digests of what the segments of an upload make, taken one block at a time, and ahead.
 
-ghost use Rattle.std.specs.Prelude.{◌≡◌, ◌<◌, ℕ, List, [], IfOk, OnOk, IfErr, slice_index_or};
-ghost use Rattle.dep_types.specs.State.{Upload};
+ghost use Rattle.std.specs.Prelude.{◌≡◌, ◌<◌, ℕ, List, [], IfOk, OnOk, slice_index_or};
 ghost use Rattle.dep_types.specs.Sound.{IsSound};
 ghost use Rattle.dep_fixity.specs.Fixity.{Holds};
 ghost use Rattle.dep_row_maps.specs.Stored.{blocks_of};
-ghost use Rattle.dep_row_maps.specs.Clauses.{MayReadOver, OverMaps, OverOpenMaps, ReadsOver};
-ghost use Rattle.dep_row_maps.specs.Causes.{FailsSince};
-ghost use Rattle.dep_staging.specs.Causes.{FailsToHash, HasStorableSegments, FailsToReadIts};
-ghost use Rattle.dep_staging.specs.Found.{IsLiveAs};
-ghost use Rattle.dep_staging.specs.Hashing.{IsSegmentOf, ForBlockOf, ForSegmentOf, HashesRest, AreDigestsOf};
+ghost use Rattle.dep_row_maps.specs.Clauses.{MayReadOver, ReadsOver};
+ghost use Rattle.dep_staging.specs.Hashing.{IsSegmentOf, HashesRest, AreDigestsOf};
 ghost use Rattle.dep_staging.specs.HashedAhead.{AreRunning, IsRunning};
 
 use crate::blocks::stored_block;
@@ -32,8 +28,6 @@ fn segment_block<T: Statements>(
     ensures does { ReadsOver T.lenders T.state tx.old tx.new result
         (λ s. IfOk result (λ found. (bytes : List ℕ) → IsSegmentOf s segment.now bytes
         → found.items ≡ slice_index_or (blocks_of bytes) place [])) }
-    ensures cause { OverMaps (T.state tx.old) (T.state tx.new) (λ s. ForBlockOf s segment.now place
-        (IfErr result (FailsToReadIts segment.now (T.state tx.old) (T.state tx.new)))) }
 {
     stored_block(tx, segment.upload, segment.number, place)?.ok_or(StoreFault::Store)
 }
@@ -48,9 +42,6 @@ fn hash_segment<T: Statements>(
     ensures does { MayReadOver T.lenders T.state tx.old tx.new result
         (λ s. HashesRest s segment.now first (Holds hasher.old)
         (λ message. OnOk result (Holds hasher.new message))) }
-    ensures cause { OverOpenMaps (T.state tx.old) (T.state tx.new)
-        (λ s. ForSegmentOf s segment.now
-        (IfErr result (FailsSince T.state (FailsToReadIts segment.now) tx.old tx.new))) }
 {
     for place in first..segment.size.div_ceil(BLOCK_SIZE as u64) {
         let block = segment_block(tx, segment, place)?;
@@ -69,9 +60,6 @@ pub fn hash_upload<T: Statements>(
 ) -> Result<Digests, StoreFault>
     ensures does { MayReadOver T.lenders T.state tx.old tx.new result
         (λ s. IfOk result (AreDigestsOf s staged.now running.now)) }
-    ensures cause { OverOpenMaps (T.state tx.old) (T.state tx.new)
-        (λ s. (u : ℕ) (it : Upload) → IsLiveAs s u staged.now it → HasStorableSegments u it
-        → IfErr result (FailsSince T.state (FailsToHash u) tx.old tx.new)) }
 {
     let RunningHash {
         upload: _,

@@ -1,6 +1,6 @@
 //! Uploads that are hashed while their segments come.
 
-ghost use Rattle.std.specs.Prelude.{◌≡◌, ◌<◌, ◌+◌, ◌^◌, ◌++◌, ℕ, List, IfSome, length, get_or, true, false};
+ghost use Rattle.std.specs.Prelude.{◌≡◌, ◌<◌, ◌+◌, ◌^◌, ◌++◌, ℕ, List, IfSome, length, get_or, true};
 ghost use Rattle.dep_types.specs.State.{State};
 ghost use Rattle.dep_fixity.specs.Fixity.{Holds};
 ghost use Rattle.dep_staging.specs.HashedAhead.{AreRunning, IsFresh, IsRunning};

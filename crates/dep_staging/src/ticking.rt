@@ -1,18 +1,12 @@
 //! The clock, and the uploads that it ends.
 
-ghost use Rattle.std.specs.Prelude.{◌≡◌, ◌<◌, ◌-◌, ◌^◌, None, IfOk, IfErr};
+ghost use Rattle.std.specs.Prelude.{◌≡◌, ◌<◌, ◌-◌, ◌^◌, None, IfOk};
 ghost use Rattle.std.specs.FinMap as finmap;
-ghost use Rattle.dep_types.specs.Sound.{IsSound};
 ghost use Rattle.dep_types.specs.State.{State, clock_at};
-ghost use Rattle.dep_tables.specs.Clauses.{FailsByRunning};
-ghost use Rattle.dep_tables.specs.Rows.{IsStorableState, state_values};
-ghost use Rattle.dep_tables.specs.Texts.{write_state_text};
 ghost use Rattle.dep_row_maps.specs.Stored.{state_row};
 ghost use Rattle.dep_row_maps.specs.TablesAre.{with_counters};
-ghost use Rattle.dep_row_maps.specs.Clauses.{ChangesMaps, Does, FromMaps, MakesMaps};
+ghost use Rattle.dep_row_maps.specs.Clauses.{ChangesMaps, Does, FromMaps};
 ghost use Rattle.dep_staging.specs.Expiring.{timed_out, expired_all};
-ghost use Rattle.dep_row_maps.specs.Causes.{FailsSince};
-ghost use Rattle.dep_staging.specs.Causes.{FailsToExpire, FailsToExpireAll, FailsToTick, HasStorableNumbers};
 ghost use Rattle.dep_staging.specs.Changing.{IsTicked};
 
 use crate::uploads::drop_upload;
@@ -20,8 +14,7 @@ use dep_tables::{StateRow, Statements, insert_timed_out, left_before, read_state
 use dep_types::{Config, GREATEST_MOMENT, StoreFault};
 
 fn expire<T: Statements>(tx: &mut T, upload: u64) -> Result<(), StoreFault>
-    ensures does { ChangesMaps T.lenders T.state tx.old tx.new result
-        (upload < 2 ^ 63) (FailsToExpire upload) (λ s becomes. becomes (timed_out upload s)) }
+    ensures does { ChangesMaps T.lenders T.state tx.old tx.new result (λ s becomes. becomes (timed_out upload s)) }
 {
     drop_upload(tx, upload)?;
     insert_timed_out(tx, upload)
@@ -36,12 +29,8 @@ fn idle_before(config: &Config, clock: u64) -> u64
 
 /// Ends the upload that was left the longest, as long as one was left for longer than is allowed.
 fn expire_idle<T: Statements>(tx: &mut T, config: &Config, clock: u64) -> Result<(), StoreFault>
-    ensures does { MakesMaps T.lenders T.state tx.old tx.new result
+    ensures does { ChangesMaps T.lenders T.state tx.old tx.new result
         (λ s becomes. becomes (expired_all config.now clock s)) }
-    ensures cause { FromMaps (T.state tx.old) (T.state tx.new)
-        (λ s. clock < 2 ^ 63 → HasStorableNumbers s.uploads
-        → IfErr result (FailsSince T.state (FailsToExpireAll config.now clock s.uploads)
-        tx.old tx.new)) }
 {
     let moment = idle_before(config, clock);
     'uploads: for passed in 0..u64::MAX {
@@ -62,11 +51,8 @@ fn clock_at(row: &StateRow, moment: u64) -> u64
 
 // Writes the clock where it moves: a tick within the same second writes nothing.
 fn set_clock<T: Statements>(tx: &mut T, row: &StateRow, clock: u64) -> Result<(), StoreFault>
-    ensures does { MakesMaps T.lenders T.state tx.old tx.new result
+    ensures does { ChangesMaps T.lenders T.state tx.old tx.new result
         (λ s becomes. row.now ≡ state_row s → becomes (with_counters s clock s.next)) }
-    ensures cause { FailsByRunning (T.state tx.old) (T.state tx.new) result
-        (IsStorableState (record row.now { clock = clock }))
-        write_state_text (state_values (record row.now { clock = clock })) }
 {
     if clock == row.clock {
         return Ok(());
@@ -87,9 +73,6 @@ pub fn tick<T: Statements>(tx: &mut T, config: &Config, moment: u64) -> Result<u
     ensures does { Does T.lenders T.state tx.old tx.new result
         (FromMaps (T.state tx.old) (T.state tx.new) (λ s. finmap.get s.uploads 0 ≡ None
         → IfOk result (IsTicked config.now s moment (T.state tx.new)))) }
-    ensures cause { FromMaps (T.state tx.old) (T.state tx.new)
-        (λ s. IsSound s
-        → IfErr result (FailsSince T.state (FailsToTick config.now s moment) tx.old tx.new)) }
 {
     let row = read_state(tx)?;
     let clock = clock_at(&row, moment);

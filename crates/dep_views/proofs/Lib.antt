@@ -5,4 +5,3 @@ pub mod Found
 pub mod Paths
 pub mod Shows
 pub mod Sent
-pub mod Causes

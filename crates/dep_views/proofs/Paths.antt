@@ -15,7 +15,7 @@ use Rattle.dep_types.specs.declared.rows.FileRow.{FileRow}
 use Rattle.dep_bag.specs.Numbered.{file_number}
 use Rattle.dep_manifest.specs.Told.{row_path}
 use Rattle.dep_bag.proofs.Numbered.{HasStorable, files_storable, found_by_number, none_by_number, numbered, stands_at}
-use Rattle.dep_decisions.specs.Rules.{has_bag_path}
+use Rattle.dep_decisions.specs.LookUps.{has_bag_path}
 use Rattle.dep_operations.specs.Views.{has_path, touched_object}
 use Rattle.dep_operations.specs.declared.view.Touched.{Touched}
 use Rattle.dep_views.specs.declared.touched.PathSeen.{PathSeen}

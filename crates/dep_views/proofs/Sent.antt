@@ -1,16 +1,15 @@
 -- A segment that is sent, beside what was received before.
-use Rattle.std.proofs.Common.{◌≡◌, ◌≢◌, ℕ, zero, suc, ◌+◌, ◌-◌, ◌*◌, nat_lt, nat_le, ◌==◌, ◌<◌, ◌≤◌, arith, subst, Bool, true, false, List, [], ◌∷◌, length, get_or, nat_cmp, Option, Some, None, map, refl, sym, ap, ◌∙◌}
+use Rattle.std.proofs.Common.{◌≡◌, ◌≢◌, ℕ, zero, suc, ◌+◌, ◌-◌, ◌*◌, ◌==◌, ◌<◌, ◌≤◌, arith, subst, Bool, true, false, List, [], ◌∷◌, length, get_or, nat_cmp, Option, Some, None, map, refl, sym, ap, ◌∙◌}
 use Rattle.std.specs.Prelude.{if◌then◌else◌, bytes_eq, option_map}
 use Rattle.std.specs.Option.{option_map_or}
 use Rattle.std.specs.FinMap as finmap
 use Rattle.std.specs.FinSet as set
-use Rattle.std.proofs.lemmas.Bool.{and_parts}
 use Rattle.std.proofs.lemmas.Bool.Decides.{nat_tests}
 use Rattle.dep_types.specs.Maps.{Numbered, ◌>>=◌}
 use Rattle.dep_types.specs.State.{State, Upload as Staged}
 use Rattle.dep_types.specs.Sound.{IsSound}
 use Rattle.dep_types.specs.Uploads.{segment_length, sizes_agree}
-use Rattle.dep_decisions.specs.Rules.{repeats}
+use Rattle.dep_decisions.specs.LookUps.{repeats}
 use Rattle.dep_row_maps.specs.TablesAre.{segments_at}
 use Rattle.dep_operations.specs.Views.{live_upload, upload_state, upload_view}
 use Rattle.dep_operations.specs.declared.view.LiveUpload.{LiveUpload}
@@ -47,9 +46,6 @@ has_one (suc m) h = (m, refl)
 some_bytes : (it : Staged) (k : ℕ) → 1 ≤ it.count → sizes_agree it.size it.count it.segment_size ≡ true → 0 < segment_length it k
 some_bytes it k counted sizes =
     let m = has_one it.count counted in
-    let both = and_parts (nat_lt ((it.count - 1) * it.segment_size) it.size) (nat_le it.size (it.count * it.segment_size)) sizes in
-    let low : nat_lt ((it.count - 1) * it.segment_size) it.size ≡ true = both.0 in
-    let high : nat_le it.size (it.count * it.segment_size) ≡ true = both.1 in
     let less : (it.count - 1) * it.segment_size < it.size = grind (arith, nat_tests) in
     let most : it.size ≤ it.count * it.segment_size = grind (arith, nat_tests) in
     elim (k == it.count) as (λ b. 0 < (if b then it.size - (it.count - 1) * it.segment_size else it.segment_size)) [

@@ -1,5 +1,5 @@
 -- What a reply shows, from what was found.
-use Rattle.std.proofs.Common.{◌≡◌, ℕ, List, map, Option, Some, None, Result, IfErr, refl, sym, ap, subst, ◌∙◌}
+use Rattle.std.proofs.Common.{◌≡◌, ℕ, List, map, Option, Some, None, Result, refl, sym, ap, subst, ◌∙◌}
 use Rattle.std.specs.Prelude.{option_map}
 use Rattle.std.specs.Option.{option_map_or}
 use Rattle.std.specs.FinMap as finmap
@@ -18,9 +18,6 @@ use Rattle.dep_staging.specs.declared.loading.FoundRow.{FoundRow}
 use Rattle.dep_staging.specs.declared.loading.FoundRow.TheVariants as by_row
 use Rattle.dep_staging.specs.declared.loading.FoundUpload.TheVariants as found
 use Rattle.dep_staging.specs.declared.loading.StagedUpload.{StagedUpload}
-use Rattle.dep_row_maps.specs.Causes.{FailsByStatement, FailsHolding, FailsSince}
-use Rattle.dep_row_maps.specs.Causes.FailsHolding.{statement}
-use Rattle.dep_row_maps.proofs.Causes.{fails_among, if_err_then}
 use Rattle.dep_tables.proofs.Chains.{may_read}
 use Rattle.dep_tables.proofs.Results.{ok_then}
 use Rattle.dep_views.proofs.Found.{numbers_are}
@@ -63,9 +60,4 @@ module _ {T L : Type 0} {lenders : T → L} {state : T → db.State} {old new : 
       subst (λ (x : Subject). MayReadShown lenders state old new r x told) (sym is) (record {
         map = record { found = reads.map.found; keeps = may_read reads.map.keeps };
         still = λ clean ours. ok_then r (reads.map.keeps.same clean ours) (λ same. same.0.now_is);
-        cause = reads.cause;
       })
-
--- where only a statement fails, no list is wanting memory
-pub fails_by_one : {T A : Type 0} (state : T → db.State) (old new : T) (held : Type 0) (r : Result A StoreFault) → IfErr r (FailsSince state FailsByStatement old new) → IfErr r (FailsSince state (FailsHolding held) old new)
-fails_by_one state old new held r failed = if_err_then r failed (fails_among state old new FailsByStatement (FailsHolding held) (λ at now fault by. statement by))

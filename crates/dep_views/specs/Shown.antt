@@ -1,5 +1,5 @@
 -- What a call says that reads what a reply shows.
-use Rattle.std.specs.Prelude.{◌≡◌, ℕ, Some, Result, OnOk, IfOk, IfErr, option_map}
+use Rattle.std.specs.Prelude.{◌≡◌, ℕ, Some, Result, OnOk, IfOk, option_map}
 use Rattle.std.specs.FinMap as finmap
 use Rattle.sqlite.specs.State as db
 use Rattle.sqlite.specs.State.{HasCleanDisk}
@@ -9,12 +9,10 @@ use Rattle.dep_types.specs.State.{State}
 use Rattle.dep_types.specs.declared.rows.ObjectView.{ObjectView}
 use Rattle.dep_types.specs.declared.store_fault.StoreFault.{StoreFault}
 use Rattle.dep_tables.specs.Tables.{IsOurs}
-use Rattle.dep_row_maps.specs.Clauses.{Finds, FromMaps, MayFind}
-use Rattle.dep_row_maps.specs.Causes.{FailsHolding, FailsSince}
+use Rattle.dep_row_maps.specs.Clauses.{Finds, MayFind}
 use Rattle.dep_answers.specs.Subjects.{shown_at}
 use Rattle.dep_answers.specs.declared.subject.Subject.{Subject}
 use Rattle.dep_answers.specs.declared.subject.Shown.{Shown}
-use Rattle.dep_views.specs.Causes.{IsStorableSubject, ShowsList}
 
 -- the object of this number is there, and this is all that is told of it
 abbrev pub IsViewOf : State → ℕ → ObjectView → Type 0
@@ -22,16 +20,10 @@ IsViewOf s n view = Some view ≡ option_map (object_view n) (finmap.get s.objec
 
 module _ {T L : Type 0} (lenders : T → L) (state : T → db.State) (old new : T)
     (result : Result Shown StoreFault) (subject : Subject) where
-  -- by a number that a table can hold a failure is that of a statement, or memory is wanting for a list
-  abbrev pub FailsToShow : Type 0
-  FailsToShow = FromMaps (state old) (state new) (λ s. IsStorableSubject subject
-      → IfErr result (FailsSince state (FailsHolding (ShowsList s subject)) old new))
-
   -- what a call does that reads what a sound state shows of the subject, where this is told of it
   pub record ReadsShown (told : State → Type 0) : Type 0 where
     pub map : Finds lenders state old new result
         (λ s. IsSound s → told s → IfOk result (λ shown. shown ≡ shown_at s subject))
-    pub cause : FailsToShow
 
   -- the same of a call that reads, if anything
   pub record MayReadShown (told : State → Type 0) : Type 0 where
@@ -39,4 +31,3 @@ module _ {T L : Type 0} (lenders : T → L) (state : T → db.State) (old new : 
         (λ s. IsSound s → told s → IfOk result (λ shown. shown ≡ shown_at s subject))
     pub still : HasCleanDisk (state new) → IsOurs (state old)
         → OnOk result ((state new).now ≡ (state old).now)
-    pub cause : FailsToShow

@@ -1,14 +1,11 @@
 //! Objects, as they are shown.
 
-ghost use Rattle.std.specs.Prelude.{◌≡◌, ◌≢◌, IfOk, IfErr, option_map};
+ghost use Rattle.std.specs.Prelude.{◌≡◌, IfOk, option_map};
 ghost use Rattle.std.specs.FinMap as finmap;
-ghost use Rattle.dep_types.specs.Limits.{IsStorable};
 ghost use Rattle.dep_types.specs.Sound.{IsSound};
 ghost use Rattle.dep_types.specs.Rows.{object_view};
 ghost use Rattle.dep_tables.specs.Clauses.{ReadsWithin};
 ghost use Rattle.dep_row_maps.specs.Clauses.{Finds, FromMaps};
-ghost use Rattle.dep_row_maps.specs.Causes.{FailsHolding, FailsSince};
-ghost use Rattle.dep_row_maps.specs.TablesAre.{metadata_at};
 ghost use Rattle.dep_objects.specs.Objects.{HasRow};
 ghost use Rattle.dep_views.specs.Shown.{IsViewOf};
 
@@ -25,10 +22,6 @@ pub(crate) fn view_of<T: Statements>(
 ) -> Result<ObjectView, StoreFault>
     ensures map { Finds T.lenders T.state tx.old tx.new result
         (λ s. IsSound s → HasRow s row → IfOk result (IsViewOf s row.object)) }
-    ensures cause { FromMaps (T.state tx.old) (T.state tx.new)
-        (λ s. IsStorable row.object
-        → IfErr result (FailsSince T.state
-        (FailsHolding (metadata_at s.objects row.object ≢ finmap.empty)) tx.old tx.new)) }
 {
     let described = describe(tx, alloc, row)?;
     let files = load_files(tx, alloc, row.object)?;
@@ -49,10 +42,6 @@ pub fn load_object_view<T: Statements>(
     ensures map { FromMaps (T.state tx.old) (T.state tx.new)
         (λ s. IsSound s → IfOk result (λ found.
         found ≡ option_map (object_view object) (finmap.get s.objects object))) }
-    ensures cause { FromMaps (T.state tx.old) (T.state tx.new)
-        (λ s. IsStorable object
-        → IfErr result (FailsSince T.state
-        (FailsHolding (metadata_at s.objects object ≢ finmap.empty)) tx.old tx.new)) }
     ensures keeps { ReadsWithin T.lenders T.state tx.old tx.new result }
 {
     let Some(row) = find_object(tx, object)? else {

@@ -1,6 +1,6 @@
 //! The segments of an upload, by their rows.
 
-ghost use Rattle.std.specs.Prelude.{◌≡◌, ◌≢◌, ◌<◌, ◌^◌, ℕ, [], IfOk, OnErr, IsTrue, map};
+ghost use Rattle.std.specs.Prelude.{◌≡◌, ◌<◌, ℕ, IfOk, map};
 ghost use Rattle.dep_types.specs.State.{State, Upload};
 ghost use Rattle.dep_types.specs.Uploads.{is_complete};
 ghost use Rattle.dep_row_maps.specs.Laws.{HasSegmentsWithin};
@@ -14,7 +14,6 @@ use std::alloc::{AllocError, Global};
 /// The numbers of these segments, in their order.
 pub(crate) fn numbers_of(alloc: Global, segments: &[SegmentRow]) -> Result<Numbers, AllocError>
     ensures ok { IfOk result (λ numbers. numbers ≡ map (λ segment. segment.number) segments.now) }
-    ensures err { OnErr result (segments.now ≢ []) }
 {
     let mut numbers = Vec::new(alloc);
     for segment in segments {
@@ -27,7 +26,6 @@ pub(crate) fn numbers_of(alloc: Global, segments: &[SegmentRow]) -> Result<Numbe
 pub(crate) fn is_complete(staged: &StagedUpload) -> bool
     ensures whole { (s : State) (u : ℕ) (it : Upload) → IsLiveAs s u staged.now it
         → HasSegmentsWithin it → result ≡ is_complete it }
-    ensures few { IsTrue result → staged.now.row.count < 2 ^ 63 }
 {
     staged.received.as_slice().len() as u64 == staged.row.count
 }

@@ -1,9 +1,7 @@
 //! What a reply shows of the archive.
 
 ghost use Rattle.std.specs.Prelude.{⊤, IfSome};
-ghost use Rattle.dep_types.specs.Limits.{IsStorable};
 ghost use Rattle.dep_answers.specs.declared.subject.Subject.TheVariants as subject;
-ghost use Rattle.dep_tables.specs.Clauses.{RefusesNumbers};
 ghost use Rattle.dep_objects.specs.Objects.{HasRow};
 ghost use Rattle.dep_views.specs.Shown.{MayReadShown, ReadsShown};
 
@@ -29,7 +27,6 @@ fn show_object<T: Statements>(tx: &mut T, alloc: Global, object: u64) -> Result<
 fn show_row<T: Statements>(tx: &mut T, object: u64) -> Result<Shown, StoreFault>
     ensures does { ReadsShown T.lenders T.state tx.old tx.new result
         (subject.ObjectRow object) (λ _. ⊤) }
-    ensures numbers { RefusesNumbers (T.state tx.old) (T.state tx.new) result (IsStorable object) }
 {
     match find_object(tx, object)? {
         Some(row) => Ok(Shown::ObjectRow(row)),
@@ -52,7 +49,6 @@ fn show_metadata<T: Statements>(tx: &mut T, alloc: Global, object: u64) -> Resul
 
 fn show_file<T: Statements>(tx: &mut T, id: FileId) -> Result<Shown, StoreFault>
     ensures does { ReadsShown T.lenders T.state tx.old tx.new result (subject.File id) (λ _. ⊤) }
-    ensures numbers { RefusesNumbers (T.state tx.old) (T.state tx.new) result (IsStorable id.file) }
 {
     match find_file(tx, id.object, id.file)? {
         Some(row) => Ok(Shown::File(row)),
@@ -63,7 +59,6 @@ fn show_file<T: Statements>(tx: &mut T, id: FileId) -> Result<Shown, StoreFault>
 fn show_upload<T: Statements>(tx: &mut T, alloc: Global, upload: u64) -> Result<Shown, StoreFault>
     ensures does { ReadsShown T.lenders T.state tx.old tx.new result
         (subject.Upload upload) (λ _. ⊤) }
-    ensures numbers { RefusesNumbers (T.state tx.old) (T.state tx.new) result (IsStorable upload) }
 {
     match load_upload(tx, alloc, upload)? {
         FoundUpload::Live(staged) => Ok(Shown::Upload {

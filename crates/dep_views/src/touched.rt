@@ -1,14 +1,12 @@
 //! What is there at the numbers of an object and of a file, and at a path of a bag.
 
-ghost use Rattle.std.specs.Prelude.{◌≡◌, ◌++◌, ⊤, IfOk, IfSome, IsTrue, bytes_eq, map};
+ghost use Rattle.std.specs.Prelude.{◌≡◌, ◌++◌, ⊤, IfOk, bytes_eq, map};
 ghost use Rattle.std.specs.List.{list_any};
 ghost use Rattle.std.specs.Option.{option_copied, option_to_list};
 ghost use Rattle.dep_types.specs.BagPaths.{tag_paths};
-ghost use Rattle.dep_types.specs.Limits.{IsStorable};
 ghost use Rattle.dep_manifest.specs.Told.{row_path};
 ghost use Rattle.dep_types.specs.Sound.{IsSound};
 ghost use Rattle.dep_operations.specs.Views.{touched_file, touched_object};
-ghost use Rattle.dep_row_maps.specs.Causes.{FailsByOne, FailsByStatement};
 ghost use Rattle.dep_row_maps.specs.Clauses.{MayFind};
 ghost use Rattle.dep_views.specs.Seen.{file_at_path, path_seen};
 
@@ -26,8 +24,6 @@ pub(crate) fn find_touched_object<T: Statements>(
 ) -> Result<Option<ObjectRow>, StoreFault>
     ensures map { MayFind T.lenders T.state tx.old tx.new result
         (λ s. IfOk result (λ found. found ≡ touched_object s touched.now)) }
-    ensures cause { FailsByOne T.state tx.old tx.new result
-        (IfSome touched.now.object IsStorable) FailsByStatement }
 {
     match touched.object {
         Some(object) => find_object(tx, object),
@@ -42,8 +38,6 @@ pub(crate) fn find_touched_file<T: Statements>(
 ) -> Result<Option<FileRow>, StoreFault>
     ensures map { MayFind T.lenders T.state tx.old tx.new result
         (λ s. IfOk result (λ found. found ≡ touched_file s touched.now)) }
-    ensures cause { FailsByOne T.state tx.old tx.new result
-        (IfSome touched.now.file IsStorable) FailsByStatement }
 {
     match (touched.object, touched.file) {
         (Some(object), Some(file)) => find_file(tx, object, file),
@@ -59,7 +53,6 @@ fn find_file_at_path<T: Statements>(
 ) -> Result<Option<FileRow>, StoreFault>
     ensures map { MayFind T.lenders T.state tx.old tx.new result
         (λ s. IfOk result (λ found. found ≡ file_at_path s object path.now)) }
-    ensures cause { FailsByOne T.state tx.old tx.new result ⊤ FailsByStatement }
 {
     match file_number(path) {
         Some(file) => find_file(tx, object, file),
@@ -97,7 +90,6 @@ pub(crate) fn find_touched_path<T: Statements>(
     ensures map { MayFind T.lenders T.state tx.old tx.new result
         (λ s. IsSound s → option_copied object.entry ≡ touched_object s touched.now
         → IfOk result (λ seen. seen ≡ path_seen s touched.now)) }
-    ensures cause { FailsByOne T.state tx.old tx.new result ⊤ FailsByStatement }
 {
     match (object, &touched.path) {
         (Some(object), Some(path)) => {

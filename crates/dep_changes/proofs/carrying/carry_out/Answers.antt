@@ -8,14 +8,6 @@ use Rattle.dep_tables.proofs.Results.{ok_then}
 use Rattle.dep_decisions.specs.Decisions.{numbers_for}
 use Rattle.dep_changes.specs.Changed.{with_maps}
 use Rattle.dep_changes.proofs.Carried.{numbers_told, told, carried, equal_counters, none_taken, same_counters}
-use Rattle.dep_row_maps.specs.Causes.{FailsHolding}
-use Rattle.dep_row_maps.specs.Causes.FailsHolding.{statement}
-use Rattle.dep_row_maps.specs.Causes.FailsByStatement.{state_written}
-use Rattle.dep_row_maps.proofs.Causes.{fails_then, if_err_is, if_err_then}
-use Rattle.dep_changes.specs.declared.change.Change.{Change}
-use Rattle.dep_changes.specs.Causes.{TakesMemory}
-use Rattle.dep_changes.proofs.Fits.{change_fits, counters_fit}
-use Rattle.dep_changes.proofs.Opened.{decision_storable}
 use Rattle.dep_row_maps.proofs.Changing.{changes_then, changes_ok, changes_err}
 use Rattle.dep_changes.proofs.carrying.carry_out.Goals as goal
 
@@ -64,31 +56,6 @@ returns-clause-untouched g c show =
     let still = none_taken next was c.numbers_for.result c.after_taking-next.ensures (c.numbers_for.ensures ∙ ap numbers_for show) in
     let never : false ≡ true = sym c.if-eq.false ∙ c.eq.ensures ∙ equal_counters next was still in
     absurd (cc)
-
-pub returns-in_err-change_maps-clause-cause : goal.returns-in_err-change_maps-clause-cause
-returns-in_err-change_maps-clause-cause g c clean inside ours s are it =
-    let view = c.args.view.now in
-    let d = c.args.decision.now in
-    let content = c.args.content.now in
-    let by = it.accepted in
-    let ruling = by.ruling in
-    let change : Change = record { alloc = c.args.alloc; view = c.args.view; content = c.args.content } in
-    let fits = decision_storable by.config s by.op it.limits d ruling.1 ruling.0 it.places in
-    if_err_is _ c.from_residual.result c.in_err-change_maps.field-0.0 c.from_residual.ensures.1
-    (c.in_err-change_maps.ensures.cause clean inside ours s are (change_fits s by.sound change it.sizes d (numbers_told s view content d by) (told s view content d by) fits))
-
-pub returns-clause-cause : goal.returns-clause-cause
-returns-clause-cause g c clean inside ours s are it =
-    let view = c.args.view.now in
-    let d = c.args.decision.now in
-    let content = c.args.content.now in
-    let by = it.accepted in
-    let before = clean_before c.set_counters.ensures.does.keeps.stays clean in
-    let numbers = numbers_told s view content d by in
-    let after : c.after_taking-next.result ≡ counters_after view.next (numbers_for d) = c.after_taking-next.ensures ∙ ap (counters_after view.next) c.numbers_for.ensures in
-    let storable = counters_fit s by.sound view (numbers_for d) c.after_taking-next.result numbers c.requires after _ refl in
-    if_err_then c.set_counters.result (c.set_counters.ensures.does.cause storable clean (c.in_ok-change_maps.ensures.map.keeps.stays.inside before inside))
-    (λ fault failed. fails_then g.T.Statements.state c.args.tx.now c.change_maps.new.tx c.set_counters.new.tx c.in_ok-change_maps.ensures.map.keeps.stays.survives (FailsHolding (TakesMemory s d)) fault (statement (state_written _ failed)))
 
 pub returns-in_err-change_maps-clause-map : goal.returns-in_err-change_maps-clause-map
 returns-in_err-change_maps-clause-map g c = record {

@@ -1,13 +1,9 @@
 use Rattle.std.proofs.Common.{List, length, ap, sym, ◌∙◌}
-use Rattle.dep_row_maps.specs.Causes.{FailsHolding}
-use Rattle.dep_staging.specs.Causes.{FailsToDrop}
-use Rattle.dep_staging.proofs.Causes.{drop_among}
 use Rattle.dep_decisions.specs.Decisions.{numbers_for}
 use Rattle.dep_decisions.specs.declared.decision.NewFile.{NewFile}
 use Rattle.dep_decisions.specs.declared.decision.Decision.{Decision}
 use Rattle.dep_decisions.specs.declared.decision.Decision.TheVariants.{SetFiles}
-use Rattle.dep_changes.proofs.Carried.{room_of_files, carried_as, fails_alike, fails_as}
-use Rattle.dep_changes.proofs.Causes.{by_statement, caused_among}
+use Rattle.dep_changes.proofs.Carried.{room_of_files, carried_as}
 use Rattle.dep_changes.proofs.carrying.change_maps.Goals as goal
 
 pub invariant_of-create : goal.invariant_of-create
@@ -27,119 +23,57 @@ returns-in-Create-clause-map g c =
     carried_as g.T.Statements.state c.args.tx.now c.create.new.tx c.create.result c.args.change.now c.args.decision.now _ c.in-Create.is
     c.create.ensures.map
 
-pub returns-in-Create-clause-cause : goal.returns-in-Create-clause-cause
-returns-in-Create-clause-cause g c =
-    fails_alike g.T.Statements.state c.args.tx.now c.create.new.tx c.create.result c.args.change.now c.args.decision.now _ c.in-Create.is
-    c.create.ensures.cause
-
 pub returns-in-Append-clause-map : goal.returns-in-Append-clause-map
 returns-in-Append-clause-map g c =
     carried_as g.T.Statements.state c.args.tx.now c.append.new.tx c.append.result c.args.change.now c.args.decision.now _ c.in-Append.is
     (c.append.ensures.map c.in-Append.object)
-
-pub returns-in-Append-clause-cause : goal.returns-in-Append-clause-cause
-returns-in-Append-clause-cause g c =
-    fails_as g.T.Statements.state c.args.tx.now c.append.new.tx c.append.result c.args.change.now c.args.decision.now _ c.in-Append.is
-    (c.append.ensures.cause c.in-Append.object)
 
 pub returns-in-Replace-clause-map : goal.returns-in-Replace-clause-map
 returns-in-Replace-clause-map g c =
     carried_as g.T.Statements.state c.args.tx.now c.replace.new.tx c.replace.result c.args.change.now c.args.decision.now _ c.in-Replace.is
     (c.replace.ensures.map c.in-Replace.object)
 
-pub returns-in-Replace-clause-cause : goal.returns-in-Replace-clause-cause
-returns-in-Replace-clause-cause g c =
-    fails_as g.T.Statements.state c.args.tx.now c.replace.new.tx c.replace.result c.args.change.now c.args.decision.now _ c.in-Replace.is
-    (c.replace.ensures.cause c.in-Replace.object)
-
 pub returns-in-Complete-clause-map : goal.returns-in-Complete-clause-map
 returns-in-Complete-clause-map g c =
     carried_as g.T.Statements.state c.args.tx.now c.complete.new.tx c.complete.result c.args.change.now c.args.decision.now _ c.in-Complete.is
     (c.complete.ensures.map c.in-Complete.object)
-
-pub returns-in-Complete-clause-cause : goal.returns-in-Complete-clause-cause
-returns-in-Complete-clause-cause g c =
-    fails_alike g.T.Statements.state c.args.tx.now c.complete.new.tx c.complete.result c.args.change.now c.args.decision.now _ c.in-Complete.is
-    (c.complete.ensures.cause c.in-Complete.object)
 
 pub returns-in-SetMetadata-clause-map : goal.returns-in-SetMetadata-clause-map
 returns-in-SetMetadata-clause-map g c =
     carried_as g.T.Statements.state c.args.tx.now c.set_texts.new.tx c.set_texts.result c.args.change.now c.args.decision.now _ c.in-SetMetadata.is
     (c.set_texts.ensures.map c.in-SetMetadata.object)
 
-pub returns-in-SetMetadata-clause-cause : goal.returns-in-SetMetadata-clause-cause
-returns-in-SetMetadata-clause-cause g c =
-    fails_alike g.T.Statements.state c.args.tx.now c.set_texts.new.tx c.set_texts.result c.args.change.now c.args.decision.now _ c.in-SetMetadata.is
-    (c.set_texts.ensures.cause c.in-SetMetadata.object)
-
 pub returns-in-SetFiles-clause-map : goal.returns-in-SetFiles-clause-map
 returns-in-SetFiles-clause-map g c =
     carried_as g.T.Statements.state c.args.tx.now c.set_files.new.tx c.set_files.result c.args.change.now c.args.decision.now _ (c.in-SetFiles.is ∙ ap (λ (new : List NewFile). SetFiles c.in-SetFiles.object new) (sym c.as_slice-files.ensures))
     (c.set_files.ensures.map c.in-SetFiles.object)
-
-pub returns-in-SetFiles-clause-cause : goal.returns-in-SetFiles-clause-cause
-returns-in-SetFiles-clause-cause g c =
-    fails_as g.T.Statements.state c.args.tx.now c.set_files.new.tx c.set_files.result c.args.change.now c.args.decision.now _ (c.in-SetFiles.is ∙ ap (λ (new : List NewFile). SetFiles c.in-SetFiles.object new) (sym c.as_slice-files.ensures))
-    (c.set_files.ensures.cause c.in-SetFiles.object)
 
 pub returns-in-SetFile-clause-map : goal.returns-in-SetFile-clause-map
 returns-in-SetFile-clause-map g c =
     carried_as g.T.Statements.state c.args.tx.now c.set_file.new.tx c.set_file.result c.args.change.now c.args.decision.now _ c.in-SetFile.is
     (c.set_file.ensures.map c.in-SetFile.object)
 
-pub returns-in-SetFile-clause-cause : goal.returns-in-SetFile-clause-cause
-returns-in-SetFile-clause-cause g c =
-    fails_alike g.T.Statements.state c.args.tx.now c.set_file.new.tx c.set_file.result c.args.change.now c.args.decision.now _ c.in-SetFile.is
-    (c.set_file.ensures.cause c.in-SetFile.object)
-
 pub returns-in-DropFile-clause-map : goal.returns-in-DropFile-clause-map
 returns-in-DropFile-clause-map g c =
     carried_as g.T.Statements.state c.args.tx.now c.drop_file.new.tx c.drop_file.result c.args.change.now c.args.decision.now _ c.in-DropFile.is
     (c.drop_file.ensures.map c.in-DropFile.object)
-
-pub returns-in-DropFile-clause-cause : goal.returns-in-DropFile-clause-cause
-returns-in-DropFile-clause-cause g c =
-    fails_alike g.T.Statements.state c.args.tx.now c.drop_file.new.tx c.drop_file.result c.args.change.now c.args.decision.now _ c.in-DropFile.is
-    (c.drop_file.ensures.cause c.in-DropFile.object)
 
 pub returns-in-DropObject-clause-map : goal.returns-in-DropObject-clause-map
 returns-in-DropObject-clause-map g c =
     carried_as g.T.Statements.state c.args.tx.now c.drop_object.new.tx c.drop_object.result c.args.change.now c.args.decision.now _ c.in-DropObject.is
     (record { done = λ clean inside ours s are told. c.drop_object.ensures.map.done told.1.0 clean inside ours s are told.1.1.1; keeps = c.drop_object.ensures.map.keeps })
 
-pub returns-in-DropObject-clause-cause : goal.returns-in-DropObject-clause-cause
-returns-in-DropObject-clause-cause g c =
-    fails_as g.T.Statements.state c.args.tx.now c.drop_object.new.tx c.drop_object.result c.args.change.now c.args.decision.now _ c.in-DropObject.is
-    c.drop_object.ensures.cause
-
 pub returns-in-Open-clause-map : goal.returns-in-Open-clause-map
 returns-in-Open-clause-map g c =
     carried_as g.T.Statements.state c.args.tx.now c.open.new.tx c.open.result c.args.change.now c.args.decision.now _ c.in-Open.is
     c.open.ensures.map
-
-pub returns-in-Open-clause-cause : goal.returns-in-Open-clause-cause
-returns-in-Open-clause-cause g c =
-    fails_alike g.T.Statements.state c.args.tx.now c.open.new.tx c.open.result c.args.change.now c.args.decision.now _ c.in-Open.is
-    c.open.ensures.cause
 
 pub returns-in-Receive-clause-map : goal.returns-in-Receive-clause-map
 returns-in-Receive-clause-map g c =
     carried_as g.T.Statements.state c.args.tx.now c.receive.new.tx c.receive.result c.args.change.now c.args.decision.now _ c.in-Receive.is
     (c.receive.ensures.map c.in-Receive.upload)
 
-pub returns-in-Receive-clause-cause : goal.returns-in-Receive-clause-cause
-returns-in-Receive-clause-cause g c =
-    fails_alike g.T.Statements.state c.args.tx.now c.receive.new.tx c.receive.result c.args.change.now c.args.decision.now _ c.in-Receive.is
-    (c.receive.ensures.cause c.in-Receive.upload)
-
 pub returns-in-DropUpload-clause-map : goal.returns-in-DropUpload-clause-map
 returns-in-DropUpload-clause-map g c =
     carried_as g.T.Statements.state c.args.tx.now c.drop_upload.new.tx c.drop_upload.result c.args.change.now c.args.decision.now _ c.in-DropUpload.is
     (record { done = λ clean inside ours s are told. c.drop_upload.ensures.does.map clean inside ours s are; keeps = c.drop_upload.ensures.does.keeps })
-
-pub returns-in-DropUpload-clause-cause : goal.returns-in-DropUpload-clause-cause
-returns-in-DropUpload-clause-cause g c =
-    fails_alike g.T.Statements.state c.args.tx.now c.drop_upload.new.tx c.drop_upload.result c.args.change.now c.args.decision.now _ c.in-DropUpload.is
-    (λ s storable clean inside.
-    caused_among g.T.Statements.state (FailsToDrop c.in-DropUpload.upload) (FailsHolding ⊥) (λ at now fault failed. by_statement ⊥ at now fault (drop_among at now fault c.in-DropUpload.upload failed)) c.drop_upload.result c.args.tx.now c.drop_upload.new.tx
-    (c.drop_upload.ensures.does.cause storable clean inside))

@@ -3,9 +3,7 @@ use Rattle.std.specs.Cmp.Lexicographic.{slice_cmp}
 use Rattle.std.specs.FinMap as finmap
 use Rattle.std.proofs.lemmas.List.{take_all}
 use Rattle.dep_types.specs.MetadataEntries.{name_and_texts}
-use Rattle.dep_tables.proofs.Results.{if_failed}
 use Rattle.dep_row_maps.proofs.Files.{entries-empty}
-use Rattle.dep_objects.proofs.Places.{has_some, some_entries}
 use Rattle.dep_changes.proofs.CopiedNames.{one_more_copied}
 use Rattle.dep_changes.proofs.copies.copied_metadata.Goals as goal
 
@@ -27,22 +25,8 @@ entries-preserved c =
     ∙ ap (λ (ts : List (List ℕ)). finmap.insert was e.name ts) texts)
     ∙ one_more_copied m all c.entries-entries.ensures was i e c.entries-test.true c.entry-item.is c.entries.invariant
 
-pub returns-clause-ok : goal.returns-clause-ok
-returns-clause-ok c =
-    finmap.same_entries_map c.entries.copied c.args.metadata.now
-    (c.entries.invariant ∙ ap (map name_and_texts) (take_all c.entries.entry-index c.entries-entries.result.now c.entries-test.false) ∙ c.entries-entries.ensures)
-
-pub returns-in_err-name-clause-err : goal.returns-in_err-name-clause-err
-returns-in_err-name-clause-err c =
-    let all = c.entries-entries.result.now in
-    if_failed c.from_residual.result (some_entries c.args.metadata.now all c.entries-entries.ensures (has_some all c.entries.entry-index c.entries-test.true))
-
-pub returns-in_err-texts-clause-err : goal.returns-in_err-texts-clause-err
-returns-in_err-texts-clause-err c =
-    let all = c.entries-entries.result.now in
-    if_failed c.from_residual-in_err-texts.result (some_entries c.args.metadata.now all c.entries-entries.ensures (has_some all c.entries.entry-index c.entries-test.true))
-
-pub returns-in_err-insert-clause-err : goal.returns-in_err-insert-clause-err
-returns-in_err-insert-clause-err c =
-    let all = c.entries-entries.result.now in
-    if_failed c.from_residual-in_err-insert.result (some_entries c.args.metadata.now all c.entries-entries.ensures (has_some all c.entries.entry-index c.entries-test.true))
+pub returns : goal.returns
+returns c = record {
+  ok = finmap.same_entries_map c.entries.copied c.args.metadata.now
+      (c.entries.invariant ∙ ap (map name_and_texts) (take_all c.entries.entry-index c.entries-entries.result.now c.entries-test.false) ∙ c.entries-entries.ensures);
+}

@@ -1,5 +1,5 @@
 use Rattle.std.specs.Prelude.{slice_get}
-use Rattle.dep_changes.proofs.NewObject.{posted_extent, whole_extent, never_lacks}
+use Rattle.dep_changes.proofs.NewObject.{posted_extent, whole_extent}
 use Rattle.dep_changes.proofs.created.extent_of.Goals as goal
 
 pub returns-in-Posted : goal.returns-in-Posted
@@ -9,7 +9,3 @@ returns-in-Posted c s source =
 pub returns-in_ok-upload-in-Assembled : goal.returns-in_ok-upload-in-Assembled
 returns-in_ok-upload-in-Assembled c s source =
     whole_extent s c.args.change.now.content.now (slice_get c.args.change.now.view.now.uploads c.args.index) c.args.source _ c.in_ok-upload-in-Assembled.upload.row c.in_ok-upload-in-Assembled.upload.digests c.in-Assembled.is c.in_ok-upload-in-Assembled.ensures.told source
-
-pub returns-in_err-upload-in-Assembled : goal.returns-in_err-upload-in-Assembled
-returns-in_err-upload-in-Assembled c s source =
-    never_lacks s c.args.change.now.content.now (slice_get c.args.change.now.view.now.uploads c.args.index) c.args.source _ c.in-Assembled.is c.in_err-upload-in-Assembled.ensures.absent source

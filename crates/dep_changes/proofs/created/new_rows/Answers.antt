@@ -4,10 +4,8 @@ use Rattle.std.proofs.lemmas.List.{take_all}
 use Rattle.dep_types.specs.Rows.{file_row}
 use Rattle.dep_types.specs.declared.counters.Counters.{Counters}
 use Rattle.dep_types.specs.declared.rows.FileRow.{FileRow}
-use Rattle.dep_row_maps.proofs.Causes.{if_err_is}
 use Rattle.dep_decisions.specs.Effects.{file_from}
 use Rattle.dep_objects.proofs.Named.{pushed}
-use Rattle.dep_objects.proofs.Places.{has_some}
 use Rattle.dep_changes.proofs.NewObject.{no_rows, rows_added, rows_more}
 use Rattle.dep_changes.proofs.created.new_rows.Goals as goal
 
@@ -32,17 +30,10 @@ files-preserved c s numbers sources =
     ∙ ap (λ (r : FileRow). rows_added s content n s.next.file (take i files) ++ r ∷ []) row
     ∙ sym (rows_more s content n s.next.file files i x at)
 
-pub returns-clause-told : goal.returns-clause-told
-returns-clause-told c s told =
-    c.new.ensures
-    ∙ c.files.invariant s told.0 told.1
-    ∙ ap (rows_added s c.args.numbered.now.change.now.content.now c.args.object s.next.file) (take_all c.files.index c.args.numbered.now.files.now c.files-test.false)
-
-pub returns-in_err-row-clause-cause : goal.returns-in_err-row-clause-cause
-returns-in_err-row-clause-cause c s sources =
-    let files = c.args.numbered.now.files.now in
-    let i = c.files.index in
-    let x = c.index-files-index.result in
-    let within : i < length files = omega arith in
-    let at : slice_get files i ≡ Some x = slice_get_read files (length files) i x refl within c.index-files-index.is in
-    if_err_is _ c.from_residual.result c.in_err-row.field-0.0 c.from_residual.ensures.1 (has_some files i within, c.in_err-row.ensures.cause s (sources.0 i x at))
+pub returns : goal.returns
+returns c = record {
+  told = λ s told.
+      c.new.ensures
+      ∙ c.files.invariant s told.0 told.1
+      ∙ ap (rows_added s c.args.numbered.now.change.now.content.now c.args.object s.next.file) (take_all c.files.index c.args.numbered.now.files.now c.files-test.false);
+}

@@ -2,17 +2,12 @@ use Rattle.std.proofs.Common.{◌≡◌, ℕ, IfOk, subst}
 use Rattle.dep_types.specs.Rows.{file_row}
 use Rattle.dep_decisions.specs.Effects.{file_from}
 use Rattle.dep_changes.proofs.Steps.{number_is}
-use Rattle.dep_changes.proofs.KnownShown.{never_told}
 use Rattle.dep_changes.proofs.created.replaced_file.Goals as goal
 
-pub returns-clause-told : goal.returns-clause-told
-returns-clause-told c s n o told object =
-    let view = c.args.change.now.view.now in
-    let number = number_is s n o view.object object.0 c.in_ok-object.field-0 c.in_ok-object.ensures.told in
-    subst (λ (k : ℕ). IfOk c.row_of.result (λ row. row ≡ file_row k c.args.file (file_from s c.args.change.now.content.now c.args.new.now))) number (c.row_of.ensures.told s told)
-
-pub returns-in_err-object-clause-cause : goal.returns-in_err-object-clause-cause
-returns-in_err-object-clause-cause c s n o source object = never_told s c.args.change.now.view.now n o object c.in_err-object.ensures.absent
-
-pub returns-clause-cause : goal.returns-clause-cause
-returns-clause-cause c s n o source object = c.row_of.ensures.cause s source
+pub returns : goal.returns
+returns c = record {
+  told = λ s n o told object.
+      let view = c.args.change.now.view.now in
+      let number = number_is s n o view.object object.0 c.in_ok-object.field-0 c.in_ok-object.ensures.told in
+      subst (λ (k : ℕ). IfOk c.row_of.result (λ row. row ≡ file_row k c.args.file (file_from s c.args.change.now.content.now c.args.new.now))) number (c.row_of.ensures.told s told);
+}

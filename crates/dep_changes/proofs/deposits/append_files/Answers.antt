@@ -9,54 +9,37 @@ use Rattle.dep_row_maps.proofs.Lens.{get_here}
 use Rattle.dep_decisions.specs.Effects.{with_files}
 use Rattle.dep_changes.proofs.Added.{new_files_again}
 use Rattle.dep_changes.proofs.Steps.{files_of_row, its_number, at_number, rewritten}
-use Rattle.std.proofs.Common.{◌≢◌, []}
-use Rattle.dep_row_maps.specs.Causes.{FailsHolding}
-use Rattle.dep_row_maps.specs.Causes.FailsHolding.{statement}
-use Rattle.dep_row_maps.specs.Causes.FailsByStatement.{object_written}
-use Rattle.dep_row_maps.proofs.Causes.{fails_first, if_err_is}
-use Rattle.dep_changes.proofs.Causes.{caused_later, files_fit}
 use Rattle.dep_row_maps.proofs.Changing.{changes_then, changes_err}
 use Rattle.dep_changes.proofs.deposits.append_files.Goals as goal
 
-pub returns-clause-map : goal.returns-clause-map
-returns-clause-map g c = record {
-  done = λ it clean inside ours s are told.
-      let view = c.args.numbered.now.change.now.view.now in
-      let mid = g.T.Statements.state c.write_row.new.tx in
-      let new = g.T.Statements.state c.put_new_files.new.tx in
-      let before = clean_before c.put_new_files.ensures.map.keeps.stays clean in
-      let numbers = told.0.0 in
-      let row = told.1 in
-      let n = c.args.row.object in
-      let now = c.files_changed.result in
-      let mark : Object = with_files s it.files it in
-      let is = files_of_row s n it c.args.row row.is_row view.clock view.next numbers.0 numbers.1 now it.files c.files_changed.ensures in
-      let put = at_number (tables_of mid) s now.object n mark (its_number n mark now is)
-      (c.in_ok-write_row.ensures.map.done mark before inside ours s are (rewritten s n row.was mark now is row.there row.metadata row.files)) in
-      let one : State = with_object s n mark in
-      ok_then c.put_new_files.result
-      (c.put_new_files.ensures.map.done mark clean (c.in_ok-write_row.ensures.map.keeps.stays.inside before inside) (c.in_ok-write_row.ensures.map.keeps.ours before inside ours) one put ((numbers, told.0.1), get_here s.objects n mark))
-      (λ added. new_files_again (tables_of new) s c.args.numbered.now.change.now.content.now n n mark mark c.args.numbered.now.files.now refl added);
-  keeps = changes_then c.in_ok-write_row.ensures.map.keeps c.put_new_files.ensures.map.keeps;
+pub returns : goal.returns
+returns g c = record {
+  map = record {
+    done = λ it clean inside ours s are told.
+        let view = c.args.numbered.now.change.now.view.now in
+        let mid = g.T.Statements.state c.write_row.new.tx in
+        let new = g.T.Statements.state c.put_new_files.new.tx in
+        let before = clean_before c.put_new_files.ensures.map.keeps.stays clean in
+        let numbers = told.0.0 in
+        let row = told.1 in
+        let n = c.args.row.object in
+        let now = c.files_changed.result in
+        let mark : Object = with_files s it.files it in
+        let is = files_of_row s n it c.args.row row.is_row view.clock view.next numbers.0 numbers.1 now it.files c.files_changed.ensures in
+        let put = at_number (tables_of mid) s now.object n mark (its_number n mark now is)
+        (c.in_ok-write_row.ensures.map.done mark before inside ours s are (rewritten s n row.was mark now is row.there row.metadata row.files)) in
+        let one : State = with_object s n mark in
+        ok_then c.put_new_files.result
+        (c.put_new_files.ensures.map.done mark clean (c.in_ok-write_row.ensures.map.keeps.stays.inside before inside) (c.in_ok-write_row.ensures.map.keeps.ours before inside ours) one put ((numbers, told.0.1), get_here s.objects n mark))
+        (λ added. new_files_again (tables_of new) s c.args.numbered.now.change.now.content.now n n mark mark c.args.numbered.now.files.now refl added);
+    keeps = changes_then c.in_ok-write_row.ensures.map.keeps c.put_new_files.ensures.map.keeps;
+  };
 }
 
-pub returns-in_err-write_row-clause-cause : goal.returns-in_err-write_row-clause-cause
-returns-in_err-write_row-clause-cause g c storable clean inside =
-    let view = c.args.numbered.now.change.now.view.now in
-    let held = c.args.numbered.now.files.now ≢ [] in
-    let fits = files_fit view storable.0 c.args.row c.files_changed.result storable.1 c.files_changed.ensures in
-    if_err_is _ c.from_residual.result c.in_err-write_row.field-0.0 c.from_residual.ensures.1
-    (fails_first g.T.Statements.state c.args.tx.now c.write_row.new.tx (FailsHolding held) _ (statement (object_written _ (c.in_err-write_row.ensures.cause fits clean inside))))
-
-pub returns-clause-cause : goal.returns-clause-cause
-returns-clause-cause g c storable clean inside =
-    let held = c.args.numbered.now.files.now ≢ [] in
-    let before = clean_before c.put_new_files.ensures.map.keeps.stays clean in
-    caused_later g.T.Statements.state (FailsHolding held) (FailsHolding held) (λ at now fault it. it) c.put_new_files.result c.args.tx.now c.write_row.new.tx c.put_new_files.new.tx c.in_ok-write_row.ensures.map.keeps.stays.survives
-    (c.put_new_files.ensures.cause (storable.0, storable.1.object, storable.2) clean (c.in_ok-write_row.ensures.map.keeps.stays.inside before inside))
-
-pub returns-in_err-write_row-clause-map : goal.returns-in_err-write_row-clause-map
-returns-in_err-write_row-clause-map g c = record {
-  done = λ o clean inside ours s are told. IfOk-from_err c.from_residual.result _ c.from_residual.ensures.0;
-  keeps = changes_err c.from_residual.ensures.0 c.in_err-write_row.ensures.map.keeps.stays;
+pub returns-in_err-write_row : goal.returns-in_err-write_row
+returns-in_err-write_row g c = record {
+  map = record {
+    done = λ o clean inside ours s are told. IfOk-from_err c.from_residual.result _ c.from_residual.ensures.0;
+    keeps = changes_err c.from_residual.ensures.0 c.in_err-write_row.ensures.map.keeps.stays;
+  };
 }

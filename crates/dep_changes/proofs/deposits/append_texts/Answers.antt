@@ -9,75 +9,38 @@ use Rattle.dep_row_maps.proofs.Lens.{get_here}
 use Rattle.dep_types.specs.MetadataEntries.{joined}
 use Rattle.dep_decisions.specs.Effects.{with_texts}
 use Rattle.dep_changes.proofs.Steps.{texts_of_row, its_number, at_number, rewritten, written_again}
-use Rattle.std.proofs.Common.{◌≡◌, ◌≢◌, ◌⊎◌, subst, sym}
-use Rattle.dep_types.specs.State.{Texts}
-use Rattle.dep_row_maps.specs.TablesAre.{metadata_at}
-use Rattle.dep_row_maps.specs.Causes.{FailsHolding}
-use Rattle.dep_row_maps.specs.Causes.FailsHolding.{statement}
-use Rattle.dep_row_maps.specs.Causes.FailsByStatement.{object_written}
-use Rattle.dep_row_maps.proofs.Causes.{fails_first, holding_more, if_err_is}
-use Rattle.dep_objects.specs.Texts.{HavePlaces}
-use Rattle.dep_changes.proofs.Steps.{texts_of}
-use Rattle.dep_changes.proofs.Causes.{caused_later, texts_fit}
 use Rattle.dep_row_maps.proofs.Changing.{changes_then, changes_err}
 use Rattle.dep_changes.proofs.deposits.append_texts.Goals as goal
 
-pub returns-clause-map : goal.returns-clause-map
-returns-clause-map g c = record {
-  done = λ it clean inside ours s are told.
-      let view = c.args.change.now.view.now in
-      let mid = g.T.Statements.state c.write_row.new.tx in
-      let new = g.T.Statements.state c.append_metadata.new.tx in
-      let before = clean_before c.append_metadata.ensures.does.keeps.stays clean in
-      let numbers = told.0.0 in
-      let row = told.1 in
-      let n = c.args.row.object in
-      let now = c.texts_changed.result in
-      let mark : Object = with_texts s it.metadata it in
-      let is = texts_of_row s n it c.args.row row.is_row view.clock view.next numbers.0 numbers.1 now it.metadata c.texts_changed.ensures in
-      let put = at_number (tables_of mid) s now.object n mark (its_number n mark now is)
-      (c.in_ok-write_row.ensures.map.done mark before inside ours s are (rewritten s n row.was mark now is row.there row.metadata row.files)) in
-      let one : State = with_object s n mark in
-      let after : Object = with_texts s (joined (finmap.entries c.args.metadata.now) it.metadata) it in
-      ok_then c.append_metadata.result
-      (c.append_metadata.ensures.does.done clean (c.in_ok-write_row.ensures.map.keeps.stays.inside before inside) (c.in_ok-write_row.ensures.map.keeps.ours before inside ours) one put mark (get_here s.objects n mark))
-      (λ added. written_again (tables_of new) s n mark after added);
-  keeps = changes_then c.in_ok-write_row.ensures.map.keeps c.append_metadata.ensures.does.keeps;
+pub returns : goal.returns
+returns g c = record {
+  map = record {
+    done = λ it clean inside ours s are told.
+        let view = c.args.change.now.view.now in
+        let mid = g.T.Statements.state c.write_row.new.tx in
+        let new = g.T.Statements.state c.append_metadata.new.tx in
+        let before = clean_before c.append_metadata.ensures.does.keeps.stays clean in
+        let numbers = told.0.0 in
+        let row = told.1 in
+        let n = c.args.row.object in
+        let now = c.texts_changed.result in
+        let mark : Object = with_texts s it.metadata it in
+        let is = texts_of_row s n it c.args.row row.is_row view.clock view.next numbers.0 numbers.1 now it.metadata c.texts_changed.ensures in
+        let put = at_number (tables_of mid) s now.object n mark (its_number n mark now is)
+        (c.in_ok-write_row.ensures.map.done mark before inside ours s are (rewritten s n row.was mark now is row.there row.metadata row.files)) in
+        let one : State = with_object s n mark in
+        let after : Object = with_texts s (joined (finmap.entries c.args.metadata.now) it.metadata) it in
+        ok_then c.append_metadata.result
+        (c.append_metadata.ensures.does.map clean (c.in_ok-write_row.ensures.map.keeps.stays.inside before inside) (c.in_ok-write_row.ensures.map.keeps.ours before inside ours) one put mark (get_here s.objects n mark))
+        (λ added. written_again (tables_of new) s n mark after added);
+    keeps = changes_then c.in_ok-write_row.ensures.map.keeps c.append_metadata.ensures.does.keeps;
+  };
 }
 
-pub returns-in_err-write_row-clause-cause : goal.returns-in_err-write_row-clause-cause
-returns-in_err-write_row-clause-cause g c it clean inside ours s are storable =
-    let view = c.args.change.now.view.now in
-    let held = (it.metadata ≢ finmap.empty) ⊎ (c.args.metadata.now ≢ finmap.empty) in
-    let fits = texts_fit view storable.2.0 c.args.row c.texts_changed.result storable.2.1 c.texts_changed.ensures in
-    if_err_is _ c.from_residual.result c.in_err-write_row.field-0.0 c.from_residual.ensures.1
-    (fails_first g.T.Statements.state c.args.tx.now c.write_row.new.tx (FailsHolding held) _ (statement (object_written _ (c.in_err-write_row.ensures.cause fits clean inside))))
-
-pub returns-clause-cause : goal.returns-clause-cause
-returns-clause-cause g c it clean inside ours s are storable =
-    let view = c.args.change.now.view.now in
-    let numbers = storable.0 in
-    let row = storable.1 in
-    let more = c.args.metadata.now in
-    let mid = g.T.Statements.state c.write_row.new.tx in
-    let before = clean_before c.append_metadata.ensures.does.keeps.stays clean in
-    let n = c.args.row.object in
-    let now = c.texts_changed.result in
-    let mark : Object = with_texts s it.metadata it in
-    let is = texts_of_row s n it c.args.row row.is_row view.clock view.next numbers.0 numbers.1 now it.metadata c.texts_changed.ensures in
-    let put = at_number (tables_of mid) s now.object n mark (its_number n mark now is)
-    (c.in_ok-write_row.ensures.map.done mark before inside ours s are (rewritten s n row.was mark now is row.there row.metadata row.files)) in
-    let one : State = with_object s n mark in
-    let have : it.metadata ≡ metadata_at one.objects n = texts_of one n mark (get_here s.objects n mark) in
-    let few = (metadata_at one.objects n ≢ finmap.empty) ⊎ (more ≢ finmap.empty) in
-    let held = (it.metadata ≢ finmap.empty) ⊎ (more ≢ finmap.empty) in
-    let among : few → held = λ some. subst (λ (m : Texts). (m ≢ finmap.empty) ⊎ (more ≢ finmap.empty)) (sym have) some in
-    caused_later g.T.Statements.state (FailsHolding few) (FailsHolding held) (holding_more among) c.append_metadata.result c.args.tx.now c.write_row.new.tx c.append_metadata.new.tx c.in_ok-write_row.ensures.map.keeps.stays.survives
-    (c.append_metadata.ensures.cause clean (c.in_ok-write_row.ensures.map.keeps.stays.inside before inside) (c.in_ok-write_row.ensures.map.keeps.ours before inside ours) one put storable.2.1.object
-    (subst (λ (m : Texts). HavePlaces m (finmap.entries more)) have storable.2.2))
-
-pub returns-in_err-write_row-clause-map : goal.returns-in_err-write_row-clause-map
-returns-in_err-write_row-clause-map g c = record {
-  done = λ o clean inside ours s are told. IfOk-from_err c.from_residual.result _ c.from_residual.ensures.0;
-  keeps = changes_err c.from_residual.ensures.0 c.in_err-write_row.ensures.map.keeps.stays;
+pub returns-in_err-write_row : goal.returns-in_err-write_row
+returns-in_err-write_row g c = record {
+  map = record {
+    done = λ o clean inside ours s are told. IfOk-from_err c.from_residual.result _ c.from_residual.ensures.0;
+    keeps = changes_err c.from_residual.ensures.0 c.in_err-write_row.ensures.map.keeps.stays;
+  };
 }

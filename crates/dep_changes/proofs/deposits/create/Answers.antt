@@ -10,57 +10,40 @@ use Rattle.dep_row_maps.proofs.Lens.{get_here}
 use Rattle.dep_decisions.specs.Effects.{blank}
 use Rattle.dep_changes.proofs.Filled.{blank_added, blank_row_is, still_have, deposit_again}
 use Rattle.dep_changes.proofs.Steps.{its_number, its_own, at_number, there_at}
-use Rattle.dep_row_maps.specs.Causes.{FailsHolding}
-use Rattle.dep_row_maps.specs.Causes.FailsHolding.{statement}
-use Rattle.dep_row_maps.specs.Causes.FailsByStatement.{object_added}
-use Rattle.dep_row_maps.proofs.Causes.{fails_first, if_err_is}
-use Rattle.dep_changes.specs.Causes.{HasCopies}
-use Rattle.dep_changes.proofs.Causes.{blank_fits, caused_later}
 use Rattle.dep_row_maps.proofs.Changing.{changes_then, changes_err}
 use Rattle.dep_changes.proofs.deposits.create.Goals as goal
 
-pub returns-clause-map : goal.returns-clause-map
-returns-clause-map g c = record {
-  done = λ clean inside ours s are told.
-      let view = c.args.numbered.now.change.now.view.now in
-      let numbers = told.0 in
-      let content = c.args.numbered.now.change.now.content.now in
-      let mid = g.T.Statements.state c.add_object.new.tx in
-      let new = g.T.Statements.state c.fill.new.tx in
-      let before = clean_before c.fill.ensures.map.keeps.stays clean in
-      let k = view.next.object in
-      let n = s.next.object in
-      let number = ap (λ (next : Counters). next.object) numbers.1 in
-      let now = c.blank_row.result in
-      let it : Object = blank s c.args.ingests in
-      let is = blank_row_is s view.clock view.next numbers.0 numbers.1 now k c.args.ingests c.blank_row.ensures in
-      let to = its_number k it now is ∙ number in
-      let put = at_number (tables_of mid) s now.object n it to (blank_added (tables_of mid) s now it (its_own k it now is) refl refl (c.in_ok-add_object.ensures.does.map before inside ours s are)) in
-      let one : State = with_object s n it in
-      ok_then c.fill.result
-      (c.fill.ensures.map.done it clean (c.in_ok-add_object.ensures.does.keeps.stays.inside before inside) (c.in_ok-add_object.ensures.does.keeps.ours before inside ours) one put
-      ((numbers, still_have one.objects s content view.uploads c.args.numbered.now.deposit.now told.1.1), there_at one.objects k n it number (get_here s.objects n it)))
-      (λ done. deposit_again (tables_of new) s content k n it c.args.numbered.now.deposit.now c.args.ingests number done);
-  keeps = changes_then c.in_ok-add_object.ensures.does.keeps c.fill.ensures.map.keeps;
+pub returns : goal.returns
+returns g c = record {
+  map = record {
+    done = λ clean inside ours s are told.
+        let view = c.args.numbered.now.change.now.view.now in
+        let numbers = told.0 in
+        let content = c.args.numbered.now.change.now.content.now in
+        let mid = g.T.Statements.state c.add_object.new.tx in
+        let new = g.T.Statements.state c.fill.new.tx in
+        let before = clean_before c.fill.ensures.map.keeps.stays clean in
+        let k = view.next.object in
+        let n = s.next.object in
+        let number = ap (λ (next : Counters). next.object) numbers.1 in
+        let now = c.blank_row.result in
+        let it : Object = blank s c.args.ingests in
+        let is = blank_row_is s view.clock view.next numbers.0 numbers.1 now k c.args.ingests c.blank_row.ensures in
+        let to = its_number k it now is ∙ number in
+        let put = at_number (tables_of mid) s now.object n it to (blank_added (tables_of mid) s now it (its_own k it now is) refl refl (c.in_ok-add_object.ensures.does.map before inside ours s are)) in
+        let one : State = with_object s n it in
+        ok_then c.fill.result
+        (c.fill.ensures.map.done it clean (c.in_ok-add_object.ensures.does.keeps.stays.inside before inside) (c.in_ok-add_object.ensures.does.keeps.ours before inside ours) one put
+        ((numbers, still_have one.objects s content view.uploads c.args.numbered.now.deposit.now told.1.1), there_at one.objects k n it number (get_here s.objects n it)))
+        (λ done. deposit_again (tables_of new) s content k n it c.args.numbered.now.deposit.now c.args.ingests number done);
+    keeps = changes_then c.in_ok-add_object.ensures.does.keeps c.fill.ensures.map.keeps;
+  };
 }
 
-pub returns-in_err-add_object-clause-cause : goal.returns-in_err-add_object-clause-cause
-returns-in_err-add_object-clause-cause g c s storable clean inside =
-    let view = c.args.numbered.now.change.now.view.now in
-    let held = HasCopies c.args.numbered.now.deposit.now in
-    let fits = blank_fits view storable.0 c.blank_row.result _ _ storable.0.object c.blank_row.ensures in
-    if_err_is _ c.from_residual.result c.in_err-add_object.field-0.0 c.from_residual.ensures.1
-    (fails_first g.T.Statements.state c.args.tx.now c.add_object.new.tx (FailsHolding held) _ (statement (object_added _ (c.in_err-add_object.ensures.does.cause fits clean inside))))
-
-pub returns-clause-cause : goal.returns-clause-cause
-returns-clause-cause g c s storable clean inside =
-    let held = HasCopies c.args.numbered.now.deposit.now in
-    let before = clean_before c.fill.ensures.map.keeps.stays clean in
-    caused_later g.T.Statements.state (FailsHolding held) (FailsHolding held) (λ at now fault it. it) c.fill.result c.args.tx.now c.add_object.new.tx c.fill.new.tx c.in_ok-add_object.ensures.does.keeps.stays.survives
-    (c.fill.ensures.cause (storable.0, storable.0.object, storable.1) clean (c.in_ok-add_object.ensures.does.keeps.stays.inside before inside))
-
-pub returns-in_err-add_object-clause-map : goal.returns-in_err-add_object-clause-map
-returns-in_err-add_object-clause-map g c = record {
-  done = λ clean inside ours s are told. IfOk-from_err c.from_residual.result _ c.from_residual.ensures.0;
-  keeps = changes_err c.from_residual.ensures.0 c.in_err-add_object.ensures.does.keeps.stays;
+pub returns-in_err-add_object : goal.returns-in_err-add_object
+returns-in_err-add_object g c = record {
+  map = record {
+    done = λ clean inside ours s are told. IfOk-from_err c.from_residual.result _ c.from_residual.ensures.0;
+    keeps = changes_err c.from_residual.ensures.0 c.in_err-add_object.ensures.does.keeps.stays;
+  };
 }

@@ -11,126 +11,89 @@ use Rattle.dep_decisions.specs.Effects.{blank, filled, ingested_by, uploads_in, 
 use Rattle.dep_changes.proofs.Carried.{at_object}
 use Rattle.dep_changes.proofs.Filled.{ingested_row, blank_again, still_have, deposit_again}
 use Rattle.dep_changes.proofs.Steps.{row_is, its_number, at_number, rewritten, there_at, written_again}
-use Rattle.dep_row_maps.specs.Causes.{FailsByStatement, FailsHolding}
-use Rattle.dep_row_maps.specs.Causes.FailsHolding.{statement}
-use Rattle.dep_row_maps.specs.Causes.FailsByStatement.{object_written}
-use Rattle.dep_row_maps.proofs.Causes.{fails_among, fails_later, fails_then, if_err_is}
-use Rattle.dep_changes.specs.Causes.{HasCopies}
-use Rattle.dep_changes.proofs.Causes.{by_statement, caused_later, blank_fits, found_fits, ingested_fits, never_absent}
 use Rattle.dep_row_maps.proofs.Changing.{changes_err, changes_then, changes_put}
 use Rattle.dep_changes.proofs.deposits.replace.Goals as goal
 
-pub returns-clause-map : goal.returns-clause-map
-returns-clause-map g c n = record {
-  done = λ clean inside ours s are told.
-      let view = c.args.numbered.now.change.now.view.now in
-      let numbers = told.0 in
-      let o = told.1.0 in
-      let object = told.1.1 in
-      let content = c.args.numbered.now.change.now.content.now in
-      let one = g.T.Statements.state c.delete_files.new.tx in
-      let two = g.T.Statements.state c.clear_metadata.new.tx in
-      let three = g.T.Statements.state c.write_row.new.tx in
-      let new = g.T.Statements.state c.fill.new.tx in
-      let clean_three = clean_before c.fill.ensures.map.keeps.stays clean in
-      let clean_two = clean_before c.write_row.ensures.map.keeps.stays clean_three in
-      let clean_one = clean_before c.clear_metadata.ensures.map.keeps.stays clean_two in
-      let inside_one = c.in_ok-delete_files.ensures.does.keeps.stays.inside clean_one inside in
-      let ours_one = c.in_ok-delete_files.ensures.does.keeps.ours clean_one inside ours in
-      let inside_two = c.in_ok-clear_metadata.ensures.map.keeps.stays.inside clean_two inside_one in
-      let ours_two = c.in_ok-clear_metadata.ensures.map.keeps.ours clean_two inside_one ours_one in
-      let row = c.ingested_by-row.result in
-      let ingested = o.ingested || c.args.ingests in
-      let it : Object = ingested_by c.args.ingests o in
-      let row_of = ingested_row n o c.args.ingests c.in_ok-touched_object.field-0 row (row_is s n o view.object object.0 c.in_ok-touched_object.field-0 c.in_ok-touched_object.ensures.told) c.ingested_by-row.ensures in
-      let number = its_number n it row row_of in
-      let left : Object = record o { files = finmap.empty } in
-      let gone = at_number (tables_of one) s row.object n left number (c.in_ok-delete_files.ensures.does.done clean_one inside ours s are o (there_at s.objects row.object n o number object.1)) in
-      let first : State = with_object s n left in
-      let bare : Object = record left { metadata = finmap.empty } in
-      let cleared = written_again (tables_of two) s n left bare (at_number (tables_of two) first row.object n bare number
-      (c.in_ok-clear_metadata.ensures.map.done left clean_two inside_one ours_one first gone (there_at first.objects row.object n left number (get_here s.objects n left)))) in
-      let second : State = with_object s n bare in
-      let now = c.blank_row.result in
-      let clear : Object = blank s ingested in
-      let is = blank_again s view.clock view.next numbers.0 numbers.1 now n it row row_of c.blank_row.ensures in
-      let put = written_again (tables_of three) s n bare clear (at_number (tables_of three) second now.object n clear (its_number n clear now is)
-      (c.in_ok-write_row.ensures.map.done clear clean_three inside_two ours_two second cleared (rewritten second n bare clear now is (get_here s.objects n bare) refl refl))) in
-      let third : State = with_object s n clear in
-      at_object s (without s.uploads (uploads_in c.args.numbered.now.deposit.now)) new c.fill.result n o (λ (x : Object). filled s content c.args.numbered.now.deposit.now (x.ingested || c.args.ingests)) object.1
-      (ok_then c.fill.result
-      (c.fill.ensures.map.done clear clean (c.in_ok-write_row.ensures.map.keeps.stays.inside clean_three inside_two) (c.in_ok-write_row.ensures.map.keeps.ours clean_three inside_two ours_two) third put
-      ((numbers, still_have third.objects s content view.uploads c.args.numbered.now.deposit.now told.1.2), there_at third.objects row.object n clear number (get_here s.objects n clear)))
-      (λ done. deposit_again (tables_of new) s content row.object n clear c.args.numbered.now.deposit.now ingested number done));
-  keeps = changes_then (changes_then (changes_then c.in_ok-delete_files.ensures.does.keeps c.in_ok-clear_metadata.ensures.map.keeps) c.in_ok-write_row.ensures.map.keeps) c.fill.ensures.map.keeps;
+pub returns : goal.returns
+returns g c = record {
+  map = λ n.
+      record {
+        done = λ clean inside ours s are told.
+            let view = c.args.numbered.now.change.now.view.now in
+            let numbers = told.0 in
+            let o = told.1.0 in
+            let object = told.1.1 in
+            let content = c.args.numbered.now.change.now.content.now in
+            let one = g.T.Statements.state c.delete_files.new.tx in
+            let two = g.T.Statements.state c.clear_metadata.new.tx in
+            let three = g.T.Statements.state c.write_row.new.tx in
+            let new = g.T.Statements.state c.fill.new.tx in
+            let clean_three = clean_before c.fill.ensures.map.keeps.stays clean in
+            let clean_two = clean_before c.write_row.ensures.map.keeps.stays clean_three in
+            let clean_one = clean_before c.clear_metadata.ensures.map.keeps.stays clean_two in
+            let inside_one = c.in_ok-delete_files.ensures.does.keeps.stays.inside clean_one inside in
+            let ours_one = c.in_ok-delete_files.ensures.does.keeps.ours clean_one inside ours in
+            let inside_two = c.in_ok-clear_metadata.ensures.map.keeps.stays.inside clean_two inside_one in
+            let ours_two = c.in_ok-clear_metadata.ensures.map.keeps.ours clean_two inside_one ours_one in
+            let row = c.ingested_by-row.result in
+            let ingested = o.ingested || c.args.ingests in
+            let it : Object = ingested_by c.args.ingests o in
+            let row_of = ingested_row n o c.args.ingests c.in_ok-touched_object.field-0 row (row_is s n o view.object object.0 c.in_ok-touched_object.field-0 c.in_ok-touched_object.ensures.told) c.ingested_by-row.ensures in
+            let number = its_number n it row row_of in
+            let left : Object = record o { files = finmap.empty } in
+            let gone = at_number (tables_of one) s row.object n left number (c.in_ok-delete_files.ensures.does.map clean_one inside ours s are o (there_at s.objects row.object n o number object.1)) in
+            let first : State = with_object s n left in
+            let bare : Object = record left { metadata = finmap.empty } in
+            let cleared = written_again (tables_of two) s n left bare (at_number (tables_of two) first row.object n bare number
+            (c.in_ok-clear_metadata.ensures.map.done left clean_two inside_one ours_one first gone (there_at first.objects row.object n left number (get_here s.objects n left)))) in
+            let second : State = with_object s n bare in
+            let now = c.blank_row.result in
+            let clear : Object = blank s ingested in
+            let is = blank_again s view.clock view.next numbers.0 numbers.1 now n it row row_of c.blank_row.ensures in
+            let put = written_again (tables_of three) s n bare clear (at_number (tables_of three) second now.object n clear (its_number n clear now is)
+            (c.in_ok-write_row.ensures.map.done clear clean_three inside_two ours_two second cleared (rewritten second n bare clear now is (get_here s.objects n bare) refl refl))) in
+            let third : State = with_object s n clear in
+            at_object s (without s.uploads (uploads_in c.args.numbered.now.deposit.now)) new c.fill.result n o (λ (x : Object). filled s content c.args.numbered.now.deposit.now (x.ingested || c.args.ingests)) object.1
+            (ok_then c.fill.result
+            (c.fill.ensures.map.done clear clean (c.in_ok-write_row.ensures.map.keeps.stays.inside clean_three inside_two) (c.in_ok-write_row.ensures.map.keeps.ours clean_three inside_two ours_two) third put
+            ((numbers, still_have third.objects s content view.uploads c.args.numbered.now.deposit.now told.1.2), there_at third.objects row.object n clear number (get_here s.objects n clear)))
+            (λ done. deposit_again (tables_of new) s content row.object n clear c.args.numbered.now.deposit.now ingested number done));
+        keeps = changes_then (changes_then (changes_then c.in_ok-delete_files.ensures.does.keeps c.in_ok-clear_metadata.ensures.map.keeps) c.in_ok-write_row.ensures.map.keeps) c.fill.ensures.map.keeps;
+      };
 }
 
-pub returns-in_err-clear_metadata-clause-map : goal.returns-in_err-clear_metadata-clause-map
-returns-in_err-clear_metadata-clause-map g c n = record {
-  done = λ clean inside ours s are told. IfOk-from_err c.from_residual-in_err-clear_metadata.result _ c.from_residual-in_err-clear_metadata.ensures.0;
-  keeps = changes_err c.from_residual-in_err-clear_metadata.ensures.0 (stays_then c.in_ok-delete_files.ensures.does.keeps.stays c.clear_metadata.ensures.map.keeps.stays);
+pub returns-in_err-clear_metadata : goal.returns-in_err-clear_metadata
+returns-in_err-clear_metadata g c = record {
+  map = λ n.
+      record {
+        done = λ clean inside ours s are told. IfOk-from_err c.from_residual-in_err-clear_metadata.result _ c.from_residual-in_err-clear_metadata.ensures.0;
+        keeps = changes_err c.from_residual-in_err-clear_metadata.ensures.0 (stays_then c.in_ok-delete_files.ensures.does.keeps.stays c.clear_metadata.ensures.map.keeps.stays);
+      };
 }
 
-pub returns-in_err-write_row-clause-map : goal.returns-in_err-write_row-clause-map
-returns-in_err-write_row-clause-map g c n = record {
-  done = λ clean inside ours s are told. IfOk-from_err c.from_residual-in_err-write_row.result _ c.from_residual-in_err-write_row.ensures.0;
-  keeps = changes_err c.from_residual-in_err-write_row.ensures.0 (stays_then (stays_then c.in_ok-delete_files.ensures.does.keeps.stays c.in_ok-clear_metadata.ensures.map.keeps.stays) c.write_row.ensures.map.keeps.stays);
+pub returns-in_err-write_row : goal.returns-in_err-write_row
+returns-in_err-write_row g c = record {
+  map = λ n.
+      record {
+        done = λ clean inside ours s are told. IfOk-from_err c.from_residual-in_err-write_row.result _ c.from_residual-in_err-write_row.ensures.0;
+        keeps = changes_err c.from_residual-in_err-write_row.ensures.0 (stays_then (stays_then c.in_ok-delete_files.ensures.does.keeps.stays c.in_ok-clear_metadata.ensures.map.keeps.stays) c.write_row.ensures.map.keeps.stays);
+      };
 }
 
-pub returns-in_err-touched_object-clause-cause : goal.returns-in_err-touched_object-clause-cause
-returns-in_err-touched_object-clause-cause g c n clean inside ours s are storable = never_absent c.args.numbered.now.change.now.view.now storable.1 c.in_err-touched_object.ensures.absent
-
-pub returns-in_err-delete_files-clause-cause : goal.returns-in_err-delete_files-clause-cause
-returns-in_err-delete_files-clause-cause g c n clean inside ours s are storable =
-    let view = c.args.numbered.now.change.now.view.now in
-    let told = storable.1 in
-    let held = HasCopies c.args.numbered.now.deposit.now in
-    let row = ingested_fits c.in_ok-touched_object.field-0 c.ingested_by-row.result c.args.ingests (found_fits view told c.in_ok-touched_object.field-0 c.in_ok-touched_object.ensures.told) c.ingested_by-row.ensures in
-    if_err_is _ c.from_residual-in_err-delete_files.result c.in_err-delete_files.field-0.0 c.from_residual-in_err-delete_files.ensures.1
-    (fails_among g.T.Statements.state c.args.tx.now c.delete_files.new.tx FailsByStatement (FailsHolding held) (by_statement held) _ (c.in_err-delete_files.ensures.cause clean inside ours s are storable.0 row.object))
-
-pub returns-in_err-clear_metadata-clause-cause : goal.returns-in_err-clear_metadata-clause-cause
-returns-in_err-clear_metadata-clause-cause g c n clean inside ours s are storable =
-    let view = c.args.numbered.now.change.now.view.now in
-    let told = storable.1 in
-    let held = HasCopies c.args.numbered.now.deposit.now in
-    let before = clean_before c.clear_metadata.ensures.map.keeps.stays clean in
-    let row = ingested_fits c.in_ok-touched_object.field-0 c.ingested_by-row.result c.args.ingests (found_fits view told c.in_ok-touched_object.field-0 c.in_ok-touched_object.ensures.told) c.ingested_by-row.ensures in
-    if_err_is _ c.from_residual-in_err-clear_metadata.result c.in_err-clear_metadata.field-0.0 c.from_residual-in_err-clear_metadata.ensures.1
-    (fails_later g.T.Statements.state c.args.tx.now c.delete_files.new.tx c.clear_metadata.new.tx c.in_ok-delete_files.ensures.does.keeps.stays.survives FailsByStatement (FailsHolding held) (by_statement held) _
-    (c.in_err-clear_metadata.ensures.cause row.object clean (c.in_ok-delete_files.ensures.does.keeps.stays.inside before inside)))
-
-pub returns-in_err-write_row-clause-cause : goal.returns-in_err-write_row-clause-cause
-returns-in_err-write_row-clause-cause g c n clean inside ours s are storable =
-    let view = c.args.numbered.now.change.now.view.now in
-    let told = storable.1 in
-    let held = HasCopies c.args.numbered.now.deposit.now in
-    let two = stays_then c.in_ok-delete_files.ensures.does.keeps.stays c.in_ok-clear_metadata.ensures.map.keeps.stays in
-    let before = clean_before c.write_row.ensures.map.keeps.stays clean in
-    let row = ingested_fits c.in_ok-touched_object.field-0 c.ingested_by-row.result c.args.ingests (found_fits view told c.in_ok-touched_object.field-0 c.in_ok-touched_object.ensures.told) c.ingested_by-row.ensures in
-    if_err_is _ c.from_residual-in_err-write_row.result c.in_err-write_row.field-0.0 c.from_residual-in_err-write_row.ensures.1
-    (fails_then g.T.Statements.state c.args.tx.now c.clear_metadata.new.tx c.write_row.new.tx two.survives (FailsHolding held) _
-    (statement (object_written _ (c.in_err-write_row.ensures.cause (blank_fits view told.numbers c.blank_row.result _ _ row.object c.blank_row.ensures) clean (two.inside before inside)))))
-
-pub returns-clause-cause : goal.returns-clause-cause
-returns-clause-cause g c n clean inside ours s are storable =
-    let view = c.args.numbered.now.change.now.view.now in
-    let told = storable.1 in
-    let held = HasCopies c.args.numbered.now.deposit.now in
-    let three = stays_then (stays_then c.in_ok-delete_files.ensures.does.keeps.stays c.in_ok-clear_metadata.ensures.map.keeps.stays) c.in_ok-write_row.ensures.map.keeps.stays in
-    let before = clean_before c.fill.ensures.map.keeps.stays clean in
-    let row = ingested_fits c.in_ok-touched_object.field-0 c.ingested_by-row.result c.args.ingests (found_fits view told c.in_ok-touched_object.field-0 c.in_ok-touched_object.ensures.told) c.ingested_by-row.ensures in
-    caused_later g.T.Statements.state (FailsHolding held) (FailsHolding held) (λ at now fault it. it) c.fill.result c.args.tx.now c.write_row.new.tx c.fill.new.tx three.survives
-    (c.fill.ensures.cause (told.numbers, row.object, storable.2) clean (three.inside before inside))
-
-pub returns-in_err-touched_object-clause-map : goal.returns-in_err-touched_object-clause-map
-returns-in_err-touched_object-clause-map g c n = record {
-  done = λ clean inside ours s are told. IfOk-from_err c.from_residual.result _ c.from_residual.ensures.0;
-  keeps = changes_put g.T.Statements.lenders g.T.Statements.state c.args.tx.now _;
+pub returns-in_err-touched_object : goal.returns-in_err-touched_object
+returns-in_err-touched_object g c = record {
+  map = λ n.
+      record {
+        done = λ clean inside ours s are told. IfOk-from_err c.from_residual.result _ c.from_residual.ensures.0;
+        keeps = changes_put g.T.Statements.lenders g.T.Statements.state c.args.tx.now _;
+      };
 }
 
-pub returns-in_err-delete_files-clause-map : goal.returns-in_err-delete_files-clause-map
-returns-in_err-delete_files-clause-map g c n = record {
-  done = λ clean inside ours s are told. IfOk-from_err c.from_residual-in_err-delete_files.result _ c.from_residual-in_err-delete_files.ensures.0;
-  keeps = changes_err c.from_residual-in_err-delete_files.ensures.0 c.in_err-delete_files.ensures.does.keeps.stays;
+pub returns-in_err-delete_files : goal.returns-in_err-delete_files
+returns-in_err-delete_files g c = record {
+  map = λ n.
+      record {
+        done = λ clean inside ours s are told. IfOk-from_err c.from_residual-in_err-delete_files.result _ c.from_residual-in_err-delete_files.ensures.0;
+        keeps = changes_err c.from_residual-in_err-delete_files.ensures.0 c.in_err-delete_files.ensures.does.keeps.stays;
+      };
 }

@@ -9,12 +9,6 @@ use Rattle.dep_changes.proofs.Added.{with_new_files, state_before, object_before
 use Rattle.std.proofs.lemmas.Option.{slice_get_read}
 use Rattle.std.proofs.lemmas.List.{take_all}
 use Rattle.dep_row_maps.specs.TablesAre.{TablesAre}
-use Rattle.std.proofs.Common.{◌≢◌, []}
-use Rattle.std.specs.Prelude.{⊤}
-use Rattle.dep_row_maps.specs.Causes.{FailsHolding}
-use Rattle.dep_row_maps.proofs.Causes.{fails_later, holding_more, if_err_is}
-use Rattle.dep_objects.proofs.Places.{has_some}
-use Rattle.dep_changes.proofs.Causes.{room_below}
 use Rattle.dep_row_maps.proofs.Changing.{changes_err}
 use Rattle.dep_changes.proofs.new_files.put_new_files.Goals as goal
 
@@ -40,10 +34,12 @@ files-preserved g c =
           (state_before s content seen n o files i x at sources) so_far ((numbers, its_source s content seen n o files i x at sources), get_here s.objects n _)),
     )
 
-pub returns-in_err-put_new_file-clause-map : goal.returns-in_err-put_new_file-clause-map
-returns-in_err-put_new_file-clause-map g c = record {
-  done = λ o clean inside ours s are told. IfOk-from_err c.from_residual.result _ c.from_residual.ensures.0;
-  keeps = changes_err c.from_residual.ensures.0 (stays_then c.files.invariant.0 c.put_new_file.ensures.map.keeps.stays);
+pub returns-in_err-put_new_file : goal.returns-in_err-put_new_file
+returns-in_err-put_new_file g c = record {
+  map = record {
+    done = λ o clean inside ours s are told. IfOk-from_err c.from_residual.result _ c.from_residual.ensures.0;
+    keeps = changes_err c.from_residual.ensures.0 (stays_then c.files.invariant.0 c.put_new_file.ensures.map.keeps.stays);
+  };
 }
 
 pub files-init : goal.files-init
@@ -53,24 +49,13 @@ files-init g c = (
   λ clean inside ours s are o numbers there sources. none_yet (tables_of (g.T.Statements.state c.args.tx.now)) s c.args.numbered.now.change.now.content.now c.args.object o there are,
 )
 
-pub returns-clause-map : goal.returns-clause-map
-returns-clause-map g c = record {
-  done = λ o clean inside ours s are told.
-      let now = g.T.Statements.state c.files.tx in
-      subst (λ (new : List NewFile). TablesAre (tables_of now) (with_new_files s c.args.numbered.now.change.now.content.now c.args.object o new)) (take_all c.files.index c.args.numbered.now.files.now c.files-test.false)
-      (c.files.invariant.2 clean inside ours s are o told.0.0 told.1 told.0.1);
-  keeps = record { stays = stays_ok c.files.invariant.0; ours = c.files.invariant.1 };
+pub returns : goal.returns
+returns g c = record {
+  map = record {
+    done = λ o clean inside ours s are told.
+        let now = g.T.Statements.state c.files.tx in
+        subst (λ (new : List NewFile). TablesAre (tables_of now) (with_new_files s c.args.numbered.now.change.now.content.now c.args.object o new)) (take_all c.files.index c.args.numbered.now.files.now c.files-test.false)
+        (c.files.invariant.2 clean inside ours s are o told.0.0 told.1 told.0.1);
+    keeps = record { stays = stays_ok c.files.invariant.0; ours = c.files.invariant.1 };
+  };
 }
-
-pub returns-in_err-put_new_file-clause-cause : goal.returns-in_err-put_new_file-clause-cause
-returns-in_err-put_new_file-clause-cause g c storable clean inside =
-    let inv = c.files.invariant in
-    let files = c.args.numbered.now.files.now in
-    let i = c.files.index in
-    let x = c.index-files-index.result in
-    let within : i < length files = omega arith in
-    let at : slice_get files i ≡ Some x = slice_get_read files (length files) i x refl within c.index-files-index.is in
-    let before = clean_before c.put_new_file.ensures.map.keeps.stays clean in
-    if_err_is _ c.from_residual.result c.in_err-put_new_file.field-0.0 c.from_residual.ensures.1
-    (fails_later g.T.Statements.state c.args.tx.now c.files.tx c.put_new_file.new.tx inv.0.survives (FailsHolding ⊤) (FailsHolding (files ≢ [])) (holding_more (λ _. has_some files i within)) _
-    (c.in_err-put_new_file.ensures.cause (storable.0, storable.1, room_below c.args.numbered.now.change.now.view.now.next.file (length files) i c.args.numbered.now.room within, storable.2 i x at) clean (inv.0.inside before inside)))

@@ -13,98 +13,77 @@ use Rattle.dep_decisions.specs.declared.decision.Source.{Source}
 use Rattle.dep_changes.proofs.Carried.{at_object}
 use Rattle.dep_changes.specs.Changed.{made_file}
 use Rattle.dep_changes.proofs.Steps.{files_row, number_is, its_number, at_number, rewritten, there_at, written_again, file_replaced}
-use Rattle.std.specs.Prelude.{⊤}
-use Rattle.dep_row_maps.specs.Causes.{FailsByStatement, FailsHolding}
-use Rattle.dep_row_maps.specs.Causes.FailsHolding.{statement}
-use Rattle.dep_row_maps.specs.Causes.FailsByStatement.{object_written}
-use Rattle.dep_row_maps.proofs.Causes.{fails_first, fails_later, if_err_is}
-use Rattle.dep_changes.proofs.Causes.{by_statement, caused_later, files_fit, found_fits, never_absent}
 use Rattle.dep_row_maps.proofs.Changing.{changes_err, changes_then, changes_put}
 use Rattle.dep_changes.proofs.new_files.set_file.Goals as goal
 
-pub returns-clause-map : goal.returns-clause-map
-returns-clause-map g c n = record {
-  done = λ clean inside ours s are told.
-      let view = c.args.change.now.view.now in
-      let content = c.args.change.now.content.now in
-      let f = c.args.file in
-      let as_new = c.args.new.now in
-      let one = g.T.Statements.state c.write_row.new.tx in
-      let two = g.T.Statements.state c.delete_file.new.tx in
-      let new = g.T.Statements.state c.put_posted.new.tx in
-      let clean_two = clean_before (c.put_posted.ensures.map 0).keeps.stays clean in
-      let clean_one = clean_before c.delete_file.ensures.does.keeps.stays clean_two in
-      let inside_one = c.in_ok-write_row.ensures.map.keeps.stays.inside clean_one inside in
-      let ours_one = c.in_ok-write_row.ensures.map.keeps.ours clean_one inside ours in
-      let numbers = told.0 in
-      let o = told.1.0 in
-      let file = told.1.1 in
-      let object = told.1.2.0 in
-      let source = told.1.3 in
-      let row = c.in_ok-row.row in
-      let number = number_is s n o view.object object.0 row c.in_ok-row.ensures.told in
-      let now = c.files_changed.result in
-      let mark : Object = with_files s o.files o in
-      let is = files_row s n o view.object object.0 row c.in_ok-row.ensures.told view.clock view.next numbers.0 numbers.1 now o.files c.files_changed.ensures in
-      let put = at_number (tables_of one) s now.object n mark (its_number n mark now is) (c.in_ok-write_row.ensures.map.done mark clean_one inside ours s are (rewritten s n o mark now is object.1 refl refl)) in
-      let first : State = with_object s n mark in
-      let left : Object = with_files s (finmap.remove o.files f) o in
-      let gone = written_again (tables_of two) s n mark left
-      (c.in_ok-delete_file.ensures.does.map clean_two inside_one ours_one first put n mark file (get_here s.objects n mark) told.1.2.1) in
-      let second : State = with_object s n left in
-      let made : File = made_file s as_new content in
-      let it : Object = with_files s (finmap.insert (finmap.remove o.files f) f made) o in
-      let digests : c.in-Posted.digests ≡ digests_of content = let posted = c.in-Posted.is in cc in
-      at_object s s.uploads new c.put_posted.result n o (λ (x : Object). with_files s (finmap.insert x.files f (file_from s content as_new)) x) object.1
-      (ok_then c.put_posted.result
-      ((c.put_posted.ensures.map 0).done left clean (c.in_ok-delete_file.ensures.does.keeps.stays.inside clean_two inside_one) (c.in_ok-delete_file.ensures.does.keeps.ours clean_two inside_one ours_one) second gone
-      ((numbers, digests), there_at second.objects row.object n left number (get_here s.objects n left)))
-      (λ there. subst (λ (from : Source). TablesAre (tables_of new) (with_object s n (with_files s (finmap.insert o.files f (made_file s as_new (bytes_from s content from))) o))) (sym source)
-      (file_replaced (tables_of new) s n o f made (written_again (tables_of new) s n left it (at_number (tables_of new) second row.object n it number there)))));
-  keeps = changes_then (changes_then c.in_ok-write_row.ensures.map.keeps c.in_ok-delete_file.ensures.does.keeps) (c.put_posted.ensures.map 0).keeps;
+pub returns : goal.returns
+returns g c = record {
+  map = λ n.
+      record {
+        done = λ clean inside ours s are told.
+            let view = c.args.change.now.view.now in
+            let content = c.args.change.now.content.now in
+            let f = c.args.file in
+            let as_new = c.args.new.now in
+            let one = g.T.Statements.state c.write_row.new.tx in
+            let two = g.T.Statements.state c.delete_file.new.tx in
+            let new = g.T.Statements.state c.put_posted.new.tx in
+            let clean_two = clean_before (c.put_posted.ensures.map 0).keeps.stays clean in
+            let clean_one = clean_before c.delete_file.ensures.does.keeps.stays clean_two in
+            let inside_one = c.in_ok-write_row.ensures.map.keeps.stays.inside clean_one inside in
+            let ours_one = c.in_ok-write_row.ensures.map.keeps.ours clean_one inside ours in
+            let numbers = told.0 in
+            let o = told.1.0 in
+            let file = told.1.1 in
+            let object = told.1.2.0 in
+            let source = told.1.3 in
+            let row = c.in_ok-row.row in
+            let number = number_is s n o view.object object.0 row c.in_ok-row.ensures.told in
+            let now = c.files_changed.result in
+            let mark : Object = with_files s o.files o in
+            let is = files_row s n o view.object object.0 row c.in_ok-row.ensures.told view.clock view.next numbers.0 numbers.1 now o.files c.files_changed.ensures in
+            let put = at_number (tables_of one) s now.object n mark (its_number n mark now is) (c.in_ok-write_row.ensures.map.done mark clean_one inside ours s are (rewritten s n o mark now is object.1 refl refl)) in
+            let first : State = with_object s n mark in
+            let left : Object = with_files s (finmap.remove o.files f) o in
+            let gone = written_again (tables_of two) s n mark left
+            (c.in_ok-delete_file.ensures.does.map clean_two inside_one ours_one first put n mark file (get_here s.objects n mark) told.1.2.1) in
+            let second : State = with_object s n left in
+            let made : File = made_file s as_new content in
+            let it : Object = with_files s (finmap.insert (finmap.remove o.files f) f made) o in
+            let digests : c.in-Posted.digests ≡ digests_of content = let posted = c.in-Posted.is in cc in
+            at_object s s.uploads new c.put_posted.result n o (λ (x : Object). with_files s (finmap.insert x.files f (file_from s content as_new)) x) object.1
+            (ok_then c.put_posted.result
+            ((c.put_posted.ensures.map 0).done left clean (c.in_ok-delete_file.ensures.does.keeps.stays.inside clean_two inside_one) (c.in_ok-delete_file.ensures.does.keeps.ours clean_two inside_one ours_one) second gone
+            ((numbers, digests), there_at second.objects row.object n left number (get_here s.objects n left)))
+            (λ there. subst (λ (from : Source). TablesAre (tables_of new) (with_object s n (with_files s (finmap.insert o.files f (made_file s as_new (bytes_from s content from))) o))) (sym source)
+            (file_replaced (tables_of new) s n o f made (written_again (tables_of new) s n left it (at_number (tables_of new) second row.object n it number there)))));
+        keeps = changes_then (changes_then c.in_ok-write_row.ensures.map.keeps c.in_ok-delete_file.ensures.does.keeps) (c.put_posted.ensures.map 0).keeps;
+      };
 }
 
-pub returns-in_err-delete_file-clause-map : goal.returns-in_err-delete_file-clause-map
-returns-in_err-delete_file-clause-map g c n = record {
-  done = λ clean inside ours s are told. IfOk-from_err c.from_residual-in_err-delete_file.result _ c.from_residual-in_err-delete_file.ensures.0;
-  keeps = changes_err c.from_residual-in_err-delete_file.ensures.0 (stays_then c.in_ok-write_row.ensures.map.keeps.stays c.delete_file.ensures.does.keeps.stays);
+pub returns-in_err-delete_file : goal.returns-in_err-delete_file
+returns-in_err-delete_file g c = record {
+  map = λ n.
+      record {
+        done = λ clean inside ours s are told. IfOk-from_err c.from_residual-in_err-delete_file.result _ c.from_residual-in_err-delete_file.ensures.0;
+        keeps = changes_err c.from_residual-in_err-delete_file.ensures.0 (stays_then c.in_ok-write_row.ensures.map.keeps.stays c.delete_file.ensures.does.keeps.stays);
+      };
 }
 
-pub returns-in_err-row-clause-cause : goal.returns-in_err-row-clause-cause
-returns-in_err-row-clause-cause g c n s storable clean inside = never_absent c.args.change.now.view.now storable.0 c.in_err-row.ensures.absent
-
-pub returns-in_err-write_row-clause-cause : goal.returns-in_err-write_row-clause-cause
-returns-in_err-write_row-clause-cause g c n s storable clean inside =
-    let view = c.args.change.now.view.now in
-    let row = c.in_ok-row.row in
-    let fits = files_fit view storable.0.numbers row c.files_changed.result (found_fits view storable.0 row c.in_ok-row.ensures.told) c.files_changed.ensures in
-    if_err_is _ c.from_residual-in_err-write_row.result c.in_err-write_row.field-0.0 c.from_residual-in_err-write_row.ensures.1
-    (fails_first g.T.Statements.state c.args.tx.now c.write_row.new.tx (FailsHolding ⊤) _ (statement (object_written _ (c.in_err-write_row.ensures.cause fits clean inside))))
-
-pub returns-in_err-delete_file-clause-cause : goal.returns-in_err-delete_file-clause-cause
-returns-in_err-delete_file-clause-cause g c n s storable clean inside =
-    let before = clean_before c.delete_file.ensures.does.keeps.stays clean in
-    if_err_is _ c.from_residual-in_err-delete_file.result c.in_err-delete_file.field-0.0 c.from_residual-in_err-delete_file.ensures.1
-    (fails_later g.T.Statements.state c.args.tx.now c.write_row.new.tx c.delete_file.new.tx c.in_ok-write_row.ensures.map.keeps.stays.survives FailsByStatement (FailsHolding ⊤) (by_statement ⊤) _
-    (c.in_err-delete_file.ensures.does.cause storable.1 clean (c.in_ok-write_row.ensures.map.keeps.stays.inside before inside)))
-
-pub returns-clause-cause : goal.returns-clause-cause
-returns-clause-cause g c n s storable clean inside =
-    let view = c.args.change.now.view.now in
-    let two = stays_then c.in_ok-write_row.ensures.map.keeps.stays c.in_ok-delete_file.ensures.does.keeps.stays in
-    let before = clean_before (c.put_posted.ensures.map 0).keeps.stays clean in
-    let fits = found_fits view storable.0 c.in_ok-row.row c.in_ok-row.ensures.told in
-    caused_later g.T.Statements.state (FailsHolding ⊤) (FailsHolding ⊤) (λ at now fault it. it) c.put_posted.result c.args.tx.now c.delete_file.new.tx c.put_posted.new.tx two.survives
-    (c.put_posted.ensures.cause 0 (storable.0.numbers, fits.object, storable.1, storable.2) clean (two.inside before inside))
-
-pub returns-in_err-row-clause-map : goal.returns-in_err-row-clause-map
-returns-in_err-row-clause-map g c n = record {
-  done = λ clean inside ours s are told. IfOk-from_err c.from_residual.result _ c.from_residual.ensures.0;
-  keeps = changes_put g.T.Statements.lenders g.T.Statements.state c.args.tx.now _;
+pub returns-in_err-row : goal.returns-in_err-row
+returns-in_err-row g c = record {
+  map = λ n.
+      record {
+        done = λ clean inside ours s are told. IfOk-from_err c.from_residual.result _ c.from_residual.ensures.0;
+        keeps = changes_put g.T.Statements.lenders g.T.Statements.state c.args.tx.now _;
+      };
 }
 
-pub returns-in_err-write_row-clause-map : goal.returns-in_err-write_row-clause-map
-returns-in_err-write_row-clause-map g c n = record {
-  done = λ clean inside ours s are told. IfOk-from_err c.from_residual-in_err-write_row.result _ c.from_residual-in_err-write_row.ensures.0;
-  keeps = changes_err c.from_residual-in_err-write_row.ensures.0 c.in_err-write_row.ensures.map.keeps.stays;
+pub returns-in_err-write_row : goal.returns-in_err-write_row
+returns-in_err-write_row g c = record {
+  map = λ n.
+      record {
+        done = λ clean inside ours s are told. IfOk-from_err c.from_residual-in_err-write_row.result _ c.from_residual-in_err-write_row.ensures.0;
+        keeps = changes_err c.from_residual-in_err-write_row.ensures.0 c.in_err-write_row.ensures.map.keeps.stays;
+      };
 }

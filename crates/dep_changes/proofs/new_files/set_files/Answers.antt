@@ -11,98 +11,69 @@ use Rattle.dep_decisions.specs.Effects.{added, uploads_of, with_files, without}
 use Rattle.dep_changes.proofs.Carried.{at_object}
 use Rattle.dep_changes.proofs.Added.{new_files_again}
 use Rattle.dep_changes.proofs.Steps.{files_row, number_is, its_number, at_number, rewritten, there_at, written_again}
-use Rattle.std.proofs.Common.{◌≢◌, []}
-use Rattle.dep_row_maps.specs.Causes.{FailsByStatement, FailsHolding}
-use Rattle.dep_row_maps.specs.Causes.FailsHolding.{statement}
-use Rattle.dep_row_maps.specs.Causes.FailsByStatement.{object_written}
-use Rattle.dep_row_maps.proofs.Causes.{fails_among, fails_then, if_err_is}
-use Rattle.dep_changes.proofs.Causes.{by_statement, caused_later, files_fit, found_fits, never_absent}
 use Rattle.dep_row_maps.proofs.Changing.{changes_err, changes_then, changes_put}
 use Rattle.dep_changes.proofs.new_files.set_files.Goals as goal
 
-pub returns-clause-map : goal.returns-clause-map
-returns-clause-map g c n = record {
-  done = λ clean inside ours s are told.
-      let view = c.args.numbered.now.change.now.view.now in
-      let content = c.args.numbered.now.change.now.content.now in
-      let one = g.T.Statements.state c.delete_files.new.tx in
-      let two = g.T.Statements.state c.write_row.new.tx in
-      let new = g.T.Statements.state c.put_new_files.new.tx in
-      let clean_two = clean_before c.put_new_files.ensures.map.keeps.stays clean in
-      let clean_one = clean_before c.write_row.ensures.map.keeps.stays clean_two in
-      let inside_one = c.in_ok-delete_files.ensures.does.keeps.stays.inside clean_one inside in
-      let ours_one = c.in_ok-delete_files.ensures.does.keeps.ours clean_one inside ours in
-      let numbers = told.0 in
-      let o = told.1.0 in
-      let object = told.1.1 in
-      let row = c.in_ok-row.row in
-      let number = number_is s n o view.object object.0 row c.in_ok-row.ensures.told in
-      let left : Object = record o { files = finmap.empty } in
-      let gone = at_number (tables_of one) s row.object n left number (c.in_ok-delete_files.ensures.does.done clean_one inside ours s are o (there_at s.objects row.object n o number object.1)) in
-      let first : State = with_object s n left in
-      let now = c.files_changed.result in
-      let bare : Object = with_files s finmap.empty o in
-      let is = files_row s n o view.object object.0 row c.in_ok-row.ensures.told view.clock view.next numbers.0 numbers.1 now finmap.empty c.files_changed.ensures in
-      let put = written_again (tables_of two) s n left bare (at_number (tables_of two) first now.object n bare (its_number n bare now is)
-      (c.in_ok-write_row.ensures.map.done bare clean_two inside_one ours_one first gone (rewritten first n left bare now is (get_here s.objects n left) refl refl))) in
-      let second : State = with_object s n bare in
-      at_object s (without s.uploads (uploads_of c.args.numbered.now.files.now)) new c.put_new_files.result n o (λ (x : Object). with_files s (added s content c.args.numbered.now.files.now finmap.empty) x) object.1
-      (ok_then c.put_new_files.result
-      (c.put_new_files.ensures.map.done bare clean (c.in_ok-write_row.ensures.map.keeps.stays.inside clean_two inside_one) (c.in_ok-write_row.ensures.map.keeps.ours clean_two inside_one ours_one) second put
-      ((numbers, told.1.2), there_at second.objects row.object n bare number (get_here s.objects n bare)))
-      (λ added. new_files_again (tables_of new) s content row.object n bare bare c.args.numbered.now.files.now number added));
-  keeps = changes_then (changes_then c.in_ok-delete_files.ensures.does.keeps c.in_ok-write_row.ensures.map.keeps) c.put_new_files.ensures.map.keeps;
+pub returns : goal.returns
+returns g c = record {
+  map = λ n.
+      record {
+        done = λ clean inside ours s are told.
+            let view = c.args.numbered.now.change.now.view.now in
+            let content = c.args.numbered.now.change.now.content.now in
+            let one = g.T.Statements.state c.delete_files.new.tx in
+            let two = g.T.Statements.state c.write_row.new.tx in
+            let new = g.T.Statements.state c.put_new_files.new.tx in
+            let clean_two = clean_before c.put_new_files.ensures.map.keeps.stays clean in
+            let clean_one = clean_before c.write_row.ensures.map.keeps.stays clean_two in
+            let inside_one = c.in_ok-delete_files.ensures.does.keeps.stays.inside clean_one inside in
+            let ours_one = c.in_ok-delete_files.ensures.does.keeps.ours clean_one inside ours in
+            let numbers = told.0 in
+            let o = told.1.0 in
+            let object = told.1.1 in
+            let row = c.in_ok-row.row in
+            let number = number_is s n o view.object object.0 row c.in_ok-row.ensures.told in
+            let left : Object = record o { files = finmap.empty } in
+            let gone = at_number (tables_of one) s row.object n left number (c.in_ok-delete_files.ensures.does.map clean_one inside ours s are o (there_at s.objects row.object n o number object.1)) in
+            let first : State = with_object s n left in
+            let now = c.files_changed.result in
+            let bare : Object = with_files s finmap.empty o in
+            let is = files_row s n o view.object object.0 row c.in_ok-row.ensures.told view.clock view.next numbers.0 numbers.1 now finmap.empty c.files_changed.ensures in
+            let put = written_again (tables_of two) s n left bare (at_number (tables_of two) first now.object n bare (its_number n bare now is)
+            (c.in_ok-write_row.ensures.map.done bare clean_two inside_one ours_one first gone (rewritten first n left bare now is (get_here s.objects n left) refl refl))) in
+            let second : State = with_object s n bare in
+            at_object s (without s.uploads (uploads_of c.args.numbered.now.files.now)) new c.put_new_files.result n o (λ (x : Object). with_files s (added s content c.args.numbered.now.files.now finmap.empty) x) object.1
+            (ok_then c.put_new_files.result
+            (c.put_new_files.ensures.map.done bare clean (c.in_ok-write_row.ensures.map.keeps.stays.inside clean_two inside_one) (c.in_ok-write_row.ensures.map.keeps.ours clean_two inside_one ours_one) second put
+            ((numbers, told.1.2), there_at second.objects row.object n bare number (get_here s.objects n bare)))
+            (λ added. new_files_again (tables_of new) s content row.object n bare bare c.args.numbered.now.files.now number added));
+        keeps = changes_then (changes_then c.in_ok-delete_files.ensures.does.keeps c.in_ok-write_row.ensures.map.keeps) c.put_new_files.ensures.map.keeps;
+      };
 }
 
-pub returns-in_err-write_row-clause-map : goal.returns-in_err-write_row-clause-map
-returns-in_err-write_row-clause-map g c n = record {
-  done = λ clean inside ours s are told. IfOk-from_err c.from_residual-in_err-write_row.result _ c.from_residual-in_err-write_row.ensures.0;
-  keeps = changes_err c.from_residual-in_err-write_row.ensures.0 (stays_then c.in_ok-delete_files.ensures.does.keeps.stays c.write_row.ensures.map.keeps.stays);
+pub returns-in_err-write_row : goal.returns-in_err-write_row
+returns-in_err-write_row g c = record {
+  map = λ n.
+      record {
+        done = λ clean inside ours s are told. IfOk-from_err c.from_residual-in_err-write_row.result _ c.from_residual-in_err-write_row.ensures.0;
+        keeps = changes_err c.from_residual-in_err-write_row.ensures.0 (stays_then c.in_ok-delete_files.ensures.does.keeps.stays c.write_row.ensures.map.keeps.stays);
+      };
 }
 
-pub returns-in_err-row-clause-cause : goal.returns-in_err-row-clause-cause
-returns-in_err-row-clause-cause g c n clean inside ours s are storable = never_absent c.args.numbered.now.change.now.view.now storable.1 c.in_err-row.ensures.absent
-
-pub returns-in_err-delete_files-clause-cause : goal.returns-in_err-delete_files-clause-cause
-returns-in_err-delete_files-clause-cause g c n clean inside ours s are storable =
-    let view = c.args.numbered.now.change.now.view.now in
-    let told = storable.1 in
-    let held = c.args.numbered.now.files.now ≢ [] in
-    let fits = found_fits view told c.in_ok-row.row c.in_ok-row.ensures.told in
-    if_err_is _ c.from_residual-in_err-delete_files.result c.in_err-delete_files.field-0.0 c.from_residual-in_err-delete_files.ensures.1
-    (fails_among g.T.Statements.state c.args.tx.now c.delete_files.new.tx FailsByStatement (FailsHolding held) (by_statement held) _ (c.in_err-delete_files.ensures.cause clean inside ours s are storable.0 fits.object))
-
-pub returns-in_err-write_row-clause-cause : goal.returns-in_err-write_row-clause-cause
-returns-in_err-write_row-clause-cause g c n clean inside ours s are storable =
-    let view = c.args.numbered.now.change.now.view.now in
-    let told = storable.1 in
-    let held = c.args.numbered.now.files.now ≢ [] in
-    let before = clean_before c.write_row.ensures.map.keeps.stays clean in
-    let row = c.in_ok-row.row in
-    let fits = files_fit view told.numbers row c.files_changed.result (found_fits view told row c.in_ok-row.ensures.told) c.files_changed.ensures in
-    if_err_is _ c.from_residual-in_err-write_row.result c.in_err-write_row.field-0.0 c.from_residual-in_err-write_row.ensures.1
-    (fails_then g.T.Statements.state c.args.tx.now c.delete_files.new.tx c.write_row.new.tx c.in_ok-delete_files.ensures.does.keeps.stays.survives (FailsHolding held) _
-    (statement (object_written _ (c.in_err-write_row.ensures.cause fits clean (c.in_ok-delete_files.ensures.does.keeps.stays.inside before inside)))))
-
-pub returns-clause-cause : goal.returns-clause-cause
-returns-clause-cause g c n clean inside ours s are storable =
-    let view = c.args.numbered.now.change.now.view.now in
-    let told = storable.1 in
-    let held = c.args.numbered.now.files.now ≢ [] in
-    let two = stays_then c.in_ok-delete_files.ensures.does.keeps.stays c.in_ok-write_row.ensures.map.keeps.stays in
-    let before = clean_before c.put_new_files.ensures.map.keeps.stays clean in
-    let fits = found_fits view told c.in_ok-row.row c.in_ok-row.ensures.told in
-    caused_later g.T.Statements.state (FailsHolding held) (FailsHolding held) (λ at now fault it. it) c.put_new_files.result c.args.tx.now c.write_row.new.tx c.put_new_files.new.tx two.survives
-    (c.put_new_files.ensures.cause (told.numbers, fits.object, storable.2) clean (two.inside before inside))
-
-pub returns-in_err-row-clause-map : goal.returns-in_err-row-clause-map
-returns-in_err-row-clause-map g c n = record {
-  done = λ clean inside ours s are told. IfOk-from_err c.from_residual.result _ c.from_residual.ensures.0;
-  keeps = changes_put g.T.Statements.lenders g.T.Statements.state c.args.tx.now _;
+pub returns-in_err-row : goal.returns-in_err-row
+returns-in_err-row g c = record {
+  map = λ n.
+      record {
+        done = λ clean inside ours s are told. IfOk-from_err c.from_residual.result _ c.from_residual.ensures.0;
+        keeps = changes_put g.T.Statements.lenders g.T.Statements.state c.args.tx.now _;
+      };
 }
 
-pub returns-in_err-delete_files-clause-map : goal.returns-in_err-delete_files-clause-map
-returns-in_err-delete_files-clause-map g c n = record {
-  done = λ clean inside ours s are told. IfOk-from_err c.from_residual-in_err-delete_files.result _ c.from_residual-in_err-delete_files.ensures.0;
-  keeps = changes_err c.from_residual-in_err-delete_files.ensures.0 c.in_err-delete_files.ensures.does.keeps.stays;
+pub returns-in_err-delete_files : goal.returns-in_err-delete_files
+returns-in_err-delete_files g c = record {
+  map = λ n.
+      record {
+        done = λ clean inside ours s are told. IfOk-from_err c.from_residual-in_err-delete_files.result _ c.from_residual-in_err-delete_files.ensures.0;
+        keeps = changes_err c.from_residual-in_err-delete_files.ensures.0 c.in_err-delete_files.ensures.does.keeps.stays;
+      };
 }

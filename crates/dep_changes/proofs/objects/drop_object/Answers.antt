@@ -4,37 +4,27 @@ use Rattle.dep_tables.specs.Tables.{tables_of}
 use Rattle.dep_tables.proofs.Results.{ok_then}
 use Rattle.dep_objects.specs.Edits.{without_files}
 use Rattle.dep_changes.proofs.Steps.{emptied, gone_after}
-use Rattle.dep_row_maps.specs.Causes.{FailsByStatement, FailsHolding}
-use Rattle.dep_row_maps.proofs.Causes.{fails_among, if_err_is}
-use Rattle.dep_changes.proofs.Causes.{by_statement, caused_later}
 use Rattle.dep_row_maps.proofs.Changing.{changes_then, changes_err}
 use Rattle.dep_changes.proofs.objects.drop_object.Goals as goal
 
-pub returns-clause-map : goal.returns-clause-map
-returns-clause-map g c = record {
-  done = λ o clean inside ours s are there.
-      let new = g.T.Statements.state c.delete_object.new.tx in
-      let before = clean_before c.delete_object.ensures.does.keeps.stays clean in
-      let none = c.in_ok-delete_files.ensures.does.done before inside ours s are o there in
-      ok_then c.delete_object.result
-      (c.delete_object.ensures.does.map clean (c.in_ok-delete_files.ensures.does.keeps.stays.inside before inside) (c.in_ok-delete_files.ensures.does.keeps.ours before inside ours) (without_files s c.args.object o) none (emptied s c.args.object o))
-      (λ gone. gone_after (tables_of new) s c.args.object _ gone);
-  keeps = changes_then c.in_ok-delete_files.ensures.does.keeps c.delete_object.ensures.does.keeps;
+pub returns : goal.returns
+returns g c = record {
+  map = record {
+    done = λ o clean inside ours s are there.
+        let new = g.T.Statements.state c.delete_object.new.tx in
+        let before = clean_before c.delete_object.ensures.does.keeps.stays clean in
+        let none = c.in_ok-delete_files.ensures.does.map before inside ours s are o there in
+        ok_then c.delete_object.result
+        (c.delete_object.ensures.does.map clean (c.in_ok-delete_files.ensures.does.keeps.stays.inside before inside) (c.in_ok-delete_files.ensures.does.keeps.ours before inside ours) (without_files s c.args.object o) none (emptied s c.args.object o))
+        (λ gone. gone_after (tables_of new) s c.args.object _ gone);
+    keeps = changes_then c.in_ok-delete_files.ensures.does.keeps c.delete_object.ensures.does.keeps;
+  };
 }
 
-pub returns-in_err-delete_files-clause-cause : goal.returns-in_err-delete_files-clause-cause
-returns-in_err-delete_files-clause-cause g c clean inside ours s are fits =
-    if_err_is _ c.from_residual.result c.in_err-delete_files.field-0.0 c.from_residual.ensures.1
-    (fails_among g.T.Statements.state c.args.tx.now c.delete_files.new.tx FailsByStatement (FailsHolding ⊥) (by_statement ⊥) _ (c.in_err-delete_files.ensures.cause clean inside ours s are fits.0 fits.1))
-
-pub returns-clause-cause : goal.returns-clause-cause
-returns-clause-cause g c clean inside ours s are fits =
-    let before = clean_before c.delete_object.ensures.does.keeps.stays clean in
-    caused_later g.T.Statements.state FailsByStatement (FailsHolding ⊥) (by_statement ⊥) c.delete_object.result c.args.tx.now c.delete_files.new.tx c.delete_object.new.tx c.in_ok-delete_files.ensures.does.keeps.stays.survives
-    (c.delete_object.ensures.does.cause fits.1 clean (c.in_ok-delete_files.ensures.does.keeps.stays.inside before inside))
-
-pub returns-in_err-delete_files-clause-map : goal.returns-in_err-delete_files-clause-map
-returns-in_err-delete_files-clause-map g c = record {
-  done = λ o clean inside ours s are told. IfOk-from_err c.from_residual.result _ c.from_residual.ensures.0;
-  keeps = changes_err c.from_residual.ensures.0 c.in_err-delete_files.ensures.does.keeps.stays;
+pub returns-in_err-delete_files : goal.returns-in_err-delete_files
+returns-in_err-delete_files g c = record {
+  map = record {
+    done = λ o clean inside ours s are told. IfOk-from_err c.from_residual.result _ c.from_residual.ensures.0;
+    keeps = changes_err c.from_residual.ensures.0 c.in_err-delete_files.ensures.does.keeps.stays;
+  };
 }

@@ -1,11 +1,7 @@
-use Rattle.std.proofs.Common.{◌<◌, length, subst, arith}
+use Rattle.std.proofs.Common.{◌<◌, length, subst}
 use Rattle.dep_tables.specs.Tables.{tables_of}
 use Rattle.dep_tables.proofs.Chains.{clean_before, stays_then, stays_ok}
-use Rattle.dep_tables.specs.Rows.{IsStorableKey}
-use Rattle.dep_row_maps.specs.Causes.{FailsByStatement}
-use Rattle.dep_row_maps.specs.Causes.FailsByStatement.{block_added}
-use Rattle.dep_row_maps.specs.Stored.{blocks_of, block_key}
-use Rattle.dep_row_maps.proofs.Causes.{fails_then}
+use Rattle.dep_row_maps.specs.Stored.{blocks_of}
 use Rattle.dep_objects.proofs.Written.{one_more}
 use Rattle.dep_row_maps.proofs.Calling.{tables_failed}
 use Rattle.dep_objects.proofs.blocks.put_blocks.Goals as goal
@@ -32,14 +28,5 @@ pub returns-in_err-insert_block : goal.returns-in_err-insert_block
 returns-in_err-insert_block g c = record {
   does =
       tables_failed c.from_residual.ensures.1
-      (λ storable clean inside.
-      let old = c.args.tx.now in
-      let mid = c.loop-place.tx in
-      let new = c.insert_block.new.tx in
-      let inv = c.loop-place.invariant in
-      let before = clean_before c.insert_block.ensures.does.keeps.stays clean in
-      let key : IsStorableKey (block_key c.args.owner c.args.part c.loop-place.place) = record { owner = storable.0; part = storable.1; place = omega (arith, inv.3, c.loop-place-test.true) } in
-      fails_then g.T.Statements.state old mid new inv.1.survives FailsByStatement _
-      (block_added _ (c.in_err-insert_block.ensures.does.cause key clean (inv.1.inside before inside))))
       (stays_then c.loop-place.invariant.1 c.in_err-insert_block.ensures.does.keeps.stays);
 }

@@ -1,14 +1,7 @@
-use Rattle.std.proofs.Common.{◌<◌, ◌^◌, length, arith, sym, subst}
+use Rattle.std.proofs.Common.{◌<◌, length, arith}
 use Rattle.std.proofs.lemmas.List.{take_all}
-use Rattle.std.proofs.lemmas.List.Elements.{All-get_or}
 use Rattle.dep_tables.proofs.Chains.{clean_before, stays_then, stays_ok}
 use Rattle.dep_tables.specs.Tables.{tables_of}
-use Rattle.dep_types.specs.declared.rows.FileRow.{FileRow}
-use Rattle.dep_row_maps.specs.Causes.{FailsByStatement}
-use Rattle.dep_row_maps.specs.Causes.FailsByStatement.{sha512_deleted}
-use Rattle.dep_row_maps.proofs.Causes.{fails_then, fails_later}
-use Rattle.dep_objects.specs.Causes.{FailsToDeleteBlocks}
-use Rattle.dep_objects.proofs.Causes.{deletes_among}
 use Rattle.dep_objects.proofs.FileCalls.{one_more_gone}
 use Rattle.dep_row_maps.proofs.Calling.{tables_failed}
 use Rattle.dep_objects.proofs.files.delete_contents.Goals as goal
@@ -35,16 +28,6 @@ pub returns-in_err-delete_blocks : goal.returns-in_err-delete_blocks
 returns-in_err-delete_blocks g c = record {
   does =
       tables_failed c.from_residual.ensures.1
-      (λ storable clean inside.
-      let old = c.args.tx.now in
-      let mid = c.rows.tx in
-      let new = c.delete_blocks.new.tx in
-      let inv = c.rows.invariant in
-      let before = clean_before c.delete_blocks.ensures.does.stays clean in
-      let within : c.rows.row-index < length c.args.rows.now = omega arith in
-      let below = subst (λ (r : FileRow). r.file < 2 ^ 63) (sym c.row-item.is) (All-get_or (λ (r : FileRow). r.file < 2 ^ 63) c.args.rows.now c.rows.row-index _ within storable) in
-      fails_later g.T.Statements.state old mid new inv.0.survives (FailsToDeleteBlocks _) FailsByStatement (deletes_among _) _
-      (c.in_err-delete_blocks.ensures.does.cause below clean (inv.0.inside before inside)))
       (stays_then c.rows.invariant.0 c.in_err-delete_blocks.ensures.does.stays);
 }
 
@@ -52,16 +35,6 @@ pub returns-in_err-delete_sha512 : goal.returns-in_err-delete_sha512
 returns-in_err-delete_sha512 g c = record {
   does =
       tables_failed c.from_residual-in_err-delete_sha512.ensures.1
-      (λ storable clean inside.
-      let old = c.args.tx.now in
-      let one = c.delete_blocks.new.tx in
-      let new = c.delete_sha512.new.tx in
-      let stays = stays_then c.rows.invariant.0 c.in_ok-delete_blocks.ensures.does.stays in
-      let before = clean_before c.delete_sha512.ensures.does.keeps.stays clean in
-      let within : c.rows.row-index < length c.args.rows.now = omega arith in
-      let below = subst (λ (r : FileRow). r.file < 2 ^ 63) (sym c.row-item.is) (All-get_or (λ (r : FileRow). r.file < 2 ^ 63) c.args.rows.now c.rows.row-index _ within storable) in
-      fails_then g.T.Statements.state old one new stays.survives FailsByStatement _
-      (sha512_deleted _ (c.in_err-delete_sha512.ensures.does.cause below clean (stays.inside before inside))))
       (stays_then (stays_then c.rows.invariant.0 c.in_ok-delete_blocks.ensures.does.stays) c.in_err-delete_sha512.ensures.does.keeps.stays);
 }
 
@@ -69,7 +42,6 @@ pub returns : goal.returns
 returns g c = record {
   does = record {
     ok = rw (take_all c.rows.row-index c.args.rows.now c.rows-test.false) at c.rows.invariant.1;
-    cause = λ storable clean inside. tt;
     stays = stays_ok c.rows.invariant.0;
   };
 }

@@ -1,4 +1,4 @@
-use Rattle.std.proofs.Common.{ap, ◌∙◌, arith}
+use Rattle.std.proofs.Common.{ap, ◌∙◌}
 use Rattle.sqlite_trees.specs.Tree.{put_row}
 use Rattle.dep_statements.specs.Rows.{put_next}
 use Rattle.dep_tables.specs.Rows.{sha512_values, stored_file}
@@ -6,9 +6,6 @@ use Rattle.dep_tables.specs.Tables.{Tables, tables_of}
 use Rattle.dep_tables.specs.declared.owner.BlockOwner.TheVariants as owner
 use Rattle.dep_tables.proofs.Results.{ok_then}
 use Rattle.dep_tables.proofs.Chains.{clean_before, stays_then}
-use Rattle.dep_row_maps.specs.Causes.{FailsByStatement}
-use Rattle.dep_row_maps.specs.Causes.FailsByStatement.{file_added, sha512_added}
-use Rattle.dep_row_maps.proofs.Causes.{fails_then, if_err_then}
 use Rattle.dep_objects.proofs.Results.{ok_both}
 use Rattle.dep_objects.proofs.FileCalls.{file_put, free_of}
 use Rattle.dep_row_maps.proofs.Changing.{by_leads, by_sees, changes_then}
@@ -29,14 +26,6 @@ returns-clause-does g c = record {
       ok_both c.insert_file.result (c.insert_file.ensures.does.ok clean second.shows.mode second.ours) (c.insert_file.ensures.free clean second.shows.mode second.ours)
       (λ leads free. file_put (tables_of old) (tables_of one) (tables_of two) (tables_of new) s c.args.row.now (g.C.Content.bytes c.args.content.now) o file are
       ours.trees.ordered.1.1.1.1.0 ours.trees.ordered.1.1.1.1.1.1.1.1.0 ours.trees.ordered.1.1.1.1.1.1.1.1.1.0 there is same first.rows second.rows leads.rows free);
-  cause = λ storable clean inside.
-      let old = c.args.tx.now in
-      let two = c.insert_sha512.new.tx in
-      let new = c.insert_file.new.tx in
-      let stays = stays_then c.in_ok-put_blocks.ensures.does.stays c.in_ok-insert_sha512.ensures.does.keeps.stays in
-      let before = clean_before c.insert_file.ensures.does.keeps.stays clean in
-      if_err_then c.insert_file.result (c.insert_file.ensures.does.cause storable clean (stays.inside before inside))
-      (λ fault failed. fails_then g.T.Statements.state old two new stays.survives FailsByStatement fault (file_added _ failed));
   keeps =
       changes_then (changes_then (by_sees _ c.in_ok-put_blocks.ensures.does.stays c.in_ok-put_blocks.ensures.does.ok) (by_leads _ c.in_ok-insert_sha512.ensures.does.keeps.stays c.in_ok-insert_sha512.ensures.does.ok)) (by_leads _ c.insert_file.ensures.does.keeps.stays c.insert_file.ensures.does.ok);
 }
@@ -69,18 +58,9 @@ returns-clause-free g c clean inside ours s are =
 pub returns-in_err-insert_sha512-clause-does : goal.returns-in_err-insert_sha512-clause-does
 returns-in_err-insert_sha512-clause-does g c =
     changes_failed c.from_residual-in_err-insert_sha512.ensures.1 (λ s o file there is same. tt)
-    (λ storable clean inside.
-    let old = c.args.tx.now in
-    let one = c.put_blocks.new.tx in
-    let new = c.insert_sha512.new.tx in
-    let before = clean_before c.insert_sha512.ensures.does.keeps.stays clean in
-    fails_then g.T.Statements.state old one new c.put_blocks.ensures.does.stays.survives FailsByStatement _
-    (sha512_added _ (c.in_err-insert_sha512.ensures.does.cause storable.file clean (c.in_ok-put_blocks.ensures.does.stays.inside before inside))))
     (stays_then c.in_ok-put_blocks.ensures.does.stays c.in_err-insert_sha512.ensures.does.keeps.stays)
 
 pub returns-in_err-put_blocks-clause-does : goal.returns-in_err-put_blocks-clause-does
 returns-in_err-put_blocks-clause-does g c =
     changes_failed c.from_residual.ensures.1 (λ s o file there is same. tt)
-    (λ storable clean inside.
-    c.in_err-put_blocks.ensures.does.cause (storable.file, omega arith) clean inside)
     c.in_err-put_blocks.ensures.does.stays

@@ -1,6 +1,6 @@
 use Rattle.std.proofs.Common.{◌∙◌}
 use Rattle.dep_tables.specs.Tables.{tables_of}
-use Rattle.dep_row_maps.proofs.Calling.{queried_err, queried_ok}
+use Rattle.dep_row_maps.proofs.Calling.{queried_ok, reads_failed}
 use Rattle.dep_row_maps.proofs.Readings.{file_read}
 use Rattle.dep_objects.proofs.loading.find_file.Goals as goal
 
@@ -12,4 +12,4 @@ returns g c = record {
 }
 
 pub returns-in_err-find_file : goal.returns-in_err-find_file
-returns-in_err-find_file g c = record { does = queried_err c.from_residual.ensures.1 c.in_err-find_file.ensures.does }
+returns-in_err-find_file g c = record { does = reads_failed c.from_residual.ensures.1 c.in_err-find_file.ensures.does.keeps }

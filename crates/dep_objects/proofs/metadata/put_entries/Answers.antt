@@ -3,13 +3,6 @@ use Rattle.std.proofs.lemmas.List.{take_all}
 use Rattle.dep_tables.proofs.Chains.{clean_before, stays_ok, stays_then}
 use Rattle.dep_tables.specs.Tables.{tables_of}
 use Rattle.dep_objects.proofs.Appending.{one_more_name}
-use Rattle.std.proofs.Common.{◌≢◌, ◌+◌, ◌≤◌, ◌^◌, [], subst, sym}
-use Rattle.std.proofs.lemmas.List.Elements.{All-get_or}
-use Rattle.dep_types.specs.declared.metadata.MetadataEntry.{MetadataEntry}
-use Rattle.dep_row_maps.specs.Causes.{FailsHolding}
-use Rattle.dep_row_maps.specs.Stored.{texts_in}
-use Rattle.dep_row_maps.proofs.Causes.{fails_later, holding_more}
-use Rattle.dep_objects.proofs.Places.{has_some}
 use Rattle.dep_row_maps.proofs.Calling.{tables_failed}
 use Rattle.dep_objects.proofs.metadata.put_entries.Goals as goal
 
@@ -36,17 +29,7 @@ pub returns-in_err-put_texts : goal.returns-in_err-put_texts
 returns-in_err-put_texts g c = record {
   does =
       let inv = c.entries.invariant in
-      let all = c.args.entries.now in
-      let have = c.args.have.now in
-      let entry = c.entry-item.result in
-      let within : c.entries.entry-index < length all = omega (arith, c.entries-test.true) in
       tables_failed c.from_residual.ensures.1
-      (λ storable clean inside.
-      let before = clean_before c.put_texts.ensures.does.stays clean in
-      let fits = subst (λ (e : MetadataEntry). length (texts_in have e.name) + length e.texts ≤ 2 ^ 63) (sym c.entry-item.is) (All-get_or (λ (e : MetadataEntry). length (texts_in have e.name) + length e.texts ≤ 2 ^ 63) all c.entries.entry-index _ within storable.1) in
-      let here : c.count_of.result + length entry.texts ≤ 2 ^ 63 = omega (arith, c.count_of.ensures, fits) in
-      fails_later g.T.Statements.state c.args.tx.now c.entries.tx c.put_texts.new.tx inv.0.survives (FailsHolding (entry.texts ≢ [])) (FailsHolding (all ≢ [])) (holding_more (λ _. has_some all c.entries.entry-index within)) _
-      (c.in_err-put_texts.ensures.does.cause (storable.0, here) clean (inv.0.inside before inside)))
       (stays_then inv.0 c.in_err-put_texts.ensures.does.stays);
 }
 
@@ -54,7 +37,6 @@ pub returns : goal.returns
 returns g c = record {
   does = record {
     ok = rw (take_all c.entries.entry-index c.args.entries.now c.entries-test.false) at c.entries.invariant.1;
-    cause = λ storable clean inside. tt;
     stays = stays_ok c.entries.invariant.0;
   };
 }

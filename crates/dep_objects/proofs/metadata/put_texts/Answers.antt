@@ -6,14 +6,7 @@ use Rattle.dep_tables.proofs.Chains.{clean_before, stays_err, stays_ok, stays_th
 use Rattle.dep_tables.specs.Rows.{metadata_values}
 use Rattle.dep_tables.specs.Tables.{tables_of}
 use Rattle.dep_objects.proofs.Appending.{one_more_text}
-use Rattle.std.proofs.Common.{◌≢◌, [], subst, sym}
 use Rattle.dep_types.specs.declared.store_fault.StoreFault.TheVariants.{Memory}
-use Rattle.dep_row_maps.specs.Causes.{FailsHolding}
-use Rattle.dep_row_maps.specs.Causes.FailsHolding.{memory, statement}
-use Rattle.dep_row_maps.specs.Causes.FailsByStatement.{metadata_added}
-use Rattle.dep_row_maps.proofs.Causes.{fails_then}
-use Rattle.dep_tables.specs.Rows.{IsStorableMetadata}
-use Rattle.dep_objects.proofs.Places.{has_some}
 use Rattle.dep_row_maps.proofs.Calling.{tables_failed}
 use Rattle.dep_objects.proofs.metadata.put_texts.Goals as goal
 
@@ -44,13 +37,7 @@ pub returns-in_err-insert_metadata : goal.returns-in_err-insert_metadata
 returns-in_err-insert_metadata g c = record {
   does =
       let inv = c.texts.invariant in
-      let texts = c.args.entry.now.texts in
-      let within : c.texts.text-index < length texts = omega (arith, ap length inv.3, c.texts-test.true) in
       tables_failed c.from_residual-in_err-insert_metadata.ensures.1
-      (λ storable clean inside.
-      let before = clean_before c.insert_metadata.ensures.does.keeps.stays clean in
-      let fits : IsStorableMetadata c.in_ok-text_row.field-0 = subst IsStorableMetadata (sym c.in_ok-text_row.ensures) (record { object = storable.0; place = omega (arith, storable.1, inv.2, within) }) in
-      fails_then g.T.Statements.state c.args.tx.now c.texts.tx c.insert_metadata.new.tx inv.0.survives (FailsHolding (texts ≢ [])) _ (statement (metadata_added _ (c.in_err-insert_metadata.ensures.does.cause fits clean (inv.0.inside before inside)))))
       (stays_then inv.0 c.in_err-insert_metadata.ensures.does.keeps.stays);
 }
 
@@ -61,7 +48,6 @@ returns g c = record {
         let texts = c.args.entry.now.texts in
         let whole : take c.texts.text-index texts ≡ texts = take_all c.texts.text-index texts (omega (arith, ap length c.texts.invariant.3, c.texts-test.false)) in
         rw whole at c.texts.invariant.1;
-    cause = λ storable clean inside. tt;
     stays = stays_ok c.texts.invariant.0;
   };
 }
@@ -70,9 +56,6 @@ pub returns-in_err-text_row : goal.returns-in_err-text_row
 returns-in_err-text_row g c = record {
   does =
       let inv = c.texts.invariant in
-      let texts = c.args.entry.now.texts in
-      let within : c.texts.text-index < length texts = omega (arith, ap length inv.3, c.texts-test.true) in
       tables_failed {B = ⊤} c.from_residual.ensures.1
-      (λ storable clean inside. fails_then g.T.Statements.state c.args.tx.now c.texts.tx c.texts.tx inv.0.survives (FailsHolding (texts ≢ [])) _ (memory (has_some texts c.texts.text-index within) refl))
       (stays_err {s = Err Memory} refl inv.0);
 }

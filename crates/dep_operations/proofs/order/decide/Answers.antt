@@ -1,10 +1,8 @@
-use Rattle.std.proofs.Common.{◌∙◌, sym, subst}
+use Rattle.std.proofs.Common.{subst}
 use Rattle.dep_operations.specs.Checks.{IsChecked, IsRoomRuling}
 use Rattle.dep_operations.specs.Rulings.{HasRoomFor, RulesBy}
 use Rattle.dep_operations.specs.declared.order.Checked.{Checked}
 use Rattle.dep_operations.specs.declared.ruling.Ruling.TheVariants.{Refuse}
-use Rattle.dep_operations.specs.Memory.{RulingTakesMemory}
-use Rattle.dep_operations.proofs.Memory.{holds_files, on_err, on_err_then}
 use Rattle.dep_operations.proofs.Results.{if_ok}
 use Rattle.dep_operations.proofs.SeenTruly.{has_room_by, refused_access, refused_content, ruled_by_room, rules_by}
 use Rattle.dep_operations.proofs.order.decide.Goals as goal
@@ -30,35 +28,12 @@ returns-in-Passed-clause-ruling c =
     let view = c.args.view.now in
     let op = c.args.operation.now in
     let checked = subst (λ (x : Checked). IsChecked config view op x) c.in-Passed.is c.in_ok-refusal.ensures.ok in
-    if_ok c.rule_by_room.result (IsRoomRuling view op) (RulesBy config view op)
+    if_ok c.rule_by_room.result (IsRoomRuling config view op) (RulesBy config view op)
     (λ ruling room. rules_by config view op ruling (ruled_by_room config view op _ ruling c.access_rule.ensures c.in_default.is checked.0 room)) c.rule_by_room.ensures.ok
 
 pub returns-in-Passed-clause-room : goal.returns-in-Passed-clause-room
 returns-in-Passed-clause-room c =
-    let view = c.args.view.now in
-    let op = c.args.operation.now in
-    if_ok c.rule_by_room.result (IsRoomRuling view op) (HasRoomFor view.next) (λ ruling room. has_room_by view op ruling room) c.rule_by_room.ensures.ok
-
-pub returns-in_err-refusal-clause-err : goal.returns-in_err-refusal-clause-err
-returns-in_err-refusal-clause-err c =
-    let held = c.in_err-refusal.ensures.err in
-    let takes : RulingTakesMemory c.args.config.now c.args.view.now c.args.operation.now = record {
-      access = sym c.access_rule.ensures ∙ c.in_default.is;
-      fields = held.fields;
-      digest = held.digest;
-      content = held.content;
-    } in on_err _ takes
-
-pub returns-in-Passed-clause-err : goal.returns-in-Passed-clause-err
-returns-in-Passed-clause-err c =
     let config = c.args.config.now in
     let view = c.args.view.now in
     let op = c.args.operation.now in
-    let checked = subst (λ (x : Checked). IsChecked config view op x) c.in-Passed.is c.in_ok-refusal.ensures.ok in
-    on_err_then c.rule_by_room.result c.rule_by_room.ensures.err (λ makes.
-    let held = holds_files config view op checked.0 makes in record {
-      access = sym c.access_rule.ensures ∙ c.in_default.is;
-      fields = held.fields;
-      digest = held.digest;
-      content = held.content;
-    })
+    if_ok c.rule_by_room.result (IsRoomRuling config view op) (HasRoomFor view.next) (λ ruling room. has_room_by config view op ruling room) c.rule_by_room.ensures.ok

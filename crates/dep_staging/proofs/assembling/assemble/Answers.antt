@@ -1,11 +1,6 @@
 use Rattle.dep_tables.proofs.Chains.{clean_before, stays_then}
 use Rattle.dep_tables.specs.Tables.{tables_of}
-use Rattle.dep_row_maps.specs.Causes.{FailsByStatement}
-use Rattle.dep_row_maps.specs.Causes.FailsByStatement.{file_added, sha512_added}
-use Rattle.dep_row_maps.proofs.Causes.{fails_later, fails_then, if_err_then}
 use Rattle.dep_objects.proofs.Results.{ok_both}
-use Rattle.dep_staging.specs.Causes.{FailsToDrop}
-use Rattle.dep_staging.proofs.Causes.{drop_among}
 use Rattle.dep_staging.proofs.Moved.{made, file_was_free}
 use Rattle.dep_row_maps.proofs.Changing.{by_leads, by_sees, changes_then}
 use Rattle.dep_row_maps.proofs.Calling.{changes_failed}
@@ -29,14 +24,6 @@ returns-clause-does g c = record {
       ok_both c.insert_file.result (c.insert_file.ensures.does.ok clean third.shows.mode third.ours) (c.insert_file.ensures.free clean third.shows.mode third.ours)
       (λ leads free. made (tables_of old) (tables_of one) (tables_of two) (tables_of three) (tables_of new) c.args.upload.now c.args.row.now first.rows second.rows third.rows leads.rows
       s o it file are ours.trees.ordered.1.1.1.1.0 ours.trees.ordered.1.1.1.1.1.1.1.1.1.0 there held whole row_is content free);
-  cause = λ storable clean inside.
-      let old = c.args.tx.now in
-      let three = c.insert_sha512.new.tx in
-      let new = c.insert_file.new.tx in
-      let stays = stays_then (stays_then c.in_ok-move_content.ensures.does.stays c.in_ok-forget_upload.ensures.does.stays) c.in_ok-insert_sha512.ensures.does.keeps.stays in
-      let within = stays.inside (clean_before c.insert_file.ensures.does.keeps.stays clean) inside in
-      if_err_then c.insert_file.result (c.insert_file.ensures.does.cause storable.1 clean within)
-      (λ fault failed. fails_then g.T.Statements.state old three new stays.survives FailsByStatement fault (file_added _ failed));
   keeps =
       changes_then (changes_then (changes_then (by_sees _ c.in_ok-move_content.ensures.does.stays c.in_ok-move_content.ensures.does.ok) (by_sees _ c.in_ok-forget_upload.ensures.does.stays c.in_ok-forget_upload.ensures.does.ok)) (by_leads _ c.in_ok-insert_sha512.ensures.does.keeps.stays c.in_ok-insert_sha512.ensures.does.ok)) (by_leads _ c.insert_file.ensures.does.keeps.stays c.insert_file.ensures.does.ok);
 }
@@ -62,33 +49,14 @@ returns-clause-free g c clean inside ours s are =
 pub returns-in_err-forget_upload-clause-does : goal.returns-in_err-forget_upload-clause-does
 returns-in_err-forget_upload-clause-does g c =
     changes_failed c.from_residual-in_err-forget_upload.ensures.1 (λ s o it file there held whole upload_is row_is content. tt)
-    (λ storable clean inside.
-    let old = c.args.tx.now in
-    let one = c.move_content.new.tx in
-    let new = c.forget_upload.new.tx in
-    let u = c.args.upload.now.upload in
-    let stays = c.in_ok-move_content.ensures.does.stays in
-    let within = stays.inside (clean_before c.forget_upload.ensures.does.stays clean) inside in
-    fails_later g.T.Statements.state old one new stays.survives (FailsToDrop u) FailsByStatement (λ at now fault failed. drop_among at now fault u failed) _
-    (c.in_err-forget_upload.ensures.does.cause storable.0.upload clean within))
     (stays_then c.in_ok-move_content.ensures.does.stays c.in_err-forget_upload.ensures.does.stays)
 
 pub returns-in_err-insert_sha512-clause-does : goal.returns-in_err-insert_sha512-clause-does
 returns-in_err-insert_sha512-clause-does g c =
     changes_failed c.from_residual-in_err-insert_sha512.ensures.1 (λ s o it file there held whole upload_is row_is content. tt)
-    (λ storable clean inside.
-    let old = c.args.tx.now in
-    let two = c.forget_upload.new.tx in
-    let new = c.insert_sha512.new.tx in
-    let stays = stays_then c.in_ok-move_content.ensures.does.stays c.in_ok-forget_upload.ensures.does.stays in
-    let within = stays.inside (clean_before c.insert_sha512.ensures.does.keeps.stays clean) inside in
-    fails_then g.T.Statements.state old two new stays.survives FailsByStatement _
-    (sha512_added _ (c.in_err-insert_sha512.ensures.does.cause storable.1.file clean within)))
     (stays_then (stays_then c.in_ok-move_content.ensures.does.stays c.in_ok-forget_upload.ensures.does.stays) c.in_err-insert_sha512.ensures.does.keeps.stays)
 
 pub returns-in_err-move_content-clause-does : goal.returns-in_err-move_content-clause-does
 returns-in_err-move_content-clause-does g c =
     changes_failed c.from_residual.ensures.1 (λ s o it file there held whole upload_is row_is content. tt)
-    (λ storable clean inside.
-    c.in_err-move_content.ensures.does.cause (storable.0.upload, storable.1.file) clean inside)
     c.in_err-move_content.ensures.does.stays

@@ -1,15 +1,11 @@
-use Rattle.std.proofs.Common.{refl, subst, ◌∙◌, arith}
+use Rattle.std.proofs.Common.{refl, subst, ◌∙◌}
 use Rattle.dep_tables.specs.Edits.{IsFirstBlock}
-use Rattle.dep_tables.specs.Rows.{IsStorableKey}
 use Rattle.dep_tables.specs.Tables.{tables_of}
 use Rattle.dep_tables.proofs.Results.{ok_then}
 use Rattle.dep_tables.proofs.Chains.{clean_before, stays_then, stays_ok, still_ours, stays_put}
-use Rattle.dep_row_maps.proofs.Causes.{fails_then, if_err_then}
 use Rattle.dep_row_maps.proofs.Runs.{one_run_moved, all_moved}
 use Rattle.dep_objects.proofs.Results.{same_tables}
 use Rattle.dep_tables.specs.declared.owner.BlockOwner.TheVariants as owner
-use Rattle.dep_row_maps.specs.Causes.{FailsByStatement}
-use Rattle.dep_row_maps.specs.Causes.FailsByStatement.{block_found, blocks_moved, run_moved}
 use Rattle.dep_row_maps.proofs.FilesOwn.{no_upload}
 use Rattle.dep_row_maps.proofs.Calling.{tables_failed}
 use Rattle.dep_staging.proofs.assembling.move_content.Goals as goal
@@ -45,7 +41,6 @@ returns-in_default g c = record {
         let same = c.in_ok-start.ensures.does.keeps.same clean was.0 in
         let none = subst (IsFirstBlock (owner.Upload c.args.upload) (tables_of mid)) c.in_default.is (c.in_ok-start.ensures.does.ok clean was.0) in
         record { ours = still_ours mid seen same was.0; rows = all_moved (owner.Upload c.args.upload) (owner.File c.args.file) (tables_of old) (tables_of mid) (tables_of seen) was.1 (same_tables mid seen same) none };
-    cause = λ storable clean inside. tt;
     stays = stays_ok (stays_then c.runs.invariant.0 c.in_ok-start.ensures.does.keeps.stays);
   };
 }
@@ -58,14 +53,6 @@ returns g c = record {
         let before = clean_before c.move_blocks.ensures.does.keeps.stays clean in
         let was = inv.1 before inside ours in
         ok_then c.move_blocks.result (c.move_blocks.ensures.does.ok clean (inv.0.inside before inside) was.0) (λ leads. record { ours = leads.ours; rows = leads.rows ∙ was.1 });
-    cause = λ storable clean inside.
-        let old = c.args.tx.now in
-        let mid = c.runs.tx in
-        let new = c.move_blocks.new.tx in
-        let inv = c.runs.invariant in
-        let before = clean_before c.move_blocks.ensures.does.keeps.stays clean in
-        if_err_then c.move_blocks.result (c.move_blocks.ensures.does.cause storable clean (inv.0.inside before inside))
-        (λ fault failed. fails_then g.T.Statements.state old mid new inv.0.survives FailsByStatement fault (blocks_moved _ failed));
     stays = stays_then c.runs.invariant.0 c.move_blocks.ensures.does.keeps.stays;
   };
 }
@@ -74,12 +61,6 @@ pub returns-in_err-start : goal.returns-in_err-start
 returns-in_err-start g c = record {
   does =
       tables_failed c.from_residual.ensures.1
-      (λ storable clean inside.
-      let old = c.args.tx.now in
-      let mid = c.runs.tx in
-      let new = c.first_block.new.tx in
-      fails_then g.T.Statements.state old mid new c.runs.invariant.0.survives FailsByStatement _
-      (block_found _ (c.in_err-start.ensures.does.cause storable.0 clean)))
       (stays_then c.runs.invariant.0 c.in_err-start.ensures.does.keeps.stays);
 }
 
@@ -87,14 +68,5 @@ pub returns-in_err-move_run : goal.returns-in_err-move_run
 returns-in_err-move_run g c = record {
   does =
       tables_failed c.from_residual-in_err-move_run.ensures.1
-      (λ storable clean inside.
-      let old = c.args.tx.now in
-      let seen = c.first_block.new.tx in
-      let new = c.move_run.new.tx in
-      let saw = stays_then c.runs.invariant.0 c.in_ok-start.ensures.does.keeps.stays in
-      let before = clean_before c.move_run.ensures.does.keeps.stays clean in
-      let key : IsStorableKey (record { owner = owner.Upload c.args.upload; at = c.run_end-at.result }) = record { owner = storable.0; part = omega (arith, c.run_end-at.ensures.part); place = omega (arith, c.run_end-at.ensures.place) } in
-      fails_then g.T.Statements.state old seen new saw.survives FailsByStatement _
-      (run_moved _ (c.in_err-move_run.ensures.does.cause (key, storable.1) clean (saw.inside before inside))))
       (stays_then (stays_then c.runs.invariant.0 c.in_ok-start.ensures.does.keeps.stays) c.in_err-move_run.ensures.does.keeps.stays);
 }

@@ -6,8 +6,6 @@ use Rattle.dep_row_maps.specs.Stored.{blocks_of}
 use Rattle.dep_row_maps.specs.TablesAre.{TablesAre}
 use Rattle.dep_objects.proofs.Results.{same_tables}
 use Rattle.dep_objects.proofs.Cuts.{one_block_more, all_blocks, few_blocks}
-use Rattle.dep_staging.specs.Causes.{FailsToReadBlock}
-use Rattle.dep_row_maps.proofs.Causes.{fails_then, if_err_is}
 use Rattle.dep_staging.proofs.Hashed.{counted}
 use Rattle.std.proofs.lemmas.Result.{IfOk-from_err}
 use Rattle.dep_staging.proofs.hashing.hash_segment.Goals as goal
@@ -38,31 +36,21 @@ loop-place-preserved g c =
       inv.3,
     )
 
-pub returns-clause-does : goal.returns-clause-does
-returns-clause-does g c = record {
-  map = λ is_open clean ours s are bytes message its holds.
-      let inv = c.loop-place.invariant in
-      let past : length (blocks_of bytes) ≤ c.loop-place.place = subst (λ n. n ≤ c.loop-place.place) (inv.0 ∙ counted s c.args.segment.now bytes its) c.loop-place-test.false in
-      subst (Holds c.loop-place.hasher) (ap (λ l. message ++ l) (all_blocks bytes c.loop-place.place past)) (inv.2 is_open clean ours s are bytes message its holds);
-  keeps = may_ok c.loop-place.invariant.1;
+pub returns : goal.returns
+returns g c = record {
+  does = record {
+    map = λ is_open clean ours s are bytes message its holds.
+        let inv = c.loop-place.invariant in
+        let past : length (blocks_of bytes) ≤ c.loop-place.place = subst (λ n. n ≤ c.loop-place.place) (inv.0 ∙ counted s c.args.segment.now bytes its) c.loop-place-test.false in
+        subst (Holds c.loop-place.hasher) (ap (λ l. message ++ l) (all_blocks bytes c.loop-place.place past)) (inv.2 is_open clean ours s are bytes message its holds);
+    keeps = may_ok c.loop-place.invariant.1;
+  };
 }
 
-pub returns-in_err-block-clause-does : goal.returns-in_err-block-clause-does
-returns-in_err-block-clause-does g c = record {
-  map = λ is_open clean ours s are bytes message its holds. IfOk-from_err c.from_residual.result _ c.from_residual.ensures.0;
-  keeps = may_err c.from_residual.ensures.0 (may_then c.loop-place.invariant.1 (may_read c.segment_block.ensures.does.keeps));
+pub returns-in_err-block : goal.returns-in_err-block
+returns-in_err-block g c = record {
+  does = record {
+    map = λ is_open clean ours s are bytes message its holds. IfOk-from_err c.from_residual.result _ c.from_residual.ensures.0;
+    keeps = may_err c.from_residual.ensures.0 (may_then c.loop-place.invariant.1 (may_read c.segment_block.ensures.does.keeps));
+  };
 }
-
-pub returns-in_err-block-clause-cause : goal.returns-in_err-block-clause-cause
-returns-in_err-block-clause-cause g c clean ours is_open s are bytes its storable =
-    let old = c.args.tx.now in
-    let mid = c.loop-place.tx in
-    let new = c.segment_block.new.tx in
-    let inv = c.loop-place.invariant in
-    let same = inv.1.same is_open (clean_before c.segment_block.ensures.does.keeps.stays clean) ours in
-    let are_mid = subst (λ (t : Tables). TablesAre t s) (sym (same_tables (g.T.Statements.state old) (g.T.Statements.state mid) same)) are in
-    let within : c.loop-place.place < length (blocks_of bytes) = subst (λ n. c.loop-place.place < n) (inv.0 ∙ counted s c.args.segment.now bytes its) c.loop-place-test.true in
-    let below : c.loop-place.place < 2 ^ 63 = omega (arith, inv.3, c.loop-place-test.true) in
-    if_err_is _ c.from_residual.result c.in_err-block.field-0.0 c.from_residual.ensures.1
-    (fails_then g.T.Statements.state old mid new inv.1.stays.survives (FailsToReadBlock c.args.segment.now.upload c.args.segment.now.number) _
-    (c.in_err-block.ensures.cause clean (still_ours (g.T.Statements.state old) (g.T.Statements.state mid) same ours) s are_mid bytes its within storable below))

@@ -9,15 +9,12 @@ use Rattle.dep_tables.proofs.Chains.{clean_before, still_ours, may_put, may_ok, 
 use Rattle.dep_tables.specs.Tables.{Tables}
 use Rattle.dep_tables.specs.declared.segments.SegmentRow.{SegmentRow}
 use Rattle.dep_row_maps.specs.TablesAre.{TablesAre}
-use Rattle.dep_row_maps.proofs.Causes.{fails_later, if_err_is}
 use Rattle.dep_row_maps.proofs.Pieces.{assembled-joined}
 use Rattle.dep_objects.proofs.Results.{same_tables}
-use Rattle.dep_staging.specs.Causes.{FailsToHash, FailsToReadBlock}
 use Rattle.dep_staging.specs.Found.{segment_rows_of}
 use Rattle.dep_staging.specs.HashedAhead.{first_blocks}
 use Rattle.dep_staging.proofs.AheadLemmas.{front_hashed, no_first_blocks, running_at}
-use Rattle.dep_staging.proofs.Causes.{segment_among}
-use Rattle.dep_staging.proofs.Hashed.{IsEntryAt, entry_of, segment_is, storable_segment}
+use Rattle.dep_staging.proofs.Hashed.{IsEntryAt, entry_of, segment_is}
 use Rattle.std.proofs.lemmas.Result.{IfOk-from_err}
 use Rattle.dep_staging.proofs.hashing.hash_upload.Goals as goal
 
@@ -77,41 +74,27 @@ rows-preserved g c =
           subst (Holds c.hash_segment.new.hasher) (e.grows ∙ ap (λ n. flat_map (λ (e : ℕ × List ℕ). e.1) (take n es)) next ∙ sym (append-nil _)) (m e.bytes _ (segment_is u at it _ e s live.there) begun),
     )
 
-pub returns-clause-does : goal.returns-clause-does
-returns-clause-does g c = record {
-  map = λ is_open clean ours s are u it live within running.
-      let es = finmap.entries it.segments in
-      let rows = c.as_slice-rows.result.now in
-      let whole = c.min-whole.result in
-      let at = whole + c.rows.row-index in
-      let count : length rows ≡ length es = ap length (c.as_slice-rows.ensures.value ∙ live.received) ∙ length-map es _ in
-      let past : length es ≤ at = let left = rest_length rows whole in omega (arith, left, count, c.rows-test.false) in
-      let nothing : first_blocks c.rows.begun (get_or es at (0, [])).1 ≡ [] = ap (λ (x : ℕ × List ℕ). first_blocks c.rows.begun x.1) (get_or_past es at (0, []) past) ∙ no_first_blocks c.rows.begun in
-      let whole_of = ap (λ l. flat_map (λ (e : ℕ × List ℕ). e.1) (take at es) ++ l) nothing ∙ append-nil _ ∙ ap (flat_map (λ (e : ℕ × List ℕ). e.1)) (take_all at es past) in
-      c.finish.ensures _ (subst (Holds c.rows.hasher) whole_of (c.rows.invariant.1 is_open clean ours s are u it live within running)) ∙ ap digests_of (assembled-joined it within);
-  keeps = may_ok c.rows.invariant.0;
+pub returns : goal.returns
+returns g c = record {
+  does = record {
+    map = λ is_open clean ours s are u it live within running.
+        let es = finmap.entries it.segments in
+        let rows = c.as_slice-rows.result.now in
+        let whole = c.min-whole.result in
+        let at = whole + c.rows.row-index in
+        let count : length rows ≡ length es = ap length (c.as_slice-rows.ensures.value ∙ live.received) ∙ length-map es _ in
+        let past : length es ≤ at = let left = rest_length rows whole in omega (arith, left, count, c.rows-test.false) in
+        let nothing : first_blocks c.rows.begun (get_or es at (0, [])).1 ≡ [] = ap (λ (x : ℕ × List ℕ). first_blocks c.rows.begun x.1) (get_or_past es at (0, []) past) ∙ no_first_blocks c.rows.begun in
+        let whole_of = ap (λ l. flat_map (λ (e : ℕ × List ℕ). e.1) (take at es) ++ l) nothing ∙ append-nil _ ∙ ap (flat_map (λ (e : ℕ × List ℕ). e.1)) (take_all at es past) in
+        c.finish.ensures _ (subst (Holds c.rows.hasher) whole_of (c.rows.invariant.1 is_open clean ours s are u it live within running)) ∙ ap digests_of (assembled-joined it within);
+    keeps = may_ok c.rows.invariant.0;
+  };
 }
 
-pub returns-in_err-hash_segment-clause-cause : goal.returns-in_err-hash_segment-clause-cause
-returns-in_err-hash_segment-clause-cause g c clean ours is_open s are u it live storable =
-    let old = c.args.tx.now in
-    let mid = c.rows.tx in
-    let new = c.hash_segment.new.tx in
-    let inv = c.rows.invariant in
-    let same = inv.0.same is_open (clean_before c.hash_segment.ensures.does.keeps.stays clean) ours in
-    let are_mid = subst (λ (t : Tables). TablesAre t s) (sym (same_tables (g.T.Statements.state old) (g.T.Statements.state mid) same)) are in
-    let rows = c.as_slice-rows.result.now in
-    let at = c.min-whole.result + c.rows.row-index in
-    let row = get_or (rest rows c.min-whole.result) c.rows.row-index none in
-    let e = entry_at u it rows c.min-whole.result c.rows.row-index (c.as_slice-rows.ensures.value ∙ live.received) c.rows-test.true in
-    if_err_is _ c.from_residual.result c.in_err-hash_segment.field-0.0 c.from_residual.ensures.1
-    (fails_later g.T.Statements.state old mid new inv.0.stays.survives (FailsToReadBlock row.upload row.number) (FailsToHash u)
-    (λ now' after fault failed. segment_among now' after fault u row (ap (λ (r : SegmentRow). r.upload) e.is) failed) _
-    (c.in_err-hash_segment.ensures.cause clean (still_ours (g.T.Statements.state old) (g.T.Statements.state mid) same ours) same.0.is_open
-    s are_mid e.bytes (segment_is u at it _ e s live.there) (storable_segment u at it _ e storable)))
-
-pub returns-in_err-hash_segment-clause-does : goal.returns-in_err-hash_segment-clause-does
-returns-in_err-hash_segment-clause-does g c = record {
-  map = λ is_open clean ours s are. IfOk-from_err c.from_residual.result _ c.from_residual.ensures.0;
-  keeps = may_err c.from_residual.ensures.0 (may_then c.rows.invariant.0 c.hash_segment.ensures.does.keeps);
+pub returns-in_err-hash_segment : goal.returns-in_err-hash_segment
+returns-in_err-hash_segment g c = record {
+  does = record {
+    map = λ is_open clean ours s are. IfOk-from_err c.from_residual.result _ c.from_residual.ensures.0;
+    keeps = may_err c.from_residual.ensures.0 (may_then c.rows.invariant.0 c.hash_segment.ensures.does.keeps);
+  };
 }

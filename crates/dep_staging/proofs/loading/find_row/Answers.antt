@@ -1,9 +1,5 @@
-use Rattle.std.specs.Prelude.{⊤}
 use Rattle.dep_tables.specs.Tables.{tables_of}
 use Rattle.dep_tables.proofs.Chains.{clean_before, reads_ok, reads_then, still_ours}
-use Rattle.dep_row_maps.specs.Causes.{FailsByStatement}
-use Rattle.dep_row_maps.specs.Causes.FailsByStatement.{sha512_found, upload_found}
-use Rattle.dep_row_maps.proofs.Causes.{fails_first, fails_then, never_failed}
 use Rattle.dep_objects.proofs.Results.{same_tables}
 use Rattle.dep_staging.proofs.Loaded.{none_found, row_found}
 use Rattle.dep_row_maps.proofs.Calling.{reads_failed}
@@ -14,8 +10,6 @@ returns-in_default g c = record {
   does = record {
     map = λ clean ours s are.
         none_found (tables_of (g.T.Statements.state c.args.tx.now)) s c.args.upload c.in_ok-columns.field-0 are c.in_default.is (c.in_ok-columns.ensures.does.ok clean ours);
-    numbers = λ great. never_failed _ _ (c.in_ok-columns.ensures.does.numbers great).0;
-    cause = λ storable clean inside. tt;
     keeps = reads_ok c.in_ok-columns.ensures.does.keeps;
   };
 }
@@ -30,8 +24,6 @@ returns g c = record {
         let same = c.in_ok-columns.ensures.does.keeps.same before ours in
         row_found (tables_of old) (tables_of mid) s c.args.upload c.in_ok-columns.field-0 c.in-Some.columns _ are c.in-Some.is (c.in_ok-columns.ensures.does.ok before ours) (same_tables old mid same)
         (c.in_ok-find_sha512.ensures.does.ok clean (still_ours old mid same ours));
-    numbers = λ great. never_failed _ _ (c.in_ok-columns.ensures.does.numbers great).0;
-    cause = λ storable clean inside. tt;
     keeps = reads_ok (reads_then c.in_ok-columns.ensures.does.keeps c.in_ok-find_sha512.ensures.does.keeps);
   };
 }
@@ -39,19 +31,13 @@ returns g c = record {
 pub returns-in_err-columns : goal.returns-in_err-columns
 returns-in_err-columns g c = record {
   does =
-      reads_failed c.from_residual.ensures.1 (λ great. c.in_err-columns.ensures.does.numbers great)
-      (λ storable clean inside.
-      fails_first g.T.Statements.state c.args.tx.now c.find_upload.new.tx FailsByStatement _
-      (upload_found _ (c.in_err-columns.ensures.does.cause storable clean)))
+      reads_failed c.from_residual.ensures.1
       c.in_err-columns.ensures.does.keeps;
 }
 
 pub returns-in_err-find_sha512 : goal.returns-in_err-find_sha512
 returns-in_err-find_sha512 g c = record {
   does =
-      reads_failed {B = ⊤} c.from_residual-in_err-find_sha512.ensures.1 (λ great. never_failed _ _ (c.in_ok-columns.ensures.does.numbers great).0)
-      (λ storable clean inside.
-      fails_then g.T.Statements.state c.args.tx.now c.find_upload.new.tx c.find_sha512.new.tx c.find_upload.ensures.does.keeps.stays.survives FailsByStatement _
-      (sha512_found _ (c.in_err-find_sha512.ensures.does.cause storable clean)))
+      reads_failed c.from_residual-in_err-find_sha512.ensures.1
       (reads_then c.in_ok-columns.ensures.does.keeps c.in_err-find_sha512.ensures.does.keeps);
 }

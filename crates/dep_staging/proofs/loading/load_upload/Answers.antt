@@ -1,11 +1,7 @@
-use Rattle.std.specs.Prelude.{⊤}
 use Rattle.std.proofs.Common.{sym, subst, ◌∙◌}
 use Rattle.dep_tables.specs.Tables.{Tables, tables_of}
 use Rattle.dep_tables.proofs.Chains.{clean_before, reads_ok, reads_then, still_ours}
 use Rattle.dep_row_maps.specs.TablesAre.{TablesAre}
-use Rattle.dep_row_maps.specs.Causes.{FailsByStatement}
-use Rattle.dep_row_maps.specs.Causes.FailsByStatement.{segments_read}
-use Rattle.dep_row_maps.proofs.Causes.{fails_then, never_failed}
 use Rattle.dep_objects.proofs.Results.{same_tables}
 use Rattle.dep_staging.proofs.Loaded.{found_live}
 use Rattle.dep_row_maps.proofs.Calling.{reads_failed}
@@ -21,8 +17,6 @@ returns-in_ok-segments_of-in-Live g c = record {
         let same = c.in_ok-row.ensures.does.keeps.same before ours in
         found_live s c.args.upload (tables_of mid) (record { row = c.in-Live.row; received = c.in_ok-segments_of-in-Live.field-0 }) (subst (λ (t : Tables). TablesAre t s) (sym (same_tables old mid same)) are)
         (sym c.in-Live.is ∙ c.in_ok-row.ensures.does.map before ours s are) (c.in_ok-segments_of-in-Live.ensures.does.ok clean (still_ours old mid same ours));
-    numbers = λ great. never_failed _ _ (c.in_ok-row.ensures.does.numbers great).0;
-    cause = λ storable clean inside. tt;
     keeps = reads_ok (reads_then c.in_ok-row.ensures.does.keeps c.in_ok-segments_of-in-Live.ensures.does.keeps);
   };
 }
@@ -31,8 +25,6 @@ pub returns-in-TimedOut : goal.returns-in-TimedOut
 returns-in-TimedOut g c = record {
   does = record {
     map = λ clean ours s are. sym (c.in_ok-row.ensures.does.map clean ours s are) ∙ c.in-TimedOut.is;
-    numbers = λ great. never_failed _ _ (c.in_ok-row.ensures.does.numbers great).0;
-    cause = λ storable clean inside. tt;
     keeps = reads_ok c.in_ok-row.ensures.does.keeps;
   };
 }
@@ -41,8 +33,6 @@ pub returns-in-Unknown : goal.returns-in-Unknown
 returns-in-Unknown g c = record {
   does = record {
     map = λ clean ours s are. sym (c.in_ok-row.ensures.does.map clean ours s are) ∙ c.in-Unknown.is;
-    numbers = λ great. never_failed _ _ (c.in_ok-row.ensures.does.numbers great).0;
-    cause = λ storable clean inside. tt;
     keeps = reads_ok c.in_ok-row.ensures.does.keeps;
   };
 }
@@ -50,12 +40,9 @@ returns-in-Unknown g c = record {
 pub returns-in_err-segments_of-in-Live : goal.returns-in_err-segments_of-in-Live
 returns-in_err-segments_of-in-Live g c = record {
   does =
-      reads_failed {B = ⊤} c.from_residual-in_err-segments_of-in-Live.ensures.1 (λ great. never_failed _ _ (c.in_ok-row.ensures.does.numbers great).0)
-      (λ storable clean inside.
-      fails_then g.T.Statements.state c.args.tx.now c.find_staged.new.tx c.segments_of.new.tx c.find_staged.ensures.does.keeps.stays.survives FailsByStatement _
-      (segments_read _ (c.in_err-segments_of-in-Live.ensures.does.cause storable clean)))
+      reads_failed c.from_residual-in_err-segments_of-in-Live.ensures.1
       (reads_then c.in_ok-row.ensures.does.keeps c.in_err-segments_of-in-Live.ensures.does.keeps);
 }
 
 pub returns-in_err-row : goal.returns-in_err-row
-returns-in_err-row g c = record { does = reads_failed c.from_residual.ensures.1 c.in_err-row.ensures.does.numbers c.in_err-row.ensures.does.cause c.in_err-row.ensures.does.keeps }
+returns-in_err-row g c = record { does = reads_failed c.from_residual.ensures.1 c.in_err-row.ensures.does.keeps }

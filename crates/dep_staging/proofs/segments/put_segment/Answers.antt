@@ -5,10 +5,7 @@ use Rattle.dep_tables.specs.Rows.{has_segment_key}
 use Rattle.dep_tables.specs.Tables.{Tables, tables_of}
 use Rattle.dep_tables.proofs.Results.{if_ok}
 use Rattle.dep_tables.proofs.Chains.{clean_before, stays_then}
-use Rattle.dep_row_maps.specs.Causes.{FailsByStatement}
-use Rattle.dep_row_maps.specs.Causes.FailsByStatement.{segment_added, upload_written}
 use Rattle.dep_row_maps.specs.TablesAre.{TablesAre, with_upload}
-use Rattle.dep_row_maps.proofs.Causes.{fails_then, if_err_then}
 use Rattle.dep_row_maps.proofs.Lens.{get_here, insert_twice}
 use Rattle.dep_staging.proofs.Lacking.{lacked}
 use Rattle.dep_staging.proofs.UploadCalls.{received, received_into}
@@ -33,14 +30,6 @@ returns-clause-does g c = record {
       let put = received (tables_of old) (tables_of one) (tables_of two) s c.args.segment.now u bytes was are ours.trees.ordered.1.1.1.1.1.1.0 ours.trees.ordered.1.1.1.1.1.1.1.1.0 there none its first.rows second.rows in
       subst (λ m. OnOk c.rewrite_upload.result (TablesAre (tables_of new) (record s { uploads = m }))) (insert_twice s.uploads u mid it)
       (c.rewrite_upload.ensures.does.map clean second.shows.mode second.ours (with_upload s u mid) put mid it (get_here s.uploads u mid) is grown kept);
-  cause = λ storable clean inside.
-      let old = c.args.tx.now in
-      let two = c.insert_segment.new.tx in
-      let new = c.rewrite_upload.new.tx in
-      let stays = stays_then c.in_ok-put_blocks.ensures.does.stays c.in_ok-insert_segment.ensures.does.keeps.stays in
-      let within = stays.inside (clean_before c.rewrite_upload.ensures.does.keeps.stays clean) inside in
-      if_err_then c.rewrite_upload.result (c.rewrite_upload.ensures.does.cause storable.0 clean within)
-      (λ fault failed. fails_then g.T.Statements.state old two new stays.survives FailsByStatement fault (upload_written _ failed));
   keeps =
       changes_then (changes_then (by_sees _ c.in_ok-put_blocks.ensures.does.stays c.in_ok-put_blocks.ensures.does.ok) (by_leads _ c.in_ok-insert_segment.ensures.does.keeps.stays c.in_ok-insert_segment.ensures.does.ok)) c.rewrite_upload.ensures.does.keeps;
 }
@@ -57,18 +46,9 @@ returns-clause-free g c clean inside ours s are =
 pub returns-in_err-insert_segment-clause-does : goal.returns-in_err-insert_segment-clause-does
 returns-in_err-insert_segment-clause-does g c =
     changes_failed c.from_residual-in_err-insert_segment.ensures.1 (λ s was it there none is its grown kept. tt)
-    (λ storable clean inside.
-    let old = c.args.tx.now in
-    let one = c.put_blocks.new.tx in
-    let new = c.insert_segment.new.tx in
-    let before = clean_before c.insert_segment.ensures.does.keeps.stays clean in
-    fails_then g.T.Statements.state old one new c.put_blocks.ensures.does.stays.survives FailsByStatement _
-    (segment_added _ (c.in_err-insert_segment.ensures.does.cause storable.1 clean (c.in_ok-put_blocks.ensures.does.stays.inside before inside))))
     (stays_then c.in_ok-put_blocks.ensures.does.stays c.in_err-insert_segment.ensures.does.keeps.stays)
 
 pub returns-in_err-put_blocks-clause-does : goal.returns-in_err-put_blocks-clause-does
 returns-in_err-put_blocks-clause-does g c =
     changes_failed c.from_residual.ensures.1 (λ s was it there none is its grown kept. tt)
-    (λ storable clean inside.
-    c.in_err-put_blocks.ensures.does.cause (storable.0.upload, storable.1.number) clean inside)
     c.in_err-put_blocks.ensures.does.stays

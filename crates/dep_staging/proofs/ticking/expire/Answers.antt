@@ -6,9 +6,6 @@ use Rattle.dep_tables.proofs.Chains.{clean_before}
 use Rattle.dep_row_maps.specs.TablesAre.{TablesAre}
 use Rattle.dep_row_maps.proofs.Whole.{timed_out_put}
 use Rattle.dep_staging.specs.Expiring.{timed_out}
-use Rattle.dep_staging.specs.Causes.{FailsToDrop, FailsToExpire}
-use Rattle.dep_staging.specs.Causes.FailsToExpire.{drop, number}
-use Rattle.dep_row_maps.proofs.Causes.{fails_then, fails_later, if_err_then, survives_itself}
 use Rattle.dep_row_maps.proofs.Changing.{by_leads, changes_then}
 use Rattle.dep_row_maps.proofs.Calling.{changes_failed}
 use Rattle.dep_staging.proofs.ticking.expire.Goals as goal
@@ -22,13 +19,6 @@ returns g c = record {
         let gone = c.in_ok-drop_upload.ensures.does.map before inside ours s are in
         ok_then c.insert_timed_out.result (c.insert_timed_out.ensures.does.ok clean (c.in_ok-drop_upload.ensures.does.keeps.stays.inside before inside) (c.in_ok-drop_upload.ensures.does.keeps.ours before inside ours))
         (λ leads. subst (λ (t : Tables). TablesAre t (timed_out c.args.upload s)) (sym leads.rows) (timed_out_put (tables_of mid) (record s { uploads = finmap.remove s.uploads c.args.upload }) gone c.args.upload));
-    cause = λ storable clean inside.
-        let old = c.args.tx.now in
-        let mid = c.drop_upload.new.tx in
-        let new = c.insert_timed_out.new.tx in
-        let before = clean_before c.insert_timed_out.ensures.does.keeps.stays clean in
-        if_err_then c.insert_timed_out.result (c.insert_timed_out.ensures.does.cause storable clean (c.in_ok-drop_upload.ensures.does.keeps.stays.inside before inside))
-        (λ fault failed. fails_then g.T.Statements.state old mid new c.drop_upload.ensures.does.keeps.stays.survives (FailsToExpire c.args.upload) fault (number failed));
     keeps = changes_then c.in_ok-drop_upload.ensures.does.keeps (by_leads _ c.insert_timed_out.ensures.does.keeps.stays c.insert_timed_out.ensures.does.ok);
   };
 }
@@ -37,10 +27,5 @@ pub returns-in_err-drop_upload : goal.returns-in_err-drop_upload
 returns-in_err-drop_upload g c = record {
   does =
       changes_failed c.from_residual.ensures.1 (λ s. tt)
-      (λ storable clean inside.
-      let old = c.args.tx.now in
-      let u = c.args.upload in
-      fails_later g.T.Statements.state old old c.drop_upload.new.tx (survives_itself (g.T.Statements.state old)) (FailsToDrop u) (FailsToExpire u)
-      (λ at now fault failed. drop failed) _ (c.in_err-drop_upload.ensures.does.cause storable clean inside))
       c.in_err-drop_upload.ensures.does.keeps.stays;
 }

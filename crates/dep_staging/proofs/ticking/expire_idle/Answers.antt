@@ -1,14 +1,11 @@
-use Rattle.std.proofs.Common.{◌≡◌, ◌-◌, sym, subst, arith, refl}
+use Rattle.std.proofs.Common.{sym, subst, refl}
 use Rattle.dep_tables.specs.Edits.{IsLeftBefore}
 use Rattle.dep_tables.specs.Tables.{Tables, tables_of}
 use Rattle.dep_tables.proofs.Chains.{clean_before, stays_then, stays_ok, still_ours, stays_put}
 use Rattle.dep_row_maps.specs.TablesAre.{TablesAre}
 use Rattle.dep_objects.proofs.Results.{same_tables}
 use Rattle.dep_staging.specs.Expiring.{expired_all}
-use Rattle.dep_staging.specs.Causes.{FailsToExpire, FailsToExpireAll}
-use Rattle.dep_staging.specs.Causes.FailsToExpireAll.{looked, ended}
-use Rattle.dep_row_maps.proofs.Causes.{fails_then, fails_later, if_err_is}
-use Rattle.dep_staging.proofs.Expired.{none_expired, found_idle, one_more, all_expired, few_uploads, idle_storable}
+use Rattle.dep_staging.proofs.Expired.{none_expired, one_more, all_expired}
 use Rattle.dep_row_maps.proofs.Changing.{changes_err}
 use Rattle.std.proofs.lemmas.Result.{IfOk-from_err}
 use Rattle.dep_staging.proofs.ticking.expire_idle.Goals as goal
@@ -46,79 +43,50 @@ uploads-preserved g c =
           (c.in_ok-expire.ensures.does.map clean (saw.inside before inside) (still_ours mid seen same ours_mid) z.left (subst (λ (t : Tables). TablesAre t z.left) (sym (same_tables mid seen same)) z.are)),
     )
 
-pub returns-in_default-clause-does : goal.returns-in_default-clause-does
-returns-in_default-clause-does g c = record {
-  done = λ clean inside ours s are.
-      let mid = g.T.Statements.state c.uploads.tx in
-      let seen = g.T.Statements.state c.left_before.new.tx in
-      let inv = c.uploads.invariant in
-      let before = clean_before c.left_before.ensures.does.keeps.stays clean in
-      let ours_mid = inv.1 before inside ours in
-      let z = inv.2 before inside ours s are in
-      let same = c.in_ok-left.ensures.does.keeps.same clean ours_mid in
-      let read = subst (λ m. IsLeftBefore m (tables_of mid) c.in_ok-left.field-0) c.idle_before-moment.ensures (c.in_ok-left.ensures.does.ok clean ours_mid) in
-      subst (λ (t : Tables). TablesAre t (expired_all c.args.config.now c.args.clock s)) (sym (same_tables mid seen same))
-      (all_expired c.args.config.now c.args.clock c.uploads.passed s (tables_of mid) z c.in_ok-left.field-0 read c.in_default.is);
-  keeps =
-      record {
-        stays = stays_ok (stays_then c.uploads.invariant.0 c.in_ok-left.ensures.does.keeps.stays);
-        ours = λ clean inside ours.
-            let ours_mid = c.uploads.invariant.1 (clean_before c.left_before.ensures.does.keeps.stays clean) inside ours in
-            still_ours (g.T.Statements.state c.uploads.tx) (g.T.Statements.state c.left_before.new.tx) (c.in_ok-left.ensures.does.keeps.same clean ours_mid) ours_mid;
-      };
+pub returns-in_default : goal.returns-in_default
+returns-in_default g c = record {
+  does = record {
+    map = λ clean inside ours s are.
+        let mid = g.T.Statements.state c.uploads.tx in
+        let seen = g.T.Statements.state c.left_before.new.tx in
+        let inv = c.uploads.invariant in
+        let before = clean_before c.left_before.ensures.does.keeps.stays clean in
+        let ours_mid = inv.1 before inside ours in
+        let z = inv.2 before inside ours s are in
+        let same = c.in_ok-left.ensures.does.keeps.same clean ours_mid in
+        let read = subst (λ m. IsLeftBefore m (tables_of mid) c.in_ok-left.field-0) c.idle_before-moment.ensures (c.in_ok-left.ensures.does.ok clean ours_mid) in
+        subst (λ (t : Tables). TablesAre t (expired_all c.args.config.now c.args.clock s)) (sym (same_tables mid seen same))
+        (all_expired c.args.config.now c.args.clock c.uploads.passed s (tables_of mid) z c.in_ok-left.field-0 read c.in_default.is);
+    keeps =
+        record {
+          stays = stays_ok (stays_then c.uploads.invariant.0 c.in_ok-left.ensures.does.keeps.stays);
+          ours = λ clean inside ours.
+              let ours_mid = c.uploads.invariant.1 (clean_before c.left_before.ensures.does.keeps.stays clean) inside ours in
+              still_ours (g.T.Statements.state c.uploads.tx) (g.T.Statements.state c.left_before.new.tx) (c.in_ok-left.ensures.does.keeps.same clean ours_mid) ours_mid;
+        };
+  };
 }
 
-pub returns-in_err-left-clause-cause : goal.returns-in_err-left-clause-cause
-returns-in_err-left-clause-cause g c clean inside ours s are below storable =
-    let config = c.args.config.now in
-    let clock = c.args.clock in
-    let old = c.args.tx.now in
-    let mid = c.uploads.tx in
-    let new = c.left_before.new.tx in
-    let moment : c.idle_before-moment.result ≡ clock - config.staging_max_idle = c.idle_before-moment.ensures in
-    if_err_is _ c.from_residual.result c.in_err-left.field-0.0 c.from_residual.ensures.1 (fails_then g.T.Statements.state old mid new c.uploads.invariant.0.survives (FailsToExpireAll config clock s.uploads) _
-    (looked (rw moment at (c.in_err-left.ensures.does.cause (omega (arith, below, moment)) clean))))
-
-pub returns-in_err-expire-clause-cause : goal.returns-in_err-expire-clause-cause
-returns-in_err-expire-clause-cause g c clean inside ours s are below storable =
-    let config = c.args.config.now in
-    let clock = c.args.clock in
-    let old = c.args.tx.now in
-    let mid = c.uploads.tx in
-    let seen = c.left_before.new.tx in
-    let new = c.expire.new.tx in
-    let inv = c.uploads.invariant in
-    let clean_seen = clean_before c.expire.ensures.does.keeps.stays clean in
-    let clean_mid = clean_before c.left_before.ensures.does.keeps.stays clean_seen in
-    let saw = stays_then inv.0 c.in_ok-left.ensures.does.keeps.stays in
-    let ours_mid = inv.1 clean_mid inside ours in
-    let z = inv.2 clean_mid inside ours s are in
-    let read = subst (λ m. IsLeftBefore m (tables_of (g.T.Statements.state mid)) c.in_ok-left.field-0) c.idle_before-moment.ensures (c.in_ok-left.ensures.does.ok clean_seen ours_mid) in
-    let u = c.in-Some.left.upload in
-    let idle = z.idle u (found_idle config clock c.uploads.passed s (tables_of (g.T.Statements.state mid)) z c.in_ok-left.field-0 read c.in-Some.left c.in-Some.is) in
-    if_err_is _ c.from_residual-in_err-expire.result c.in_err-expire.field-0.0 c.from_residual-in_err-expire.ensures.1 (fails_later g.T.Statements.state old seen new saw.survives (FailsToExpire u) (FailsToExpireAll config clock s.uploads)
-    (λ at now fault failed. ended u idle failed) _
-    (c.in_err-expire.ensures.does.cause (idle_storable config clock u s.uploads storable idle) clean (saw.inside clean_seen inside)))
-
-pub returns-clause-cause : goal.returns-clause-cause
-returns-clause-cause g c clean inside ours s are below storable =
-    let z = c.uploads.invariant.2 clean inside ours s are in
-    absurd (omega (arith, z.count, few_uploads s.uploads storable, c.uploads-test.false))
-
-pub returns-in_err-left-clause-does : goal.returns-in_err-left-clause-does
-returns-in_err-left-clause-does g c = record {
-  done = λ clean inside ours s are. IfOk-from_err c.from_residual.result _ c.from_residual.ensures.0;
-  keeps = changes_err c.from_residual.ensures.0 (stays_then c.uploads.invariant.0 c.left_before.ensures.does.keeps.stays);
+pub returns-in_err-left : goal.returns-in_err-left
+returns-in_err-left g c = record {
+  does = record {
+    map = λ clean inside ours s are. IfOk-from_err c.from_residual.result _ c.from_residual.ensures.0;
+    keeps = changes_err c.from_residual.ensures.0 (stays_then c.uploads.invariant.0 c.left_before.ensures.does.keeps.stays);
+  };
 }
 
-pub returns-in_err-expire-clause-does : goal.returns-in_err-expire-clause-does
-returns-in_err-expire-clause-does g c = record {
-  done = λ clean inside ours s are. IfOk-from_err c.from_residual-in_err-expire.result _ c.from_residual-in_err-expire.ensures.0;
-  keeps = changes_err c.from_residual-in_err-expire.ensures.0 (stays_then (stays_then c.uploads.invariant.0 c.in_ok-left.ensures.does.keeps.stays) c.expire.ensures.does.keeps.stays);
+pub returns-in_err-expire : goal.returns-in_err-expire
+returns-in_err-expire g c = record {
+  does = record {
+    map = λ clean inside ours s are. IfOk-from_err c.from_residual-in_err-expire.result _ c.from_residual-in_err-expire.ensures.0;
+    keeps = changes_err c.from_residual-in_err-expire.ensures.0 (stays_then (stays_then c.uploads.invariant.0 c.in_ok-left.ensures.does.keeps.stays) c.expire.ensures.does.keeps.stays);
+  };
 }
 
-pub returns-clause-does : goal.returns-clause-does
-returns-clause-does g c = record {
-  done = λ clean inside ours s are. tt;
-  keeps = changes_err refl c.uploads.invariant.0;
+pub returns : goal.returns
+returns g c = record {
+  does = record {
+    map = λ clean inside ours s are. tt;
+    keeps = changes_err refl c.uploads.invariant.0;
+  };
 }

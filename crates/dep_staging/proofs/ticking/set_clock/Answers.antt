@@ -7,21 +7,25 @@ use Rattle.dep_row_maps.proofs.Whole.{state_written}
 use Rattle.dep_row_maps.proofs.Changing.{by_leads, changes_put}
 use Rattle.dep_staging.proofs.ticking.set_clock.Goals as goal
 
-pub returns-then-clock-row-clause-does : goal.returns-then-clock-row-clause-does
-returns-then-clock-row-clause-does g c = record {
-  done = λ clean inside ours s are is.
-      let same : c.args.clock ≡ s.clock = c.if-clock-row.true ∙ ap (λ (r : StateRow). r.clock) is in
-      subst (λ k. TablesAre (tables_of (g.T.Statements.state c.args.tx.now)) (with_counters s k s.next)) (sym same) are;
-  keeps = changes_put g.T.Statements.lenders g.T.Statements.state c.args.tx.now _;
+pub returns-then-clock-row : goal.returns-then-clock-row
+returns-then-clock-row g c = record {
+  does = record {
+    map = λ clean inside ours s are is.
+        let same : c.args.clock ≡ s.clock = c.if-clock-row.true ∙ ap (λ (r : StateRow). r.clock) is in
+        subst (λ k. TablesAre (tables_of (g.T.Statements.state c.args.tx.now)) (with_counters s k s.next)) (sym same) are;
+    keeps = changes_put g.T.Statements.lenders g.T.Statements.state c.args.tx.now _;
+  };
 }
 
-pub returns-clause-does : goal.returns-clause-does
-returns-clause-does g c = record {
-  done = λ clean inside ours s are is.
-      let old = g.T.Statements.state c.args.tx.now in
-      let new = g.T.Statements.state c.write_state.new.tx in
-      ok_then c.write_state.result (c.write_state.ensures.does.ok clean inside ours)
-      (λ wrote. subst (λ k. TablesAre (tables_of new) (with_counters s c.args.clock k)) (ap (λ (r : StateRow). r.next) is)
-      (subst (λ (t : Tables). TablesAre t (with_counters s c.args.clock c.args.row.now.next)) (sym wrote.rows) (state_written (tables_of old) s are c.args.clock c.args.row.now.next)));
-  keeps = by_leads _ c.write_state.ensures.does.keeps.stays c.write_state.ensures.does.ok;
+pub returns : goal.returns
+returns g c = record {
+  does = record {
+    map = λ clean inside ours s are is.
+        let old = g.T.Statements.state c.args.tx.now in
+        let new = g.T.Statements.state c.write_state.new.tx in
+        ok_then c.write_state.result (c.write_state.ensures.does.ok clean inside ours)
+        (λ wrote. subst (λ k. TablesAre (tables_of new) (with_counters s c.args.clock k)) (ap (λ (r : StateRow). r.next) is)
+        (subst (λ (t : Tables). TablesAre t (with_counters s c.args.clock c.args.row.now.next)) (sym wrote.rows) (state_written (tables_of old) s are c.args.clock c.args.row.now.next)));
+    keeps = by_leads _ c.write_state.ensures.does.keeps.stays c.write_state.ensures.does.ok;
+  };
 }

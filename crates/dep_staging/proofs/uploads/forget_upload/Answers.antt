@@ -2,9 +2,6 @@ use Rattle.std.proofs.Common.{◌∙◌, ap}
 use Rattle.dep_tables.specs.Edits.{without_segment_rows, without_upload_row}
 use Rattle.dep_tables.proofs.Results.{ok_then}
 use Rattle.dep_tables.proofs.Chains.{clean_before, stays_then}
-use Rattle.dep_staging.specs.Causes.{FailsToDrop}
-use Rattle.dep_staging.specs.Causes.FailsToDrop.{promise, segments, row}
-use Rattle.dep_row_maps.proofs.Causes.{fails_first, fails_then, if_err_then}
 use Rattle.dep_row_maps.proofs.Calling.{tables_failed}
 use Rattle.dep_staging.proofs.uploads.forget_upload.Goals as goal
 
@@ -19,14 +16,6 @@ returns g c = record {
         let second = c.in_ok-delete_segments.ensures.does.ok clean_two first.shows.mode first.ours in
         ok_then c.delete_upload.result (c.delete_upload.ensures.does.ok clean second.shows.mode second.ours)
         (λ leads. record { ours = leads.ours; rows = leads.rows ∙ ap (without_upload_row u) (second.rows ∙ ap (without_segment_rows u) first.rows) });
-    cause = λ storable clean inside.
-        let old = c.args.tx.now in
-        let two = c.delete_segments.new.tx in
-        let new = c.delete_upload.new.tx in
-        let stays = stays_then c.in_ok-delete_sha512.ensures.does.keeps.stays c.in_ok-delete_segments.ensures.does.keeps.stays in
-        let within = stays.inside (clean_before c.delete_upload.ensures.does.keeps.stays clean) inside in
-        if_err_then c.delete_upload.result (c.delete_upload.ensures.does.cause storable clean within)
-        (λ fault failed. fails_then g.T.Statements.state old two new stays.survives (FailsToDrop c.args.upload) fault (row failed));
     stays =
         stays_then (stays_then c.in_ok-delete_sha512.ensures.does.keeps.stays c.in_ok-delete_segments.ensures.does.keeps.stays) c.delete_upload.ensures.does.keeps.stays;
   };
@@ -36,9 +25,6 @@ pub returns-in_err-delete_sha512 : goal.returns-in_err-delete_sha512
 returns-in_err-delete_sha512 g c = record {
   does =
       tables_failed c.from_residual.ensures.1
-      (λ storable clean inside.
-      fails_first g.T.Statements.state c.args.tx.now c.delete_sha512.new.tx (FailsToDrop c.args.upload) _
-      (promise (c.in_err-delete_sha512.ensures.does.cause storable clean inside)))
       c.in_err-delete_sha512.ensures.does.keeps.stays;
 }
 
@@ -46,13 +32,5 @@ pub returns-in_err-delete_segments : goal.returns-in_err-delete_segments
 returns-in_err-delete_segments g c = record {
   does =
       tables_failed c.from_residual-in_err-delete_segments.ensures.1
-      (λ storable clean inside.
-      let old = c.args.tx.now in
-      let one = c.delete_sha512.new.tx in
-      let new = c.delete_segments.new.tx in
-      let stays = c.in_ok-delete_sha512.ensures.does.keeps.stays in
-      let within = stays.inside (clean_before c.delete_segments.ensures.does.keeps.stays clean) inside in
-      fails_then g.T.Statements.state old one new stays.survives (FailsToDrop c.args.upload) _
-      (segments (c.in_err-delete_segments.ensures.does.cause storable clean within)))
       (stays_then c.in_ok-delete_sha512.ensures.does.keeps.stays c.in_err-delete_segments.ensures.does.keeps.stays);
 }

@@ -1,12 +1,5 @@
-use Rattle.std.proofs.Common.{◌≢◌, ℕ, sym, subst, ◌∙◌}
-use Rattle.std.specs.FinMap as finmap
+use Rattle.std.proofs.Common.{ℕ, sym, subst, ◌∙◌}
 use Rattle.dep_tables.proofs.Chains.{clean_before, reads_ok, reads_then, reads_err, still_ours}
-use Rattle.dep_types.specs.Limits.{IsStorable}
-use Rattle.dep_row_maps.specs.TablesAre.{metadata_at}
-use Rattle.dep_row_maps.specs.Causes.{FailsHolding, FailsSince}
-use Rattle.dep_row_maps.specs.Causes.FailsByStatement.{object_found}
-use Rattle.dep_row_maps.specs.Causes.FailsHolding.{statement}
-use Rattle.dep_row_maps.proofs.Causes.{fails_behind_them, fails_first, if_err_is}
 use Rattle.dep_objects.proofs.Puts.{has_row, its_number}
 use Rattle.dep_views.specs.Shown.{IsViewOf}
 use Rattle.dep_views.proofs.Chains.{still_seen}
@@ -32,25 +25,6 @@ returns-in_err-view-clause-keeps g c = reads_err c.from_residual-in_err-view.ens
 
 pub returns-clause-keeps : goal.returns-clause-keeps
 returns-clause-keeps g c = reads_ok (reads_then c.in_ok-row.ensures.does.keeps c.in_ok-view.ensures.map.keeps)
-
-pub returns-in_err-row-clause-cause : goal.returns-in_err-row-clause-cause
-returns-in_err-row-clause-cause g c clean inside ours s are storable =
-    if_err_is _ c.from_residual.result c.in_err-row.field-0.0 c.from_residual.ensures.1
-    (fails_first g.T.Statements.state c.args.tx.now c.find_object.new.tx (FailsHolding (metadata_at s.objects c.args.object ≢ finmap.empty)) _
-    (statement (object_found _ (c.in_err-row.ensures.does.cause storable clean))))
-
-pub returns-in_err-view-clause-cause : goal.returns-in_err-view-clause-cause
-returns-in_err-view-clause-cause g c clean inside ours s are storable =
-    let old = g.T.Statements.state c.args.tx.now in
-    let mid = g.T.Statements.state c.find_object.new.tx in
-    let before = clean_before c.view_of.ensures.map.keeps.stays clean in
-    let same = c.in_ok-row.ensures.does.keeps.same before ours in
-    let number = its_number s c.args.object c.in-Some.row (sym c.in-Some.is ∙ c.in_ok-row.ensures.does.map before ours s are) in
-    let fault = c.in_err-view.field-0.0 in
-    let failed = c.in_err-view.ensures.cause clean (c.in_ok-row.ensures.does.keeps.stays.inside before inside) (still_ours old mid same ours) s (still_seen old mid s same are) (subst IsStorable (sym number) storable) in
-    if_err_is _ c.from_residual-in_err-view.result fault c.from_residual-in_err-view.ensures.1
-    (fails_behind_them g.T.Statements.state c.args.tx.now c.find_object.new.tx c.view_of.new.tx c.in_ok-row.ensures.does.keeps.stays.survives (FailsHolding (metadata_at s.objects c.args.object ≢ finmap.empty)) fault
-    (subst (λ (n : ℕ). FailsSince g.T.Statements.state (FailsHolding (metadata_at s.objects n ≢ finmap.empty)) c.find_object.new.tx c.view_of.new.tx fault) number failed))
 
 pub returns-in_err-row-clause-keeps : goal.returns-in_err-row-clause-keeps
 returns-in_err-row-clause-keeps g c = reads_err c.from_residual.ensures.0 c.in_err-row.ensures.does.keeps

@@ -1,9 +1,7 @@
 use Rattle.std.proofs.Common.{◌∙◌, ◌++◌, [], ◌∷◌, map, get_or, is_err, sym, ap}
 use Rattle.std.proofs.lemmas.List.{map_more, take_all}
 use Rattle.dep_tables.specs.declared.segments.SegmentRow.{SegmentRow}
-use Rattle.dep_tables.proofs.Results.{if_failed}
 use Rattle.dep_objects.proofs.Named.{pushed}
-use Rattle.dep_views.proofs.Causes.{not_empty}
 use Rattle.dep_views.proofs.segments.numbers_of.Goals as goal
 
 pub loop-segment-preserved : goal.loop-segment-preserved
@@ -17,10 +15,8 @@ loop-segment-preserved c =
     let grown = pushed c.push.result c.push.new.self.items (before ++ number ∷ []) before (ap is_err c.in_ok-push.was) c.push.ensures.items in
     grown ∙ ap (λ l. l ++ number ∷ []) c.loop-segment.invariant ∙ sym (map_more f xs i none c.loop-segment-test.true)
 
-pub returns-clause-ok : goal.returns-clause-ok
-returns-clause-ok c =
-    let f = λ (row : SegmentRow). row.number in
-    c.from_vec.ensures ∙ c.loop-segment.invariant ∙ ap (map f) (take_all c.loop-segment.segment-index c.args.segments.now c.loop-segment-test.false)
-
-pub returns-in_err-push-clause-err : goal.returns-in_err-push-clause-err
-returns-in_err-push-clause-err c = if_failed c.from_residual.result (not_empty c.args.segments.now c.loop-segment.segment-index c.loop-segment-test.true)
+pub returns : goal.returns
+returns c = record {
+  ok = let f = λ (row : SegmentRow). row.number in
+      c.from_vec.ensures ∙ c.loop-segment.invariant ∙ ap (map f) (take_all c.loop-segment.segment-index c.args.segments.now c.loop-segment-test.false);
+}

@@ -9,21 +9,23 @@ use Rattle.dep_tables.proofs.Chains.{may_ok}
 use Rattle.dep_views.proofs.Paths.{path_told, payload_seen}
 use Rattle.dep_views.proofs.touched.find_touched_path.Goals as goal
 
-pub returns-in_ok-payload-in-Some-Some-clause-map : goal.returns-in_ok-payload-in-Some-Some-clause-map
-returns-in_ok-payload-in-Some-Some-clause-map g c = record {
-  found = λ clean inside ours s are sound there.
-      let found = c.in_ok-payload-in-Some-Some.ensures.map.found clean inside ours s are in
-      let touched = c.args.touched.now in
-      let object = sym (ap option_copied c.in-Some-Some.is-0) ∙ there in
-      let has =
-      c.has_path_with.ensures
-      ∙ ap (λ (x : Option FileRow). list_any (bytes_eq c.as_slice-path.result.now) (tag_paths ++ map row_path (option_to_list x))) found
-      ∙ ap (λ (p : List ℕ). list_any (bytes_eq p) (tag_paths ++ map row_path (option_to_list (file_at_path s c.in-Some-Some.object.now.object p)))) c.as_slice-path.ensures
-      ∙ path_told s touched c.in-Some-Some.object.now c.in-Some-Some.path sound object c.in-Some-Some.is-1 in
-      let payload =
-      found
-      ∙ ap (file_at_path s c.in-Some-Some.object.now.object) c.as_slice-path.ensures
-      ∙ payload_seen s touched c.in-Some-Some.object.now c.in-Some-Some.path object c.in-Some-Some.is-1 in
-      λ i. record { has_path = has i; payload = payload i };
-  keeps = may_ok c.in_ok-payload-in-Some-Some.ensures.map.keeps;
+pub returns-in_ok-payload-in-Some-Some : goal.returns-in_ok-payload-in-Some-Some
+returns-in_ok-payload-in-Some-Some g c = record {
+  map = record {
+    found = λ clean inside ours s are sound there.
+        let found = c.in_ok-payload-in-Some-Some.ensures.map.found clean inside ours s are in
+        let touched = c.args.touched.now in
+        let object = sym (ap option_copied c.in-Some-Some.is-0) ∙ there in
+        let has =
+        c.has_path_with.ensures
+        ∙ ap (λ (x : Option FileRow). list_any (bytes_eq c.as_slice-path.result.now) (tag_paths ++ map row_path (option_to_list x))) found
+        ∙ ap (λ (p : List ℕ). list_any (bytes_eq p) (tag_paths ++ map row_path (option_to_list (file_at_path s c.in-Some-Some.object.now.object p)))) c.as_slice-path.ensures
+        ∙ path_told s touched c.in-Some-Some.object.now c.in-Some-Some.path sound object c.in-Some-Some.is-1 in
+        let payload =
+        found
+        ∙ ap (file_at_path s c.in-Some-Some.object.now.object) c.as_slice-path.ensures
+        ∙ payload_seen s touched c.in-Some-Some.object.now c.in-Some-Some.path object c.in-Some-Some.is-1 in
+        λ i. record { has_path = has i; payload = payload i };
+    keeps = may_ok c.in_ok-payload-in-Some-Some.ensures.map.keeps;
+  };
 }

@@ -1,18 +1,11 @@
 use Rattle.std.proofs.lemmas.Result.{IfOk-from_err}
-use Rattle.std.proofs.Common.{IsTrue, Ok, ◌≡◌, ◌≢◌, refl, ◌∙◌, ◌++◌, [], ◌∷◌, map, take, get_or, is_err, sym, ap}
+use Rattle.std.proofs.Common.{Ok, ◌≡◌, ◌∙◌, ◌++◌, [], ◌∷◌, map, take, get_or, is_err, sym, ap}
 use Rattle.std.proofs.lemmas.List.{map_more, take_all}
-use Rattle.std.proofs.lemmas.List.Elements.{All-get_or}
-use Rattle.dep_types.specs.declared.store_fault.StoreFault.TheVariants.{Memory}
 use Rattle.dep_objects.proofs.Named.{pushed}
 use Rattle.dep_operations.specs.Views.{upload_view}
 use Rattle.dep_operations.specs.declared.view.UploadView.{UploadView}
 use Rattle.dep_tables.proofs.Chains.{clean_before, may_ok, may_then, may_err, still_ours}
 use Rattle.dep_views.proofs.Chains.{still_seen}
-use Rattle.dep_row_maps.specs.Causes.{FailsHolding}
-use Rattle.dep_row_maps.specs.Causes.FailsHolding.{memory}
-use Rattle.dep_row_maps.proofs.Causes.{fails_first, fails_later, holding_more, if_err_is}
-use Rattle.dep_types.specs.Limits.{IsStorable}
-use Rattle.dep_views.proofs.Causes.{not_empty}
 use Rattle.dep_views.proofs.uploads.load_uploads.Goals as goal
 
 pub uploads-preserved : goal.uploads-preserved
@@ -35,42 +28,28 @@ uploads-preserved g c =
           (it.1, grown ∙ ap (λ l. l ++ view ∷ []) so_far.1 ∙ ap (λ v. map f (take c.uploads.upload-index xs) ++ v ∷ []) viewed ∙ sym (map_more f xs c.uploads.upload-index 0 c.uploads-test.true)),
     )
 
-pub returns-clause-map : goal.returns-clause-map
-returns-clause-map g c = record {
-  found = λ clean inside ours s are is_open sound running.
-      let f = upload_view c.args.by_reference s in
-      c.from_vec.ensures ∙ (c.uploads.invariant.1 is_open clean inside ours s are sound running).1 ∙ ap (map f) (take_all c.uploads.upload-index c.args.uploads.now c.uploads-test.false);
-  keeps = may_ok c.uploads.invariant.0;
+pub returns : goal.returns
+returns g c = record {
+  map = record {
+    found = λ clean inside ours s are is_open sound running.
+        let f = upload_view c.args.by_reference s in
+        c.from_vec.ensures ∙ (c.uploads.invariant.1 is_open clean inside ours s are sound running).1 ∙ ap (map f) (take_all c.uploads.upload-index c.args.uploads.now c.uploads-test.false);
+    keeps = may_ok c.uploads.invariant.0;
+  };
 }
 
-pub returns-in_err-state-clause-map : goal.returns-in_err-state-clause-map
-returns-in_err-state-clause-map g c = record {
-  found = λ clean inside ours s are is_open sound running. IfOk-from_err c.from_residual.result _ c.from_residual.ensures.0;
-  keeps = may_err c.from_residual.ensures.0 (may_then c.uploads.invariant.0 c.load_state.ensures.map.keeps);
+pub returns-in_err-state : goal.returns-in_err-state
+returns-in_err-state g c = record {
+  map = record {
+    found = λ clean inside ours s are is_open sound running. IfOk-from_err c.from_residual.result _ c.from_residual.ensures.0;
+    keeps = may_err c.from_residual.ensures.0 (may_then c.uploads.invariant.0 c.load_state.ensures.map.keeps);
+  };
 }
 
-pub returns-in_err-push-clause-map : goal.returns-in_err-push-clause-map
-returns-in_err-push-clause-map g c = record {
-  found = λ clean inside ours s are is_open sound running. IfOk-from_err c.from_residual-in_err-push.result _ c.from_residual-in_err-push.ensures.0;
-  keeps = may_ok (may_then c.uploads.invariant.0 c.in_ok-state.ensures.map.keeps);
+pub returns-in_err-push : goal.returns-in_err-push
+returns-in_err-push g c = record {
+  map = record {
+    found = λ clean inside ours s are is_open sound running. IfOk-from_err c.from_residual-in_err-push.result _ c.from_residual-in_err-push.ensures.0;
+    keeps = may_ok (may_then c.uploads.invariant.0 c.in_ok-state.ensures.map.keeps);
+  };
 }
-
-pub returns-in_err-state-clause-cause : goal.returns-in_err-state-clause-cause
-returns-in_err-state-clause-cause g c is_open clean inside ours s are sound storable =
-    let old = c.args.tx.now in
-    let mid = c.uploads.tx in
-    let new = c.load_state.new.tx in
-    let inv = c.uploads.invariant in
-    let before = clean_before c.load_state.ensures.map.keeps.stays clean in
-    let same = inv.0.same is_open before ours in
-    let xs = c.args.uploads.now in
-    let small = All-get_or IsStorable xs c.uploads.upload-index 0 c.uploads-test.true storable in
-    if_err_is _ c.from_residual.result c.in_err-state.field-0.0 c.from_residual.ensures.1
-    (fails_later g.T.Statements.state old mid new inv.0.stays.survives (FailsHolding (IsTrue c.args.by_reference)) (FailsHolding (xs ≢ [])) (holding_more (λ _. not_empty xs c.uploads.upload-index c.uploads-test.true)) _
-    (c.in_err-state.ensures.cause clean (inv.0.stays.inside before inside) (still_ours (g.T.Statements.state old) (g.T.Statements.state mid) same ours) s
-    (still_seen (g.T.Statements.state old) (g.T.Statements.state mid) s same are) sound small))
-
-pub returns-in_err-push-clause-cause : goal.returns-in_err-push-clause-cause
-returns-in_err-push-clause-cause g c is_open clean inside ours s are sound storable =
-    if_err_is _ c.from_residual-in_err-push.result Memory c.from_residual-in_err-push.ensures.1
-    (fails_first g.T.Statements.state c.args.tx.now c.load_state.new.tx (FailsHolding (c.args.uploads.now ≢ [])) _ (memory (not_empty c.args.uploads.now c.uploads.upload-index c.uploads-test.true) refl))

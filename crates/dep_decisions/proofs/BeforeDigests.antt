@@ -1,0 +1,144 @@
+-- What is refused before any digest of an upload is known.
+use Rattle.std.proofs.Common.{◌≡◌, ◌≢◌, ◌∙◌, Bool, true, false, List, [], ◌∷◌, ◌++◌, map, Option, Some, None, is_some, option_and_then, if◌then◌else◌, refl, sym, ap}
+use Rattle.std.specs.List.{filter_map}
+use Rattle.std.specs.Option.{option_map_or}
+use Rattle.dep_types.specs.Maps.{first_of}
+use Rattle.dep_types.specs.declared.config.Config.{Config}
+use Rattle.dep_types.specs.declared.refusal.Refusal.{Refusal}
+use Rattle.dep_types.specs.declared.refusal.Refusal.TheVariants.{BadRequest, ByReferenceNotAllowed, DigestMismatch, PackagingFormatNotAcceptable}
+use Rattle.dep_fields.specs.declared.kind.Kind.{Kind}
+use Rattle.dep_fields.specs.declared.kind.Kind.TheVariants as of
+use Rattle.dep_docs_in.specs.declared.reference.Reference.{Reference}
+use Rattle.dep_decisions.specs.Decisions.{upload_number}
+use Rattle.dep_decisions.specs.Kinds.{kind_of}
+use Rattle.dep_decisions.specs.LookUps.{Entry, LookUps, without_digests}
+use Rattle.dep_decisions.specs.Parts.{access_refusal, content_by, content_refusal, fields_refusal, has_content}
+use Rattle.dep_decisions.specs.Rules.{digest_rule, digests_refusal, document_refusal, document_rule, each, entries_refusal, is_binary, length_refusal, presence_rule, references_refusal, refusal_by, room_rule, size_refusal, size_rule, stands_twice, tag_rule, there_refusal, unless, when, whole_refusal}
+use Rattle.dep_decisions.specs.declared.operation.Operation.{Operation}
+use Rattle.dep_decisions.proofs.InParts.{in_parts}
+
+-- ---- rows that are any
+
+-- whatever stands behind what refuses
+before_rest : (xs ys : List (Option Refusal)) (r : Refusal) → first_of xs ≡ Some r → first_of (xs ++ ys) ≡ Some r
+before_rest [] ys r e = cc e
+before_rest (None ∷ xs) ys r e = before_rest xs ys r e
+before_rest (Some x ∷ xs) ys r e = e
+
+passed_last : (xs : List (Option Refusal)) (o : Option Refusal) → o ≡ None → first_of (xs ++ o ∷ []) ≡ first_of xs
+passed_last [] None e = refl
+passed_last [] (Some r) e = cc e
+passed_last (None ∷ xs) o e = passed_last xs o e
+passed_last (Some x ∷ xs) o e = refl
+
+behind : (a b : Option Refusal) (xs ys : List (Option Refusal)) (r : Refusal) → (first_of xs ≡ Some r → first_of ys ≡ Some r)
+    → first_of (a ∷ b ∷ xs) ≡ Some r → first_of (a ∷ b ∷ ys) ≡ Some r
+behind (Some x) b xs ys r f e = e
+behind None (Some x) xs ys r f e = e
+behind None None xs ys r f e = f e
+
+module _ {U : Type 0} (config : Config) (l : LookUps U) (op : Operation) where
+  unknown_passes : (o : Option U) → unless (option_map_or (λ u. true) o true) DigestMismatch ≡ None
+  unknown_passes None = refl
+  unknown_passes (Some u) = refl
+
+  all_unknown : (es : List (Entry U)) → each (digests_refusal (without_digests l).known) es ≡ None
+  all_unknown [] = refl
+  all_unknown (e ∷ es) = ap (λ o. first_of (o ∷ map (digests_refusal (without_digests l).known) es)) (unknown_passes e.upload) ∙ all_unknown es
+
+  abbrev first_six : List Reference → List (Option Refusal)
+  first_six refs =
+      each (λ (r : Reference). unless (is_some (upload_number r.target)) ByReferenceNotAllowed) refs
+      ∷ each (λ (r : Reference). unless (is_binary r.packaging) PackagingFormatNotAcceptable) refs
+      ∷ when (stands_twice (filter_map (λ r. upload_number r.target) refs)) BadRequest
+      ∷ each there_refusal (l.entries refs)
+      ∷ each (whole_refusal l.known) (l.entries refs)
+      ∷ each (length_refusal l.known) (l.entries refs)
+      ∷ []
+
+  entries_before : (refs : List Reference) (r : Refusal) → entries_refusal (without_digests l) refs ≡ Some r → entries_refusal l refs ≡ Some r
+  unfolding entries_refusal
+  entries_before refs r e =
+      before_rest (first_six refs) (each (digests_refusal l.known) (l.entries refs) ∷ []) r
+      (sym (passed_last (first_six refs) (each (digests_refusal (without_digests l).known) (l.entries refs)) (all_unknown (l.entries refs))) ∙ e)
+
+  references_before : (o : Option (List Reference)) (r : Refusal) → references_refusal (without_digests l) o ≡ Some r → references_refusal l o ≡ Some r
+  references_before None r e = e
+  references_before (Some refs) r e = entries_before refs r e
+
+  single : (o : Option Refusal) → first_of (o ∷ None ∷ []) ≡ o
+  single None = refl
+  single (Some r) = refl
+
+  -- rules 13 and 14
+  last_two : (o : Option Kind) (r : Refusal)
+      → first_of (option_and_then (document_refusal config (without_digests l) op) o ∷ option_and_then (size_refusal config (without_digests l) op) o ∷ []) ≡ Some r
+      → first_of (option_and_then (document_refusal config l op) o ∷ option_and_then (size_refusal config l op) o ∷ []) ≡ Some r
+  last_two None r e = e
+  last_two (Some (of.File name)) r e = e
+  last_two (Some of.Metadata) r e = e
+  last_two (Some of.References) r e =
+      single (references_refusal l (l.references config op))
+      ∙ references_before (l.references config op) r (sym (single (references_refusal (without_digests l) (l.references config op))) ∙ e)
+  last_two (Some (of.Opening o)) r e = e
+  last_two (Some (of.Segment k)) r e = e
+
+  content_before : (r : Refusal) → content_by config (without_digests l) op ≡ Some r → content_by config l op ≡ Some r
+  unfolding content_by document_rule size_rule
+  content_before r e = behind (fields_refusal op) (digest_rule op) _ _ r (last_two (kind_of op) r) e
+
+  if_content : (b : Bool) (r : Refusal) → (if b then content_by config (without_digests l) op else None) ≡ Some r → (if b then content_by config l op else None) ≡ Some r
+  if_content true r e = content_before r e
+  if_content false r e = e
+
+  access_same : access_refusal config (without_digests l) op ≡ access_refusal config l op
+  unfolding access_refusal presence_rule tag_rule
+  access_same = refl
+
+  first_or : (a c d m : Option Refusal) (r : Refusal) → (c ≡ Some r → d ≡ Some r) → first_of (a ∷ c ∷ []) ≡ Some r → first_of (a ∷ d ∷ m ∷ []) ≡ Some r
+  first_or (Some x) c d m r f e = e
+  first_or None None d m r f e = cc e
+  first_or None (Some x) d m r f e = ap (λ o. first_of (o ∷ m ∷ [])) (f e)
+
+  pub refused_before : (r : Refusal) → first_of (access_refusal config (without_digests l) op ∷ content_refusal config (without_digests l) op ∷ []) ≡ Some r → refusal_by config l op ≡ Some r
+  unfolding content_refusal
+  refused_before r e =
+      in_parts config l op
+      ∙ first_or (access_refusal config l op) (content_refusal config (without_digests l) op) (content_refusal config l op) (room_rule config l op) r
+      (if_content (has_content op.target.method) r)
+      (ap (λ a. first_of (a ∷ content_refusal config (without_digests l) op ∷ [])) (sym access_same) ∙ e)
+
+  -- ---- other contents
+
+  same_document : (o : Option Kind) → o ≢ Some of.References → option_and_then (document_refusal config (without_digests l) op) o ≡ option_and_then (document_refusal config l op) o
+  same_document None other = refl
+  same_document (Some (of.File name)) other = refl
+  same_document (Some of.Metadata) other = refl
+  same_document (Some of.References) other = absurd (other refl)
+  same_document (Some (of.Opening o)) other = refl
+  same_document (Some (of.Segment k)) other = refl
+
+  same_size : (o : Option Kind) → option_and_then (size_refusal config (without_digests l) op) o ≡ option_and_then (size_refusal config l op) o
+  same_size None = refl
+  same_size (Some (of.File name)) = refl
+  same_size (Some of.Metadata) = refl
+  same_size (Some of.References) = refl
+  same_size (Some (of.Opening o)) = refl
+  same_size (Some (of.Segment k)) = refl
+
+  same_content : kind_of op ≢ Some of.References → content_refusal config (without_digests l) op ≡ content_refusal config l op
+  unfolding content_refusal content_by document_rule size_rule
+  same_content other =
+      let document = same_document (kind_of op) other in
+      let size = same_size (kind_of op) in
+      (λ i. if has_content op.target.method then first_of (fields_refusal op ∷ digest_rule op ∷ document i ∷ size i ∷ []) else None)
+
+  same_room : room_rule config (without_digests l) op ≡ room_rule config l op
+  unfolding room_rule
+  same_room = refl
+
+  pub for_references : kind_of op ≢ Some of.References → refusal_by config (without_digests l) op ≡ refusal_by config l op
+  for_references other =
+      in_parts config (without_digests l) op
+      ∙ (λ i. first_of (access_same i ∷ same_content other i ∷ same_room i ∷ []))
+      ∙ sym (in_parts config l op)
