@@ -18,3 +18,4 @@ pub mod Streams
 pub mod Numbers
 pub mod BagPaths
 pub mod Sinks
+pub mod Methods
