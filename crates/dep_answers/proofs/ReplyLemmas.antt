@@ -8,7 +8,7 @@ use Rattle.dep_types.specs.declared.rows.FileRow.{FileRow}
 use Rattle.dep_reply.specs.Head.{ReplyHead, head_text}
 use Rattle.dep_answers.specs.Answers.{Answer, ReplyContent, StoredContent, bytes_of, document_of, stored_of, answer, head_of, is_silent}
 use Rattle.dep_answers.specs.Replies.{unless_bare, front_text, stored_text}
-use Rattle.dep_answers.specs.Performing.{HasEnd, IsReply, stored_in, stored_behind, stored_file}
+use Rattle.dep_answers.specs.Performing.{HasEnd, HasStatus, IsReply, stored_in, stored_behind, stored_file}
 use Rattle.dep_answers.specs.declared.performed.Delivery.{Delivery}
 use Rattle.dep_answers.specs.declared.performed.Performed.{Performed}
 use Rattle.dep_answers.specs.declared.performed.StoredFile.{StoredFile}
@@ -43,12 +43,13 @@ told_end None false e = absurd (cc)
 
 -- what isn't silent tells where it ends
 pub ends_by : (a : Answer) (delivery : Delivery) (p : Performed) → is_silent a ≡ false
-    → p.front.items ≡ front_text a delivery.clock delivery.is_bare delivery.closes → HasEnd p
+    → p.front.items ≡ front_text a delivery.clock delivery.is_bare delivery.closes → HasStatus a.status None p → HasEnd p
 unfolding front_text
-ends_by a delivery p e front = record {
+ends_by a delivery p e front status = record {
   head = head_of a delivery.clock delivery.closes;
   behind = unless_bare delivery.is_bare (document_of a.content);
   front = front;
+  status = status;
   ends = told_end a.content (a.status == 204) e;
 }
 
@@ -106,10 +107,11 @@ stored_ready s file row tag delivery p there is front stored =
           (sized_behind delivery.is_bare file.content it (ap (λ (r : FileRow). r.size) is));
     }
 
-pub stored_ends : (row : FileRow) (tag : Option ℕ) (delivery : Delivery) (p : Performed) → p.front.items ≡ head_text (head_by row tag delivery) → HasEnd p
-stored_ends row tag delivery p front = record {
+pub stored_ends : (row : FileRow) (tag : Option ℕ) (delivery : Delivery) (p : Performed) → p.front.items ≡ head_text (head_by row tag delivery) → HasStatus 200 None p → HasEnd p
+stored_ends row tag delivery p front status = record {
   head = head_by row tag delivery;
   behind = [];
   front = front ∙ sym (append-nil (head_text (head_by row tag delivery)));
+  status = status;
   ends = refl;
 }

@@ -2,7 +2,9 @@
 use Rattle.std.specs.Prelude.{◌≡◌, ◌≢◌, ℕ, ◌==◌, ◌||◌, Bool, true, false, List, [], ◌∷◌, ◌++◌, is_some, Option, Some, None, IsSome, IfSome, IsTrue, length}
 use Rattle.std.specs.Option.{option_map_or}
 use Rattle.dep_types.specs.State.{State, file_at}
+use Rattle.dep_types.specs.declared.refusal.Refusal.{Refusal}
 use Rattle.dep_reply.specs.Head.{ReplyHead, head_text}
+use Rattle.dep_reply.specs.Statuses.{status_number}
 use Rattle.dep_answers.specs.Answers.{Answer, is_silent}
 use Rattle.dep_answers.specs.Steps.{Stepped, answered_step}
 use Rattle.dep_answers.specs.declared.performed.Delivery.{Delivery}
@@ -32,12 +34,17 @@ abbrev pub Says : State → Answer → Delivery → Option Performed → Type 0
 Says s a delivery (Some p) = IsReply s a delivery p
 Says s a delivery None = IsTrue (is_silent a)
 
+-- it is known to have this status, and to be this refusal
+abbrev pub HasStatus : (status : ℕ) → Option Refusal → Performed → Type 0
+HasStatus status refusal p = (status_number p.status ≡ status) × (p.refusal ≡ refusal)
+
 -- the reply says where it ends: its head gives a length, or is of the status that has no content (RFC 9110,
 -- section 15.3.5; RFC 9112, section 6.3)
 pub record HasEnd (p : Performed) : Type 0 where
   pub head : ReplyHead
   pub behind : List ℕ
   pub front : p.front.items ≡ head_text head ++ behind
+  pub status : HasStatus head.status None p
   pub ends : IsTrue (is_some head.content_length || head.status == 204)
 
 -- what was done is the step, and what is ready is its reply

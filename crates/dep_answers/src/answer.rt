@@ -3,14 +3,14 @@ ghost use Rattle.std.specs.Prelude.{◌≡◌, ◌++◌, [], IfOk, IfSome, OnOk,
 ghost use Rattle.dep_types.specs.State.{State};
 ghost use Rattle.dep_reply.specs.Statuses.{status_number};
 ghost use Rattle.dep_answers.specs.Answers.{answer, head_of, is_silent, media_of, document_of, stored_of, Document};
-ghost use Rattle.dep_answers.specs.Performing.{HasEnd, IsReply, Says};
+ghost use Rattle.dep_answers.specs.Performing.{HasEnd, HasStatus, IsReply, Says};
 ghost use Rattle.dep_answers.specs.Replies.{front_text, unless_bare};
 ghost use Rattle.dep_answers.specs.Told.{content_of};
 
 use crate::performed::{Delivery, Performed};
 use dep_moment::Moment;
 use dep_reply::{Reply, Status, spell_head};
-use dep_types::{Octets, Text};
+use dep_types::{Octets, Refusal, Text};
 use std::alloc::{AllocError, Global};
 use std::marker::Model;
 
@@ -156,18 +156,27 @@ impl Answer {
         if self.is_silent() {
             return Ok(None);
         }
-        Ok(Some(self.spell(alloc, delivery)?))
+        Ok(Some(self.spell(alloc, None, delivery)?))
     }
 
-    /// Returns the reply that says this: its head, and behind it the text unless the reply is bare.
-    pub(crate) fn spell(&self, alloc: Global, delivery: Delivery) -> Result<Performed, AllocError>
+    /// Returns the reply that says this: its head, and behind it the text unless the reply is bare. `refusal` is
+    /// why it is a refusal.
+    pub(crate) fn spell(
+        &self,
+        alloc: Global,
+        refusal: Option<Refusal>,
+        delivery: Delivery,
+    ) -> Result<Performed, AllocError>
         ensures says { IfOk result (λ p. (s : State) → IsReply s self.now delivery p) }
         ensures front { IfOk result (λ p. p.front.items
             ≡ front_text self.now delivery.clock delivery.is_bare delivery.closes) }
+        ensures status { IfOk result (HasStatus self.now.status refusal) }
     {
         let mut front = spell_head(alloc, &self.head(delivery.clock, delivery.closes))?;
         self.add_text(&mut front, delivery.is_bare)?;
         Ok(Performed {
+            status: self.status,
+            refusal,
             front,
             stored: None,
         })

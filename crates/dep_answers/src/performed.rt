@@ -1,6 +1,8 @@
 //! Replies that are ready to be sent.
 
 use dep_moment::Moment;
+use dep_reply::Status;
+use dep_types::Refusal;
 
 /// Which file: the number of its object, and its own.
 #[derive(Clone, Copy)]
@@ -25,6 +27,10 @@ pub struct StoredFile {
 /// A reply that is ready to be sent: no memory is needed any more, but to read a stored content.
 #[derive(Drop)]
 pub struct Performed {
+    /// The status in its head.
+    pub status: Status,
+    /// Why the request was refused, if it was.
+    pub refusal: Option<Refusal>,
     /// The bytes of its head, and of a document or text behind it.
     pub front: Vec<u8>,
     /// The file whose content follows, as the archive keeps it. It isn't empty.

@@ -1,8 +1,9 @@
 //! Replies to requests that are refused.
-ghost use Rattle.std.specs.Prelude.{◌≡◌, IfOk};
+ghost use Rattle.std.specs.Prelude.{◌≡◌, IfOk, Some};
 ghost use Rattle.std.specs.Option.{option_copied};
 ghost use Rattle.dep_types.specs.State.{State};
-ghost use Rattle.dep_answers.specs.Performing.{IsReply};
+ghost use Rattle.dep_types.specs.Refusals.{facts_of};
+ghost use Rattle.dep_answers.specs.Performing.{HasStatus, IsReply};
 ghost use Rattle.dep_answers.specs.Replies.{refused_answer};
 
 use crate::answer::{Answer, ReplyText};
@@ -10,7 +11,7 @@ use crate::performed::{Delivery, Performed};
 use dep_docs_out::error_doc;
 use dep_moment::Moment;
 use dep_reply::Status;
-use dep_types::Refusal;
+use dep_types::{Refusal, StoreFault};
 use std::alloc::{AllocError, Global};
 
 /// Returns the reply to a request that is refused, with the methods of the resource where one is not allowed
@@ -20,14 +21,15 @@ pub fn refused(
     refusal: Refusal,
     allow: Option<&'static str>,
     delivery: Delivery,
-) -> Result<Performed, AllocError>
-    ensures { IfOk result (λ p. (s : State) →
+) -> Result<Performed, StoreFault>
+    ensures says { IfOk result (λ p. (s : State) →
         IsReply s (refused_answer delivery.clock refusal (option_copied allow.entry)) delivery p) }
+    ensures status { IfOk result (HasStatus (facts_of refusal).status (Some refusal)) }
 {
     let answer = refusing(alloc, refusal, allow, delivery.clock)?;
-    let reply = answer.spell(alloc, delivery);
+    let reply = answer.spell(alloc, Some(refusal), delivery);
     drop(answer);
-    reply
+    Ok(reply?)
 }
 
 fn refusing(

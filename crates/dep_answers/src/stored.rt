@@ -52,6 +52,8 @@ pub(crate) fn stored_reply(
         closes: delivery.closes,
     };
     Ok(Performed {
+        status: Status::Ok,
+        refusal: None,
         front: spell_head(alloc, &head)?,
         stored: content_behind(row, delivery.is_bare),
     })

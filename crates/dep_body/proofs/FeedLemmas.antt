@@ -153,15 +153,6 @@ used_within Done used most h = h
 used_within Bad used most h = omega arith
 used_within TooLarge used most h = omega arith
 
--- the front of a stream that is fed to a reader as its first piece
-pub ends_front : (limit : ℕ) (content piece : List ℕ) (used : ℕ) → EndsBody limit content [] piece used
-    → (used ≤ length piece) × IsBodyText limit Chunked (take used piece) content
-ends_front limit content piece used h =
-    let size : used ≡ length h.text = omega (arith, h.used_is) in
-    let all : length piece ≡ length h.text + length h.behind = ap length h.stream_is ∙ length-append h.text h.behind in
-    let front : take used piece ≡ h.text = ap (λ n. take n piece) size ∙ ap (take (length h.text)) h.stream_is ∙ take-append_seam h.text h.behind in
-    (omega arith, subst (λ t. IsBodyText limit Chunked t content) (sym front) h.body)
-
 pub fault_front : (limit : ℕ) (content piece : List ℕ) (fault : FrameFault) → ShowsFault limit content [] piece fault
     → (used : ℕ) × (used ≤ length piece) × IsBodyFault limit Chunked (take used piece) fault
 fault_front limit content piece fault h =

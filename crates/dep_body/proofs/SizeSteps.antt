@@ -173,21 +173,6 @@ sized_fits limit content text size n h some room =
       content_is = sym (append-nil content);
     }
 
--- behind the bytes of a chunk
-pub end_goes : (limit : ℕ) (content text : List ℕ) (b : ℕ) → IsBehindData limit content None text → IsBehindData limit content (Some b) (text ++ b ∷ [])
-end_goes limit content text b h = record {
-  before = h.before;
-  line = h.line;
-  bytes = h.bytes;
-  chunks = chunks_rest limit _ h.before _ _
-      (append_assoc (line_text h.line) (h.bytes ++ []) (b ∷ []) ∙ ap (λ t. line_text h.line ++ t) (ap (λ t. t ++ b ∷ []) (append-nil h.bytes)))
-      (chunks_more limit text h.before _ (b ∷ []) h.chunks);
-  size = h.size;
-  some = h.some;
-  room = h.room;
-  content_is = h.content_is;
-}
-
 two_behind : (limit : ℕ) (content text : List ℕ) (a b : ℕ) → (h : IsBehindData limit content (Some a) text)
     → HasChunks limit (text ++ b ∷ []) h.before (line_text h.line ++ (h.bytes ++ a ∷ b ∷ []))
 two_behind limit content text a b h =

@@ -11,11 +11,6 @@ use Rattle.json.specs.Value.{members_view}
 use Rattle.json.specs.declared.value.Value.{Value}
 use Rattle.dep_configuration.specs.Names.{is_field_name, AreFieldNames, StandsBehind}
 
--- the names of members are the keys that are seen of them
-pub keys-seen : {A : Type 0} (ms : List (Bor (List ℕ) × Value A)) → keys (members_view ms) ≡ map (λ m. m.0.now) ms
-keys-seen [] = refl
-keys-seen (m ∷ ms) = ap (λ ks. m.0.now ∷ ks) (keys-seen ms)
-
 pub none-named : AreFieldNames []
 none-named = record {
   known = All-nil (λ name. IsTrue (is_field_name name));

@@ -3,6 +3,7 @@ ghost use Rattle.std.specs.Prelude.{◌≡◌};
 ghost use Rattle.dep_configuration.specs.AccessLog.{reason_name};
 
 use crate::configuration::Limits;
+use dep_types::Refusal;
 use json::Writer;
 use std::alloc::{AllocError, Global};
 
@@ -24,8 +25,8 @@ pub struct Exchange<'a> {
     pub path: &'a str,
     /// The status of the reply.
     pub status: u16,
-    /// The name of the refusal, where the request was refused.
-    pub refusal: Option<&'a str>,
+    /// Why the request was refused, if it was.
+    pub refusal: Option<Refusal>,
     /// The bytes that the request took.
     pub bytes_in: u64,
     /// The bytes that the reply took.
@@ -104,7 +105,7 @@ pub struct Start<'a> {
 pub fn exchange_line(alloc: Global, exchange: &Exchange<'_>) -> Result<Vec<u8>, AllocError> {
     let end = exchange.path.floor_char_boundary(GREATEST_PATH);
     let refusal = match exchange.refusal {
-        Some(refusal) => Member::Text("refusal", refusal),
+        Some(refusal) => Member::Text("refusal", refusal.name()),
         None => Member::LeftOut,
     };
     line(

@@ -9,7 +9,6 @@ mod fault;
 mod field;
 pub mod laws;
 mod names;
-mod reply_front;
 mod report;
 mod values;
 
@@ -20,5 +19,4 @@ pub use configuration::{Configuration, Limits};
 pub use example::{EXAMPLE, explain};
 pub use fault::ConfigurationFault;
 pub use field::{Bounds, FIELDS, Field, Wanted};
-pub use reply_front::{refusal_of_front, status_of_front};
 pub use report::print_configuration;

@@ -36,12 +36,6 @@ with_next octets h g is less within holds = record {
   holds = subst (Holds g.hasher) (front_is octets h.count g.count less is.within) holds;
 }
 
--- all were hashed
-pub all_hashed : (octets : List ℕ) (h : Hashed) → IsHashed h octets → length octets ≤ h.count → Holds h.hasher octets
-all_hashed octets h is all =
-    let count : h.count ≡ length octets = omega (arith, is.within, all) in
-    subst (Holds h.hasher) (ap (λ n. take n octets) count ∙ take-length octets) is.holds
-
 -- the same octets, or more of them
 pub kept_or_more : {A E : Type 0} (h : Hashed) (old more new : List ℕ) (result : Result A E) → OnOk result (new ≡ old ++ more)
     → OnErr result (new ≡ old) → IsHashed h old → IsHashed h new

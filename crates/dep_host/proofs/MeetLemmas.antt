@@ -123,13 +123,6 @@ may_end_on : {A R K S : Type 0} (host : Host A R K S) (xs ys : List ℕ) → May
 may_end_on host xs ys (shut, inl empty) = (shut, inl empty)
 may_end_on host xs ys (shut, inr late) = (shut, inr (late.0, Contains-append_right xs ys late.0 late.1, late.2))
 
--- nobody sits anywhere, where nobody sits at the places that there are
-pub nobody : {X : Type 0} (seats : List (Option X)) (all : ℕ) → all ≡ length seats → ((place : ℕ) → place < all → slot place seats ≡ None) → (at : ℕ) → slot at seats ≡ None
-nobody seats all e none at = elim (cases_lt at all) [
-  | inl lt ↦ none at lt
-  | inr ge ↦ get_or_past seats at None (omega (arith, ge, e))
-]
-
 given_more : {R K S : Type 0} (old new : Option (List (Call R K S))) (calls : List (Call R K S)) (end : Ended) → (end ≡ ended.Events → ⊥) → Grows old new calls → Grows old new (all_given end None calls)
 given_more old new calls ended.Events more g = absurd (more refl)
 given_more old new calls ended.Shut more g = g

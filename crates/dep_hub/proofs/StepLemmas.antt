@@ -93,21 +93,23 @@ module _ {E : Type 0} (config : Config) (m : Message) (old new : Condition) (clo
       (λ s. (operation_step config s (operation_of m t)).state) r made)
 
 -- none is named
-module _ {E : Type 0} (config : Config) (m : Message) (d : Delivery) (bare : d.is_bare ≡ is_bare m.head) (close : d.closes ≡ closes m.head)
+module _ {E : Type 0} (config : Config) (m : Message) (clock : ℕ) (bare close : Bool) (bare_is : bare ≡ is_bare m.head) (close_is : close ≡ closes m.head)
     (store : Condition) (settles : Settles store) (r : Result Performed E) where
-  refused_still : (refusal : Refusal) (allow : Option (List ℕ)) → IfOk r (λ p. (t : State) → IsReply t (refused_answer d.clock refusal allow) d p)
-      → Tells store store (λ s p. d.clock ≡ s.clock → IsReady (refused_step s refusal allow (is_bare m.head) (closes m.head)) p) r
+  abbrev Refuses : Refusal → Option (List ℕ) → Type 0
+  Refuses refusal allow = IfOk r (λ p. (s : State) → clock ≡ s.clock → IsReady (refused_step s refusal allow bare close) p)
+
+  refused_still : (refusal : Refusal) (allow : Option (List ℕ)) → Refuses refusal allow
+      → Tells store store (λ s p. clock ≡ s.clock → IsReady (refused_step s refusal allow (is_bare m.head) (closes m.head)) p) r
   refused_still refusal allow e = tells_still store settles _ r
-      (λ s. IfOk-weaker r _ _ (λ p h clock. refusal_ready s d p refusal allow (is_bare m.head) (closes m.head) clock bare close h) e)
+      (λ s. IfOk-weaker r _ _ (λ p h at. subst (λ (b : Bool). IsReady (refused_step s refusal allow b (closes m.head)) p) bare_is
+      (subst (λ (c : Bool). IsReady (refused_step s refusal allow bare c) p) close_is (h s at))) e)
 
-  pub none_answered : NotFound ≡ target m.head.method m.head.path → IfOk r (λ p. (t : State) → IsReply t (refused_answer d.clock why.NotFound None) d p)
-      → AnswersIt config m store store d.clock r (target m.head.method m.head.path)
-  none_answered named e = subst (AnswersIt config m store store d.clock r) named (refused_still why.NotFound None e)
+  pub none_answered : NotFound ≡ target m.head.method m.head.path → Refuses why.NotFound None → AnswersIt config m store store clock r (target m.head.method m.head.path)
+  none_answered named e = subst (AnswersIt config m store store clock r) named (refused_still why.NotFound None e)
 
-  pub not_allowed_answered : (methods : List ℕ) → NotAllowed methods ≡ target m.head.method m.head.path
-      → IfOk r (λ p. (t : State) → IsReply t (refused_answer d.clock why.MethodNotAllowed (Some methods)) d p)
-      → AnswersIt config m store store d.clock r (target m.head.method m.head.path)
-  not_allowed_answered methods named e = subst (AnswersIt config m store store d.clock r) named (refused_still why.MethodNotAllowed (Some methods) e)
+  pub not_allowed_answered : (methods : List ℕ) → NotAllowed methods ≡ target m.head.method m.head.path → Refuses why.MethodNotAllowed (Some methods)
+      → AnswersIt config m store store clock r (target m.head.method m.head.path)
+  not_allowed_answered methods named e = subst (AnswersIt config m store store clock r) named (refused_still why.MethodNotAllowed (Some methods) e)
 
 -- operations that are one
 pub asks_same : {E : Type 0} (config : Config) (old new : Condition) (r : Result Performed E) (op it : Operation) → op ≡ it
@@ -119,6 +121,11 @@ pub same_operation : (m : Message) (h : HeadParts) (t : Target) → h ≡ record
     → operation_of (record { head = h; content = m.content }) t ≡ operation_of m t
 unfolding closes
 same_operation m h t e = ap (λ (x : HeadParts). operation_of (record { head = x; content = m.content }) t) e
+
+-- nor does whether the connection is closed
+pub same_end : (head left : HeadParts) → left ≡ record { method = head.method; path = []; minor = head.minor; fields = head.fields } → closes left ≡ closes head
+unfolding closes
+same_end head left rest = ap (λ (h : HeadParts). closes h) rest
 
 -- the method and the path that are asked for are those of the head from which they were taken
 pub asked_same : (head left : HeadParts) (method path : List ℕ) → method ≡ left.method

@@ -3,6 +3,7 @@ use Rattle.std.specs.Prelude.{◌≡◌, ◌⊎◌, ℕ, true, List, IsTrue}
 use Rattle.dep_types.specs.State.{State}
 use Rattle.dep_types.specs.Writing.{HasRisen}
 use Rattle.dep_types.specs.declared.config.Config.{Config}
+use Rattle.dep_message.specs.Heads.{closes}
 use Rattle.dep_message.specs.Places.{Place, Shut, Reading, place_with}
 use Rattle.dep_message.specs.Stream.{Item, Fault, Continue, Request, Reads}
 use Rattle.dep_types.specs.Conditions.{StandsFor, HasCleanDisk, Leaves}
@@ -14,6 +15,7 @@ use Rattle.dep_hub.specs.Shut.{LeavesNoMore, IfShut, continues, IsFixed, SendsFi
 use Rattle.dep_hub.specs.declared.arrived.Arrived.{Arrived}
 use Rattle.dep_hub.specs.declared.arrived.Arrived.TheVariants.{Open as StaysOpen, Closed, Cut}
 use Rattle.dep_hub.specs.declared.serving.Piece.{Piece}
+use Rattle.dep_hub.specs.declared.step.Incoming.{Incoming}
 use Rattle.dep_hub.specs.declared.sending.Answered.{Answered}
 use Rattle.dep_hub.specs.declared.sending.Answered.TheVariants.{Sent, GaveUp, CutShort}
 
@@ -78,6 +80,10 @@ arrival_of reading piece moment = record { reading = reading; piece = piece; mom
 -- the same of a piece that comes at its moment
 abbrev pub arrival_with : Reading → Piece → Arrival
 arrival_with reading piece = arrival_of reading piece.bytes.now piece.moment
+
+-- the connection is closed after the reply where the head asks for it
+abbrev pub EndsAsAsked : Incoming → Type 0
+EndsAsAsked incoming = incoming.is_last ≡ closes incoming.message.head
 
 -- an intake that reads nothing more is dead: behind a request that closes the connection it was shut
 abbrev pub IsDeadIfShut : Reading → Type 0

@@ -1,5 +1,7 @@
 //! What is told of each request and its reply, for a log of them.
 
+use dep_types::Refusal;
+
 /// A log that is told of each item that `Hub::answer` answers. What is sent and kept doesn't depend on it.
 pub trait AccessLog {
     /// A whole request is answered next: its method as it was sent, the path of its target without the query
@@ -7,10 +9,10 @@ pub trait AccessLog {
     /// answered without it, and so is a client that waits for `100 Continue`.
     fn request(&mut self, method: &[u8], path: &str, length: u64);
 
-    /// This is written next, in one write: the head of a reply with its document, a fixed reply in its place,
-    /// or `100 Continue`. A stored content behind it isn't among these bytes. Whether the write fails is seen
-    /// by the outlet.
-    fn reply(&mut self, front: &[u8]);
+    /// A reply of this status is written next, and why the request is refused, if it is: an item's own reply, or
+    /// a fixed one in its place, which has no refusal. A `100 Continue` is written without it. Whether the write
+    /// fails is seen by the outlet.
+    fn reply(&mut self, status: u16, refusal: Option<Refusal>);
 }
 
 /// A log that keeps nothing.
@@ -20,5 +22,5 @@ pub struct NoLog;
 impl AccessLog for NoLog {
     fn request(&mut self, method: &[u8], path: &str, length: u64) {}
 
-    fn reply(&mut self, front: &[u8]) {}
+    fn reply(&mut self, status: u16, refusal: Option<Refusal>) {}
 }

@@ -35,6 +35,14 @@ fn fixed_reply(fault: StoreFault) -> &'static [u8]
     }
 }
 
+// Its status.
+fn fixed_status(fault: StoreFault) -> u16 {
+    match fault {
+        StoreFault::Store => 500,
+        StoreFault::Memory => 503,
+    }
+}
+
 /// Sends the fixed reply for a fault.
 pub(crate) fn send_fault<O: Outlet, L: AccessLog>(
     fault: StoreFault,
@@ -45,7 +53,7 @@ pub(crate) fn send_fault<O: Outlet, L: AccessLog>(
         (O.failures out.old) (O.failures out.new) (reply_to fault) result }
 {
     let fixed = fixed_reply(fault);
-    log.reply(fixed);
+    log.reply(fixed_status(fault), None);
     match out.write(fixed) {
         Ok(()) => Answered::GaveUp,
         Err(WriteFailed) => Answered::CutShort,
@@ -53,13 +61,12 @@ pub(crate) fn send_fault<O: Outlet, L: AccessLog>(
 }
 
 /// Sends an item's own reply.
-pub(crate) fn send<O: Outlet, L: AccessLog>(out: &mut O, log: &mut L, reply: &[u8]) -> Answered
+pub(crate) fn send<O: Outlet>(out: &mut O, reply: &[u8]) -> Answered
     ensures sends { SendsReply (O.taken out.old) (O.taken out.new) reply.now result }
     ensures kept { result ≡ Answered.Sent → O.failures out.new ≡ O.failures out.old }
     ensures cause { result ≡ Answered.CutShort
         → HasRisen (O.failures out.old) (O.failures out.new) }
 {
-    log.reply(reply);
     match out.write(reply) {
         Ok(()) => Answered::Sent,
         Err(WriteFailed) => Answered::CutShort,
@@ -78,7 +85,8 @@ pub(crate) fn send_performed<A: Archive, O: Outlet, L: AccessLog>(
         (outside_of O.Outlet out.old (A.condition store.old))
         (outside_of O.Outlet out.new (A.condition store.new)) performed.now result }
 {
-    match send(out, log, performed.front.as_slice()) {
+    log.reply(performed.status.number(), performed.refusal);
+    match send(out, performed.front.as_slice()) {
         Answered::Sent => match performed.stored {
             Some(id) => match store.stream(id.file, out) {
                 Ok(()) => Answered::Sent,

@@ -11,8 +11,8 @@ use crate::arrived::Arrived;
 use crate::next::Next;
 use crate::sending::{Answered, send_fault};
 use crate::site::{Context, Site};
-use crate::step::{StreamRefusal, answer_continue, answer_fault, answer_message};
-use dep_message::{Intake, Step, closes};
+use crate::step::{Incoming, StreamRefusal, answer_continue, answer_fault, answer_message};
+use dep_message::{Intake, Step};
 use dep_moment::Moment;
 use dep_types::{Outlet, StoreFault};
 use std::alloc::AllocError;
@@ -79,12 +79,12 @@ pub(crate) fn answer_next<A: Archive, O: Outlet, L: AccessLog>(
             next_after(intake, answer, true)
         }
         Ok(Step::Continue100) => {
-            let answer = answer_continue(store, out, log);
+            let answer = answer_continue(store, out);
             next_after(intake, answer, false)
         }
-        Ok(Step::Message(message)) => {
-            let is_last = closes(&message.head);
-            let answer = answer_message(context, store, message, out, log);
+        Ok(Step::Message(message, is_last)) => {
+            let incoming = Incoming { message, is_last };
+            let answer = answer_message(context, store, incoming, out, log);
             next_after(intake, answer, is_last)
         }
     }

@@ -3,14 +3,14 @@ ghost use Rattle.std.specs.Prelude.{◌≡◌, ℕ, IfOk};
 ghost use Rattle.std.specs.Option.{option_copied};
 ghost use Rattle.dep_types.specs.State.{State};
 ghost use Rattle.dep_types.specs.declared.config.Config.{Config as Settings};
+ghost use Rattle.dep_message.specs.Heads.{closes};
 ghost use Rattle.dep_message.specs.Stream.{Fault, Continue, Request};
-ghost use Rattle.dep_answers.specs.Performing.{IsReady, IsReply};
-ghost use Rattle.dep_answers.specs.Replies.{refused_answer};
-ghost use Rattle.dep_answers.specs.Steps.{operation_step};
+ghost use Rattle.dep_answers.specs.Performing.{IsReady};
+ghost use Rattle.dep_answers.specs.Steps.{operation_step, refused_step};
 ghost use Rattle.dep_hub.specs.Archives.{TriesTo, MakesStep, Always};
 ghost use Rattle.dep_hub.specs.Machine.{operation_of, message_step};
 ghost use Rattle.dep_hub.specs.Sending.{outside_of};
-ghost use Rattle.dep_hub.specs.Serving.{Answers};
+ghost use Rattle.dep_hub.specs.Serving.{Answers, EndsAsAsked};
 
 use crate::access_log::AccessLog;
 use crate::archive::Archive;
@@ -21,37 +21,46 @@ use dep_decisions::Operation;
 use dep_fields::SwordFields;
 use dep_fixity::HashedOctets;
 use dep_head::Head;
-use dep_message::{Message, closes, is_without_body};
+use dep_message::{Message, is_without_body};
 use dep_moment::Moment;
 use dep_router::Routed;
 use dep_tags::IfMatch;
 use dep_types::{Outlet, Refusal, StoreFault, Target};
 use std::alloc::{AllocError, Global};
 
-/// What a fault of a stream is answered: why it is refused, and whether the reply has no body.
+/// Why an item is refused before the archive is asked, and whether the reply has no body.
 #[derive(Clone, Copy)]
 pub(crate) struct StreamRefusal {
     pub refusal: Refusal,
     pub is_bare: bool,
 }
 
+/// A whole message, and whether the connection is closed after its reply.
+#[derive(Drop)]
+pub(crate) struct Incoming {
+    pub message: Message,
+    pub is_last: bool,
+}
+
 /// Steps a whole message: the clock goes on, and then the message is answered.
 pub(crate) fn answer_message<A: Archive, O: Outlet, L: AccessLog>(
     context: &Context<'_>,
     store: &mut A,
-    message: Message,
+    incoming: Incoming,
     out: &mut O,
     log: &mut L,
 ) -> Answered
+    requires { EndsAsAsked incoming }
     ensures { Answers context.now.site.now
         (outside_of O.Outlet out.old (A.condition store.old))
         (outside_of O.Outlet out.new (A.condition store.new))
-        (Request message) context.now.moment result }
+        (Request incoming.message) context.now.moment result }
 {
+    let message = &incoming.message;
     let length = message.content.as_slice().len() as u64;
     log.request(message.head.method(), message.head.path(), length);
     match store.tick(context.site.service().config(), context.moment) {
-        Ok(clock) => match answer_routed(context.site, store, message, clock) {
+        Ok(clock) => match answer_routed(context.site, store, incoming, clock) {
             Ok(performed) => {
                 let answered = send_performed(store, &performed, out, log);
                 drop(performed);
@@ -60,24 +69,20 @@ pub(crate) fn answer_message<A: Archive, O: Outlet, L: AccessLog>(
             Err(fault) => send_fault(fault, out, log),
         },
         Err(fault) => {
-            drop(message);
+            drop(incoming);
             send_fault(fault, out, log)
         }
     }
 }
 
 /// Sends `100 Continue`, so that the client sends the body (RFC 9110, section 15.2.1). The clock stays.
-pub(crate) fn answer_continue<A: Archive, O: Outlet, L: AccessLog>(
-    store: &A,
-    out: &mut O,
-    log: &mut L,
-) -> Answered
+pub(crate) fn answer_continue<A: Archive, O: Outlet>(store: &A, out: &mut O) -> Answered
     ensures { (config : Settings) (moment : ℕ) → Answers config
         (outside_of O.Outlet out.old (A.condition store.now))
         (outside_of O.Outlet out.new (A.condition store.now))
         Continue moment result }
 {
-    send(out, log, b"HTTP/1.1 100 Continue\r\n\r\n")
+    send(out, b"HTTP/1.1 100 Continue\r\n\r\n")
 }
 
 /// Steps a fault of a stream: the clock goes on, and the connection is closed after the reply.
@@ -94,21 +99,14 @@ pub(crate) fn answer_fault<A: Archive, O: Outlet, L: AccessLog>(
         (Fault fault.refusal fault.is_bare) context.now.moment result }
 {
     match store.tick(context.site.service().config(), context.moment) {
-        Ok(clock) => {
-            let delivery = Delivery {
-                clock,
-                is_bare: fault.is_bare,
-                closes: true,
-            };
-            match refused(context.site.alloc(), fault.refusal, None, delivery) {
-                Ok(performed) => {
-                    let answered = send_performed(store, &performed, out, log);
-                    drop(performed);
-                    answered
-                }
-                Err(AllocError) => send_fault(StoreFault::Memory, out, log),
+        Ok(clock) => match refuse(context.site.alloc(), clock, fault, None, true) {
+            Ok(performed) => {
+                let answered = send_performed(store, &performed, out, log);
+                drop(performed);
+                answered
             }
-        }
+            Err(store_fault) => send_fault(store_fault, out, log),
+        },
         Err(store_fault) => send_fault(store_fault, out, log),
     }
 }
@@ -117,60 +115,76 @@ pub(crate) fn answer_fault<A: Archive, O: Outlet, L: AccessLog>(
 fn answer_routed<A: Archive>(
     site: &Site,
     store: &mut A,
-    message: Message,
+    incoming: Incoming,
     clock: Moment,
 ) -> Result<Performed, StoreFault>
+    requires { EndsAsAsked incoming }
     ensures { TriesTo (A.condition store.old) (A.condition store.new) Always
-        (λ s p. clock ≡ s.clock → IsReady (message_step site.now s message) p)
-        (λ s. (message_step site.now s message).state) result }
+        (λ s p. clock ≡ s.clock → IsReady (message_step site.now s incoming.message) p)
+        (λ s. (message_step site.now s incoming.message).state) result }
 {
-    let delivery = Delivery {
-        clock,
-        is_bare: is_without_body(&message.head),
-        closes: closes(&message.head),
-    };
+    let Incoming { message, is_last } = incoming;
+    let is_bare = is_without_body(&message.head);
     let alloc = site.alloc();
     let mut message = message;
     let path = message.head.take_path();
     match site.routes.route(message.head.method(), path) {
-        Routed::To(target) => perform_operation(site.service(), store, message, target),
+        Routed::To(target) => {
+            let incoming = Incoming { message, is_last };
+            perform_operation(site.service(), store, incoming, target)
+        }
         Routed::NotFound => {
             drop(message);
-            refuse(alloc, Refusal::NotFound, None, delivery)
+            let why = StreamRefusal {
+                refusal: Refusal::NotFound,
+                is_bare,
+            };
+            refuse(alloc, clock, why, None, is_last)
         }
         Routed::NotAllowed(methods) => {
             drop(message);
-            let allow = Some(methods.as_str());
-            refuse(alloc, Refusal::MethodNotAllowed, allow, delivery)
+            let why = StreamRefusal {
+                refusal: Refusal::MethodNotAllowed,
+                is_bare,
+            };
+            refuse(alloc, clock, why, Some(methods.as_str()), is_last)
         }
     }
 }
 
-// The reply to a message that names no resource, or a method that its resource hasn't.
+// The reply to an item that the archive isn't asked about, at this clock.
 fn refuse(
     alloc: Global,
-    refusal: Refusal,
+    clock: Moment,
+    why: StreamRefusal,
     allow: Option<&'static str>,
-    delivery: Delivery,
+    closes: bool,
 ) -> Result<Performed, StoreFault>
-    ensures { IfOk result (λ p. (s : State) →
-        IsReply s (refused_answer delivery.clock refusal (option_copied allow.entry)) delivery p) }
+    ensures { IfOk result (λ p. (s : State) → clock ≡ s.clock → IsReady
+        (refused_step s why.refusal (option_copied allow.entry) why.is_bare closes) p) }
 {
-    Ok(refused(alloc, refusal, allow, delivery)?)
+    let delivery = Delivery {
+        clock,
+        is_bare: why.is_bare,
+        closes,
+    };
+    refused(alloc, why.refusal, allow, delivery)
 }
 
 // What is replied to a request for a resource.
 fn perform_operation<A: Archive>(
     service: &Service,
     store: &mut A,
-    message: Message,
+    incoming: Incoming,
     target: Target,
 ) -> Result<Performed, StoreFault>
+    requires { EndsAsAsked incoming }
     ensures { MakesStep (A.condition store.old) (A.condition store.new) Always
-        (λ s. operation_step service.now s (operation_of message target)) result }
+        (λ s. operation_step service.now s (operation_of incoming.message target)) result }
 {
+    let Incoming { message, is_last } = incoming;
     let Message { head, content } = message;
-    match operation_of(service.alloc(), &head, content, target) {
+    match operation_of(service.alloc(), &head, content, target, is_last) {
         Ok(operation) => {
             let performed = store.perform(service, &operation);
             drop(operation);
@@ -190,7 +204,9 @@ fn operation_of<'a>(
     head: &'a Head,
     content: HashedOctets,
     target: Target,
+    is_last: bool,
 ) -> Result<Operation<'a>, AllocError>
+    requires { is_last ≡ closes head.now }
     ensures { IfOk result (λ operation.
         operation ≡ operation_of (record { head = head.now; content = content }) target) }
 {
@@ -199,6 +215,6 @@ fn operation_of<'a>(
         fields: SwordFields::read(alloc, head)?,
         if_match: IfMatch::read(head),
         content,
-        closes: closes(head),
+        closes: is_last,
     })
 }

@@ -1,5 +1,6 @@
 -- What an intake gives.
 use Rattle.std.specs.Prelude.{◌≡◌, ◌<◌, Bool, true, false}
+use Rattle.dep_message.specs.Heads.{closes}
 use Rattle.dep_message.specs.Places.{Shut, Reading, left_to_read}
 use Rattle.dep_message.specs.Stream.{Item, Fault, Continue, Request, FirstAt, Waits}
 use Rattle.dep_message.specs.declared.intake.Step.{Step}
@@ -21,7 +22,7 @@ pub record Takes (old new : Reading) (item : Item) : Type 0 where
 -- the step is the first item, which is taken, or why there is none, and then nothing is taken
 abbrev pub Gives : Reading → Reading → Step → Type 0
 Gives old new Continue100 = Takes old new Continue
-Gives old new (Message m) = Takes old new (Request m)
+Gives old new (Message m is_last) = Takes old new (Request m) × (is_last ≡ closes m.head)
 Gives old new (Refused refusal bare) = Takes old new (Fault refusal bare)
 Gives old new NeedMore = (new ≡ old) × Waits old.limit old.place × (old.is_dead ≡ false)
 Gives old new Dead = (new ≡ old) × (old.place ≡ Shut) × (old.is_dead ≡ true)

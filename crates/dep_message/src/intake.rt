@@ -16,8 +16,8 @@ use std::mem;
 pub enum Step {
     /// The client of the next request waits for `100 Continue` (RFC 9110, section 10.1.1).
     Continue100,
-    /// A whole request.
-    Message(Message),
+    /// A whole request, and whether the connection is closed after its reply (`closes`).
+    Message(Message, bool),
     /// A fault of the stream, behind which no byte is read, and whether its reply has no body.
     Refused(Refusal, bool),
     /// No item is complete. So it is for good behind a request that closes the connection.
@@ -121,10 +121,11 @@ impl Intake {
                 Ok(Step::Refused(refusal, bare))
             }
             Found::Message(message) => {
-                if closes(&message.head) {
+                let is_last = closes(&message.head);
+                if is_last {
                     self.end(false);
                 }
-                Ok(Step::Message(message))
+                Ok(Step::Message(message, is_last))
             }
         }
     }

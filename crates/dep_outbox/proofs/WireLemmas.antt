@@ -5,20 +5,6 @@ use Rattle.std.specs.Io.KnownBytes.{Appends, Consumes, Keeps, IsAtEnd, prepend_k
 use Rattle.dep_types.specs.Writing.{TakesPart}
 use Rattle.dep_outbox.specs.Wires.{joined, AreCounted}
 
--- what is owed changes, and the socket took nothing
-pub keeps_behind : (a h k : Option (List ℕ)) → Keeps h k → Keeps (joined a h) (joined a k)
-keeps_behind None h k p = tt
-keeps_behind (Some x) None k p = tt
-keeps_behind (Some x) (Some y) None p = absurd p
-keeps_behind (Some x) (Some y) (Some z) p = ap (λ l. x ++ l) p
-
--- the socket took nothing
-pub keeps_before : (a b h : Option (List ℕ)) → Keeps a b → Keeps (joined a h) (joined b h)
-keeps_before None b h p = tt
-keeps_before (Some x) None h p = absurd p
-keeps_before (Some x) (Some y) None p = tt
-keeps_before (Some x) (Some y) (Some z) p = ap (λ l. l ++ z) p
-
 -- more is owed
 pub appends_behind : (a h k : Option (List ℕ)) (bs : List ℕ) → Appends h k bs → Appends (joined a h) (joined a k) bs
 appends_behind None h k bs p = tt
@@ -26,42 +12,12 @@ appends_behind (Some x) None k bs p = tt
 appends_behind (Some x) (Some y) None bs p = absurd p
 appends_behind (Some x) (Some y) (Some z) bs p = ap (λ l. x ++ l) p ∙ sym (append_assoc x y bs)
 
--- the spool took more
-pub appends_spool : (f : List ℕ) (h k : Option (List ℕ)) (bs : List ℕ) → Appends h k bs → Appends (prepend_known f h) (prepend_known f k) bs
-appends_spool f None k bs p = tt
-appends_spool f (Some y) None bs p = absurd p
-appends_spool f (Some y) (Some z) bs p = ap (λ l. f ++ l) p ∙ sym (append_assoc f y bs)
-
--- memory took more, before an empty spool
-pub appends_memory : (f g bs : List ℕ) (h : Option (List ℕ)) → IsAtEnd h → g ≡ f ++ bs → Appends (prepend_known f h) (prepend_known g h) bs
-appends_memory f g bs None e p = tt
-appends_memory f g bs (Some y) e p = rw e (append-nil g ∙ p ∙ ap (λ l. l ++ bs) (sym (append-nil f)))
-
--- the socket took what is no longer owed
-pub keeps_moved : (a b h k : Option (List ℕ)) (bs : List ℕ) → Appends a b bs → Consumes h k bs → Keeps (joined a h) (joined b k)
-keeps_moved None b h k bs p q = tt
-keeps_moved (Some x) None h k bs p q = absurd p
-keeps_moved (Some x) (Some y) None k bs p q = tt
-keeps_moved (Some x) (Some y) (Some z) None bs p q = absurd q
-keeps_moved (Some x) (Some y) (Some z) (Some w) bs p q = ap (λ l. l ++ w) p ∙ append_assoc x bs w ∙ ap (λ l. x ++ l) (sym q)
-
 -- a front of what is in memory waits no more
 pub consumes_front : (h : Option (List ℕ)) (items : List ℕ) (s n : ℕ) → Consumes (prepend_known (drop s items) h) (prepend_known (drop (s + n) items) h) (take n (drop s items))
 consumes_front None items s n = tt
 consumes_front (Some y) items s n =
     ap (λ l. l ++ y) (sym (take-append-drop n (drop s items))) ∙ append_assoc (take n (drop s items)) (drop n (drop s items)) y
     ∙ ap (λ (l : List ℕ). take n (drop s items) ++ (l ++ y)) (drop-drop n s items)
-
--- all in memory waits no more
-pub consumes_all : (h : Option (List ℕ)) (items none : List ℕ) (s n : ℕ) → none ≡ [] → s + n ≡ length items → Consumes (prepend_known (drop s items) h) (prepend_known (drop 0 none) h) (take n (drop s items))
-consumes_all h items none s n e all =
-    let same : drop (s + n) items ≡ drop 0 none = drop_all (s + n) items (omega (arith, all)) ∙ sym (drop_all 0 none (omega (arith, ap length e))) in
-    subst (λ (l : List ℕ). Consumes (prepend_known (drop s items) h) (prepend_known l h) (take n (drop s items))) same (consumes_front h items s n)
-
--- bytes came out of the spool, where there were none in memory
-pub keeps_filled : (h k : Option (List ℕ)) (items new : List ℕ) (s : ℕ) → items ≡ [] → s ≡ 0 → Keeps (prepend_known items h) (prepend_known new k)
-    → Keeps (prepend_known (drop s items) h) (prepend_known (drop s new) k)
-keeps_filled h k items new s none first p = rw first p
 
 -- none of some bytes was taken
 pub none_taken : (a b : Option (List ℕ)) (bytes : List ℕ) → bytes ≢ [] → Keeps a b → TakesPart a b bytes

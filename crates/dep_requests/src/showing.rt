@@ -7,22 +7,21 @@ ghost use Rattle.dep_fields.specs.Fit.{AreFit};
 ghost use Rattle.dep_operations.specs.Rulings.{IsRuling};
 ghost use Rattle.dep_requests.specs.Remembering.{Recalls, ReadsService, service_view, IsShown, is_plain_read};
 
-use crate::performing::{Done, accept, delivery_at, refuse};
+use crate::performing::{Done, accept, delivery_at};
 use crate::remembering::Remembered;
-use dep_answers::{Performed, Service, Shown, StoredFile};
+use dep_answers::{Performed, Service, Shown, StoredFile, refused};
 use dep_decisions::Operation;
 use dep_fields::Field;
 use dep_operations::{Ruling, UploadViews, View, decide};
 use dep_staging::RunningHashes;
-use dep_types::{Method, Resource, StoreFault};
+use dep_types::{Resource, StoreFault};
 use std::alloc::Global;
 
 /// Whether the request reads the service document.
 pub(crate) fn reads_service(operation: &Operation<'_>) -> bool
     ensures { IsTrue result ↔ ReadsService operation.now }
 {
-    matches!(operation.target.resource, Resource::Service)
-        && matches!(operation.target.method, Method::Get | Method::Head)
+    matches!(operation.target.resource, Resource::Service) && operation.target.method.is_safe()
 }
 
 /// What such a request touches of the archive: the clock and the counters.
@@ -56,7 +55,7 @@ fn reply_service(
 {
     let delivery = delivery_at(remembered.clock, operation);
     match ruling {
-        Ruling::Refuse(refusal) => refuse(alloc, *refusal, delivery),
+        Ruling::Refuse(refusal) => refused(alloc, *refusal, None, delivery),
         Ruling::Do(_) => accept(alloc, service, operation, &Shown::Nothing, delivery),
     }
 }
@@ -85,7 +84,7 @@ pub fn show_service(
 fn is_plain_read(operation: &Operation<'_>) -> bool
     ensures { result ≡ is_plain_read operation.now }
 {
-    matches!(operation.target.method, Method::Get | Method::Head)
+    operation.target.method.is_safe()
         && matches!(operation.fields.disposition, Field::Absent | Field::Bad)
         && matches!(operation.fields.content_type, Field::Absent | Field::Bad)
 }

@@ -1,3 +1,4 @@
+mod Causes
 pub mod Asking
 pub mod Missing
 pub mod MadeTables

@@ -28,8 +28,8 @@ use Rattle.dep_tables.specs.Tables.{Tables, tables_of, IsOlder}
 use Rattle.dep_tables.specs.Clauses.{CommitsNothing, FailsToRun}
 use Rattle.dep_types.specs.declared.store_fault.StoreFault.{StoreFault}
 use Rattle.dep_types.specs.declared.store_fault.StoreFault.TheVariants.{Store}
-use Rattle.dep_row_maps.specs.Causes.{FailsSince}
-use Rattle.dep_row_maps.proofs.Causes.{fails_then}
+use Rattle.dep_schema.specs.Causes.{FailsSince}
+use Rattle.dep_schema.proofs.Causes.{fails_then}
 use Rattle.dep_row_maps.specs.Owned.{put_each}
 use Rattle.dep_row_maps.specs.Sha512s.{upgraded, value_rows}
 use Rattle.dep_schema.specs.Beside.{with_tables, AddsIndexes, AreNewNamesFree}

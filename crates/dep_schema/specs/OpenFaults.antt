@@ -13,7 +13,7 @@ use Rattle.sqlite_resolve.specs.declared.error.CompileError.TheVariants.{NoSuchT
 use Rattle.dep_statements.specs.Adding.{AddsAll}
 use Rattle.dep_types.specs.declared.store_fault.StoreFault.{StoreFault}
 use Rattle.dep_types.specs.declared.store_fault.StoreFault.TheVariants as store
-use Rattle.dep_row_maps.specs.Causes.{FailsSince}
+use Rattle.dep_schema.specs.Causes.{FailsSince}
 use Rattle.dep_tables.specs.Clauses.{CommitsNothing, FailsToRun}
 use Rattle.dep_tables.specs.Faults.{fault_for}
 use Rattle.dep_tables.specs.Schema.{our_tables}

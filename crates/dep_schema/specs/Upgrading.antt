@@ -16,7 +16,7 @@ use Rattle.dep_tables.specs.Clauses.{CommitsNothing, FailsToRun}
 use Rattle.dep_tables.specs.Faults.{fault_for}
 use Rattle.dep_tables.specs.declared.sha512s.FileSha512.{FileSha512}
 use Rattle.dep_tables.specs.declared.owner.BlockOwner.TheVariants as owner
-use Rattle.dep_row_maps.specs.Causes.{FailsSince}
+use Rattle.dep_schema.specs.Causes.{FailsSince}
 use Rattle.dep_row_maps.specs.Owned.{put_each}
 use Rattle.dep_row_maps.specs.Sha512s.{value_rows}
 use Rattle.dep_schema.specs.Beside.{AreNewNamesFree}

@@ -7,7 +7,7 @@ ghost use Rattle.dep_statements.specs.Adding.{Adds};
 ghost use Rattle.dep_tables.specs.Schema.{our_schema, older_schema, sha512s_table};
 ghost use Rattle.dep_tables.specs.Tables.{tables_of, IsOlder};
 ghost use Rattle.dep_tables.specs.Clauses.{FailsToRun};
-ghost use Rattle.dep_row_maps.specs.Causes.{FailsSince};
+ghost use Rattle.dep_schema.specs.Causes.{FailsSince};
 ghost use Rattle.dep_row_maps.specs.Clauses.{Becomes};
 ghost use Rattle.dep_row_maps.specs.Sha512s.{upgraded};
 ghost use Rattle.dep_schema.specs.Beside.{AreNewNamesFree};

@@ -42,10 +42,6 @@ module _ (schema : Schema) (sql : List ℕ) (params : Row) (old : State) (ours :
   abbrev rows : List Row
   rows = old.now.trees tree
 
-  -- a query changes nothing
-  pub asking_changes_nothing : (new : State) (order : List (Term × Key)) (limit : Term) → Asks schema sql tree tests shows order limit → (found : List Row) → Shown sql params old new found → IsUnchanged old new
-  asking_changes_nothing new order limit is found h = shown_unchanged sql params old new (subst (λ s. IsPlain (understood s sql)) (sym ours) is.plain) found h
-
   picked : (new : State) (order : List (Term × Key)) (limit : Term) → Asks schema sql tree tests shows order limit → (found : List Row) → Shown sql params old new found
       → Picks (one_table tree tests shows order limit) params (filter (passes params tests) rows) found
   picked new order limit is found h = selected schema sql params old new ours is.plain tree tests shows order limit is.names is.is is.unlisted (own old.now.trees) found h

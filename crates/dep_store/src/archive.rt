@@ -59,11 +59,12 @@ impl<S: Alter> HashingStore<S> {
         self.store
     }
 
-    /// Notes the upload to which the request sent a segment, if it sent one that is large enough.
-    fn note(&mut self, operation: &Operation<'_>)
+    /// Notes the upload to which the request sent a segment, if it sent one that is large enough, and it was kept.
+    fn note(&mut self, operation: &Operation<'_>, performed: &Performed)
         ensures { NotesUpload self.old self.new }
     {
-        if operation.content.as_slice().len() < LEAST_SEGMENT {
+        let is_small = operation.content.as_slice().len() < LEAST_SEGMENT;
+        if is_small || performed.refusal.is_some() {
             return;
         }
         if let (Method::Post, Resource::Upload(upload)) = (
@@ -91,7 +92,7 @@ impl<S: Alter> Archive for HashingStore<S> {
         operation: &Operation<'_>,
     ) -> Result<Performed, StoreFault> {
         let performed = self.store.perform(&self.running, service, operation)?;
-        self.note(operation);
+        self.note(operation, &performed);
         self.log_copy.note(operation, &performed);
         Ok(performed)
     }

@@ -1,13 +1,12 @@
 //! When the log of a store is copied into its file.
 
-ghost use Rattle.std.specs.Prelude.{◌≡◌, ◌↔◌, ◌&&◌, if◌then◌else◌, IsTrue};
-ghost use Rattle.dep_store.specs.LogCopies.{writes_much, is_accepted, after_call, has_call};
+ghost use Rattle.std.specs.Prelude.{◌≡◌, ◌↔◌, ◌&&◌, if◌then◌else◌, is_some, not, IsTrue};
+ghost use Rattle.dep_store.specs.LogCopies.{writes_much, after_call, has_call};
 
 use dep_answers::Performed;
 use dep_decisions::Operation;
 use dep_fields::{Field, Kind};
 use dep_hub::ROUNDS_TO_REPLY;
-use dep_types::Method;
 
 /// A content of so many octets makes the log long: it fills 1,024 of its pages, and a log of 1,000 is copied.
 const LONG_CONTENT: usize = 4_194_304;
@@ -25,16 +24,9 @@ pub(crate) enum LogCopy {
 fn writes_much(operation: &Operation<'_>) -> bool
     ensures { result ≡ writes_much operation.now }
 {
-    !matches!(operation.target.method, Method::Get | Method::Head)
+    !operation.target.method.is_safe()
         && (operation.content.as_slice().len() >= LONG_CONTENT
             || matches!(operation.fields.disposition, Field::Value(Kind::References)))
-}
-
-/// Whether the reply says that the request was done (RFC 9110, section 15.3).
-fn is_accepted(performed: &Performed) -> bool
-    ensures { result ≡ is_accepted performed.now }
-{
-    performed.front.as_slice().starts_with(b"HTTP/1.1 2")
 }
 
 impl LogCopy {
@@ -43,10 +35,10 @@ impl LogCopy {
     /// Notes a request that was answered so. One that was refused has written next to nothing. Who waited through it is
     /// answered first, in the calls that are left out.
     pub fn note(&mut self, operation: &Operation<'_>, performed: &Performed)
-        ensures { self.new ≡ (if writes_much operation.now && is_accepted performed.now
+        ensures { self.new ≡ (if writes_much operation.now && not (is_some performed.now.refusal)
             then DueAfter 3 else self.old) }
     {
-        if writes_much(operation) && is_accepted(performed) {
+        if writes_much(operation) && performed.refusal.is_none() {
             *self = LogCopy::DueAfter(ROUNDS_TO_REPLY);
         }
     }

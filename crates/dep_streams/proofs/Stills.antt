@@ -12,11 +12,11 @@ use Rattle.sqlite.specs.Given.{HasBegun, HasGiven, Returns}
 use Rattle.sqlite_resolve.specs.declared.compiled.Compiled.{Compiled}
 use Rattle.sqlite_resolve.specs.declared.error.CompileError.{CompileError}
 use Rattle.sqlite.proofs.StateLemmas.{survives_then, survives_weaker, unchanged}
+use Rattle.sqlite_trees.specs.View.{doubt}
 use Rattle.sqlite_trees.specs.declared.store.Store.{Ghosts}
 use Rattle.dep_statements.proofs.Asked.{asks_leave}
 use Rattle.dep_tables.specs.Schema.{our_schema}
 use Rattle.dep_tables.specs.Tables.{tables_in, tables_of, HasTablesOf, IsOurs, HasOurTables, IsKnown}
-use Rattle.dep_row_maps.proofs.Causes.{survives_itself}
 use Rattle.dep_streams.specs.Clauses.{OnlyReads, ShowsNoWrite, StaysOver}
 use Rattle.dep_streams.specs.Reading.{IsKept}
 
@@ -114,6 +114,19 @@ pub known_still : (a b : State) → IsStill a b → IsKnown a → IsKnown b
 known_still a b still (its, known, ours) = (its, known, subst (HasTablesOf its) (sym still.now_is) ours)
 
 -- ---- what each call keeps
+
+as_many : (n : ℕ) → n ≤ n
+as_many n = omega arith
+
+survives_itself : (now : State) → Survives now now (λ _. ⊥)
+survives_itself now = record {
+  clean = as_many (doubt now.is_clean);
+  shield = λ h. h;
+  counts = as_many now.faults;
+  limit = refl;
+  closes = λ _ is_open. inl is_open;
+  crash = λ _ db may. inl may;
+}
 
 module _ {S : Type 0} {g : Ghosts S} where
   -- nothing was asked

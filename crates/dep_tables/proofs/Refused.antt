@@ -15,14 +15,6 @@ use Rattle.dep_tables.specs.Rows.{HasAt, HasKinds, IsOfKind}
 use Rattle.dep_tables.specs.declared.columns.ColumnKind.{ColumnKind}
 use Rattle.dep_tables.specs.declared.columns.ColumnKind.TheVariants as kind
 
--- an error that can be nothing else is want of memory
-pub only_memory : (e : Error) → (e ≢ SqliteFailure OutOfMemory → ⊥) → fault_for e ≡ Memory
-only_memory e other = go (fault_for e) refl
-  where
-    go : (fault : StoreFault) → fault_for e ≡ fault → fault ≡ Memory
-    go Memory is = refl
-    go Store is = absurd (other (λ memory. let both : Memory ≡ Store = ap fault_for (sym memory) ∙ is in cc))
-
 -- what is refused of one row at most is refused of just one
 pub refused_one : (is_ours : Row → Type 0) (sql : List ℕ) (params : Row) (old new : State) (fault : StoreFault) → FailsToReadNumbers (AtMostOne is_ours) sql params old new fault → FailsToReadNumbers (JustOne is_ours) sql params old new fault
 refused_one is_ours sql params old new fault (inl asked) = inl asked

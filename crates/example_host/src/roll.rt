@@ -1,8 +1,9 @@
 //! A log of a host, which keeps what became of each client.
 
 use crate::fate::Fate;
-use dep_host::{Bytes, Closing, HostLog, Refusal};
+use dep_host::{Bytes, Closing, HostLog, Refusal as TurnedAway};
 use dep_hub::{AccessLog, ConnId, Next};
+use dep_types::Refusal;
 use std::alloc::{AllocError, Global};
 use std::net::IpAddr;
 
@@ -55,7 +56,7 @@ impl Roll {
 impl AccessLog for Roll {
     fn request(&mut self, method: &[u8], path: &str, length: u64) {}
 
-    fn reply(&mut self, front: &[u8]) {}
+    fn reply(&mut self, status: u16, refusal: Option<Refusal>) {}
 }
 
 impl HostLog for Roll {
@@ -63,7 +64,7 @@ impl HostLog for Roll {
         self.tell_newest(Some(connection), Fate::Open);
     }
 
-    fn refused(&mut self, address: IpAddr, refusal: Refusal) {
+    fn refused(&mut self, address: IpAddr, refusal: TurnedAway) {
         self.tell_newest(None, Fate::Refused(refusal));
     }
 

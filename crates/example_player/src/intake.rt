@@ -1,7 +1,7 @@
 //! An intake by itself, whose steps are written as lines.
 
 use dep_hub::Arrived;
-use dep_message::{Intake, Message, Step, closes, is_without_body};
+use dep_message::{Intake, Message, Step, is_without_body};
 use example_faults::word_of;
 use example_text::{Exchange, Page, Trouble};
 use std::alloc::{AllocError, Global};
@@ -58,7 +58,7 @@ fn tell_step(step: &Step, page: &mut Page) -> Option<Arrived> {
         Step::NeedMore => return Some(Arrived::Open),
         Step::Dead => return Some(Arrived::Closed),
         Step::Continue100 => page.tell(&[b"continue"]),
-        Step::Message(message) => tell_message(message, page),
+        Step::Message(message, is_last) => tell_message(message, *is_last, page),
         Step::Refused(refusal, bare) => {
             let bare = if *bare { " without-body" } else { "" };
             page.tell(&[b"refused ", refusal.name().as_bytes(), bare.as_bytes()]);
@@ -67,9 +67,9 @@ fn tell_step(step: &Step, page: &mut Page) -> Option<Arrived> {
     None
 }
 
-fn tell_message(message: &Message, page: &mut Page) {
+fn tell_message(message: &Message, is_last: bool, page: &mut Page) {
     let head = &message.head;
-    let closing = if closes(head) { " closing" } else { "" };
+    let closing = if is_last { " closing" } else { "" };
     let bare = if is_without_body(head) {
         " without-body"
     } else {

@@ -5,12 +5,12 @@ use crate::hosting::Place;
 use crate::start::write_start;
 use dep_configuration::{
     Closing as Closed, Exchange, GREATEST_PATH, Reason, closing_line, exchange_line,
-    refusal_of_front, status_of_front,
 };
-use dep_host::{Bytes, Closing, HostLog, Refusal};
+use dep_host::{Bytes, Closing, HostLog, Refusal as TurnedAway};
 use dep_hub::{AccessLog, ConnId, Next};
 use dep_program::{microseconds_since, moment_of};
 use dep_sockets::DoorLog;
+use dep_types::Refusal;
 use std::net::IpAddr;
 use std::time::{Instant, SystemTime};
 
@@ -38,8 +38,8 @@ struct Item {
     path: String,
     /// The status of its reply, once there is one.
     status: Option<u16>,
-    /// The name of the refusal; empty where there is none.
-    refusal: String,
+    /// Why it is refused, if it is.
+    refusal: Option<Refusal>,
     begun: Option<Instant>,
 }
 
@@ -57,7 +57,7 @@ impl<'a> StandardErrorLog<'a> {
                 method: String::new(rt.alloc()),
                 path: String::new(rt.alloc()),
                 status: None,
-                refusal: String::new(rt.alloc()),
+                refusal: None,
                 begun: None,
             },
         }
@@ -98,23 +98,13 @@ impl<'a> StandardErrorLog<'a> {
             method: item.method.as_str(),
             path: item.path.as_str(),
             status,
-            refusal: item.refusal(),
+            refusal: item.refusal,
             bytes_in: bytes.received,
             bytes_out: bytes.sent,
             microseconds: microseconds_since(self.rt, item.begun),
         };
         if let Ok(line) = exchange_line(self.rt.alloc(), &exchange) {
             self.lines.push(moment, line.as_slice());
-        }
-    }
-}
-
-impl Item {
-    fn refusal(&self) -> Option<&str> {
-        if self.refusal.is_empty() {
-            None
-        } else {
-            Some(self.refusal.as_str())
         }
     }
 }
@@ -130,25 +120,21 @@ impl AccessLog for StandardErrorLog<'_> {
         let _ = self.item.path.push_str(&path[..end]);
     }
 
-    fn reply(&mut self, front: &[u8]) {
-        self.item.status = status_of_front(front);
-        self.item.refusal.clear();
-        let _ = self
-            .item
-            .refusal
-            .push_str(refusal_of_front(front).unwrap_or(""));
+    fn reply(&mut self, status: u16, refusal: Option<Refusal>) {
+        self.item.status = Some(status);
+        self.item.refusal = refusal;
     }
 }
 
 impl HostLog for StandardErrorLog<'_> {
     fn opened(&mut self, _connection: ConnId, _address: IpAddr) {}
 
-    fn refused(&mut self, address: IpAddr, refusal: Refusal) {
+    fn refused(&mut self, address: IpAddr, refusal: TurnedAway) {
         let reason = match refusal {
-            Refusal::Address => Reason::AddressLimit,
-            Refusal::Full => Reason::Full,
-            Refusal::Memory => Reason::Memory,
-            Refusal::Shut => Reason::StoreShut,
+            TurnedAway::Address => Reason::AddressLimit,
+            TurnedAway::Full => Reason::Full,
+            TurnedAway::Memory => Reason::Memory,
+            TurnedAway::Shut => Reason::StoreShut,
         };
         self.write_closing(None, address, reason);
     }
@@ -160,7 +146,7 @@ impl HostLog for StandardErrorLog<'_> {
         item.method.clear();
         item.path.clear();
         item.status = None;
-        item.refusal.clear();
+        item.refusal = None;
         item.begun = Instant::now(self.rt).ok();
     }
 

@@ -1,4 +1,4 @@
-use Rattle.std.proofs.Common.{◌∙◌, sym, ap, Some, None, ℕ, List}
+use Rattle.std.proofs.Common.{refl, ◌∙◌, sym, ap, Some, None, ℕ, List}
 use Rattle.dep_types.specs.declared.rows.FileRow.{FileRow}
 use Rattle.dep_reply.specs.Head.{head_text}
 use Rattle.dep_answers.proofs.ReplyLemmas.{stored_ends, stored_ready}
@@ -31,4 +31,4 @@ returns-clause-ends c =
       location = None;
       allow = None;
       closes = c.args.delivery.closes;
-    })) c.as_str.ensures)
+    })) c.as_str.ensures) (refl, refl)

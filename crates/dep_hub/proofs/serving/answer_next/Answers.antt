@@ -77,13 +77,16 @@ returns-in-Ok-Continue100 g c =
     (λ e. cc) (λ _. continue_goes_on _ _ _ h.first) (c.answer_continue-answer.ensures c.args.context.now.site.now c.args.context.now.moment)
     c.next_after-in-Ok-Continue100.new.intake c.next_after-in-Ok-Continue100.ensures.read c.next_after-in-Ok-Continue100.result c.next_after-in-Ok-Continue100.ensures.next
 
+pub answer_message-answer-requires : goal.answer_message-answer-requires
+answer_message-answer-requires g c = (rw c.in-Ok-Message.field-0-is at c.in-Ok-Message.ensures).1
+
 pub returns-in-Ok-Message : goal.returns-in-Ok-Message
 returns-in-Ok-Message g c =
     let h = rw c.in-Ok-Message.field-0-is at c.in-Ok-Message.ensures in
     takes_next c.args.context.now.site.now c.args.intake.now c.next.new.self c.args.context.now.moment
     (outside (g.O.Outlet.taken c.args.out.now) (g.O.Outlet.failures c.args.out.now) (g.A.Archive.condition c.args.store.now))
     (outside (g.O.Outlet.taken c.answer_message-answer.new.out) (g.O.Outlet.failures c.answer_message-answer.new.out) (g.A.Archive.condition c.answer_message-answer.new.store))
-    (Request c.in-Ok-Message.message) h c.answer_message-answer.result c.closes-is_last.result
-    (λ e. request_shuts _ _ _ c.in-Ok-Message.message (sym c.closes-is_last.ensures ∙ e) h.first)
-    (λ e. request_goes_on _ _ _ c.in-Ok-Message.message (sym c.closes-is_last.ensures ∙ e) h.first) c.answer_message-answer.ensures
+    (Request c.in-Ok-Message.message) h.0 c.answer_message-answer.result c.in-Ok-Message.is_last
+    (λ e. request_shuts _ _ _ c.in-Ok-Message.message (sym h.1 ∙ e) h.0.first)
+    (λ e. request_goes_on _ _ _ c.in-Ok-Message.message (sym h.1 ∙ e) h.0.first) c.answer_message-answer.ensures
     c.next_after-in-Ok-Message.new.intake c.next_after-in-Ok-Message.ensures.read c.next_after-in-Ok-Message.result c.next_after-in-Ok-Message.ensures.next

@@ -1,20 +1,16 @@
-use Rattle.std.proofs.Common.{◌∙◌, None, true, inl, inr, refl}
+use Rattle.std.proofs.Common.{◌∙◌, inl, inr, refl}
 use Rattle.dep_types.specs.State.{tick}
-use Rattle.dep_types.specs.declared.store_fault.StoreFault.TheVariants.{Memory}
 use Rattle.dep_message.specs.Stream.{Fault}
-use Rattle.dep_answers.specs.declared.performed.Delivery.{Delivery}
 use Rattle.dep_hub.specs.Machine.{step}
 use Rattle.dep_hub.specs.Sending.{outside}
 use Rattle.dep_hub.proofs.Leaving.{stays_as, leaves_wider}
-use Rattle.dep_hub.proofs.StepLemmas.{refusal_ready}
 use Rattle.dep_hub.proofs.ServingLemmas.{answers_fixed, answers_from, made_from}
 use Rattle.dep_hub.proofs.step.answer_fault.Goals as goal
 
-pub returns-in-Ok-refused : goal.returns-in-Ok-refused
+pub returns-in-Ok-refuse : goal.returns-in-Ok-refuse
 unfolding step
-returns-in-Ok-refused g c =
+returns-in-Ok-refuse g c =
     let config = c.args.context.now.site.now in
-    let delivery : Delivery = record { clock = c.in-Ok.clock; is_bare = c.args.fault.is_bare; closes = true } in
     let x = c.send_performed-answered.ensures in
     record {
       sent = x.sent;
@@ -29,16 +25,16 @@ returns-in-Ok-refused g c =
           made_from config s (Fault c.args.fault.refusal c.args.fault.is_bare) c.args.context.now.moment x.sent _ _ _ c.send_performed-answered.result refl
           (answers_from config s (Fault c.args.fault.refusal c.args.fault.is_bare) c.args.context.now.moment x.sent _ _ c.send_performed-answered.result
           (x.sends disk (step config s (Fault c.args.fault.refusal c.args.fault.is_bare) c.args.context.now.moment)
-          (record { state = t.1; ready = refusal_ready now delivery c.in-Ok-refused.performed c.args.fault.refusal None c.args.fault.is_bare true t.0 refl refl c.in-Ok-refused.ensures })));
+          (record { state = t.1; ready = c.in-Ok-refuse.ensures now t.0 })));
       shut = λ disk none. absurd (none (c.in-Ok.ensures.shut.opened (x.passes.honest disk)));
     }
 
-pub returns-in-Err-refused : goal.returns-in-Err-refused
+pub returns-in-Err-refuse : goal.returns-in-Err-refuse
 unfolding step
-returns-in-Err-refused g c =
+returns-in-Err-refuse g c =
     let config = c.args.context.now.site.now in
     let new = g.A.Archive.condition c.tick.new.self in
-    answers_fixed config (outside (g.O.Outlet.taken c.args.out.now) (g.O.Outlet.failures c.args.out.now) (g.A.Archive.condition c.args.store.now)) (outside (g.O.Outlet.taken c.send_fault.new.out) (g.O.Outlet.failures c.send_fault.new.out) (g.A.Archive.condition c.tick.new.self)) (Fault c.args.fault.refusal c.args.fault.is_bare) c.args.context.now.moment Memory
+    answers_fixed config (outside (g.O.Outlet.taken c.args.out.now) (g.O.Outlet.failures c.args.out.now) (g.A.Archive.condition c.args.store.now)) (outside (g.O.Outlet.taken c.send_fault.new.out) (g.O.Outlet.failures c.send_fault.new.out) (g.A.Archive.condition c.tick.new.self)) (Fault c.args.fault.refusal c.args.fault.is_bare) c.args.context.now.moment c.in-Err-refuse.store_fault
     c.tick.ensures.does.honest c.tick.ensures.does.was_open
     (λ disk s stands.
     let t = (rw (c.config.ensures ∙ c.service.ensures) at c.in-Ok.ensures.does).ok disk s stands tt in record {

@@ -18,9 +18,9 @@ returns-in-Refuse-clause-map g c = record {
       let config = c.args.service.now in
       let way = delivered s op c.args.ruled.now.view.clock c.delivery_at-delivery.result sound (ap (λ (v : View). v.clock) rules.view)
       c.delivery_at-delivery.ensures.clock c.delivery_at-delivery.ensures.bare c.delivery_at-delivery.ensures.closes in
-      refused_then config s op (SeesState (g.T.Statements.state c.args.tx.now)) _ c.delivery_at-delivery.result c.refuse.result
-      (subst (λ (r : Ruling). IsRuling config s op r) c.in-Refuse.is rules.ruling) way are c.refuse.ensures;
-  keeps = changes_put g.T.Statements.lenders g.T.Statements.state c.args.tx.now c.refuse.result;
+      refused_then config s op (SeesState (g.T.Statements.state c.args.tx.now)) _ c.delivery_at-delivery.result c.refused.result
+      (subst (λ (r : Ruling). IsRuling config s op r) c.in-Refuse.is rules.ruling) way are c.refused.ensures.says;
+  keeps = changes_put g.T.Statements.lenders g.T.Statements.state c.args.tx.now c.refused.result;
 }
 
 pub returns-in_ok-shown-in-Do-clause-map : goal.returns-in_ok-shown-in-Do-clause-map
@@ -43,7 +43,7 @@ returns-in_err-shown-in-Do-clause-map g c = record {
 }
 
 pub returns-in-Refuse-clause-unchanged : goal.returns-in-Refuse-clause-unchanged
-returns-in-Refuse-clause-unchanged g c only is_open clean ours = if_ok c.refuse.result (unchanged (g.T.Statements.state c.args.tx.now) is_open)
+returns-in-Refuse-clause-unchanged g c only is_open clean ours = if_ok c.refused.result (unchanged (g.T.Statements.state c.args.tx.now) is_open)
 
 pub returns-in_ok-shown-in-Do-clause-unchanged : goal.returns-in_ok-shown-in-Do-clause-unchanged
 returns-in_ok-shown-in-Do-clause-unchanged g c only is_open clean ours =

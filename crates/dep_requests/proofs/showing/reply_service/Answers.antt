@@ -15,7 +15,7 @@ returns-in-Refuse c fit s sound recalls rules =
     let config = c.args.service.now in
     let way = delivered s op c.args.remembered.now.clock c.delivery_at-delivery.result sound recalls.clock
     c.delivery_at-delivery.ensures.clock c.delivery_at-delivery.ensures.bare c.delivery_at-delivery.ensures.closes in
-    refused_then config s op (λ (after : State). after ≡ s) _ c.delivery_at-delivery.result c.refuse.result (subst (λ (r : Ruling). IsRuling config s op r) c.in-Refuse.is rules) way refl c.refuse.ensures
+    refused_then config s op (λ (after : State). after ≡ s) _ c.delivery_at-delivery.result c.refused.result (subst (λ (r : Ruling). IsRuling config s op r) c.in-Refuse.is rules) way refl c.refused.ensures.says
 
 pub returns-in-Do : goal.returns-in-Do
 returns-in-Do c fit s sound recalls rules =

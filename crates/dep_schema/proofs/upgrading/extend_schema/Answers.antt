@@ -2,7 +2,7 @@ use Rattle.std.proofs.Common.{Err, inl, inr}
 use Rattle.std.proofs.lemmas.Result.{IfOk-from_err}
 use Rattle.dep_tables.proofs.Results.{ok_then}
 use Rattle.dep_tables.proofs.Chains.{clean_before, stays_then, stays_err}
-use Rattle.dep_row_maps.proofs.Causes.{if_err_is, if_err_then}
+use Rattle.dep_schema.proofs.Causes.{if_err_is, if_err_then}
 use Rattle.dep_schema.proofs.Upgraded.{extends, free_new}
 use Rattle.dep_schema.proofs.upgrading.extend_schema.Goals as goal
 

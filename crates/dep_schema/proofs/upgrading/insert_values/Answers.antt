@@ -2,7 +2,7 @@ use Rattle.std.proofs.Common.{◌<◌, length, arith}
 use Rattle.std.proofs.lemmas.List.{take_all}
 use Rattle.dep_tables.proofs.Chains.{clean_before, stays_then, stays_ok, stays_err}
 use Rattle.dep_tables.specs.Tables.{tables_of}
-use Rattle.dep_row_maps.proofs.Causes.{if_err_is}
+use Rattle.dep_schema.proofs.Causes.{if_err_is}
 use Rattle.dep_schema.proofs.Upgraded.{one_more_value, put_fails, told_fault}
 use Rattle.dep_schema.proofs.upgrading.insert_values.Goals as goal
 

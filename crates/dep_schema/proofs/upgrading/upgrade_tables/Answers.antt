@@ -3,7 +3,7 @@ use Rattle.std.proofs.lemmas.Result.{IfOk-from_err}
 use Rattle.dep_tables.specs.Edits.{with_our_version}
 use Rattle.dep_tables.proofs.Results.{if_ok, ok_then}
 use Rattle.dep_tables.proofs.Chains.{clean_before, survived, stays_then, stays_err}
-use Rattle.dep_row_maps.proofs.Causes.{if_err_is, if_err_then, fails_then, fails_later}
+use Rattle.dep_schema.proofs.Causes.{if_err_is, if_err_then, fails_then, fails_later}
 use Rattle.dep_schema.specs.Upgrading.{with_sha512s, FailsToPut, FailsToFill}
 use Rattle.dep_schema.proofs.upgrading.upgrade_tables.Goals as goal
 

@@ -10,4 +10,4 @@ returns-clause-says c = λ s. c.in_ok-spell.ensures.says s
 
 pub returns-clause-ends : goal.returns-clause-ends
 returns-clause-ends c =
-    ends_by c.args.self.now c.args.delivery _ (sym c.is_silent.ensures ∙ c.if-is_silent.false) c.in_ok-spell.ensures.front
+    ends_by c.args.self.now c.args.delivery _ (sym c.is_silent.ensures ∙ c.if-is_silent.false) c.in_ok-spell.ensures.front c.in_ok-spell.ensures.status

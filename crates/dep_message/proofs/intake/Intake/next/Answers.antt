@@ -5,7 +5,7 @@ use Rattle.dep_message.specs.Working.{kept_bytes, reading_of}
 use Rattle.dep_message.specs.declared.intake.Standing.{Standing}
 use Rattle.dep_message.proofs.Taking.{takes_continue, takes_fault, takes_message}
 use Rattle.dep_message.proofs.intake.Intake.next.Goals as goal
-use Rattle.dep_message.proofs.intake.Intake.next.Goals.{then-closes, else-closes}
+use Rattle.dep_message.proofs.intake.Intake.next.Goals.{then-is_last, else-is_last}
 
 pub invariant_of-self-in-Nothing : goal.invariant_of-self-in-Nothing
 invariant_of-self-in-Nothing c = let found = rw c.in-Nothing.is at c.in_ok-next.ensures in found.1.known
@@ -27,14 +27,14 @@ returns-in-Fault c =
     takes_fault work new c.args.self.now (ap (λ (s : Standing). reading_of s work) (sym c.in-Live.is) ∙ c.self.view_is)
     _ c.in-Fault.refusal c.in-Fault.bare (c.shut.ensures ∙ ap (λ (s : Standing). shut_reading (reading_of s new)) c.in-Live.is) (rw c.in-Fault.is at c.in_ok-next.ensures)
 
-pub returns-after-closes : goal.returns-after-closes
-returns-after-closes c =
+pub returns-after-is_last : goal.returns-after-is_last
+returns-after-is_last c =
     let work = c.self.inside.work in
     let new = c.next.new.self in
     let Behind : Bool → Reading = λ ends. record { limit = new.limit; place = if ends then Shut else Open new.continued (kept_bytes new); is_dead = false } in
-    let read : c.if-closes.self ≡ Behind (closes c.in-Message.message.head) = elim c.if-closes.branch [
-      | then-closes w ↦ w.self-is ∙ (w.end.ensures ∙ (ap (λ (s : Standing). record (reading_of s new) { place = Shut; is_dead = false }) c.in-Live.is ∙ ap Behind (sym w.if-closes.true ∙ c.closes.ensures)))
-      | else-closes w ↦ w.self-is ∙ (ap (λ (s : Standing). reading_of s new) c.in-Live.is ∙ ap Behind (sym w.if-closes.false ∙ c.closes.ensures))
+    let read : c.if-is_last.self ≡ Behind (closes c.in-Message.message.head) = elim c.if-is_last.branch [
+      | then-is_last w ↦ w.self-is ∙ (w.end.ensures ∙ (ap (λ (s : Standing). record (reading_of s new) { place = Shut; is_dead = false }) c.in-Live.is ∙ ap Behind (sym w.if-is_last.true ∙ c.closes-is_last.ensures)))
+      | else-is_last w ↦ w.self-is ∙ (ap (λ (s : Standing). reading_of s new) c.in-Live.is ∙ ap Behind (sym w.if-is_last.false ∙ c.closes-is_last.ensures))
     ] in
-    takes_message work new c.args.self.now (ap (λ (s : Standing). reading_of s work) (sym c.in-Live.is) ∙ c.self.view_is)
-    _ c.in-Message.message read (rw c.in-Message.is at c.in_ok-next.ensures)
+    (takes_message work new c.args.self.now (ap (λ (s : Standing). reading_of s work) (sym c.in-Live.is) ∙ c.self.view_is)
+    _ c.in-Message.message read (rw c.in-Message.is at c.in_ok-next.ensures), c.closes-is_last.ensures)

@@ -1,25 +1,10 @@
 -- A failure behind calls that committed nothing.
-use Rattle.std.proofs.Common.{◌≡◌, ℕ, ◌≤◌, refl, arith, Result, Ok, Err, IfErr, IsErrAnd, inl, subst, sym}
+use Rattle.std.proofs.Common.{◌≡◌, Result, Ok, Err, IfErr, IsErrAnd, subst, sym}
 use Rattle.sqlite.specs.State as db
 use Rattle.sqlite.specs.State.{Survives}
 use Rattle.sqlite.proofs.StateLemmas.{survives_then}
-use Rattle.sqlite_trees.specs.View.{doubt}
 use Rattle.dep_types.specs.declared.store_fault.StoreFault.{StoreFault}
-use Rattle.dep_row_maps.specs.Causes.{FailsSince}
-
-pub as_many : (n : ℕ) → n ≤ n
-as_many n = omega arith
-
--- nothing was asked
-pub survives_itself : (now : db.State) → Survives now now (λ _. ⊥)
-survives_itself now = record {
-  clean = as_many (doubt now.is_clean);
-  shield = λ h. h;
-  counts = as_many now.faults;
-  limit = refl;
-  closes = λ _ is_open. inl is_open;
-  crash = λ _ db may. inl may;
-}
+use Rattle.dep_schema.specs.Causes.{FailsSince}
 
 pub if_err_then : {A : Type 0} {P Q : StoreFault → Type 0} (r : Result A StoreFault) → IfErr r P → ((fault : StoreFault) → P fault → Q fault) → IfErr r Q
 if_err_then (Ok x) p f = tt
