@@ -20,7 +20,7 @@ use Rattle.dep_decisions.specs.Decisions.{references_in, references_by}
 use Rattle.dep_decisions.specs.Kinds.{kind_of, kind_by, kind_without, takes_kind, may_hold}
 use Rattle.dep_decisions.specs.declared.operation.Operation.{Operation}
 use Rattle.dep_operations.specs.Views.{true_view, seen_at, touched_with}
-use Rattle.dep_decisions.specs.Laws.{is_read}
+use Rattle.dep_types.specs.Methods.{is_safe}
 use Rattle.dep_answers.specs.Subjects.{shown_at, subject_of}
 use Rattle.dep_answers.specs.declared.subject.Shown.TheVariants as shown
 use Rattle.dep_tables.specs.Tables.{Tables}
@@ -131,7 +131,7 @@ none_is is = cc is
 
 -- ---- the service document
 
-takes_none_at : (m : Method) (k : Kind) → IsTrue (is_read m) → takes_kind Service m k ≡ false
+takes_none_at : (m : Method) (k : Kind) → IsTrue (is_safe m) → takes_kind Service m k ≡ false
 takes_none_at Get k h = refl
 takes_none_at Head k h = refl
 takes_none_at Post k h = cc h
@@ -160,7 +160,7 @@ service_seen config s op m reads recalls =
     (λ i. service_view (recalls.clock i) (recalls.next i))
     ∙ sym (λ i. seen_at s op.content (touched_with (reads.resource i) (kind_none op reads i) (references_none config op reads i)))
 
-shows_nothing_at : (s : State) (m : Method) → IsTrue (is_read m) → shown.Nothing ≡ shown_at s (subject_of s.next Service m)
+shows_nothing_at : (s : State) (m : Method) → IsTrue (is_safe m) → shown.Nothing ≡ shown_at s (subject_of s.next Service m)
 shows_nothing_at s Get h = refl
 shows_nothing_at s Head h = refl
 shows_nothing_at s Post h = cc h

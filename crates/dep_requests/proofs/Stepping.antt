@@ -31,7 +31,7 @@ use Rattle.dep_operations.specs.Views.{file_in, object_in, path_in, true_view}
 use Rattle.dep_operations.specs.declared.ruling.Ruling.{Ruling}
 use Rattle.dep_operations.specs.declared.ruling.Ruling.TheVariants.{Do, Refuse}
 use Rattle.dep_operations.specs.declared.view.View.{View}
-use Rattle.dep_decisions.specs.Laws.{is_read}
+use Rattle.dep_types.specs.Methods.{is_safe}
 use Rattle.dep_decisions.proofs.Accepted.{effect_sound}
 use Rattle.dep_decisions.proofs.ReadAlone.{reads_keep}
 use Rattle.dep_answers.specs.Performing.{IsReady, IsReply}
@@ -158,7 +158,7 @@ abbrev file_looked_at : State → Resource → Option FileRow
 file_looked_at s r = object_in r >>= (λ n. file_in r >>= (λ f. option_map (file_row n f) (file_at s n f)))
 
 -- what is read of a file that is shown is the row that was looked at
-row_seen : (s : State) (next : Counters) (r : Resource) (m : Method) (row : FileRow) → IsTrue (is_read m) → Some row ≡ file_looked_at s r
+row_seen : (s : State) (next : Counters) (r : Resource) (m : Method) (row : FileRow) → IsTrue (is_safe m) → Some row ≡ file_looked_at s r
     → shown.File row ≡ shown_at s (subject_of next r m)
 row_seen s next (resource.File n f) Get row h e = by_row n f row (file_at s n f) e
 row_seen s next (resource.File n f) Head row h e = by_row n f row (file_at s n f) e
@@ -183,7 +183,7 @@ in_bag s n row (Some f) e = by_row n f row (file_at s n f) e
 abbrev payload_looked_at : State → Resource → Option FileRow
 payload_looked_at s r = object_in r >>= (λ n. path_in r >>= file_at_path s n)
 
-payload_seen : (s : State) (next : Counters) (r : Resource) (m : Method) (row : FileRow) → IsTrue (is_read m) → Some row ≡ payload_looked_at s r
+payload_seen : (s : State) (next : Counters) (r : Resource) (m : Method) (row : FileRow) → IsTrue (is_safe m) → Some row ≡ payload_looked_at s r
     → shown.File row ≡ shown_at s (subject_of next r m)
 payload_seen s next (resource.BagFile n path) Get row h e = in_bag s n row _ e
 payload_seen s next (resource.BagFile n path) Head row h e = in_bag s n row _ e
@@ -204,7 +204,7 @@ payload_seen s next (resource.BagList n) m row h e = absurd (cc)
 abbrev ShowsRow : Config → State → Operation → FileRow → Type 0
 ShowsRow config s op row = (effect config s op ≡ s) × (shown.File row ≡ shown_at (effect config s op) (subject_of (effect config s op).next op.target.resource op.target.method))
 
-module _ (config : Config) (s : State) (op : Operation) (ruled : Ruled) (row : FileRow) (read : IsTrue (is_read op.target.method)) (rules : Rules config s op ruled) where
+module _ (config : Config) (s : State) (op : Operation) (ruled : Ruled) (row : FileRow) (read : IsTrue (is_safe op.target.method)) (rules : Rules config s op ruled) where
   shown_still : shown.File row ≡ shown_at s (subject_of s.next op.target.resource op.target.method) → ShowsRow config s op row
   shown_still told =
       let kept : effect config s op ≡ s = reads_keep config s op read in
@@ -230,13 +230,13 @@ module _ (config : Config) (s : State) (op : Operation) (ruled : Ruled) (rules :
   of_row row is shows = (shows.0, is ∙ shows.1)
 
   pub row_known_shown : Some told ≡ option_map shown.File (row_for op ruled) → ShowsTold
-  row_known_shown known = go (is_read op.target.method) refl known
+  row_known_shown known = go (is_safe op.target.method) refl known
     where
-      from : (a b : Option FileRow) → ruled.view.file ≡ a → ruled.payload ≡ b → IsTrue (is_read op.target.method) → Some told ≡ option_map shown.File (option_or a b) → ShowsTold
+      from : (a b : Option FileRow) → ruled.view.file ≡ a → ruled.payload ≡ b → IsTrue (is_safe op.target.method) → Some told ≡ option_map shown.File (option_or a b) → ShowsTold
       from (Some row) b of_view of_bag read e = let same : told ≡ shown.File row = cc in of_row row same (row_shown config s op ruled row read rules of_view)
       from None (Some row) of_view of_bag read e = let same : told ≡ shown.File row = cc in of_row row same (payload_shown config s op ruled row read rules of_bag)
       from None None of_view of_bag read e = absurd (cc)
 
-      go : (read : Bool) → is_read op.target.method ≡ read → Some told ≡ option_map shown.File (if read then option_or ruled.view.file ruled.payload else None) → ShowsTold
+      go : (read : Bool) → is_safe op.target.method ≡ read → Some told ≡ option_map shown.File (if read then option_or ruled.view.file ruled.payload else None) → ShowsTold
       go true is e = from ruled.view.file ruled.payload refl refl is e
       go false is e = absurd (cc)

@@ -25,7 +25,7 @@ use Rattle.dep_staging.specs.declared.running.RunningHashes.{RunningHashes}
 use Rattle.dep_decisions.specs.Effects.{effect}
 use Rattle.dep_decisions.specs.declared.decision.Decision.{Decision}
 use Rattle.dep_decisions.specs.Decisions.{decision}
-use Rattle.dep_decisions.specs.Laws.{is_read}
+use Rattle.dep_types.specs.Methods.{is_safe}
 use Rattle.dep_decisions.specs.Rules.{refusal}
 use Rattle.dep_decisions.specs.declared.decision.Decision.TheVariants.{Show}
 use Rattle.dep_decisions.specs.declared.operation.Operation.{Operation}
@@ -72,7 +72,7 @@ known_by s op d = known_at s op.content d op.target.method
 -- the row of a file that is only read, where it was looked at for the ruling
 abbrev pub row_for : Operation → Ruled → Option FileRow
 row_for op ruled =
-    if is_read op.target.method then option_or ruled.view.file ruled.payload else None
+    if is_safe op.target.method then option_or ruled.view.file ruled.payload else None
 
 -- the tables are those of what it makes of the state, of which this is shown
 abbrev pub ShowsEffect : Config → State → Operation → db.State → Shown → Type 0

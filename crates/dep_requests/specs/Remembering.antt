@@ -14,7 +14,7 @@ use Rattle.dep_types.specs.declared.counters.Counters.{Counters}
 use Rattle.dep_types.specs.declared.target.Resource.TheVariants.{Service}
 use Rattle.dep_decisions.specs.declared.operation.Operation.{Operation}
 use Rattle.dep_operations.specs.declared.view.View.{View}
-use Rattle.dep_decisions.specs.Laws.{is_read}
+use Rattle.dep_types.specs.Methods.{is_safe}
 use Rattle.dep_requests.specs.declared.remembering.Remembered.{Remembered}
 
 -- there is such an upload, and it was left alone for longer than this
@@ -40,7 +40,7 @@ Covers config moment found = (m : Remembered) → found ≡ Some m
 -- the request reads the service document
 pub record ReadsService (op : Operation) : Type 0 where
   pub resource : op.target.resource ≡ Service
-  pub method : IsTrue (is_read op.target.method)
+  pub method : IsTrue (is_safe op.target.method)
 
 -- what it touches: the clock and the counters
 abbrev pub service_view : (clock : ℕ) → Counters → View
@@ -68,5 +68,5 @@ has_value Bad = false
 
 -- the request only reads, and its head speaks of no content that would be kept
 abbrev pub is_plain_read : Operation → Bool
-is_plain_read op = is_read op.target.method
+is_plain_read op = is_safe op.target.method
     && not (has_value op.fields.disposition) && not (has_value op.fields.content_type)

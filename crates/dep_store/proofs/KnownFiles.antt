@@ -12,7 +12,7 @@ use Rattle.dep_types.specs.declared.store_fault.StoreFault.{StoreFault}
 use Rattle.dep_fields.specs.Fit.{AreFit, IfValue}
 use Rattle.dep_fields.specs.declared.field.Field.{Field}
 use Rattle.dep_fields.specs.declared.field.Field.TheVariants.{Absent, Bad, Value}
-use Rattle.dep_decisions.specs.Laws.{is_read}
+use Rattle.dep_types.specs.Methods.{is_safe}
 use Rattle.dep_decisions.specs.Rules.{refusal}
 use Rattle.dep_decisions.specs.declared.operation.Operation.{Operation}
 use Rattle.dep_decisions.proofs.ReadAlone.{reads_keep}
@@ -44,17 +44,17 @@ no_value P (Value x) h = cc h
 no_value P Absent h = tt
 no_value P Bad h = tt
 
-pub plain_reads : (op : Operation) → IsTrue (is_plain_read op) → IsTrue (is_read op.target.method) × AreFit op.fields
+pub plain_reads : (op : Operation) → IsTrue (is_plain_read op) → IsTrue (is_safe op.target.method) × AreFit op.fields
 plain_reads op plain =
-    let all = all_true (is_read op.target.method) (not (has_value op.fields.disposition)) (not (has_value op.fields.content_type)) plain in
+    let all = all_true (is_safe op.target.method) (not (has_value op.fields.disposition)) (not (has_value op.fields.content_type)) plain in
     (all.0, record { kind = no_value _ op.fields.disposition all.1; media = no_value _ op.fields.content_type all.2 })
 
-by_rule : (config : Config) (s : State) (op : Operation) → IsTrue (is_read op.target.method) → (found : Option Refusal) → (step_by config s op found).state ≡ s
+by_rule : (config : Config) (s : State) (op : Operation) → IsTrue (is_safe op.target.method) → (found : Option Refusal) → (step_by config s op found).state ≡ s
 by_rule config s op read None = reads_keep config s op read
 by_rule config s op read (Some r) = refl
 
 -- its step leaves the state
-step_stays : (config : Config) (s : State) (op : Operation) → IsTrue (is_read op.target.method) → (operation_step config s op).state ≡ s
+step_stays : (config : Config) (s : State) (op : Operation) → IsTrue (is_safe op.target.method) → (operation_step config s op).state ≡ s
 unfolding operation_step
 step_stays config s op read = by_rule config s op read (refusal config s op)
 

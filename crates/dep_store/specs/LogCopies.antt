@@ -6,7 +6,7 @@ use Rattle.dep_fields.specs.declared.field.Field.{Field}
 use Rattle.dep_fields.specs.declared.field.Field.TheVariants.{Absent, Bad, Value}
 use Rattle.dep_fields.specs.declared.kind.Kind.{Kind}
 use Rattle.dep_fields.specs.declared.kind.Kind.TheVariants as kind
-use Rattle.dep_decisions.specs.Laws.{is_read}
+use Rattle.dep_types.specs.Methods.{is_safe}
 use Rattle.dep_decisions.specs.declared.operation.Operation.{Operation}
 use Rattle.dep_store.specs.declared.log_copy.LogCopy.{LogCopy}
 use Rattle.dep_store.specs.declared.log_copy.LogCopy.TheVariants.{NotDue, DueAfter}
@@ -23,7 +23,7 @@ is_by_reference Bad = false
 
 -- the request may write 4 MiB or more
 abbrev pub writes_much : Operation → Bool
-writes_much op = not (is_read op.target.method)
+writes_much op = not (is_safe op.target.method)
     && (nat_le 4194304 (length op.content) || is_by_reference op.fields.disposition)
 
 -- the reply says that the request was done
