@@ -1,6 +1,7 @@
 -- Requests that are only read, and those that are read no further than what they ask for.
 use Rattle.std.proofs.Common.{◌≡◌, ◌∙◌, ℕ, List, [], ◌∷◌, Option, Some, None, unwrap_or, IsTrue, refl, sym, ap, add-zero}
 use Rattle.dep_types.specs.Maps.{first_of}
+use Rattle.dep_types.specs.Methods.{is_safe}
 use Rattle.dep_types.specs.State.{State}
 use Rattle.dep_types.specs.Numbers.{counters_after, numbers}
 use Rattle.dep_types.specs.declared.config.Config.{Config}
@@ -18,7 +19,7 @@ use Rattle.dep_decisions.specs.Effects.{effect, effect_of}
 use Rattle.dep_decisions.specs.declared.operation.Operation.{Operation}
 use Rattle.dep_decisions.specs.declared.decision.Decision.{Decision}
 use Rattle.dep_decisions.specs.declared.decision.Decision.TheVariants.{Show, DropUpload}
-use Rattle.dep_decisions.specs.Laws.{is_read, reads_no_further}
+use Rattle.dep_decisions.specs.Parts.{reads_alone}
 
 -- the upload that such a request drops
 dropped_at : Resource → Method → Option ℕ
@@ -38,7 +39,7 @@ record IsReadSo (config : Config) (s : State) (op : Operation) (resource : Resou
   refused : first_of (rules_met config (in_state s) op resource method) ≡ first_of (behalf_rule config op ∷ presence_rule (in_state s) op ∷ [])
   asks : unwrap_or (decision_at (references_in config op) op resource method) Show ≡ asked_at resource method
 
-read_so : (config : Config) (s : State) (op : Operation) (resource : Resource) (method : Method) → IsTrue (reads_no_further resource method)
+read_so : (config : Config) (s : State) (op : Operation) (resource : Resource) (method : Method) → IsTrue (reads_alone resource method)
     → IsReadSo config s op resource method
 unfolding dropped_at
 read_so config s op (Upload u) Delete h = record { refused = refl; asks = refl }
@@ -87,12 +88,12 @@ read_so config s op (BagFile n path) Post h = cc h
 read_so config s op (BagFile n path) Put h = cc h
 read_so config s op (BagFile n path) Delete h = cc h
 
-refused_so : (config : Config) (s : State) (op : Operation) → IsTrue (reads_no_further op.target.resource op.target.method)
+refused_so : (config : Config) (s : State) (op : Operation) → IsTrue (reads_alone op.target.resource op.target.method)
     → refusal config s op ≡ first_of (behalf_rule config op ∷ presence_rule (in_state s) op ∷ [])
 unfolding refusal_by
 refused_so config s op h = (read_so config s op op.target.resource op.target.method h).refused
 
-asks_so : (config : Config) (s : State) (op : Operation) → IsTrue (reads_no_further op.target.resource op.target.method)
+asks_so : (config : Config) (s : State) (op : Operation) → IsTrue (reads_alone op.target.resource op.target.method)
     → decision config op ≡ asked_at op.target.resource op.target.method
 unfolding decision_with
 asks_so config s op h = (read_so config s op op.target.resource op.target.method h).asks
@@ -104,16 +105,16 @@ by_both config s op other target behalf =
     ap (λ (b : Field (List ℕ)). first_of (behalf_refusal config.on_behalf_of b ∷ presence_refusal (in_state s) op.target.resource ∷ [])) behalf
     ∙ ap (λ (t : Target). first_of (behalf_refusal config.on_behalf_of other.fields.on_behalf_of ∷ presence_refusal (in_state s) t.resource ∷ [])) target
 
-still_read : (op other : Operation) → op.target ≡ other.target → IsTrue (reads_no_further op.target.resource op.target.method)
-    → IsTrue (reads_no_further other.target.resource other.target.method)
-still_read op other target h = ap (λ (t : Target). reads_no_further t.resource t.method) (sym target) ∙ h
+still_read : (op other : Operation) → op.target ≡ other.target → IsTrue (reads_alone op.target.resource op.target.method)
+    → IsTrue (reads_alone other.target.resource other.target.method)
+still_read op other target h = ap (λ (t : Target). reads_alone t.resource t.method) (sym target) ∙ h
 
 -- what such a request changes doesn't look at the content
 plain_effect : (s : State) (one other : List ℕ) (dropped : Option ℕ) → effect_of s one (asked_by dropped) ≡ effect_of s other (asked_by dropped)
 plain_effect s one other None = refl
 plain_effect s one other (Some u) = refl
 
-pub read_no_further : (config : Config) (s : State) (op other : Operation) → IsTrue (reads_no_further op.target.resource op.target.method)
+pub read_no_further : (config : Config) (s : State) (op other : Operation) → IsTrue (reads_alone op.target.resource op.target.method)
     → op.target ≡ other.target → op.fields.on_behalf_of ≡ other.fields.on_behalf_of
     → (refusal config s op ≡ refusal config s other) × (effect config s op ≡ effect config s other)
 unfolding effect
@@ -133,7 +134,7 @@ none_taken next = rw (add-zero next.object, add-zero next.file, add-zero next.up
 shown : (s : State) (content : List ℕ) → effect_of s content Show ≡ s
 shown s content = ap (λ (c : Counters). record s { next = c }) (none_taken s.next)
 
-read_is_plain : (resource : Resource) (method : Method) → IsTrue (is_read method) → (IsTrue (reads_no_further resource method)) × (asked_at resource method ≡ Show)
+read_is_plain : (resource : Resource) (method : Method) → IsTrue (is_safe method) → (IsTrue (reads_alone resource method)) × (asked_at resource method ≡ Show)
 unfolding dropped_at
 read_is_plain (Upload u) Get h = (refl, refl)
 read_is_plain (Upload u) Head h = (refl, refl)
@@ -157,7 +158,7 @@ read_is_plain resource Post h = cc h
 read_is_plain resource Put h = cc h
 read_is_plain resource Delete h = cc h
 
-pub reads_keep : (config : Config) (s : State) (op : Operation) → IsTrue (is_read op.target.method) → effect config s op ≡ s
+pub reads_keep : (config : Config) (s : State) (op : Operation) → IsTrue (is_safe op.target.method) → effect config s op ≡ s
 unfolding effect
 reads_keep config s op h =
     let plain = read_is_plain op.target.resource op.target.method h in

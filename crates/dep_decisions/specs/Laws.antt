@@ -7,7 +7,7 @@ use Rattle.dep_types.specs.declared.config.Config.{Config}
 use Rattle.dep_types.specs.declared.target.Resource.{Resource}
 use Rattle.dep_types.specs.declared.target.Resource.TheVariants.{Object as AnObject, FileSet as AFileSet, File as AFile, Upload as AnUpload}
 use Rattle.dep_types.specs.declared.target.Method.{Method}
-use Rattle.dep_types.specs.declared.target.Method.TheVariants.{Get, Head, Post, Put, Delete}
+use Rattle.dep_types.specs.declared.target.Method.TheVariants.{Post, Put, Delete}
 use Rattle.dep_types.specs.declared.target.Target.{Target}
 use Rattle.dep_fields.specs.declared.kind.Kind.TheVariants.{Segment}
 use Rattle.dep_fixity.specs.Fixity.{digests_of, keeps}
@@ -48,17 +48,6 @@ KeepsIngested s t = (n : ℕ) (o now : Object) → map.get s.objects n ≡ Some 
     → map.get t.objects n ≡ Some now → now.ingested ≡ true
 
 -- ---- requests that read alone
-
--- GET and HEAD, which are safe (RFC 9110, section 9.2.1)
-abbrev pub is_read : Method → Bool
-is_read Get = true
-is_read Head = true
-is_read method = false
-
--- they are asked for nothing but what is there
-abbrev pub reads_no_further : Resource → Method → Bool
-reads_no_further (AnUpload u) Delete = true
-reads_no_further resource method = is_read method
 
 -- the same is asked for, on the same one's behalf
 pub record AskAlike (op other : Operation) : Type 0 where

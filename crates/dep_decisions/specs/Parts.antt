@@ -1,12 +1,13 @@
 -- The rules in three parts: by who asks and for what, by the content, and by the numbers.
 use Rattle.std.specs.Prelude.{Bool, true, false, [], ◌∷◌, Option, Some, None, if◌then◌else◌}
 use Rattle.dep_types.specs.Maps.{first_of}
+use Rattle.dep_types.specs.Methods.{is_safe}
 use Rattle.dep_types.specs.declared.config.Config.{Config}
 use Rattle.dep_types.specs.declared.refusal.Refusal.{Refusal}
 use Rattle.dep_types.specs.declared.target.Resource.{Resource}
 use Rattle.dep_types.specs.declared.target.Resource.TheVariants.{Upload}
 use Rattle.dep_types.specs.declared.target.Method.{Method}
-use Rattle.dep_types.specs.declared.target.Method.TheVariants.{Get, Head, Post, Put, Delete}
+use Rattle.dep_types.specs.declared.target.Method.TheVariants.{Post, Put, Delete}
 use Rattle.dep_fixity.specs.Fixity.{digests_of, promises}
 use Rattle.dep_fixity.specs.declared.field.DigestList.{DigestList}
 use Rattle.dep_fixity.specs.declared.hasher.Digests.{Digests}
@@ -16,12 +17,14 @@ use Rattle.dep_decisions.specs.LookUps.{LookUps}
 use Rattle.dep_decisions.specs.Rules.{behalf_rule, digest_rule, document_rule, encoding_rule, format_rule, in_progress_rule, kind_rule, presence_rule, size_rule, tag_rule, type_rule}
 use Rattle.dep_decisions.specs.declared.operation.Operation.{Operation}
 
--- no tag guards what is only read, or an upload that is dropped
+abbrev pub is_upload : Resource → Bool
+is_upload (Upload u) = true
+is_upload _ = false
+
+-- what is only read, and an upload that is dropped: no tag guards it
 abbrev pub reads_alone : Resource → Method → Bool
-reads_alone resource Get = true
-reads_alone resource Head = true
-reads_alone (Upload u) Delete = true
-reads_alone resource method = false
+reads_alone resource Delete = is_upload resource
+reads_alone resource method = is_safe method
 
 abbrev pub has_content : Method → Bool
 has_content Post = true

@@ -1,11 +1,10 @@
 //! What an accepted request asks for, as its content is read.
-ghost use Rattle.std.specs.Prelude.{◌≡◌, IfOk, OnErr, IfSome, IsSome, IsTrue, Some, option_map, unwrap_or};
+ghost use Rattle.std.specs.Prelude.{◌≡◌, IfOk, IfSome, Some, option_map, unwrap_or};
 ghost use Rattle.std.specs.Option.{option_copied};
 ghost use Rattle.dep_fixity.specs.Fixity.{digests_of};
 ghost use Rattle.dep_decisions.specs.Asked.{IsRead, deposited_in, dropped_at, filed_at, received_in, referred_at, undeposited_in};
 ghost use Rattle.dep_decisions.specs.Decisions.{assembled_file, behalf_of, decision_with, ingests, posted_file, referred_files};
 ghost use Rattle.dep_decisions.specs.Kinds.{kind_of};
-ghost use Rattle.dep_decisions.specs.Memory.{MakesFiles, makes_files};
 ghost use Rattle.dep_decisions.specs.Purposes.{kind_for};
 ghost use Rattle.dep_decisions.specs.declared.decision.Decision.TheVariants.{Show};
 ghost use Rattle.dep_decisions.specs.declared.decision.Deposit.TheVariants.{Files, Metadata as MetadataOf};
@@ -40,8 +39,7 @@ pub fn decision_on(
 ) -> Result<Decision, AllocError>
     requires purpose { option_map kind_for purpose ≡ kind_of operation.now }
     requires read { IsRead operation.now read }
-    ensures ok { IfOk result (λ d. d ≡ decision_with (option_copied references.entry) operation.now) }
-    ensures err { OnErr result (MakesFiles (option_copied references.entry) operation.now) }
+    ensures { IfOk result (λ d. d ≡ decision_with (option_copied references.entry) operation.now) }
 {
     match purpose {
         Some(purpose) => decision_for(alloc, operation, purpose, references, read),
@@ -62,9 +60,7 @@ fn decision_for(
 ) -> Result<Decision, AllocError>
     requires purpose { Some (kind_for purpose) ≡ kind_of operation.now }
     requires read { IsRead operation.now read }
-    ensures ok { IfOk result (λ d. d ≡ decision_with (option_copied references.entry) operation.now) }
-    ensures err { OnErr result
-        (IsTrue (makes_files (option_copied references.entry) (Some (kind_for purpose.entry)))) }
+    ensures { IfOk result (λ d. d ≡ decision_with (option_copied references.entry) operation.now) }
 {
     match purpose {
         Purpose::File(name) => {
@@ -124,10 +120,9 @@ fn referred(
     operation: &Operation<'_>,
     references: Option<&References>,
 ) -> Result<Decision, AllocError>
-    ensures ok { IfOk result (λ d. d ≡ unwrap_or (option_map
+    ensures { IfOk result (λ d. d ≡ unwrap_or (option_map
         (λ entries. referred_at operation.now entries)
         (option_copied references.entry)) Show) }
-    ensures err { OnErr result (IsSome (option_copied references.entry)) }
 {
     match references {
         Some(references) => {

@@ -75,11 +75,9 @@ fn access_rule(config: &Config, view: &View, operation: &Operation<'_>) -> Optio
 fn reads_alone(target: &Target) -> bool
     ensures { result ≡ reads_alone target.now.resource target.now.method }
 {
-    match (&target.resource, target.method) {
-        (_, Method::Get) => true,
-        (_, Method::Head) => true,
-        (Resource::Upload(_), Method::Delete) => true,
-        _ => false,
+    match target.method {
+        Method::Delete => matches!(target.resource, Resource::Upload(_)),
+        method => method.is_safe(),
     }
 }
 

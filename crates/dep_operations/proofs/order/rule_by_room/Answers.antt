@@ -10,7 +10,7 @@ pub returns-then-has_room : goal.returns-then-has_room
 returns-then-has_room c = record {
   ok = let view = c.args.view.now in
       let op = c.args.operation.now in
-      let asked = c.in_ok-decision.ensures.ok ∙ ap (λ (refs : Option (List Reference)). decision_with refs op) c.as_ref.ensures.value in
+      let asked = c.in_ok-decision.ensures ∙ ap (λ (refs : Option (List Reference)). decision_with refs op) c.as_ref.ensures.value in
       (room_told c.args._config.now view op _ _ _ asked c.numbers_for.ensures c.has_room.ensures ∙ ap (λ b. unless b StoreFull) c.if-has_room.true, asked);
 }
 
@@ -18,6 +18,6 @@ pub returns-else-has_room : goal.returns-else-has_room
 returns-else-has_room c = record {
   ok = let view = c.args.view.now in
       let op = c.args.operation.now in
-      let asked = c.in_ok-decision.ensures.ok ∙ ap (λ (refs : Option (List Reference)). decision_with refs op) c.as_ref.ensures.value in
+      let asked = c.in_ok-decision.ensures ∙ ap (λ (refs : Option (List Reference)). decision_with refs op) c.as_ref.ensures.value in
       room_told c.args._config.now view op _ _ _ asked c.numbers_for.ensures c.has_room.ensures ∙ ap (λ b. unless b StoreFull) c.if-has_room.false;
 }
