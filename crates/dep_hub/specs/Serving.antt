@@ -15,7 +15,7 @@ use Rattle.dep_hub.specs.Shut.{LeavesNoMore, IfShut, continues, IsFixed, SendsFi
 use Rattle.dep_hub.specs.declared.arrived.Arrived.{Arrived}
 use Rattle.dep_hub.specs.declared.arrived.Arrived.TheVariants.{Open as StaysOpen, Closed, Cut}
 use Rattle.dep_hub.specs.declared.serving.Piece.{Piece}
-use Rattle.dep_hub.specs.declared.step.Incoming.{Incoming}
+use Rattle.dep_hub.specs.declared.step.WholeMessage.{WholeMessage}
 use Rattle.dep_hub.specs.declared.sending.Answered.{Answered}
 use Rattle.dep_hub.specs.declared.sending.Answered.TheVariants.{Sent, GaveUp, CutShort}
 
@@ -82,8 +82,8 @@ abbrev pub arrival_with : Reading → Piece → Arrival
 arrival_with reading piece = arrival_of reading piece.bytes.now piece.moment
 
 -- the connection is closed after the reply where the head asks for it
-abbrev pub EndsAsAsked : Incoming → Type 0
-EndsAsAsked incoming = incoming.is_last ≡ closes incoming.message.head
+abbrev pub EndsAsAsked : WholeMessage → Type 0
+EndsAsAsked item = item.is_last ≡ closes item.message.head
 
 -- an intake that reads nothing more is dead: behind a request that closes the connection it was shut
 abbrev pub IsDeadIfShut : Reading → Type 0

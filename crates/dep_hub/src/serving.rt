@@ -11,7 +11,7 @@ use crate::arrived::Arrived;
 use crate::next::Next;
 use crate::sending::{Answered, send_fault};
 use crate::site::{Context, Site};
-use crate::step::{Incoming, StreamRefusal, answer_continue, answer_fault, answer_message};
+use crate::step::{StreamRefusal, WholeMessage, answer_continue, answer_fault, answer_message};
 use dep_message::{Intake, Step};
 use dep_moment::Moment;
 use dep_types::{Outlet, StoreFault};
@@ -83,8 +83,8 @@ pub(crate) fn answer_next<A: Archive, O: Outlet, L: AccessLog>(
             next_after(intake, answer, false)
         }
         Ok(Step::Message(message, is_last)) => {
-            let incoming = Incoming { message, is_last };
-            let answer = answer_message(context, store, incoming, out, log);
+            let item = WholeMessage { message, is_last };
+            let answer = answer_message(context, store, item, out, log);
             next_after(intake, answer, is_last)
         }
     }

@@ -37,7 +37,7 @@ pub(crate) struct StreamRefusal {
 
 /// A whole message, and whether the connection is closed after its reply.
 #[derive(Drop)]
-pub(crate) struct Incoming {
+pub(crate) struct WholeMessage {
     pub message: Message,
     pub is_last: bool,
 }
@@ -46,21 +46,21 @@ pub(crate) struct Incoming {
 pub(crate) fn answer_message<A: Archive, O: Outlet, L: AccessLog>(
     context: &Context<'_>,
     store: &mut A,
-    incoming: Incoming,
+    item: WholeMessage,
     out: &mut O,
     log: &mut L,
 ) -> Answered
-    requires { EndsAsAsked incoming }
+    requires { EndsAsAsked item }
     ensures { Answers context.now.site.now
         (outside_of O.Outlet out.old (A.condition store.old))
         (outside_of O.Outlet out.new (A.condition store.new))
-        (Request incoming.message) context.now.moment result }
+        (Request item.message) context.now.moment result }
 {
-    let message = &incoming.message;
+    let message = &item.message;
     let length = message.content.as_slice().len() as u64;
     log.request(message.head.method(), message.head.path(), length);
     match store.tick(context.site.service().config(), context.moment) {
-        Ok(clock) => match answer_routed(context.site, store, incoming, clock) {
+        Ok(clock) => match answer_routed(context.site, store, item, clock) {
             Ok(performed) => {
                 let answered = send_performed(store, &performed, out, log);
                 drop(performed);
@@ -69,7 +69,7 @@ pub(crate) fn answer_message<A: Archive, O: Outlet, L: AccessLog>(
             Err(fault) => send_fault(fault, out, log),
         },
         Err(fault) => {
-            drop(incoming);
+            drop(item);
             send_fault(fault, out, log)
         }
     }
@@ -115,23 +115,23 @@ pub(crate) fn answer_fault<A: Archive, O: Outlet, L: AccessLog>(
 fn answer_routed<A: Archive>(
     site: &Site,
     store: &mut A,
-    incoming: Incoming,
+    item: WholeMessage,
     clock: Moment,
 ) -> Result<Performed, StoreFault>
-    requires { EndsAsAsked incoming }
+    requires { EndsAsAsked item }
     ensures { TriesTo (A.condition store.old) (A.condition store.new) Always
-        (λ s p. clock ≡ s.clock → IsReady (message_step site.now s incoming.message) p)
-        (λ s. (message_step site.now s incoming.message).state) result }
+        (λ s p. clock ≡ s.clock → IsReady (message_step site.now s item.message) p)
+        (λ s. (message_step site.now s item.message).state) result }
 {
-    let Incoming { message, is_last } = incoming;
+    let WholeMessage { message, is_last } = item;
     let is_bare = is_without_body(&message.head);
     let alloc = site.alloc();
     let mut message = message;
     let path = message.head.take_path();
     match site.routes.route(message.head.method(), path) {
         Routed::To(target) => {
-            let incoming = Incoming { message, is_last };
-            perform_operation(site.service(), store, incoming, target)
+            let item = WholeMessage { message, is_last };
+            perform_operation(site.service(), store, item, target)
         }
         Routed::NotFound => {
             drop(message);
@@ -175,14 +175,14 @@ fn refuse(
 fn perform_operation<A: Archive>(
     service: &Service,
     store: &mut A,
-    incoming: Incoming,
+    item: WholeMessage,
     target: Target,
 ) -> Result<Performed, StoreFault>
-    requires { EndsAsAsked incoming }
+    requires { EndsAsAsked item }
     ensures { MakesStep (A.condition store.old) (A.condition store.new) Always
-        (λ s. operation_step service.now s (operation_of incoming.message target)) result }
+        (λ s. operation_step service.now s (operation_of item.message target)) result }
 {
-    let Incoming { message, is_last } = incoming;
+    let WholeMessage { message, is_last } = item;
     let Message { head, content } = message;
     match operation_of(service.alloc(), &head, content, target, is_last) {
         Ok(operation) => {

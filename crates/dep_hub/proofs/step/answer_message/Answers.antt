@@ -12,7 +12,7 @@ pub returns-in-Ok-answer_routed : goal.returns-in-Ok-answer_routed
 unfolding step
 returns-in-Ok-answer_routed g c =
     let config = c.args.context.now.site.now in
-    let m : Message = c.args.incoming.message in
+    let m : Message = c.args.item.message in
     let x = c.send_performed-answered.ensures in
     record {
       sent = x.sent;
@@ -34,7 +34,7 @@ pub returns-in-Err-answer_routed : goal.returns-in-Err-answer_routed
 unfolding step
 returns-in-Err-answer_routed g c =
     let config = c.args.context.now.site.now in
-    let m : Message = c.args.incoming.message in
+    let m : Message = c.args.item.message in
     let new = g.A.Archive.condition c.answer_routed.new.store in
     answers_fixed config (outside (g.O.Outlet.taken c.args.out.now) (g.O.Outlet.failures c.args.out.now) (g.A.Archive.condition c.args.store.now)) (outside (g.O.Outlet.taken c.send_fault.new.out) (g.O.Outlet.failures c.send_fault.new.out) (g.A.Archive.condition c.answer_routed.new.store)) (Request m) c.args.context.now.moment c.in-Err-answer_routed.fault
     (λ h. c.tick.ensures.does.honest (c.answer_routed.ensures.honest h)) (λ h. c.tick.ensures.does.was_open (c.answer_routed.ensures.was_open h))
@@ -52,7 +52,7 @@ pub returns-in-Err : goal.returns-in-Err
 unfolding step
 returns-in-Err g c =
     let new = g.A.Archive.condition c.tick.new.self in
-    answers_fixed c.args.context.now.site.now (outside (g.O.Outlet.taken c.args.out.now) (g.O.Outlet.failures c.args.out.now) (g.A.Archive.condition c.args.store.now)) (outside (g.O.Outlet.taken c.send_fault-in-Err.new.out) (g.O.Outlet.failures c.send_fault-in-Err.new.out) (g.A.Archive.condition c.tick.new.self)) (Request c.args.incoming.message) c.args.context.now.moment c.in-Err.fault
+    answers_fixed c.args.context.now.site.now (outside (g.O.Outlet.taken c.args.out.now) (g.O.Outlet.failures c.args.out.now) (g.A.Archive.condition c.args.store.now)) (outside (g.O.Outlet.taken c.send_fault-in-Err.new.out) (g.O.Outlet.failures c.send_fault-in-Err.new.out) (g.A.Archive.condition c.tick.new.self)) (Request c.args.item.message) c.args.context.now.moment c.in-Err.fault
     c.tick.ensures.does.honest c.tick.ensures.does.was_open
     (λ disk s stands. record {
       left = s;

@@ -12,7 +12,7 @@ returns-in-Err g c = step_unasked (g.A.Archive.condition c.args.store.now) (g.me
 pub returns-in-Ok : goal.returns-in-Ok
 returns-in-Ok g c =
     let e = c.in-Ok.ensures in
-    let fit : AreFit c.in-Ok.operation.fields = subst (λ (f : SwordFields). AreFit f) (ap (λ (o : Operation). o.fields) (sym e)) (fields_are_fit c.args.incoming.message.head.fields) in
+    let fit : AreFit c.in-Ok.operation.fields = subst (λ (f : SwordFields). AreFit f) (ap (λ (o : Operation). o.fields) (sym e)) (fields_are_fit c.args.item.message.head.fields) in
     let old = g.A.Archive.condition c.args.store.now in
     let new = g.A.Archive.condition c.perform-performed.new.self in
     asks_same c.args.service.now old new c.perform-performed.result c.in-Ok.operation _ e
