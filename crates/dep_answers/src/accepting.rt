@@ -38,10 +38,10 @@ pub fn accepted(
         (SaysShown service.now target.now shown.now delivery) }
     ensures ends { IfOk result (λ said. IfSome said HasEnd) }
 {
-    match target.method {
-        Method::Get | Method::Head => show(alloc, service, &target.resource, shown, delivery),
-        _ => changed(alloc, service.config(), target, shown)?.say(alloc, delivery),
+    if target.method.is_safe() {
+        return show(alloc, service, &target.resource, shown, delivery);
     }
+    changed(alloc, service.config(), target, shown)?.say(alloc, delivery)
 }
 
 // What a resource shows.
