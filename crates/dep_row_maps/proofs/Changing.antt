@@ -1,12 +1,14 @@
 -- One call after another that changes our tables.
-use Rattle.std.proofs.Common.{IsErr, IsTrue, Result, Ok, OnOk}
+use Rattle.std.proofs.Common.{◌≡◌, IsErr, IsTrue, Result, Ok, OnOk, ◌∙◌}
 use Rattle.std.proofs.lemmas.Result.{IfOk-from_err}
 use Rattle.sqlite.specs.State.{State, HasCleanDisk}
-use Rattle.dep_tables.specs.Clauses.{ReadsWithin, StaysWithin}
-use Rattle.dep_tables.specs.Tables.{Tables, IsOurs, Leads}
+use Rattle.dep_types.specs.State.{State as Maps}
+use Rattle.dep_types.specs.declared.store_fault.StoreFault.{StoreFault}
+use Rattle.dep_tables.specs.Clauses.{ReadsWithin, Statement, StaysWithin, Writes}
+use Rattle.dep_tables.specs.Tables.{Tables, tables_of, IsOurs, Leads}
 use Rattle.dep_tables.proofs.Results.{if_ok, ok_then}
 use Rattle.dep_tables.proofs.Chains.{clean_before, reads_ours, stays_err, stays_ok, stays_put, stays_then}
-use Rattle.dep_row_maps.specs.Clauses.{ChangesWithin, Sees}
+use Rattle.dep_row_maps.specs.Clauses.{ChangesTables, ChangesWithin, Does, FromMaps, Sees}
 
 module _ {T L : Type 0} {lenders : T → L} {state : T → State} {old mid new : T} {A E B F : Type 0} {x : A} {r : Result B F} where
   -- a call behind one that was Ok
@@ -40,6 +42,31 @@ module _ {T L : Type 0} {lenders : T → L} {state : T → State} {old new : T} 
   -- what only reads
   pub reads_change : {A E : Type 0} {r : Result A E} → ReadsWithin lenders state old new r → ChangesWithin lenders state old new r
   reads_change reads = record { stays = reads.stays; ours = reads_ours reads }
+
+-- a failure does nothing of what an Ok is told to do
+module _ {T L A B F : Type 0} {lenders : T → L} {state : T → State} {old new : T} {r : Result A StoreFault} {s : Result B F} where
+  pub does_failed : {told next : Maps → Type 0} → IsErr r → StaysWithin lenders state old new s
+      → Does lenders state old new r (FromMaps (state old) (state new) (λ maps. told maps → OnOk r (next maps)))
+  does_failed is stays = record { done = λ clean inside ours maps are told. IfOk-from_err r _ is; keeps = changes_err is stays }
+
+  -- the same of each object
+  pub each_failed : {O : Type 0} {told next : O → Maps → Type 0} → IsErr r → StaysWithin lenders state old new s
+      → Does lenders state old new r ((o : O) → FromMaps (state old) (state new) (λ maps. told o maps → OnOk r (next o maps)))
+  each_failed is stays = record { done = λ o clean inside ours maps are told. IfOk-from_err r _ is; keeps = changes_err is stays }
+
+-- a statement that makes what is left of its change, behind calls that made a part of it
+module _ {T L A X Y : Type 0} {lenders : T → L} {state : T → State} {old mid new : T} {r : Result A StoreFault} {x : X} {statement : Statement} where
+  pub tables_then : StaysWithin {A = X} {E = Y} lenders state old mid (Ok x)
+      → (HasCleanDisk (state mid) → IsTrue (state old).in_transaction → IsOurs (state old)
+      → IsOurs (state mid) × (statement.change (tables_of (state mid)) ≡ statement.change (tables_of (state old))))
+      → Writes lenders state mid new r statement → ChangesTables lenders state old new r statement.change
+  tables_then first part last = record {
+    ok = λ clean inside ours.
+        let before = clean_before last.keeps.stays clean in
+        let was = part before inside ours in
+        ok_then r (last.ok clean (first.inside before inside) was.0) (λ led. record { ours = led.ours; rows = led.rows ∙ was.1 });
+    stays = stays_then first last.keeps.stays;
+  }
 
 -- nothing is done
 pub changes_put : {T L A E : Type 0} (lenders : T → L) (state : T → State) (tx : T) (r : Result A E) → ChangesWithin lenders state tx tx r

@@ -1,7 +1,8 @@
 -- What a reply shows, from what was found.
-use Rattle.std.proofs.Common.{◌≡◌, ℕ, List, map, Option, Some, None, Result, refl, sym, ap, subst, ◌∙◌}
+use Rattle.std.proofs.Common.{◌≡◌, ℕ, List, map, Option, Some, None, Result, IsErr, refl, sym, ap, subst, ◌∙◌}
 use Rattle.std.specs.Prelude.{option_map}
 use Rattle.std.specs.Option.{option_map_or}
+use Rattle.std.proofs.lemmas.Result.{IfOk-from_err}
 use Rattle.std.specs.FinMap as finmap
 use Rattle.sqlite.specs.State as db
 use Rattle.dep_types.specs.State.{State, Upload as Staged}
@@ -18,6 +19,7 @@ use Rattle.dep_staging.specs.declared.loading.FoundRow.{FoundRow}
 use Rattle.dep_staging.specs.declared.loading.FoundRow.TheVariants as by_row
 use Rattle.dep_staging.specs.declared.loading.FoundUpload.TheVariants as found
 use Rattle.dep_staging.specs.declared.loading.StagedUpload.{StagedUpload}
+use Rattle.dep_tables.specs.Clauses.{ReadsWithin}
 use Rattle.dep_tables.proofs.Chains.{may_read}
 use Rattle.dep_tables.proofs.Results.{ok_then}
 use Rattle.dep_views.proofs.Found.{numbers_are}
@@ -61,3 +63,8 @@ module _ {T L : Type 0} {lenders : T → L} {state : T → db.State} {old new : 
         map = record { found = reads.map.found; keeps = may_read reads.map.keeps };
         still = λ clean ours. ok_then r (reads.map.keeps.same clean ours) (λ same. same.0.now_is);
       })
+
+-- nothing is shown where a reading failed
+pub shown_failed : {T L : Type 0} {lenders : T → L} {state : T → db.State} {old new : T} {r : Result Shown StoreFault} {subject : Subject} {told : State → Type 0}
+    → IsErr r → ReadsWithin lenders state old new r → ReadsShown lenders state old new r subject told
+shown_failed {r = r} is keeps = record { map = record { found = λ clean inside ours s are sound told. IfOk-from_err r _ is; keeps = keeps } }

@@ -37,9 +37,4 @@ returns g c = record {
 }
 
 pub returns-in_err-write_row : goal.returns-in_err-write_row
-returns-in_err-write_row g c = record {
-  map = record {
-    done = λ o clean inside ours s are told. IfOk-from_err c.from_residual.result _ c.from_residual.ensures.0;
-    keeps = changes_err c.from_residual.ensures.0 c.in_err-write_row.ensures.map.keeps.stays;
-  };
-}
+returns-in_err-write_row g c = record { map = each_failed c.from_residual.ensures.0 c.in_err-write_row.ensures.map.keeps.stays }

@@ -41,9 +41,4 @@ returns g c = record {
 }
 
 pub returns-in_err-add_object : goal.returns-in_err-add_object
-returns-in_err-add_object g c = record {
-  map = record {
-    done = λ clean inside ours s are told. IfOk-from_err c.from_residual.result _ c.from_residual.ensures.0;
-    keeps = changes_err c.from_residual.ensures.0 c.in_err-add_object.ensures.does.keeps.stays;
-  };
-}
+returns-in_err-add_object g c = record { map = does_failed c.from_residual.ensures.0 c.in_err-add_object.ensures.does.keeps.stays }

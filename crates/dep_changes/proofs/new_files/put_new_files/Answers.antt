@@ -35,12 +35,7 @@ files-preserved g c =
     )
 
 pub returns-in_err-put_new_file : goal.returns-in_err-put_new_file
-returns-in_err-put_new_file g c = record {
-  map = record {
-    done = λ o clean inside ours s are told. IfOk-from_err c.from_residual.result _ c.from_residual.ensures.0;
-    keeps = changes_err c.from_residual.ensures.0 (stays_then c.files.invariant.0 c.put_new_file.ensures.map.keeps.stays);
-  };
-}
+returns-in_err-put_new_file g c = record { map = each_failed c.from_residual.ensures.0 (stays_then c.files.invariant.0 c.put_new_file.ensures.map.keeps.stays) }
 
 pub files-init : goal.files-init
 files-init g c = (

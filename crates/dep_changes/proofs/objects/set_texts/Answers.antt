@@ -41,19 +41,7 @@ returns g c = record {
 }
 
 pub returns-in_err-row : goal.returns-in_err-row
-returns-in_err-row g c = record {
-  map = λ n.
-      record {
-        done = λ clean inside ours s are told. IfOk-from_err c.from_residual.result _ c.from_residual.ensures.0;
-        keeps = changes_put g.T.Statements.lenders g.T.Statements.state c.args.tx.now _;
-      };
-}
+returns-in_err-row g c = record { map = λ n. does_failed c.from_residual.ensures.0 (stays_put g.T.Statements.lenders g.T.Statements.state c.args.tx.now c.from_residual.result) }
 
 pub returns-in_err-write_row : goal.returns-in_err-write_row
-returns-in_err-write_row g c = record {
-  map = λ n.
-      record {
-        done = λ clean inside ours s are told. IfOk-from_err c.from_residual-in_err-write_row.result _ c.from_residual-in_err-write_row.ensures.0;
-        keeps = changes_err c.from_residual-in_err-write_row.ensures.0 c.in_err-write_row.ensures.map.keeps.stays;
-      };
-}
+returns-in_err-write_row g c = record { map = λ n. does_failed c.from_residual-in_err-write_row.ensures.0 c.in_err-write_row.ensures.map.keeps.stays }

@@ -1,11 +1,11 @@
-use Rattle.std.proofs.Common.{refl, subst, ◌∙◌}
+use Rattle.std.proofs.Common.{refl, subst}
 use Rattle.dep_tables.specs.Edits.{IsFirstBlock}
 use Rattle.dep_tables.specs.Tables.{tables_of}
-use Rattle.dep_tables.proofs.Results.{ok_then}
 use Rattle.dep_tables.proofs.Chains.{clean_before, stays_then, stays_ok, still_ours, stays_put}
 use Rattle.dep_row_maps.proofs.Runs.{one_run_deleted, all_deleted}
 use Rattle.dep_objects.proofs.Results.{same_tables}
 use Rattle.dep_row_maps.proofs.Calling.{tables_failed}
+use Rattle.dep_row_maps.proofs.Changing.{tables_then}
 use Rattle.dep_objects.proofs.blocks.delete_blocks.Goals as goal
 
 pub runs-init : goal.runs-init
@@ -44,16 +44,7 @@ returns-in_default g c = record {
 }
 
 pub returns : goal.returns
-returns g c = record {
-  does = record {
-    ok = λ clean inside ours.
-        let inv = c.runs.invariant in
-        let before = clean_before c.delete_blocks.ensures.does.keeps.stays clean in
-        let was = inv.1 before inside ours in
-        ok_then c.delete_blocks.result (c.delete_blocks.ensures.does.ok clean (inv.0.inside before inside) was.0) (λ leads. record { ours = leads.ours; rows = leads.rows ∙ was.1 });
-    stays = stays_then c.runs.invariant.0 c.delete_blocks.ensures.does.keeps.stays;
-  };
-}
+returns g c = record { does = tables_then c.runs.invariant.0 c.runs.invariant.1 c.delete_blocks.ensures.does }
 
 pub returns-in_err-start : goal.returns-in_err-start
 returns-in_err-start g c = record {

@@ -1,9 +1,8 @@
-use Rattle.std.proofs.lemmas.Result.{IfOk-from_err}
 use Rattle.std.proofs.Common.{ap, subst, map, ◌∙◌}
 use Rattle.dep_staging.specs.Found.{IsFound}
 use Rattle.dep_staging.specs.declared.loading.FoundRow.TheVariants.{TimedOut, Unknown}
 use Rattle.dep_tables.proofs.Chains.{reads_ok, reads_err}
-use Rattle.dep_views.proofs.Shows.{no_upload_shown, upload_shown}
+use Rattle.dep_views.proofs.Shows.{no_upload_shown, shown_failed, upload_shown}
 use Rattle.dep_views.proofs.shown.show_upload.Goals as goal
 
 pub returns-in_ok-numbers_of-in-Live : goal.returns-in_ok-numbers_of-in-Live
@@ -41,21 +40,7 @@ returns-in-Unknown g c = record {
 }
 
 pub returns-in_err-staged : goal.returns-in_err-staged
-returns-in_err-staged g c = record {
-  does = record {
-    map = record {
-      found = λ clean inside ours s are sound told. IfOk-from_err c.from_residual.result _ c.from_residual.ensures.0;
-      keeps = reads_err c.from_residual.ensures.0 c.in_err-staged.ensures.does.keeps;
-    };
-  };
-}
+returns-in_err-staged g c = record { does = shown_failed c.from_residual.ensures.0 (reads_err c.from_residual.ensures.0 c.in_err-staged.ensures.does.keeps) }
 
 pub returns-in_err-numbers_of-in-Live : goal.returns-in_err-numbers_of-in-Live
-returns-in_err-numbers_of-in-Live g c = record {
-  does = record {
-    map = record {
-      found = λ clean inside ours s are sound told. IfOk-from_err c.from_residual-in_err-numbers_of-in-Live.result _ c.from_residual-in_err-numbers_of-in-Live.ensures.0;
-      keeps = reads_ok c.in_ok-staged.ensures.does.keeps;
-    };
-  };
-}
+returns-in_err-numbers_of-in-Live g c = record { does = shown_failed c.from_residual-in_err-numbers_of-in-Live.ensures.0 (reads_ok c.in_ok-staged.ensures.does.keeps) }
