@@ -4,8 +4,7 @@ ghost use Rattle.dep_decisions.specs.Asked.{IsRead};
 ghost use Rattle.dep_fields.specs.declared.kind.Kind.TheVariants as of;
 ghost use Rattle.dep_decisions.specs.Kinds.{kind_of};
 ghost use Rattle.dep_decisions.specs.Purposes.{kind_for};
-ghost use Rattle.dep_decisions.specs.Parts.{access_refusal, has_content, reads_alone};
-ghost use Rattle.dep_decisions.specs.Rules.{document_rule};
+ghost use Rattle.dep_decisions.specs.Rules.{access_refusal, document_rule, has_content, reads_alone};
 ghost use Rattle.dep_docs_in.specs.Documents.{metadata_read};
 ghost use Rattle.dep_operations.specs.Checks.{IsChecked, IsRoomRuling};
 ghost use Rattle.dep_operations.specs.Seen.{in_view};
@@ -55,7 +54,7 @@ pub(crate) enum Checked {
 }
 
 // Rules 5 to 7: who asks, for what, and of which state of it.
-#[tactic(auto, unfolding(dep_decisions::specs::Parts::access_refusal, dep_decisions::specs::Rules::presence_rule, dep_decisions::specs::Rules::tag_rule))]
+#[tactic(auto, unfolding(dep_decisions::specs::Rules::access_refusal, dep_decisions::specs::Rules::presence_rule, dep_decisions::specs::Rules::tag_rule))]
 fn access_rule(config: &Config, view: &View, operation: &Operation<'_>) -> Option<Refusal>
     ensures { result ≡ access_refusal config.now (in_view view.now) operation.now }
 {
