@@ -84,7 +84,7 @@ alone (Some r) p = refl
 alone None (Some r) = refl
 alone None None = refl
 
-pub refused_so : (config : Config) (s : State) (op : Operation) → IsTrue (reads_alone op.target.resource op.target.method)
+refused_so : (config : Config) (s : State) (op : Operation) → IsTrue (reads_alone op.target.resource op.target.method)
     → refusal config s op ≡ first_of (behalf_rule config op ∷ presence_rule (in_state s) op ∷ [])
 unfolding refusal_by access_refusal content_refusal room_rule
 refused_so config s op h =

@@ -1,5 +1,5 @@
 -- Requests that send a segment: the rules that they meet, and what they make of the archive.
-use Rattle.std.proofs.Common.{◌≡◌, ◌∙◌, ℕ, if◌then◌else◌, true, [], ◌∷◌, Option, Some, None, is_some, option_and_then, unwrap_or, refl, sym, ap}
+use Rattle.std.proofs.Common.{◌≡◌, ◌∙◌, ℕ, if◌then◌else◌, true, [], ◌∷◌, Option, Some, None, is_some, option_and_then, unwrap_or, sym, ap}
 use Rattle.std.specs.FinMap as map
 use Rattle.std.specs.FinSet as set
 use Rattle.dep_types.specs.Maps.{Numbered, first_of}
@@ -7,11 +7,9 @@ use Rattle.dep_types.specs.State.{State, Upload}
 use Rattle.dep_types.specs.Numbers.{room_for}
 use Rattle.dep_types.specs.declared.config.Config.{Config}
 use Rattle.dep_types.specs.declared.counters.Counters.{Counters}
-use Rattle.dep_types.specs.declared.refusal.Refusal.{Refusal}
 use Rattle.dep_types.specs.declared.refusal.Refusal.TheVariants as why
 use Rattle.dep_types.specs.declared.target.Target.{Target}
 use Rattle.dep_types.specs.declared.target.Resource.TheVariants as at_resource
-use Rattle.dep_types.specs.declared.target.Method.TheVariants.{Post}
 use Rattle.dep_fields.specs.declared.kind.Kind.{Kind}
 use Rattle.dep_fields.specs.declared.kind.Kind.TheVariants as of
 use Rattle.dep_decisions.specs.Kinds.{kind_of}
