@@ -18,17 +18,18 @@ use Rattle.dep_docs_in.specs.declared.reference.Reference.{Reference}
 use Rattle.dep_decisions.specs.Kinds.{kind_of, kind_without, is_completion, may_complete, takes_kind}
 use Rattle.dep_decisions.specs.Decisions.{decision_at, deposit_of, ingests, references_in}
 use Rattle.dep_decisions.specs.LookUps.{has_object, in_state, tag_at}
-use Rattle.dep_decisions.specs.Rules.{document_rule, kind_rule, presence_rule, presence_refusal, refusal, rules_met}
+use Rattle.dep_decisions.specs.Rules.{document_rule, has_content, kind_rule, presence_rule, presence_refusal, refusal}
 use Rattle.dep_decisions.specs.Effects.{appended, at, changed, effect, effect_of, filled, ingested_by}
 use Rattle.dep_decisions.specs.declared.operation.Operation.{Operation}
 use Rattle.dep_decisions.specs.declared.decision.Deposit.{Deposit}
 use Rattle.dep_decisions.specs.declared.decision.Deposit.TheVariants as deposit
 use Rattle.dep_decisions.specs.declared.decision.Decision.{Decision}
 use Rattle.dep_decisions.specs.declared.decision.Decision.TheVariants.{Append, Complete, Replace}
-use Rattle.dep_decisions.proofs.FoundInMaps.{all_passed, at-some, unless-none}
+use Rattle.dep_decisions.proofs.FoundInMaps.{at-some, unless-none}
+use Rattle.dep_decisions.proofs.Passed.{content_passed, presence_passed}
 use Rattle.dep_answers.specs.Answers.{Answer}
 use Rattle.dep_answers.specs.Steps.{accepted_answer}
-use Rattle.dep_answers.proofs.Made.{answered, as_asked, decided, deposit_for, deposited, document_passed, it_is, kind_unless, left_by, taken, told_kind}
+use Rattle.dep_answers.proofs.Made.{answered, decided, deposit_for, deposited, document_passed, it_is, kind_unless, left_by, taken, told_kind}
 
 -- ---- what becomes of an object
 
@@ -135,18 +136,18 @@ module _ (config : Config) (s : State) (op : Operation) where
   pub posted_tag : (n : ℕ) → op.target.resource ≡ Object n → op.target.method ≡ Post → refusal config s op ≡ None
       → (accepted_answer config (effect config s op) op).tag ≡ Some s.next.change
   posted_tag n r m e =
-      let all = all_passed (rules_met config (in_state s) op (Object n) Post) (as_asked config s op (Object n) Post r m e) in
-      let o = object_there n r all.1.0 in
+      let passed = content_passed config (in_state s) op e (ap has_content m) in
+      let o = object_there n r (presence_passed config (in_state s) op e) in
       ap (λ (a : Answer). a.tag) (answered config s op (Object n) Post r m (effect config s op))
-      ∙ tells (Object n) Post r m (grown_or_completed n o.0 o.1 r m all.1.1.1.1.0 all.1.1.1.1.1.1.1.1.1.0 (is_completion op) refl)
+      ∙ tells (Object n) Post r m (grown_or_completed n o.0 o.1 r m passed.kind passed.document (is_completion op) refl)
 
   pub put_tag : (n : ℕ) → op.target.resource ≡ Object n → op.target.method ≡ Put → refusal config s op ≡ None
       → (accepted_answer config (effect config s op) op).tag ≡ Some s.next.change
   put_tag n r m e =
-      let all = all_passed (rules_met config (in_state s) op (Object n) Put) (as_asked config s op (Object n) Put r m e) in
-      let o = object_there n r all.1.0 in
+      let passed = content_passed config (in_state s) op e (ap has_content m) in
+      let o = object_there n r (presence_passed config (in_state s) op e) in
       ap (λ (a : Answer). a.tag) (answered config s op (Object n) Put r m (effect config s op))
-      ∙ tells (Object n) Put r m (in_its_place n o.0 o.1 r m all.1.1.1.1.0 all.1.1.1.1.1.1.1.1.1.0)
+      ∙ tells (Object n) Put r m (in_its_place n o.0 o.1 r m passed.kind passed.document)
 
 pub told_tag : (config : Config) (s : State) (op : Operation) (n : ℕ) → op.target.resource ≡ Object n
     → (op.target.method ≡ Post) ⊎ (op.target.method ≡ Put) → refusal config s op ≡ None

@@ -6,7 +6,6 @@ use Rattle.std.proofs.lemmas.List.{nil_from_length}
 use Rattle.dep_types.specs.State as state
 use Rattle.dep_types.specs.State.{State, Texts}
 use Rattle.dep_types.specs.Rows.{object_view, upload_row}
-use Rattle.dep_types.specs.Maps.{first_of}
 use Rattle.dep_types.specs.declared.config.Config.{Config}
 use Rattle.dep_types.specs.declared.refusal.Refusal.TheVariants.{BadRequest, ContentMalformed}
 use Rattle.dep_types.specs.declared.target.Resource.{Resource}
@@ -25,14 +24,15 @@ use Rattle.dep_docs_out.specs.Documents.{status_document, object_url, upload_doc
 use Rattle.dep_decisions.specs.Kinds.{kind_of, kind_by, kind_without, is_completion, may_complete, may_hold, takes_kind}
 use Rattle.dep_decisions.specs.Decisions.{decision, decision_at, decision_with, deposit_by, deposit_of, ingests, opened, references_in, referred_files}
 use Rattle.dep_decisions.specs.LookUps.{in_state}
-use Rattle.dep_decisions.specs.Rules.{document_refusal, document_rule, kind_rule, references_refusal, refusal, rules_met, refusal_by}
+use Rattle.dep_decisions.specs.Rules.{document_refusal, document_rule, has_content, kind_rule, references_refusal, refusal}
 use Rattle.dep_decisions.specs.Effects.{effect, effect_of, filled, fresh}
 use Rattle.dep_decisions.specs.declared.operation.Operation.{Operation}
 use Rattle.dep_decisions.specs.declared.decision.Deposit.{Deposit}
 use Rattle.dep_decisions.specs.declared.decision.Deposit.TheVariants as deposit
 use Rattle.dep_decisions.specs.declared.decision.Decision.{Decision}
 use Rattle.dep_decisions.specs.declared.decision.Decision.TheVariants.{Show, Create, Open}
-use Rattle.dep_decisions.proofs.FoundInMaps.{all_passed, unless-none}
+use Rattle.dep_decisions.proofs.FoundInMaps.{unless-none}
+use Rattle.dep_decisions.proofs.Passed.{content_passed}
 use Rattle.dep_answers.specs.Answers.{Document, answer}
 use Rattle.dep_answers.specs.Replies.{answer_to, created_answer, opened_answer}
 use Rattle.dep_answers.specs.Steps.{accepted_answer}
@@ -124,11 +124,6 @@ module _ (config : Config) (s : State) (op : Operation) where
   unfolding deposit_of
   deposited kind d is e = ap (option_and_then (deposit_by refs op)) is ∙ e
 
-  pub as_asked : (r : Resource) (m : Method) → op.target.resource ≡ r → op.target.method ≡ m → refusal config s op ≡ None
-      → first_of (rules_met config (in_state s) op r m) ≡ None
-  unfolding refusal_by
-  as_asked r m at by e = (λ i. first_of (rules_met config (in_state s) op (sym at i) (sym by i))) ∙ e
-
   pub decided : (r : Resource) (m : Method) (d : Decision) → op.target.resource ≡ r → op.target.method ≡ m → decision_at refs op r m ≡ Some d
       → decision config op ≡ d
   unfolding decision_with
@@ -170,10 +165,10 @@ module _ (config : Config) (s : State) (op : Operation) where
 
   pub told_object : op.target.resource ≡ Service → op.target.method ≡ Post → refusal config s op ≡ None → IsToldObject config s op
   told_object at by e =
-      let all = all_passed (rules_met config (in_state s) op Service Post) (as_asked Service Post at by e) in
-      let kind = told_kind op ((λ i. may_complete (at i) (by i))) all.1.1.1.1.0 in
+      let passed = content_passed config (in_state s) op e (ap has_content by) in
+      let kind = told_kind op (λ i. may_complete (at i) (by i)) passed.kind in
       let takes = (λ i. takes_kind (sym at i) (sym by i) kind.0) ∙ taken op kind.0 (λ i. kind_without (at i) (by i)) kind.1 in
-      let d = deposit_for kind.0 takes (document_passed kind.0 kind.1 all.1.1.1.1.1.1.1.1.1.0) in
+      let d = deposit_for kind.0 takes (document_passed kind.0 kind.1 passed.document) in
       told_object_at d.0 at by
       (decided Service Post (Create d.0 (ingests op)) at by (ap (option_map (λ (x : Deposit). Create x (ingests op))) (deposited kind.0 d.0 kind.1 d.1)))
 
@@ -206,8 +201,7 @@ module _ (config : Config) (s : State) (op : Operation) where
 
   pub told_upload : op.target.resource ≡ Staging → op.target.method ≡ Post → refusal config s op ≡ None → IsToldUpload config s op
   told_upload at by e =
-      let all = all_passed (rules_met config (in_state s) op Staging Post) (as_asked Staging Post at by e) in
-      let kind = told_kind op ((λ i. may_complete (at i) (by i))) all.1.1.1.1.0 in
+      let kind = told_kind op (λ i. may_complete (at i) (by i)) (content_passed config (in_state s) op e (ap has_content by)).kind in
       let takes = (λ i. takes_kind (sym at i) (sym by i) kind.0) ∙ taken op kind.0 (λ i. kind_without (at i) (by i)) kind.1 in
       let o = opening_for kind.0 takes in
       told_upload_at o.0 at by

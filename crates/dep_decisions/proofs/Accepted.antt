@@ -1,7 +1,6 @@
 -- What an accepted request asks for may be carried out, so that it keeps a sound state sound.
 use Rattle.std.proofs.Common.{◌≡◌, ◌∙◌, ℕ, ◌&&◌, nat_le, nat_lt, Bool, true, false, List, [], ◌∷◌, Option, Some, None, is_some, option_map, option_and_then, unwrap_or, IsTrue, refl, sym, ap, subst, if◌then◌else◌}
 use Rattle.std.specs.List.{AllByRecursion, cons_option}
-use Rattle.dep_types.specs.Maps.{first_of}
 use Rattle.dep_types.specs.State.{State, Texts, file_at}
 use Rattle.dep_types.specs.Names.{is_media}
 use Rattle.dep_types.specs.Uploads.{sizes_agree}
@@ -26,7 +25,7 @@ use Rattle.dep_docs_in.proofs.FitDocuments.{metadata-fit, references-fit, nothin
 use Rattle.dep_decisions.specs.Kinds.{kind_of, kind_by, kind_without, is_completion, may_hold, takes_kind}
 use Rattle.dep_decisions.specs.Decisions.{assembled_file, decision, decision_at, decision_with, deposit_by, deposit_of, files_of, ingests, opened, posted_file, received, referred_files, references_by, references_in, replaced_file, texts_of, upload_number, value_of}
 use Rattle.dep_decisions.specs.LookUps.{in_state}
-use Rattle.dep_decisions.specs.Rules.{presence_rule, size_rule, opening_refusal, presence_refusal, received_refusal, refusal, rules_met, segment_refusal, size_refusal, unless, when, refusal_by}
+use Rattle.dep_decisions.specs.Rules.{has_content, presence_rule, size_rule, opening_refusal, presence_refusal, received_refusal, refusal, segment_refusal, size_refusal, unless, when}
 use Rattle.dep_decisions.specs.Effects.{effect}
 use Rattle.dep_decisions.specs.Fit.{IsFitDecision, IsFitDeposit, IsFitFile, AreFitFiles}
 use Rattle.dep_decisions.specs.declared.operation.Operation.{Operation}
@@ -37,7 +36,7 @@ use Rattle.dep_decisions.specs.declared.decision.Decision.{Decision}
 use Rattle.dep_decisions.specs.declared.decision.Decision.TheVariants.{Show, Create, Append, Replace, Complete, SetMetadata, SetFiles}
 use Rattle.dep_decisions.proofs.FoundInMaps.{all_passed, unless-none}
 use Rattle.dep_decisions.proofs.SoundEffects.{decision_sound}
-use Rattle.dep_decisions.proofs.AcceptedRoom.{accepted_has_room}
+use Rattle.dep_decisions.proofs.Passed.{content_passed, has_room, presence_passed}
 
 -- ---- kinds
 
@@ -212,57 +211,51 @@ module _ (config : Config) (s : State) (op : Operation) (fit : AreFit op.fields)
   fits : Fits (deposit_of (references_in config op) op)
   fits = deposit_fit (references_in config op) op (references_in_fit config op) fit
 
-  asked_fit : (resource : Resource) (method : Method) → op.target.resource ≡ resource → first_of (rules_met config (in_state s) op resource method) ≡ None
+  asked_fit : (resource : Resource) (method : Method) → op.target.resource ≡ resource → op.target.method ≡ method → refusal config s op ≡ None
       → Good s op.content (decision_at (references_in config op) op resource method)
-  asked_fit Service Post at e = created s op.content (ingests op) (deposit_of (references_in config op) op) fits
-  asked_fit Service Get at e = tt
-  asked_fit Service Head at e = tt
-  asked_fit Service Put at e = tt
-  asked_fit Service Delete at e = tt
-  asked_fit (Object n) Post at e = appended s op.content n (is_completion op) (ingests op) (deposit_of (references_in config op) op) fits
-  asked_fit (Object n) Put at e = replaced s op.content n (ingests op) (deposit_of (references_in config op) op) fits
-  asked_fit (Object n) Delete at e = tt
-  asked_fit (Object n) Get at e = tt
-  asked_fit (Object n) Head at e = tt
-  asked_fit (Metadata n) Put at e = metadata_set s op.content n (deposit_of (references_in config op) op) fits
-  asked_fit (Metadata n) Delete at e = nothing-kept
-  asked_fit (Metadata n) Get at e = tt
-  asked_fit (Metadata n) Head at e = tt
-  asked_fit (Metadata n) Post at e = tt
-  asked_fit (FileSet n) Put at e = files_set s op.content n (deposit_of (references_in config op) op) fits
-  asked_fit (FileSet n) Delete at e = tt
-  asked_fit (FileSet n) Get at e = tt
-  asked_fit (FileSet n) Head at e = tt
-  asked_fit (FileSet n) Post at e = tt
-  asked_fit (File n f) Put at e =
-      let rows = all_passed (rules_met config (in_state s) op (File n f) Put) e in
-      file_set s op.content op n f (kind_of op) fit refl (file_there n f at rows.1.0)
-  asked_fit (File n f) Delete at e = tt
-  asked_fit (File n f) Get at e = tt
-  asked_fit (File n f) Head at e = tt
-  asked_fit (File n f) Post at e = tt
-  asked_fit Staging Post at e =
-      let rows = all_passed (rules_met config (in_state s) op Staging Post) e in
-      opened_fit (kind_of op) refl (sizes rows.1.1.1.1.1.1.1.1.1.1.0)
-  asked_fit Staging Get at e = tt
-  asked_fit Staging Head at e = tt
-  asked_fit Staging Put at e = tt
-  asked_fit Staging Delete at e = tt
-  asked_fit (Upload u) Post at e =
-      let rows = all_passed (rules_met config (in_state s) op (Upload u) Post) e in
-      received_fit u (kind_of op) at (sizes rows.1.1.1.1.1.1.1.1.1.1.0)
-  asked_fit (Upload u) Delete at e = tt
-  asked_fit (Upload u) Get at e = tt
-  asked_fit (Upload u) Head at e = tt
-  asked_fit (Upload u) Put at e = tt
-  asked_fit (BagList n) method at e = tt
-  asked_fit (BagFile n path) method at e = tt
+  asked_fit Service Post at by e = created s op.content (ingests op) (deposit_of (references_in config op) op) fits
+  asked_fit Service Get at by e = tt
+  asked_fit Service Head at by e = tt
+  asked_fit Service Put at by e = tt
+  asked_fit Service Delete at by e = tt
+  asked_fit (Object n) Post at by e = appended s op.content n (is_completion op) (ingests op) (deposit_of (references_in config op) op) fits
+  asked_fit (Object n) Put at by e = replaced s op.content n (ingests op) (deposit_of (references_in config op) op) fits
+  asked_fit (Object n) Delete at by e = tt
+  asked_fit (Object n) Get at by e = tt
+  asked_fit (Object n) Head at by e = tt
+  asked_fit (Metadata n) Put at by e = metadata_set s op.content n (deposit_of (references_in config op) op) fits
+  asked_fit (Metadata n) Delete at by e = nothing-kept
+  asked_fit (Metadata n) Get at by e = tt
+  asked_fit (Metadata n) Head at by e = tt
+  asked_fit (Metadata n) Post at by e = tt
+  asked_fit (FileSet n) Put at by e = files_set s op.content n (deposit_of (references_in config op) op) fits
+  asked_fit (FileSet n) Delete at by e = tt
+  asked_fit (FileSet n) Get at by e = tt
+  asked_fit (FileSet n) Head at by e = tt
+  asked_fit (FileSet n) Post at by e = tt
+  asked_fit (File n f) Put at by e = file_set s op.content op n f (kind_of op) fit refl (file_there n f at (presence_passed config (in_state s) op e))
+  asked_fit (File n f) Delete at by e = tt
+  asked_fit (File n f) Get at by e = tt
+  asked_fit (File n f) Head at by e = tt
+  asked_fit (File n f) Post at by e = tt
+  asked_fit Staging Post at by e = opened_fit (kind_of op) refl (sizes (content_passed config (in_state s) op e (ap has_content by)).size)
+  asked_fit Staging Get at by e = tt
+  asked_fit Staging Head at by e = tt
+  asked_fit Staging Put at by e = tt
+  asked_fit Staging Delete at by e = tt
+  asked_fit (Upload u) Post at by e = received_fit u (kind_of op) at (sizes (content_passed config (in_state s) op e (ap has_content by)).size)
+  asked_fit (Upload u) Delete at by e = tt
+  asked_fit (Upload u) Get at by e = tt
+  asked_fit (Upload u) Head at by e = tt
+  asked_fit (Upload u) Put at by e = tt
+  asked_fit (BagList n) method at by e = tt
+  asked_fit (BagFile n path) method at by e = tt
 
   pub decision_fit : refusal config s op ≡ None → IsFitDecision s op.content (decision config op)
-  unfolding decision_with refusal_by
-  decision_fit e = asked_fit op.target.resource op.target.method refl e
+  unfolding decision_with
+  decision_fit e = asked_fit op.target.resource op.target.method refl refl e
 
   -- a request that is accepted keeps a sound state sound
   pub effect_sound : refusal config s op ≡ None → IsSound s → IsSound (effect config s op)
   unfolding effect
-  effect_sound e sound = decision_sound s op.content sound (decision config op) (decision_fit e) (accepted_has_room config s op e)
+  effect_sound e sound = decision_sound s op.content sound (decision config op) (decision_fit e) (has_room config (in_state s) op e)

@@ -5,11 +5,10 @@ use Rattle.std.proofs.lemmas.List.Elements.{filter_map-append}
 use Rattle.std.specs.List.{cons_option}
 use Rattle.dep_types.specs.declared.target.Resource.{Resource}
 use Rattle.dep_types.specs.declared.target.Resource.TheVariants.{Service, Object, Metadata, FileSet, File, Staging, Upload, BagList, BagFile}
-use Rattle.dep_types.specs.declared.target.Method.{Method}
 use Rattle.dep_types.specs.declared.target.Method.TheVariants.{Get, Head}
 use Rattle.dep_docs_in.specs.declared.reference.Reference.{Reference}
 use Rattle.dep_decisions.specs.Asked.{asked_at}
-use Rattle.dep_decisions.specs.Decisions.{decision_with, referred_file, referred_files}
+use Rattle.dep_decisions.specs.Decisions.{referred_file, referred_files}
 use Rattle.dep_decisions.specs.declared.operation.Operation.{Operation}
 use Rattle.dep_decisions.specs.declared.decision.Decision.TheVariants.{Show}
 
@@ -34,12 +33,6 @@ shown_by_head refs op Staging = refl
 shown_by_head refs op (Upload u) = refl
 shown_by_head refs op (BagList n) = refl
 shown_by_head refs op (BagFile n path) = refl
-
--- what is asked for, once the method is known
-pub asked_by : (refs : Option (List Reference)) (op : Operation) (method : Method) → op.target.method ≡ method
-    → asked_at refs op op.target.resource method ≡ decision_with refs op
-unfolding decision_with
-asked_by refs op method is = ap (λ (m : Method). asked_at refs op op.target.resource m) (sym is)
 
 -- the files up to one more entry
 pub files_more : (op : Operation) (refs : List Reference) (i : ℕ) (r : Reference) → i < length refs → r ≡ get_or refs i r

@@ -12,10 +12,8 @@ use Rattle.dep_docs_in.specs.declared.reference.Reference.{Reference}
 use Rattle.dep_decisions.specs.Decisions.{upload_number}
 use Rattle.dep_decisions.specs.Kinds.{kind_of}
 use Rattle.dep_decisions.specs.LookUps.{Entry, LookUps, without_digests}
-use Rattle.dep_decisions.specs.Parts.{access_refusal, content_by, content_refusal, fields_refusal, has_content}
-use Rattle.dep_decisions.specs.Rules.{digest_rule, digests_refusal, document_refusal, document_rule, each, entries_refusal, is_binary, length_refusal, presence_rule, references_refusal, refusal_by, room_rule, size_refusal, size_rule, stands_twice, tag_rule, there_refusal, unless, when, whole_refusal}
+use Rattle.dep_decisions.specs.Rules.{access_refusal, content_by, content_refusal, digest_rule, digests_refusal, document_refusal, document_rule, each, entries_refusal, fields_refusal, has_content, is_binary, length_refusal, presence_rule, references_refusal, refusal_by, room_rule, size_refusal, size_rule, stands_twice, tag_rule, there_refusal, unless, when, whole_refusal}
 use Rattle.dep_decisions.specs.declared.operation.Operation.{Operation}
-use Rattle.dep_decisions.proofs.InParts.{in_parts}
 
 -- ---- rows that are any
 
@@ -101,10 +99,9 @@ module _ {U : Type 0} (config : Config) (l : LookUps U) (op : Operation) where
   first_or None (Some x) d m r f e = ap (λ o. first_of (o ∷ m ∷ [])) (f e)
 
   pub refused_before : (r : Refusal) → first_of (access_refusal config (without_digests l) op ∷ content_refusal config (without_digests l) op ∷ []) ≡ Some r → refusal_by config l op ≡ Some r
-  unfolding content_refusal
+  unfolding refusal_by content_refusal
   refused_before r e =
-      in_parts config l op
-      ∙ first_or (access_refusal config l op) (content_refusal config (without_digests l) op) (content_refusal config l op) (room_rule config l op) r
+      first_or (access_refusal config l op) (content_refusal config (without_digests l) op) (content_refusal config l op) (room_rule config l op) r
       (if_content (has_content op.target.method) r)
       (ap (λ a. first_of (a ∷ content_refusal config (without_digests l) op ∷ [])) (sym access_same) ∙ e)
 
@@ -138,7 +135,5 @@ module _ {U : Type 0} (config : Config) (l : LookUps U) (op : Operation) where
   same_room = refl
 
   pub for_references : kind_of op ≢ Some of.References → refusal_by config (without_digests l) op ≡ refusal_by config l op
-  for_references other =
-      in_parts config (without_digests l) op
-      ∙ (λ i. first_of (access_same i ∷ same_content other i ∷ same_room i ∷ []))
-      ∙ sym (in_parts config l op)
+  unfolding refusal_by
+  for_references other = (λ i. first_of (access_same i ∷ same_content other i ∷ same_room i ∷ []))

@@ -2,7 +2,7 @@
 use Rattle.std.proofs.Common.{◌≡◌, ◌∙◌, ◌⊎◌, inl, inr, ℕ, ◌+◌, ◌&&◌, ◌||◌, Bool, true, false, List, [], length, slice_get, Option, Some, None, is_some, option_map, option_and_then, unwrap_or, refl, sym, ap, subst, if◌then◌else◌}
 use Rattle.std.specs.Option.{option_map_or}
 use Rattle.std.specs.FinMap as finmap
-use Rattle.dep_types.specs.Maps.{Numbered, first_of}
+use Rattle.dep_types.specs.Maps.{Numbered}
 use Rattle.dep_types.specs.State as state
 use Rattle.dep_types.specs.State.{State, file_at}
 use Rattle.dep_types.specs.Uploads.{assembled}
@@ -24,7 +24,7 @@ use Rattle.dep_docs_in.specs.declared.reference.Reference.{Reference}
 use Rattle.dep_decisions.specs.Kinds.{is_absent, is_completion, kind_by, kind_of, kind_without, may_complete, may_hold, takes_kind}
 use Rattle.dep_decisions.specs.Decisions.{appended_or_completed, assembled_file, decision_at, decision_with, deposit_by, deposit_of, files_of, ingests, references_by, references_in, referred_files}
 use Rattle.dep_decisions.specs.LookUps.{has_object, in_state, promised_of}
-use Rattle.dep_decisions.specs.Rules.{document_refusal, document_rule, presence_rule, entries_refusal, presence_refusal, references_refusal, refusal, rules_met, unless, refusal_by}
+use Rattle.dep_decisions.specs.Rules.{document_refusal, document_rule, presence_rule, entries_refusal, has_content, presence_refusal, references_refusal, refusal, unless}
 use Rattle.dep_decisions.specs.Effects.{added, appended, at, effect, effect_of, file_from, filled, ingested_by, uploads_of, with_files, without}
 use Rattle.dep_decisions.specs.declared.operation.Operation.{Operation}
 use Rattle.dep_decisions.specs.declared.decision.NewFile.{NewFile}
@@ -33,9 +33,10 @@ use Rattle.dep_decisions.specs.declared.decision.Deposit.TheVariants.{Files}
 use Rattle.dep_decisions.specs.declared.decision.Decision.{Decision}
 use Rattle.dep_decisions.specs.declared.decision.Decision.TheVariants.{Show, Create, Append, Complete, Replace, SetFiles}
 use Rattle.dep_decisions.specs.Laws.{IsDepositedFrom, deposited_object}
-use Rattle.dep_decisions.proofs.FoundInMaps.{all_passed, at-some}
+use Rattle.dep_decisions.proofs.FoundInMaps.{at-some}
 use Rattle.dep_decisions.proofs.InOrder.{added-at}
 use Rattle.dep_decisions.proofs.Lengths.{assembled_length}
+use Rattle.dep_decisions.proofs.Passed.{content_passed, presence_passed}
 use Rattle.dep_decisions.proofs.Referred.{IsReferred, all_known, file_in_place, referred, used_up}
 
 -- ---- the kind
@@ -278,20 +279,14 @@ module _ (config : Config) (s : State) (op : Operation) (refs : List Reference) 
       ∙ ap (λ (o : Option Kind). option_and_then (document_refusal config (in_state s) op) o) (sym (kind_is config op refs read))
       ∙ e
 
-  rows : (resource : Resource) (method : Method) → (method ≡ Post) ⊎ (method ≡ Put) → first_of (rules_met config (in_state s) op resource method) ≡ None
-      → (presence_rule (in_state s) op ≡ None) × (document_rule config (in_state s) op ≡ None)
-  rows resource Post by e = let all = all_passed (rules_met config (in_state s) op resource Post) e in (all.1.0, all.1.1.1.1.1.1.1.1.1.0)
-  rows resource Put by e = let all = all_passed (rules_met config (in_state s) op resource Put) e in (all.1.0, all.1.1.1.1.1.1.1.1.1.0)
-  rows resource Get (inl by) e = cc by
-  rows resource Get (inr by) e = cc by
-  rows resource Head (inl by) e = cc by
-  rows resource Head (inr by) e = cc by
-  rows resource Delete (inl by) e = cc by
-  rows resource Delete (inr by) e = cc by
+  has : (method : Method) → (method ≡ Post) ⊎ (method ≡ Put) → has_content method ≡ true
+  has method (inl by) = ap has_content by
+  has method (inr by) = ap has_content by
 
   passed : refusal config s op ≡ None → (presence_rule (in_state s) op ≡ None) × (document_rule config (in_state s) op ≡ None)
-  unfolding refusal_by
-  passed e = rows op.target.resource op.target.method (takes op.target.resource op.target.method (said op (kind_is config op refs read)).takes) e
+  passed e =
+      let by = has op.target.method (takes op.target.resource op.target.method (said op (kind_is config op refs read)).takes) in
+      (presence_passed config (in_state s) op e, (content_passed config (in_state s) op e by).document)
 
   present : presence_rule (in_state s) op ≡ None → presence_refusal (in_state s) op.target.resource ≡ None
   unfolding presence_rule

@@ -43,7 +43,7 @@ cond-none false o e = e
 pub left-was : {X : Type 0} (m : Numbered X) (k q : ℕ) (x : X) → map.get (map.remove m k) q ≡ Some x → map.get m q ≡ Some x
 left-was m k q x e = cond-some (eq_by_cmp nat_cmp q k) (map.get m q) x (sym (map.get-remove nat_cmp_total m k q) ∙ e)
 
-pub none-left : {X : Type 0} (m : Numbered X) (k q : ℕ) → map.get m q ≡ None → map.get (map.remove m k) q ≡ None
+none-left : {X : Type 0} (m : Numbered X) (k q : ℕ) → map.get m q ≡ None → map.get (map.remove m k) q ≡ None
 none-left m k q e = map.get-remove nat_cmp_total m k q ∙ cond-none (eq_by_cmp nat_cmp q k) (map.get m q) e
 
 pub without-was : (m : Numbered Upload) (us : List ℕ) (q : ℕ) (u : Upload) → map.get (without m us) q ≡ Some u → map.get m q ≡ Some u
@@ -84,7 +84,7 @@ same-name q name e = elim (slice_cmp nat_cmp q name) as (λ r. slice_cmp nat_cmp
   | Greater ↦ λ r e. absurd (cc e)
 ] refl e
 
-pub named-insert : (m : Texts) (name : List ℕ) (texts : List (List ℕ)) → IsKept name texts → AreNamed m → AreNamed (map.insert m name texts)
+named-insert : (m : Texts) (name : List ℕ) (texts : List (List ℕ)) → IsKept name texts → AreNamed m → AreNamed (map.insert m name texts)
 named-insert m name texts is was q found e =
     named-cond (eq_by_cmp (slice_cmp nat_cmp) q name) (map.get m q) q texts found
     (λ same. subst (λ (n : List ℕ). IsKept n texts) (sym (same-name q name same)) is)

@@ -29,7 +29,7 @@ first_two : (o : Option Refusal) (rest : List (Option Refusal)) → first_of (o 
 first_two None rest e = (refl, e)
 first_two (Some r) rest e = cc e
 
-pub one_passed : {X : Type 0} (rule : X → Option Refusal) (xs : List X) (i : ℕ) (x : X) → each rule xs ≡ None → slice_get xs i ≡ Some x → rule x ≡ None
+one_passed : {X : Type 0} (rule : X → Option Refusal) (xs : List X) (i : ℕ) (x : X) → each rule xs ≡ None → slice_get xs i ≡ Some x → rule x ≡ None
 one_passed rule [] i x e at = cc at
 one_passed {X} rule (y ∷ xs) zero x e at =
     let same : y ≡ x = cc at in

@@ -72,7 +72,7 @@ module _ (s : State) (content : List ℕ) where
   was_there (Receive m k) n u e low = received n m k u (at-found s.uploads m (with_segment s k content) n u e)
   was_there d n u e low = left (used d) n u e
 
-  pub decision_keeps_segments : (d : Decision) → KeepsSegments s (effect_of s content d)
+  decision_keeps_segments : (d : Decision) → KeepsSegments s (effect_of s content d)
   decision_keeps_segments d = record {
     next = le-add_right s.next.upload (numbers_for d).upload;
     segments = was_there d;

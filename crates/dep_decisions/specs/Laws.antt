@@ -1,9 +1,11 @@
 -- Words of the laws.
-use Rattle.std.specs.Prelude.{◌≡◌, ◌⊎◌, ℕ, ◌+◌, ◌==◌, ◌<◌, ◌≤◌, ◌&&◌, Bool, true, false, List, length, slice_get, Some, None, IsTrue}
+use Rattle.std.specs.Prelude.{◌≡◌, ◌⊎◌, ℕ, ◌+◌, ◌==◌, ◌<◌, ◌≤◌, ◌&&◌, Bool, true, false, List, [], ◌∷◌, length, slice_get, Option, Some, None, IsTrue}
 use Rattle.std.specs.FinMap as map
+use Rattle.dep_types.specs.Maps.{first_of}
 use Rattle.dep_types.specs.State.{State, Object, File, Upload, file_at}
 use Rattle.dep_types.specs.Uploads.{assembled, segment_length}
 use Rattle.dep_types.specs.declared.config.Config.{Config}
+use Rattle.dep_types.specs.declared.refusal.Refusal.{Refusal}
 use Rattle.dep_types.specs.declared.target.Resource.{Resource}
 use Rattle.dep_types.specs.declared.target.Resource.TheVariants.{Object as AnObject, FileSet as AFileSet, File as AFile, Upload as AnUpload}
 use Rattle.dep_types.specs.declared.target.Method.{Method}
@@ -15,8 +17,8 @@ use Rattle.dep_docs_in.specs.declared.reference.Reference.{Reference}
 use Rattle.dep_docs_in.specs.declared.reference.Pointed.TheVariants.{Upload as Pointing}
 use Rattle.dep_decisions.specs.Kinds.{kind_of}
 use Rattle.dep_decisions.specs.Decisions.{references_in}
-use Rattle.dep_decisions.specs.LookUps.{promised_of}
-use Rattle.dep_decisions.specs.Rules.{has_length, refusal}
+use Rattle.dep_decisions.specs.LookUps.{LookUps, promised_of}
+use Rattle.dep_decisions.specs.Rules.{access_refusal, content_refusal, has_length, refusal}
 use Rattle.dep_decisions.specs.Effects.{effect}
 use Rattle.dep_decisions.specs.declared.operation.Operation.{Operation}
 
@@ -58,6 +60,13 @@ pub record AskAlike (op other : Operation) : Type 0 where
 pub record EndAlike (config : Config) (s : State) (op other : Operation) : Type 0 where
   pub refusal : refusal config s op ≡ refusal config s other
   pub effect : effect config s op ≡ effect config s other
+
+-- ---- requests that are refused before the digests of an upload are known
+
+-- the first of rules 5 to 14 that applies
+abbrev pub refusal_before_room : {U : Type 0} → Config → LookUps U → Operation → Option Refusal
+refusal_before_room config l op =
+    first_of (access_refusal config l op ∷ content_refusal config l op ∷ [])
 
 -- ---- files that are replaced or deleted
 

@@ -2,7 +2,6 @@ pub mod Asked
 pub mod Decisions
 pub mod Effects
 pub mod Kinds
-pub mod Parts
 pub mod Purposes
 pub mod Rules
 pub mod Fit

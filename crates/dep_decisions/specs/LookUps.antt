@@ -96,6 +96,7 @@ known_of = record {
   digests = assembled_digests;
 }
 
+-- what the rules look up, in this state
 abbrev pub in_state : State → LookUps state.Upload
 in_state s = record {
   next = s.next;
@@ -113,5 +114,6 @@ in_state s = record {
 
 -- ---- before any digest of an upload is known
 
+-- the same look-ups, of which none has the digests of an upload
 abbrev pub without_digests : {U : Type 0} → LookUps U → LookUps U
 without_digests l = record l { known = record l.known { digests = λ u. None } }

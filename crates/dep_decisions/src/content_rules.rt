@@ -7,8 +7,7 @@ ghost use Rattle.dep_types.specs.Names.{binary};
 ghost use Rattle.dep_types.specs.declared.refusal.Refusal.TheVariants as why;
 ghost use Rattle.dep_decisions.specs.Kinds.{kind_of};
 ghost use Rattle.dep_decisions.specs.Purposes.{kind_for};
-ghost use Rattle.dep_decisions.specs.Parts.{digests_if_promised, fields_refusal};
-ghost use Rattle.dep_decisions.specs.Rules.{is_json, media_name, digest_rule, encoding_rule, format_rule, in_progress_rule, kind_rule, reads_in_progress, type_rule, unless, value_refusal};
+ghost use Rattle.dep_decisions.specs.Rules.{is_json, media_name, digest_rule, digests_if_promised, encoding_rule, fields_refusal, format_rule, in_progress_rule, kind_rule, reads_in_progress, type_rule, unless, value_refusal};
 
 use crate::operation::Operation;
 use crate::purpose::{Purpose, is_completion};
@@ -21,7 +20,7 @@ use dep_types::{
 
 /// Returns the first of rules 8 to 11 that applies: what Content-Encoding, Content-Disposition, In-Progress,
 /// Packaging, Metadata-Format and Content-Type say of the content.
-#[tactic(auto, unfolding(crate::specs::Parts::fields_refusal))]
+#[tactic(auto, unfolding(crate::specs::Rules::fields_refusal))]
 pub fn fields_rule(operation: &Operation<'_>, purpose: Option<Purpose<'_>>) -> Option<Refusal>
     requires { option_map kind_for purpose ≡ kind_of operation.now }
     ensures { result ≡ fields_refusal operation.now }

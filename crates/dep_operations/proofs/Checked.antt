@@ -13,8 +13,7 @@ use Rattle.dep_fields.specs.declared.field.Field.{Field}
 use Rattle.dep_fields.specs.declared.field.Field.TheVariants.{Absent, Bad, Value}
 use Rattle.dep_docs_in.specs.declared.reference.Reference.{Reference}
 use Rattle.dep_decisions.specs.Decisions.{upload_number}
-use Rattle.dep_decisions.specs.Parts.{content_by, content_refusal, digests_if_promised, fields_refusal, has_content}
-use Rattle.dep_decisions.specs.Rules.{digest_rule, document_rule, size_rule}
+use Rattle.dep_decisions.specs.Rules.{content_by, content_refusal, digest_rule, digests_if_promised, document_rule, fields_refusal, has_content, size_rule}
 use Rattle.dep_decisions.specs.declared.operation.Operation.{Operation}
 use Rattle.dep_operations.specs.Checks.{IsChecked, IsCheckedBy}
 use Rattle.dep_operations.specs.Seen.{in_view}

@@ -7,7 +7,7 @@ use Rattle.dep_operations.specs.Walks.{stands_again}
 use Rattle.dep_operations.proofs.Tests.{test_is}
 
 -- tests that agree at each number
-pub again_same : (p q : ℕ → Bool) (us : List ℕ) → ((k : ℕ) → p k ≡ q k) → stands_again p us ≡ stands_again q us
+again_same : (p q : ℕ → Bool) (us : List ℕ) → ((k : ℕ) → p k ≡ q k) → stands_again p us ≡ stands_again q us
 unfolding stands_again
 again_same p q [] e = refl
 again_same p q (u ∷ us) e =

@@ -28,11 +28,9 @@ use Rattle.dep_docs_in.specs.declared.reference.Pointed.TheVariants.{Upload as A
 use Rattle.dep_decisions.specs.Decisions.{decision_with, numbers_for, references_in, upload_number}
 use Rattle.dep_decisions.specs.Kinds.{kind_of}
 use Rattle.dep_decisions.specs.LookUps.{Entry, assembled_digests, entry_at, has_bag_path, in_state, known_of, repeats, tag_at}
-use Rattle.dep_decisions.specs.Parts.{access_refusal, content_by, content_refusal, fields_refusal, has_content, reads_alone}
-use Rattle.dep_decisions.specs.Rules.{behalf_rule, digest_rule, digests_refusal, document_refusal, document_rule, each, entries_refusal, has_digests, has_length, length_refusal, missing_refusal, presence_refusal, presence_rule, received_refusal, references_refusal, refusal, refusal_by, room_rule, segment_by, segment_refusal, size_refusal, size_rule, tag_refusal, tag_rule, there_refusal, unless, whole_refusal}
+use Rattle.dep_decisions.specs.Rules.{access_refusal, behalf_rule, content_by, content_refusal, digest_rule, digests_refusal, document_refusal, document_rule, each, entries_refusal, fields_refusal, has_content, has_digests, has_length, length_refusal, missing_refusal, presence_refusal, presence_rule, reads_alone, received_refusal, references_refusal, refusal, refusal_by, room_rule, segment_by, segment_refusal, size_refusal, size_rule, tag_refusal, tag_rule, there_refusal, unless, whole_refusal}
 use Rattle.dep_decisions.specs.declared.operation.Operation.{Operation}
 use Rattle.dep_decisions.specs.declared.decision.Decision.{Decision}
-use Rattle.dep_decisions.proofs.InParts.{in_parts}
 use Rattle.dep_operations.specs.Checks.{IsRoomRuling}
 use Rattle.dep_operations.specs.Rules.{IsSeen}
 use Rattle.dep_operations.specs.Rulings.{HasRoomFor, IsRuling, RulesBy}
@@ -240,10 +238,8 @@ module _ (config : Config) (s : State) (op : Operation) where
   room_is = refl
 
   seen_truly : refusal_by config (in_view (true_view config s op)) op ≡ refusal config s op
-  seen_truly =
-      in_parts config (in_view (true_view config s op)) op
-      ∙ (λ i. first_of (access_is i ∷ content_is i ∷ room_is i ∷ []))
-      ∙ sym (in_parts config (in_state s) op)
+  unfolding refusal_by
+  seen_truly = (λ i. first_of (access_is i ∷ content_is i ∷ room_is i ∷ []))
 
   told : (ruling : Ruling) → IsSeen config (true_view config s op) op ruling → IsRuling config s op ruling
   told (Refuse r) is = sym seen_truly ∙ is
@@ -260,12 +256,13 @@ module _ (config : Config) (view : View) (op : Operation) where
   parts a c = first_of (a ∷ c ∷ room_rule config (in_view view) op ∷ [])
 
   pub refused_access : (r : Refusal) (o : Option Refusal) → o ≡ access_refusal config (in_view view) op → o ≡ Some r → IsSeen config view op (Refuse r)
-  refused_access r o is e = in_parts config (in_view view) op ∙ ap (λ a. parts a (content_refusal config (in_view view) op)) (sym is ∙ e)
+  unfolding refusal_by
+  refused_access r o is e = ap (λ a. parts a (content_refusal config (in_view view) op)) (sym is ∙ e)
 
   pub refused_content : (r : Refusal) (o : Option Refusal) → o ≡ access_refusal config (in_view view) op → o ≡ None → content_refusal config (in_view view) op ≡ Some r → IsSeen config view op (Refuse r)
+  unfolding refusal_by
   refused_content r o is e content =
-      in_parts config (in_view view) op
-      ∙ ap (λ a. parts a (content_refusal config (in_view view) op)) (sym is ∙ e)
+      ap (λ a. parts a (content_refusal config (in_view view) op)) (sym is ∙ e)
       ∙ ap (parts None) content
 
   single : (m : Option Refusal) → first_of (m ∷ []) ≡ m
@@ -273,9 +270,9 @@ module _ (config : Config) (view : View) (op : Operation) where
   single (Some r) = refl
 
   seen_by_room : access_refusal config (in_view view) op ≡ None → content_refusal config (in_view view) op ≡ None → refusal_by config (in_view view) op ≡ room_rule config (in_view view) op
+  unfolding refusal_by
   seen_by_room access content =
-      in_parts config (in_view view) op
-      ∙ ap (λ a. parts a (content_refusal config (in_view view) op)) access
+      ap (λ a. parts a (content_refusal config (in_view view) op)) access
       ∙ ap (parts None) content
       ∙ single (room_rule config (in_view view) op)
 

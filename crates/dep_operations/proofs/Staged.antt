@@ -12,7 +12,7 @@ use Rattle.dep_fields.specs.declared.kind.Kind.TheVariants as of
 use Rattle.dep_docs_in.specs.declared.reference.Reference.{Reference}
 use Rattle.dep_decisions.specs.Decisions.{references_in}
 use Rattle.dep_decisions.specs.Kinds.{kind_by, kind_of, kind_without, may_hold, takes_kind}
-use Rattle.dep_decisions.specs.Parts.{has_content}
+use Rattle.dep_decisions.specs.Rules.{has_content}
 use Rattle.dep_decisions.specs.declared.operation.Operation.{Operation}
 use Rattle.dep_operations.specs.Views.{uploads_in}
 

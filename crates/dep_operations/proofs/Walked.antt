@@ -28,10 +28,10 @@ some_fails : (test : Reference → Bool) (why : Refusal) (refs : List Reference)
 some_fails test why [] = refl
 some_fails test why (r ∷ refs) = first_failing (test r) why (map (λ r. unless (test r) why) refs) (list_any (λ r. not (test r)) refs) (some_fails test why refs)
 
-pub targets_are : (refs : List Reference) → when (list_any points_elsewhere refs) ByReferenceNotAllowed ≡ each (λ (r : Reference). unless (is_some (upload_number r.target)) ByReferenceNotAllowed) refs
+targets_are : (refs : List Reference) → when (list_any points_elsewhere refs) ByReferenceNotAllowed ≡ each (λ (r : Reference). unless (is_some (upload_number r.target)) ByReferenceNotAllowed) refs
 targets_are refs = some_fails (λ r. is_some (upload_number r.target)) ByReferenceNotAllowed refs
 
-pub packagings_are : (refs : List Reference) → when (list_any is_other_packaging refs) PackagingFormatNotAcceptable ≡ each (λ (r : Reference). unless (is_binary r.packaging) PackagingFormatNotAcceptable) refs
+packagings_are : (refs : List Reference) → when (list_any is_other_packaging refs) PackagingFormatNotAcceptable ≡ each (λ (r : Reference). unless (is_binary r.packaging) PackagingFormatNotAcceptable) refs
 packagings_are refs = some_fails (λ r. is_binary r.packaging) PackagingFormatNotAcceptable refs
 
 pub entries_told : (view : View) (refs : List Reference) (views : List UploadView) (elsewhere other twice : Bool) (there whole long same : Option Refusal)

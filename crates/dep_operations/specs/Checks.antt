@@ -3,8 +3,7 @@ use Rattle.std.specs.Prelude.{◌≡◌, Some, None}
 use Rattle.dep_types.specs.declared.config.Config.{Config}
 use Rattle.dep_decisions.specs.Asked.{IsRead}
 use Rattle.dep_decisions.specs.Decisions.{decision_with}
-use Rattle.dep_decisions.specs.Parts.{content_by, content_refusal}
-use Rattle.dep_decisions.specs.Rules.{room_rule}
+use Rattle.dep_decisions.specs.Rules.{content_by, content_refusal, room_rule}
 use Rattle.dep_decisions.specs.declared.operation.Operation.{Operation}
 use Rattle.dep_operations.specs.Seen.{in_view}
 use Rattle.dep_operations.specs.declared.order.Checked.{Checked}

@@ -1,11 +1,11 @@
 //! The ruling on a request, from a view of the archive.
 ghost use Rattle.std.specs.Prelude.{◌≡◌, IfOk, Some, is_some, option_map};
+ghost use Rattle.dep_types.specs.declared.config.Config.{Config};
 ghost use Rattle.dep_decisions.specs.Asked.{IsRead};
 ghost use Rattle.dep_fields.specs.declared.kind.Kind.TheVariants as of;
 ghost use Rattle.dep_decisions.specs.Kinds.{kind_of};
 ghost use Rattle.dep_decisions.specs.Purposes.{kind_for};
-ghost use Rattle.dep_decisions.specs.Parts.{access_refusal, has_content, reads_alone};
-ghost use Rattle.dep_decisions.specs.Rules.{document_rule};
+ghost use Rattle.dep_decisions.specs.Rules.{access_refusal, document_rule, has_content, reads_alone};
 ghost use Rattle.dep_docs_in.specs.Documents.{metadata_read};
 ghost use Rattle.dep_operations.specs.Checks.{IsChecked, IsRoomRuling};
 ghost use Rattle.dep_operations.specs.Seen.{in_view};
@@ -40,9 +40,10 @@ pub fn decide(
     if let Some(refusal) = access_rule(config, view, operation) {
         return Ok(Ruling::Refuse(refusal));
     }
-    match check_content(alloc, config, view, operation)? {
+    let purpose = content_purpose(operation);
+    match check_content(alloc, config, view, operation, purpose)? {
         Checked::Refused(refusal) => Ok(Ruling::Refuse(refusal)),
-        Checked::Passed(read) => rule_by_room(alloc, config, view, operation, read),
+        Checked::Passed(read) => rule_by_room(alloc, view, operation, purpose, read),
     }
 }
 
@@ -55,7 +56,7 @@ pub(crate) enum Checked {
 }
 
 // Rules 5 to 7: who asks, for what, and of which state of it.
-#[tactic(auto, unfolding(dep_decisions::specs::Parts::access_refusal, dep_decisions::specs::Rules::presence_rule, dep_decisions::specs::Rules::tag_rule))]
+#[tactic(auto, unfolding(dep_decisions::specs::Rules::access_refusal, dep_decisions::specs::Rules::presence_rule, dep_decisions::specs::Rules::tag_rule))]
 fn access_rule(config: &Config, view: &View, operation: &Operation<'_>) -> Option<Refusal>
     ensures { result ≡ access_refusal config.now (in_view view.now) operation.now }
 {
@@ -88,8 +89,10 @@ fn check_content(
     config: &Config,
     view: &View,
     operation: &Operation<'_>,
+    purpose: Option<Purpose<'_>>,
 ) -> Result<Checked, AllocError>
-    ensures ok { IfOk result (IsChecked config.now view.now operation.now) }
+    requires { option_map kind_for purpose ≡ kind_of operation.now }
+    ensures { IfOk result (IsChecked config.now view.now operation.now) }
 {
     if !has_content(operation.target.method) {
         return Ok(Checked::Passed(ReadContent {
@@ -97,7 +100,6 @@ fn check_content(
             digests: None,
         }));
     }
-    let purpose = content_purpose(operation);
     if let Some(refusal) = fields_rule(operation, purpose) {
         return Ok(Checked::Refused(refusal));
     }
@@ -107,14 +109,7 @@ fn check_content(
         return Ok(Checked::Refused(refusal));
     }
     let metadata = metadata_of(alloc, operation, purpose)?;
-    if let Some(refusal) = document_rule(
-        alloc,
-        config,
-        view,
-        operation,
-        purpose,
-        metadata.is_some(),
-    )? {
+    if let Some(refusal) = document_rule(alloc, view, operation, purpose, metadata.is_some())? {
         drop(metadata);
         return Ok(Checked::Refused(refusal));
     }
@@ -141,7 +136,7 @@ fn metadata_of(
     purpose: Option<Purpose<'_>>,
 ) -> Result<Option<Metadata>, AllocError>
     requires { option_map kind_for purpose ≡ kind_of operation.now }
-    ensures ok { IfOk result (λ metadata. kind_of operation.now ≡ Some of.Metadata
+    ensures { IfOk result (λ metadata. kind_of operation.now ≡ Some of.Metadata
         → metadata ≡ metadata_read operation.now.content) }
 {
     let Some(Purpose::Metadata) = purpose else {
@@ -154,11 +149,11 @@ fn metadata_of(
     }
 }
 
-// Rule 13: the document, where it is known whether metadata can be read.
+// Rule 13: the document, where it is known whether metadata can be read. The references in it are those that the
+// view has, whatever the configuration.
 #[tactic(auto, unfolding(dep_decisions::specs::Rules::document_rule))]
 fn document_rule(
     alloc: Global,
-    _config: &Config,
     view: &View,
     _operation: &Operation<'_>,
     purpose: Option<Purpose<'_>>,
@@ -167,8 +162,8 @@ fn document_rule(
     requires purpose { option_map kind_for purpose ≡ kind_of _operation.now }
     requires readable { kind_of _operation.now ≡ Some of.Metadata
         → is_readable ≡ is_some (metadata_read _operation.now.content) }
-    ensures ok { IfOk result
-        (λ refusal. refusal ≡ document_rule _config.now (in_view view.now) _operation.now) }
+    ensures { (config : Config) → IfOk result
+        (λ refusal. refusal ≡ document_rule config (in_view view.now) _operation.now) }
 {
     match purpose {
         Some(Purpose::Metadata) if is_readable => Ok(None),
@@ -178,18 +173,18 @@ fn document_rule(
     }
 }
 
-// Rule 15: whether the numbers that are asked for can be given.
+// Rule 15: whether the numbers that are asked for can be given, whatever the configuration.
 fn rule_by_room(
     alloc: Global,
-    _config: &Config,
     view: &View,
     operation: &Operation<'_>,
+    purpose: Option<Purpose<'_>>,
     read: ReadContent,
 ) -> Result<Ruling, AllocError>
-    requires { IsRead operation.now read }
-    ensures ok { IfOk result (IsRoomRuling _config.now view.now operation.now) }
+    requires purpose { option_map kind_for purpose ≡ kind_of operation.now }
+    requires read { IsRead operation.now read }
+    ensures { (config : Config) → IfOk result (IsRoomRuling config view.now operation.now) }
 {
-    let purpose = content_purpose(operation);
     let decision = decision_on(alloc, operation, purpose, view.references.as_ref(), read)?;
     if view.next.has_room(&numbers_for(&decision)) {
         Ok(Ruling::Do(decision))

@@ -34,7 +34,7 @@ pub(crate) fn references_rule(
     view: &View,
     references: Option<&References>,
 ) -> Result<Option<Refusal>, AllocError>
-    ensures ok { IfOk result
+    ensures { IfOk result
         (λ refusal. refusal ≡ references_refusal (in_view view.now) (option_copied references.entry)) }
 {
     match references {
@@ -48,7 +48,7 @@ fn entries_rule(
     view: &View,
     references: &[Reference],
 ) -> Result<Option<Refusal>, AllocError>
-    ensures ok { IfOk result (λ refusal. refusal ≡ entries_refusal (in_view view.now) references.now) }
+    ensures { IfOk result (λ refusal. refusal ≡ entries_refusal (in_view view.now) references.now) }
 {
     if some_points_elsewhere(references) {
         return Ok(Some(Refusal::ByReferenceNotAllowed));

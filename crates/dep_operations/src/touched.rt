@@ -45,7 +45,7 @@ fn references_for(
     purpose: Option<Purpose<'_>>,
 ) -> Result<Option<References>, AllocError>
     requires { option_map kind_for purpose ≡ kind_of operation.now }
-    ensures ok { IfOk result (λ references. references ≡ references_in config.now operation.now) }
+    ensures { IfOk result (λ references. references ≡ references_in config.now operation.now) }
 {
     let Some(Purpose::References) = purpose else {
         return Ok(None);
@@ -81,7 +81,7 @@ fn file_in(resource: &Resource) -> Option<u64>
 }
 
 fn path_in(alloc: Global, resource: &Resource) -> Result<Option<Octets>, AllocError>
-    ensures ok { IfOk result (λ path. path ≡ path_in resource.now) }
+    ensures { IfOk result (λ path. path ≡ path_in resource.now) }
 {
     match resource {
         Resource::BagFile(_, path) => Ok(Some(Octets::copied(alloc, path.as_slice())?)),
@@ -108,7 +108,7 @@ fn uploads_in(
     resource: &Resource,
     references: Option<&References>,
 ) -> Result<Numbers, AllocError>
-    ensures ok { IfOk result
+    ensures { IfOk result
         (λ uploads. uploads ≡ uploads_in resource.now (option_copied references.entry)) }
 {
     match (resource, references) {

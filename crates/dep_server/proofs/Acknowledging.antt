@@ -17,9 +17,10 @@ use Rattle.dep_fields.specs.declared.kind.Kind.TheVariants as of
 use Rattle.dep_reply.specs.Head.{ReplyHead, status_line, field, optional, connection, line, head_text}
 use Rattle.dep_decisions.specs.Kinds.{kind_of, kind_by, is_completion}
 use Rattle.dep_decisions.specs.LookUps.{in_state}
-use Rattle.dep_decisions.specs.Rules.{refusal, rules_met, kind_rule, refusal_by}
+use Rattle.dep_decisions.specs.Rules.{refusal, kind_rule}
 use Rattle.dep_decisions.specs.declared.operation.Operation.{Operation}
-use Rattle.dep_decisions.proofs.FoundInMaps.{all_passed, unless-none}
+use Rattle.dep_decisions.proofs.FoundInMaps.{unless-none}
+use Rattle.dep_decisions.proofs.Passed.{content_passed}
 use Rattle.dep_answers.specs.Answers.{Answer, document_of, head_of}
 use Rattle.dep_answers.specs.Replies.{unless_bare, front_text, stored_text, refused_answer}
 use Rattle.dep_answers.specs.Steps.{sent_by, refused_step, is_head, step_by, operation_step}
@@ -123,11 +124,11 @@ taken m u (Value (of.Opening o)) kind e = cc
 
 module _ (config : Config) (s : State) (m : Message) (u : ℕ) where
   named_kind : refusal config s (operation_of m (posted_to u)) ≡ None → is_some (kind_of (operation_of m (posted_to u))) ≡ true
-  unfolding refusal_by kind_rule is_completion
+  unfolding kind_rule is_completion
   named_kind accepted =
       let op : Operation = operation_of m (posted_to u) in
-      let rows = all_passed (rules_met config (in_state s) op (at_resource.Upload u) Post) accepted in
-      one_of (is_some (kind_of op)) (is_completion op) (unless-none (is_some (kind_of op) || is_completion op) why.BadRequest rows.1.1.1.1.0) refl
+      let passed = content_passed config (in_state s) op accepted refl in
+      one_of (is_some (kind_of op)) (is_completion op) (unless-none (is_some (kind_of op) || is_completion op) why.BadRequest passed.kind) refl
 
   pub named_segment : refusal config s (operation_of m (posted_to u)) ≡ None → (k : ℕ) × (kind_of (operation_of m (posted_to u)) ≡ Some (of.Segment k))
   unfolding kind_of

@@ -5,6 +5,7 @@ use Rattle.std.specs.List.{list_any}
 use Rattle.std.specs.FinMap as finmap
 use Rattle.std.proofs.lemmas.List.{append-nil}
 use Rattle.dep_types.specs.Maps.{first_of}
+use Rattle.dep_types.specs.Numbers.{room_for}
 use Rattle.dep_types.specs.State.{State, Object, File, Upload, file_at, tick}
 use Rattle.dep_types.specs.Rows.{object_view, upload_row}
 use Rattle.dep_types.specs.BagPaths.{bag_paths, tag_paths, payload_path}
@@ -17,8 +18,9 @@ use Rattle.dep_types.specs.declared.target.Method.TheVariants.{Get, Head}
 use Rattle.dep_reply.specs.Head.{head_text}
 use Rattle.dep_docs_out.specs.Documents.{service_document, error_document, status_document, metadata_document, upload_document}
 use Rattle.dep_bag.specs.Bag.{list_text}
+use Rattle.dep_decisions.specs.Decisions.{decision_with}
 use Rattle.dep_decisions.specs.LookUps.{in_state}
-use Rattle.dep_decisions.specs.Rules.{refusal, behalf_rule, presence_rule, presence_refusal, refusal_by}
+use Rattle.dep_decisions.specs.Rules.{access_refusal, behalf_rule, content_refusal, presence_refusal, presence_rule, refusal, refusal_by, room_rule}
 use Rattle.dep_decisions.specs.declared.operation.Operation.{Operation}
 use Rattle.dep_decisions.proofs.FoundInMaps.{unless-none}
 use Rattle.dep_decisions.proofs.ReadAlone.{reads_keep}
@@ -114,8 +116,8 @@ shows config s (at.BagFile n path) h e = in_bag path (finmap.get s.objects n) (u
 shows config s (at.FileSet n) h e = cc
 shows config s at.Staging h e = cc
 
--- of two rules the second was passed
-second_passed : (a b : Option Refusal) → first_of (a ∷ b ∷ []) ≡ None → b ≡ None
+-- of two rules the second was passed, where the others don't apply
+second_passed : (a b : Option Refusal) → first_of (first_of (a ∷ b ∷ None ∷ []) ∷ None ∷ None ∷ []) ≡ None → b ≡ None
 second_passed None None e = refl
 second_passed None (Some r) e = cc
 second_passed (Some r) b e = cc
@@ -132,7 +134,7 @@ module _ (config : Config) (s : State) (m : Message) where
 
   -- both are read by these rules
   abbrev rules : Resource → Option Refusal
-  rules resource = first_of (behalf_rule config (operation_of get (record { resource = resource; method = Get })) ∷ presence_refusal (in_state s) resource ∷ [])
+  rules resource = first_of (first_of (behalf_rule config (operation_of get (record { resource = resource; method = Get })) ∷ presence_refusal (in_state s) resource ∷ None ∷ []) ∷ None ∷ None ∷ [])
 
   -- the accepted ones, at a state that they leave
   shown : (resource : Resource) (content : ReplyContent) → content_at config s resource ≡ Some content
@@ -167,7 +169,7 @@ module _ (config : Config) (s : State) (m : Message) where
       (subst (λ (b : Stepped). IsWithoutBody (answered_step s (shown_answer config s resource) s.clock false (closes m.head)) b) (sym (kept_head resource g)) (shown resource c.0 c.1))
 
   by_resource : (r : Option Resource) → IsWithoutBody (routed_step config s get (to_resource (codes "GET") r)) (routed_step config s head (to_resource (codes "HEAD") r))
-  unfolding operation_step refusal_by behalf_rule presence_rule accepted_answer closes
+  unfolding operation_step refusal_by access_refusal behalf_rule presence_rule content_refusal room_rule room_for decision_with accepted_answer closes
   by_resource None = turned why.NotFound None
   by_resource (Some at.Service) = by_rules at.Service refl refl refl (rules at.Service) refl
   by_resource (Some (at.Object n)) = by_rules (at.Object n) refl refl refl (rules (at.Object n)) refl

@@ -19,7 +19,7 @@ returns-in-Refused-clause-ruling c =
     let config = c.args.config.now in
     let view = c.args.view.now in
     let op = c.args.operation.now in
-    let checked = subst (λ (x : Checked). IsChecked config view op x) c.in-Refused.is c.in_ok-refusal.ensures.ok in
+    let checked = subst (λ (x : Checked). IsChecked config view op x) c.in-Refused.is c.in_ok-refusal.ensures in
     rules_by config view op (Refuse c.in-Refused.refusal) (refused_content config view op c.in-Refused.refusal _ c.access_rule.ensures c.in_default.is checked)
 
 pub returns-in-Passed-clause-ruling : goal.returns-in-Passed-clause-ruling
@@ -27,13 +27,13 @@ returns-in-Passed-clause-ruling c =
     let config = c.args.config.now in
     let view = c.args.view.now in
     let op = c.args.operation.now in
-    let checked = subst (λ (x : Checked). IsChecked config view op x) c.in-Passed.is c.in_ok-refusal.ensures.ok in
+    let checked = subst (λ (x : Checked). IsChecked config view op x) c.in-Passed.is c.in_ok-refusal.ensures in
     if_ok c.rule_by_room.result (IsRoomRuling config view op) (RulesBy config view op)
-    (λ ruling room. rules_by config view op ruling (ruled_by_room config view op _ ruling c.access_rule.ensures c.in_default.is checked.0 room)) c.rule_by_room.ensures.ok
+    (λ ruling room. rules_by config view op ruling (ruled_by_room config view op _ ruling c.access_rule.ensures c.in_default.is checked.0 room)) (c.rule_by_room.ensures config)
 
 pub returns-in-Passed-clause-room : goal.returns-in-Passed-clause-room
 returns-in-Passed-clause-room c =
     let config = c.args.config.now in
     let view = c.args.view.now in
     let op = c.args.operation.now in
-    if_ok c.rule_by_room.result (IsRoomRuling config view op) (HasRoomFor view.next) (λ ruling room. has_room_by config view op ruling room) c.rule_by_room.ensures.ok
+    if_ok c.rule_by_room.result (IsRoomRuling config view op) (HasRoomFor view.next) (has_room_by config view op) (c.rule_by_room.ensures config)

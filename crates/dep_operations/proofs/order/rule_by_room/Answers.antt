@@ -7,17 +7,15 @@ use Rattle.dep_operations.proofs.SeenTruly.{room_told}
 use Rattle.dep_operations.proofs.order.rule_by_room.Goals as goal
 
 pub returns-then-has_room : goal.returns-then-has_room
-returns-then-has_room c = record {
-  ok = let view = c.args.view.now in
-      let op = c.args.operation.now in
-      let asked = c.in_ok-decision.ensures ∙ ap (λ (refs : Option (List Reference)). decision_with refs op) c.as_ref.ensures.value in
-      (room_told c.args._config.now view op _ _ _ asked c.numbers_for.ensures c.has_room.ensures ∙ ap (λ b. unless b StoreFull) c.if-has_room.true, asked);
-}
+returns-then-has_room c config =
+    let view = c.args.view.now in
+    let op = c.args.operation.now in
+    let asked = c.in_ok-decision.ensures ∙ ap (λ (refs : Option (List Reference)). decision_with refs op) c.as_ref.ensures.value in
+    (room_told config view op _ _ _ asked c.numbers_for.ensures c.has_room.ensures ∙ ap (λ b. unless b StoreFull) c.if-has_room.true, asked)
 
 pub returns-else-has_room : goal.returns-else-has_room
-returns-else-has_room c = record {
-  ok = let view = c.args.view.now in
-      let op = c.args.operation.now in
-      let asked = c.in_ok-decision.ensures ∙ ap (λ (refs : Option (List Reference)). decision_with refs op) c.as_ref.ensures.value in
-      room_told c.args._config.now view op _ _ _ asked c.numbers_for.ensures c.has_room.ensures ∙ ap (λ b. unless b StoreFull) c.if-has_room.false;
-}
+returns-else-has_room c config =
+    let view = c.args.view.now in
+    let op = c.args.operation.now in
+    let asked = c.in_ok-decision.ensures ∙ ap (λ (refs : Option (List Reference)). decision_with refs op) c.as_ref.ensures.value in
+    room_told config view op _ _ _ asked c.numbers_for.ensures c.has_room.ensures ∙ ap (λ b. unless b StoreFull) c.if-has_room.false
