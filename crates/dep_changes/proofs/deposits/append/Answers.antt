@@ -1,10 +1,10 @@
-use Rattle.std.proofs.lemmas.Result.{IfOk-from_err}
 use Rattle.std.proofs.Common.{List, ap, sym, subst, ◌∙◌}
 use Rattle.dep_decisions.specs.declared.decision.NewFile.{NewFile}
 use Rattle.dep_decisions.specs.declared.decision.Deposit.TheVariants.{Files}
 use Rattle.dep_changes.specs.Clauses.{Appends}
 use Rattle.dep_changes.proofs.Appended.{append_carried}
-use Rattle.dep_row_maps.proofs.Changing.{changes_put}
+use Rattle.dep_tables.proofs.Chains.{stays_put}
+use Rattle.dep_row_maps.proofs.Changing.{does_failed}
 use Rattle.dep_changes.proofs.deposits.append.Goals as goal
 
 pub returns-in-Files : goal.returns-in-Files
@@ -22,4 +22,4 @@ returns-in-Metadata g c = record {
 }
 
 pub returns-in_err-touched_object : goal.returns-in_err-touched_object
-returns-in_err-touched_object g c = record { map = λ n. does_failed c.from_residual.ensures.0 (stays_put g.T.Statements.lenders g.T.Statements.state c.args.tx.now c.from_residual.result) }
+returns-in_err-touched_object g c = record { map = λ n. does_failed _ c.from_residual.ensures.0 (stays_put g.T.Statements.lenders g.T.Statements.state c.args.tx.now c.from_residual.result) }

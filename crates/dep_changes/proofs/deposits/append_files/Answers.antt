@@ -1,4 +1,3 @@
-use Rattle.std.proofs.lemmas.Result.{IfOk-from_err}
 use Rattle.std.proofs.Common.{refl}
 use Rattle.dep_types.specs.State.{State, Object}
 use Rattle.dep_tables.proofs.Chains.{clean_before}
@@ -9,7 +8,7 @@ use Rattle.dep_row_maps.proofs.Lens.{get_here}
 use Rattle.dep_decisions.specs.Effects.{with_files}
 use Rattle.dep_changes.proofs.Added.{new_files_again}
 use Rattle.dep_changes.proofs.Steps.{files_of_row, its_number, at_number, rewritten}
-use Rattle.dep_row_maps.proofs.Changing.{changes_then, changes_err}
+use Rattle.dep_row_maps.proofs.Changing.{changes_then, each_failed}
 use Rattle.dep_changes.proofs.deposits.append_files.Goals as goal
 
 pub returns : goal.returns
@@ -37,4 +36,4 @@ returns g c = record {
 }
 
 pub returns-in_err-write_row : goal.returns-in_err-write_row
-returns-in_err-write_row g c = record { map = each_failed c.from_residual.ensures.0 c.in_err-write_row.ensures.map.keeps.stays }
+returns-in_err-write_row g c = record { map = each_failed _ c.from_residual.ensures.0 c.in_err-write_row.ensures.map.keeps.stays }

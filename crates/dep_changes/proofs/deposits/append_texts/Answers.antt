@@ -1,4 +1,3 @@
-use Rattle.std.proofs.lemmas.Result.{IfOk-from_err}
 use Rattle.std.specs.FinMap as finmap
 use Rattle.dep_types.specs.State.{State, Object}
 use Rattle.dep_tables.proofs.Chains.{clean_before}
@@ -9,7 +8,7 @@ use Rattle.dep_row_maps.proofs.Lens.{get_here}
 use Rattle.dep_types.specs.MetadataEntries.{joined}
 use Rattle.dep_decisions.specs.Effects.{with_texts}
 use Rattle.dep_changes.proofs.Steps.{texts_of_row, its_number, at_number, rewritten, written_again}
-use Rattle.dep_row_maps.proofs.Changing.{changes_then, changes_err}
+use Rattle.dep_row_maps.proofs.Changing.{changes_then, each_failed}
 use Rattle.dep_changes.proofs.deposits.append_texts.Goals as goal
 
 pub returns : goal.returns
@@ -38,4 +37,4 @@ returns g c = record {
 }
 
 pub returns-in_err-write_row : goal.returns-in_err-write_row
-returns-in_err-write_row g c = record { map = each_failed c.from_residual.ensures.0 c.in_err-write_row.ensures.map.keeps.stays }
+returns-in_err-write_row g c = record { map = each_failed _ c.from_residual.ensures.0 c.in_err-write_row.ensures.map.keeps.stays }

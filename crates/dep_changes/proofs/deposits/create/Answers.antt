@@ -1,4 +1,3 @@
-use Rattle.std.proofs.lemmas.Result.{IfOk-from_err}
 use Rattle.std.proofs.Common.{refl, ap, ◌∙◌}
 use Rattle.dep_types.specs.State.{State, Object}
 use Rattle.dep_types.specs.declared.counters.Counters.{Counters}
@@ -10,7 +9,7 @@ use Rattle.dep_row_maps.proofs.Lens.{get_here}
 use Rattle.dep_decisions.specs.Effects.{blank}
 use Rattle.dep_changes.proofs.Filled.{blank_added, blank_row_is, still_have, deposit_again}
 use Rattle.dep_changes.proofs.Steps.{its_number, its_own, at_number, there_at}
-use Rattle.dep_row_maps.proofs.Changing.{changes_then, changes_err}
+use Rattle.dep_row_maps.proofs.Changing.{changes_then, does_failed}
 use Rattle.dep_changes.proofs.deposits.create.Goals as goal
 
 pub returns : goal.returns
@@ -41,4 +40,4 @@ returns g c = record {
 }
 
 pub returns-in_err-add_object : goal.returns-in_err-add_object
-returns-in_err-add_object g c = record { map = does_failed c.from_residual.ensures.0 c.in_err-add_object.ensures.does.keeps.stays }
+returns-in_err-add_object g c = record { map = does_failed _ c.from_residual.ensures.0 c.in_err-add_object.ensures.does.keeps.stays }

@@ -1,8 +1,7 @@
-use Rattle.std.proofs.lemmas.Result.{IfOk-from_err}
 use Rattle.std.proofs.Common.{◌||◌, refl}
 use Rattle.std.specs.FinMap as finmap
 use Rattle.dep_types.specs.State.{State, Object}
-use Rattle.dep_tables.proofs.Chains.{clean_before, stays_then}
+use Rattle.dep_tables.proofs.Chains.{clean_before, stays_put, stays_then}
 use Rattle.dep_tables.specs.Tables.{tables_of}
 use Rattle.dep_tables.proofs.Results.{ok_then}
 use Rattle.dep_row_maps.specs.TablesAre.{with_object}
@@ -11,7 +10,7 @@ use Rattle.dep_decisions.specs.Effects.{blank, filled, ingested_by, uploads_in, 
 use Rattle.dep_changes.proofs.Carried.{at_object}
 use Rattle.dep_changes.proofs.Filled.{ingested_row, blank_again, still_have, deposit_again}
 use Rattle.dep_changes.proofs.Steps.{row_is, its_number, at_number, rewritten, there_at, written_again}
-use Rattle.dep_row_maps.proofs.Changing.{changes_err, changes_then, changes_put}
+use Rattle.dep_row_maps.proofs.Changing.{changes_then, does_failed}
 use Rattle.dep_changes.proofs.deposits.replace.Goals as goal
 
 pub returns : goal.returns
@@ -63,13 +62,13 @@ returns g c = record {
 }
 
 pub returns-in_err-clear_metadata : goal.returns-in_err-clear_metadata
-returns-in_err-clear_metadata g c = record { map = λ n. does_failed c.from_residual-in_err-clear_metadata.ensures.0 (stays_then c.in_ok-delete_files.ensures.does.keeps.stays c.clear_metadata.ensures.map.keeps.stays) }
+returns-in_err-clear_metadata g c = record { map = λ n. does_failed _ c.from_residual-in_err-clear_metadata.ensures.0 (stays_then c.in_ok-delete_files.ensures.does.keeps.stays c.clear_metadata.ensures.map.keeps.stays) }
 
 pub returns-in_err-write_row : goal.returns-in_err-write_row
-returns-in_err-write_row g c = record { map = λ n. does_failed c.from_residual-in_err-write_row.ensures.0 (stays_then (stays_then c.in_ok-delete_files.ensures.does.keeps.stays c.in_ok-clear_metadata.ensures.map.keeps.stays) c.write_row.ensures.map.keeps.stays) }
+returns-in_err-write_row g c = record { map = λ n. does_failed _ c.from_residual-in_err-write_row.ensures.0 (stays_then (stays_then c.in_ok-delete_files.ensures.does.keeps.stays c.in_ok-clear_metadata.ensures.map.keeps.stays) c.write_row.ensures.map.keeps.stays) }
 
 pub returns-in_err-touched_object : goal.returns-in_err-touched_object
-returns-in_err-touched_object g c = record { map = λ n. does_failed c.from_residual.ensures.0 (stays_put g.T.Statements.lenders g.T.Statements.state c.args.tx.now c.from_residual.result) }
+returns-in_err-touched_object g c = record { map = λ n. does_failed _ c.from_residual.ensures.0 (stays_put g.T.Statements.lenders g.T.Statements.state c.args.tx.now c.from_residual.result) }
 
 pub returns-in_err-delete_files : goal.returns-in_err-delete_files
-returns-in_err-delete_files g c = record { map = λ n. does_failed c.from_residual-in_err-delete_files.ensures.0 c.in_err-delete_files.ensures.does.keeps.stays }
+returns-in_err-delete_files g c = record { map = λ n. does_failed _ c.from_residual-in_err-delete_files.ensures.0 c.in_err-delete_files.ensures.does.keeps.stays }

@@ -1,15 +1,14 @@
-use Rattle.std.proofs.lemmas.Result.{IfOk-from_err}
 use Rattle.std.proofs.Common.{◌≡◌, ◌+◌, ◌<◌, List, length, slice_get, Some, Ok, refl, ap, subst, arith}
 use Rattle.dep_types.specs.declared.counters.Counters.{Counters}
 use Rattle.dep_row_maps.proofs.Lens.{get_here}
-use Rattle.dep_tables.proofs.Chains.{clean_before, stays_ok, stays_then, stays_put}
+use Rattle.dep_tables.proofs.Chains.{clean_before, stays_ok, stays_put, stays_then}
 use Rattle.dep_tables.specs.Tables.{tables_of}
 use Rattle.dep_decisions.specs.declared.decision.NewFile.{NewFile}
 use Rattle.dep_changes.proofs.Added.{with_new_files, state_before, object_before, its_source, one_more, none_yet}
 use Rattle.std.proofs.lemmas.Option.{slice_get_read}
 use Rattle.std.proofs.lemmas.List.{take_all}
 use Rattle.dep_row_maps.specs.TablesAre.{TablesAre}
-use Rattle.dep_row_maps.proofs.Changing.{changes_err}
+use Rattle.dep_row_maps.proofs.Changing.{each_failed}
 use Rattle.dep_changes.proofs.new_files.put_new_files.Goals as goal
 
 pub files-preserved : goal.files-preserved
@@ -35,7 +34,7 @@ files-preserved g c =
     )
 
 pub returns-in_err-put_new_file : goal.returns-in_err-put_new_file
-returns-in_err-put_new_file g c = record { map = each_failed c.from_residual.ensures.0 (stays_then c.files.invariant.0 c.put_new_file.ensures.map.keeps.stays) }
+returns-in_err-put_new_file g c = record { map = each_failed _ c.from_residual.ensures.0 (stays_then c.files.invariant.0 c.put_new_file.ensures.map.keeps.stays) }
 
 pub files-init : goal.files-init
 files-init g c = (

@@ -1,4 +1,3 @@
-use Rattle.std.proofs.lemmas.Result.{IfOk-from_err}
 use Rattle.std.proofs.Common.{true, refl}
 use Rattle.dep_types.specs.State.{Object}
 use Rattle.dep_tables.specs.Tables.{tables_of}
@@ -6,7 +5,8 @@ use Rattle.dep_tables.proofs.Results.{ok_then}
 use Rattle.dep_decisions.specs.Effects.{changed, ingested_by}
 use Rattle.dep_changes.proofs.Carried.{at_object}
 use Rattle.dep_changes.proofs.Steps.{completed_row, its_number, at_number, rewritten}
-use Rattle.dep_row_maps.proofs.Changing.{changes_put}
+use Rattle.dep_tables.proofs.Chains.{stays_put}
+use Rattle.dep_row_maps.proofs.Changing.{does_failed}
 use Rattle.dep_changes.proofs.objects.complete.Goals as goal
 
 pub returns : goal.returns
@@ -31,4 +31,4 @@ returns g c = record {
 }
 
 pub returns-in_err-row : goal.returns-in_err-row
-returns-in_err-row g c = record { map = λ n. does_failed c.from_residual.ensures.0 (stays_put g.T.Statements.lenders g.T.Statements.state c.args.tx.now c.from_residual.result) }
+returns-in_err-row g c = record { map = λ n. does_failed _ c.from_residual.ensures.0 (stays_put g.T.Statements.lenders g.T.Statements.state c.args.tx.now c.from_residual.result) }

@@ -1,8 +1,7 @@
-use Rattle.std.proofs.lemmas.Result.{IfOk-from_err}
 use Rattle.std.proofs.Common.{refl}
 use Rattle.std.specs.FinMap as finmap
 use Rattle.dep_types.specs.State.{State, Object}
-use Rattle.dep_tables.proofs.Chains.{clean_before}
+use Rattle.dep_tables.proofs.Chains.{clean_before, stays_put}
 use Rattle.dep_tables.specs.Tables.{tables_of}
 use Rattle.dep_tables.proofs.Results.{ok_then}
 use Rattle.dep_row_maps.specs.TablesAre.{with_object}
@@ -10,7 +9,7 @@ use Rattle.dep_row_maps.proofs.Lens.{get_here}
 use Rattle.dep_decisions.specs.Effects.{with_files}
 use Rattle.dep_changes.proofs.Carried.{at_object}
 use Rattle.dep_changes.proofs.Steps.{files_row, its_number, at_number, rewritten, written_again}
-use Rattle.dep_row_maps.proofs.Changing.{changes_then, changes_err, changes_put}
+use Rattle.dep_row_maps.proofs.Changing.{changes_then, does_failed}
 use Rattle.dep_changes.proofs.objects.drop_file.Goals as goal
 
 pub returns : goal.returns
@@ -42,7 +41,7 @@ returns g c = record {
 }
 
 pub returns-in_err-row : goal.returns-in_err-row
-returns-in_err-row g c = record { map = λ n. does_failed c.from_residual.ensures.0 (stays_put g.T.Statements.lenders g.T.Statements.state c.args.tx.now c.from_residual.result) }
+returns-in_err-row g c = record { map = λ n. does_failed _ c.from_residual.ensures.0 (stays_put g.T.Statements.lenders g.T.Statements.state c.args.tx.now c.from_residual.result) }
 
 pub returns-in_err-write_row : goal.returns-in_err-write_row
-returns-in_err-write_row g c = record { map = λ n. does_failed c.from_residual-in_err-write_row.ensures.0 c.in_err-write_row.ensures.map.keeps.stays }
+returns-in_err-write_row g c = record { map = λ n. does_failed _ c.from_residual-in_err-write_row.ensures.0 c.in_err-write_row.ensures.map.keeps.stays }

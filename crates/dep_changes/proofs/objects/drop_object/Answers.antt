@@ -1,10 +1,9 @@
-use Rattle.std.proofs.lemmas.Result.{IfOk-from_err}
 use Rattle.dep_tables.proofs.Chains.{clean_before}
 use Rattle.dep_tables.specs.Tables.{tables_of}
 use Rattle.dep_tables.proofs.Results.{ok_then}
 use Rattle.dep_objects.specs.Edits.{without_files}
 use Rattle.dep_changes.proofs.Steps.{emptied, gone_after}
-use Rattle.dep_row_maps.proofs.Changing.{changes_then, changes_err}
+use Rattle.dep_row_maps.proofs.Changing.{changes_then, each_failed}
 use Rattle.dep_changes.proofs.objects.drop_object.Goals as goal
 
 pub returns : goal.returns
@@ -22,4 +21,4 @@ returns g c = record {
 }
 
 pub returns-in_err-delete_files : goal.returns-in_err-delete_files
-returns-in_err-delete_files g c = record { map = each_failed c.from_residual.ensures.0 c.in_err-delete_files.ensures.does.keeps.stays }
+returns-in_err-delete_files g c = record { map = each_failed _ c.from_residual.ensures.0 c.in_err-delete_files.ensures.does.keeps.stays }
