@@ -1,13 +1,10 @@
 -- What a request asks for, by the kind of its content.
-use Rattle.std.proofs.Common.{◌≡◌, ◌∙◌, ℕ, ◌&&◌, Bool, true, false, List, [], ◌∷◌, Option, Some, None, option_map, option_and_then, unwrap_or, if◌then◌else◌, inl, inr, refl, sym, ap}
+use Rattle.std.proofs.Common.{◌≡◌, ◌∙◌, ℕ, Bool, true, false, List, [], ◌∷◌, Option, Some, None, option_map, option_and_then, unwrap_or, if◌then◌else◌, refl, sym, ap}
 use Rattle.dep_types.specs.State.{Texts}
 use Rattle.dep_types.specs.declared.target.Resource.{Resource}
 use Rattle.dep_types.specs.declared.target.Resource.TheVariants.{Service, Object, Metadata, FileSet, File, Staging, Upload, BagList, BagFile}
 use Rattle.dep_types.specs.declared.target.Method.{Method}
 use Rattle.dep_types.specs.declared.target.Method.TheVariants.{Get, Head, Post, Put, Delete}
-use Rattle.dep_params.proofs.Runs.{and_both, chosen}
-use Rattle.dep_fields.specs.declared.field.Field.{Field}
-use Rattle.dep_fields.specs.declared.field.Field.TheVariants.{Absent, Bad, Value}
 use Rattle.dep_fields.specs.declared.kind.Kind.{Kind}
 use Rattle.dep_fields.specs.declared.kind.Opening.{Opening}
 use Rattle.dep_fields.specs.declared.kind.Kind.TheVariants as of
@@ -15,83 +12,19 @@ use Rattle.dep_docs_in.specs.Documents.{metadata_read}
 use Rattle.dep_docs_in.specs.declared.reference.Reference.{Reference}
 use Rattle.dep_decisions.specs.Asked.{asked_at, deposited_in, filed_in, received_in, undeposited_in}
 use Rattle.dep_decisions.specs.Decisions.{decision_with, deposit_by, deposit_of, files_of, ingests, opened, posted_file, received, referred_files, replaced_file, texts_of}
-use Rattle.dep_decisions.specs.Kinds.{is_absent, is_completion, is_deposit, kind_by, kind_of, kind_without, may_complete, may_hold, takes_kind}
+use Rattle.dep_decisions.specs.Kinds.{is_completion, is_deposit, kind_of, takes_kind}
 use Rattle.dep_decisions.specs.declared.operation.Operation.{Operation}
 use Rattle.dep_decisions.specs.declared.decision.Deposit.{Deposit}
 use Rattle.dep_decisions.specs.declared.decision.Deposit.TheVariants as deposit
 use Rattle.dep_decisions.specs.declared.decision.Decision.{Decision}
 use Rattle.dep_decisions.specs.declared.decision.Decision.TheVariants.{Show, Create, Append, Replace, Complete, SetMetadata, SetFiles, Open}
+use Rattle.dep_decisions.proofs.Taken.{taken, uncompleted}
 
--- ---- a kind that there is
-
-taken_without : (resource : Resource) (method : Method) (k : Kind) → kind_without resource method ≡ Some k → takes_kind resource method k ≡ true
-taken_without (Metadata n) Put k e = let same : k ≡ of.Metadata = cc in ap (takes_kind (Metadata n) Put) same
-taken_without (Metadata n) Get k e = cc e
-taken_without (Metadata n) Head k e = cc e
-taken_without (Metadata n) Post k e = cc e
-taken_without (Metadata n) Delete k e = cc e
-taken_without Service method k e = cc e
-taken_without (Object n) method k e = cc e
-taken_without (FileSet n) method k e = cc e
-taken_without (File n f) method k e = cc e
-taken_without Staging method k e = cc e
-taken_without (Upload u) method k e = cc e
-taken_without (BagList n) method k e = cc e
-taken_without (BagFile n path) method k e = cc e
-
-taken_by : (op : Operation) (field : Field Kind) (k : Kind) → kind_by op field ≡ Some k → takes_kind op.target.resource op.target.method k ≡ true
-taken_by op (Value j) k e = elim (chosen (takes_kind op.target.resource op.target.method j && may_hold j op.content) (Some j) None (Some k) e) [
-  | inl is ↦
-      let same : j ≡ k = cc (is.1) in
-      ap (takes_kind op.target.resource op.target.method) (sym same) ∙ (and_both (takes_kind op.target.resource op.target.method j) (may_hold j op.content) is.0).0
-  | inr other ↦ cc (other.1)
-]
-taken_by op Bad k e = cc e
-taken_by op Absent k e = taken_without op.target.resource op.target.method k e
-
--- the target takes it
-taken : (op : Operation) (k : Kind) → kind_of op ≡ Some k → takes_kind op.target.resource op.target.method k ≡ true
-unfolding kind_of
-taken op k e = taken_by op op.fields.disposition k e
-
-uncompleted_without : (resource : Resource) (method : Method) (k : Kind) → kind_without resource method ≡ Some k → may_complete resource method ≡ false
-uncompleted_without (Metadata n) Put k e = refl
-uncompleted_without (Metadata n) Get k e = refl
-uncompleted_without (Metadata n) Head k e = refl
-uncompleted_without (Metadata n) Post k e = refl
-uncompleted_without (Metadata n) Delete k e = refl
-uncompleted_without Service method k e = refl
-uncompleted_without (Object n) method k e = cc e
-uncompleted_without (FileSet n) method k e = refl
-uncompleted_without (File n f) method k e = refl
-uncompleted_without Staging method k e = refl
-uncompleted_without (Upload u) method k e = refl
-uncompleted_without (BagList n) method k e = refl
-uncompleted_without (BagFile n path) method k e = refl
-
-and_none : (a : Bool) → (a && false) ≡ false
-and_none true = refl
-and_none false = refl
-
-and_neither : (a b c d : Bool) → (a && b) ≡ false → (a && b && c && d) ≡ false
-and_neither a b c d e = ap (λ (x : Bool). x && c && d) e
-
-uncompleted_by : (op : Operation) (field : Field Kind) (k : Kind) → kind_by op field ≡ Some k → (may_complete op.target.resource op.target.method && is_absent field) ≡ false
-uncompleted_by op (Value j) k e = and_none (may_complete op.target.resource op.target.method)
-uncompleted_by op Bad k e = cc e
-uncompleted_by op Absent k e = ap (λ (b : Bool). b && true) (uncompleted_without op.target.resource op.target.method k e)
-
--- no object is completed
-uncompleted : (op : Operation) (k : Kind) → kind_of op ≡ Some k → is_completion op ≡ false
-unfolding is_completion kind_of
-uncompleted op k e =
-    and_neither (may_complete op.target.resource op.target.method) (is_absent op.fields.disposition) _ _ (uncompleted_by op op.fields.disposition k e)
+-- ---- a kind that deposits something
 
 deposit_is : (refs : Option (List Reference)) (op : Operation) (k : Kind) → kind_of op ≡ Some k → deposit_of refs op ≡ deposit_by refs op k
 unfolding deposit_of
 deposit_is refs op k e = ap (λ (o : Option Kind). option_and_then (deposit_by refs op) o) e
-
--- ---- a kind that deposits something
 
 texts_set : (i : Bool) (n : ℕ) (o : Option Deposit)
     → unwrap_or (option_map (λ texts. SetMetadata n texts) (option_and_then texts_of o)) Show ≡ unwrap_or (option_map (λ d. deposited_in i d (Metadata n) Put) o) Show

@@ -1,5 +1,5 @@
 -- What is deposited by reference stands in its object as it was assembled, and its upload is gone.
-use Rattle.std.proofs.Common.{◌≡◌, ◌∙◌, ◌⊎◌, inl, inr, ℕ, ◌+◌, ◌&&◌, ◌||◌, Bool, true, false, List, [], length, slice_get, Option, Some, None, is_some, option_map, option_and_then, unwrap_or, refl, sym, ap, subst, if◌then◌else◌}
+use Rattle.std.proofs.Common.{◌≡◌, ◌∙◌, ℕ, ◌+◌, ◌||◌, Bool, true, false, List, [], length, slice_get, Option, Some, None, is_some, option_map, option_and_then, unwrap_or, refl, sym, ap, subst, if◌then◌else◌}
 use Rattle.std.specs.Option.{option_map_or}
 use Rattle.std.specs.FinMap as finmap
 use Rattle.dep_types.specs.Maps.{Numbered}
@@ -15,16 +15,14 @@ use Rattle.dep_types.specs.declared.target.Method.{Method}
 use Rattle.dep_types.specs.declared.target.Method.TheVariants.{Get, Head, Post, Put, Delete}
 use Rattle.dep_types.proofs.Kept.{get-insert_same}
 use Rattle.dep_fixity.specs.Fixity.{digests_of, keeps}
-use Rattle.dep_params.proofs.Runs.{and_both, chosen}
-use Rattle.dep_fields.specs.declared.field.Field.{Field}
-use Rattle.dep_fields.specs.declared.field.Field.TheVariants.{Absent, Bad, Value}
+use Rattle.dep_params.proofs.Runs.{and_both}
 use Rattle.dep_fields.specs.declared.kind.Kind.{Kind}
 use Rattle.dep_fields.specs.declared.kind.Kind.TheVariants as of
 use Rattle.dep_docs_in.specs.declared.reference.Reference.{Reference}
-use Rattle.dep_decisions.specs.Kinds.{is_absent, is_completion, kind_by, kind_of, kind_without, may_complete, may_hold, takes_kind}
+use Rattle.dep_decisions.specs.Kinds.{is_completion, kind_of, takes_kind}
 use Rattle.dep_decisions.specs.Decisions.{appended_or_completed, assembled_file, decision_at, decision_with, deposit_by, deposit_of, files_of, ingests, references_by, references_in, referred_files}
 use Rattle.dep_decisions.specs.LookUps.{has_object, in_state, promised_of}
-use Rattle.dep_decisions.specs.Rules.{document_refusal, document_rule, presence_rule, entries_refusal, has_content, presence_refusal, references_refusal, refusal, unless}
+use Rattle.dep_decisions.specs.Rules.{document_refusal, document_rule, presence_rule, entries_refusal, presence_refusal, references_refusal, refusal, unless}
 use Rattle.dep_decisions.specs.Effects.{added, appended, at, effect, effect_of, file_from, filled, ingested_by, uploads_of, with_files, without}
 use Rattle.dep_decisions.specs.declared.operation.Operation.{Operation}
 use Rattle.dep_decisions.specs.declared.decision.NewFile.{NewFile}
@@ -38,6 +36,7 @@ use Rattle.dep_decisions.proofs.InOrder.{added-at}
 use Rattle.dep_decisions.proofs.Lengths.{assembled_length}
 use Rattle.dep_decisions.proofs.Passed.{content_passed, presence_passed}
 use Rattle.dep_decisions.proofs.Referred.{IsReferred, all_known, file_in_place, referred, used_up}
+use Rattle.dep_decisions.proofs.Taken.{content_taken, taken, uncompleted}
 
 -- ---- the kind
 
@@ -52,99 +51,6 @@ kind_read_as config op refs (Some (of.Segment k)) e = cc e
 kind_is : (config : Config) (op : Operation) (refs : List Reference) → references_in config op ≡ Some refs → kind_of op ≡ Some of.References
 unfolding references_in
 kind_is config op refs e = kind_read_as config op refs (kind_of op) e
-
--- Content-Disposition says so, and the operation takes it
-record IsSaid (op : Operation) (field : Field Kind) : Type 0 where
-  here : is_absent field ≡ false
-  takes : takes_kind op.target.resource op.target.method of.References ≡ true
-
-not_without : (resource : Resource) (method : Method) → kind_without resource method ≡ Some of.References → ⊥
-not_without (Metadata n) Put e = cc e
-not_without (Metadata n) Get e = cc e
-not_without (Metadata n) Head e = cc e
-not_without (Metadata n) Post e = cc e
-not_without (Metadata n) Delete e = cc e
-not_without Service method e = cc e
-not_without (Object n) method e = cc e
-not_without (FileSet n) method e = cc e
-not_without (File n f) method e = cc e
-not_without Staging method e = cc e
-not_without (Upload u) method e = cc e
-not_without (BagList n) method e = cc e
-not_without (BagFile n path) method e = cc e
-
-said_by : (op : Operation) (field : Field Kind) → kind_by op field ≡ Some of.References → IsSaid op field
-said_by op (Value k) e = elim (chosen (takes_kind op.target.resource op.target.method k && may_hold k op.content) (Some k) None (Some of.References) e) [
-  | inl is ↦
-      let same : k ≡ of.References = cc (is.1) in
-      record {
-        here = refl;
-        takes = ap (takes_kind op.target.resource op.target.method) (sym same) ∙ (and_both (takes_kind op.target.resource op.target.method k) (may_hold k op.content) is.0).0;
-      }
-  | inr other ↦ cc (other.1)
-]
-said_by op Bad e = cc e
-said_by op Absent e = absurd (not_without op.target.resource op.target.method e)
-
-said : (op : Operation) → kind_of op ≡ Some of.References → IsSaid op op.fields.disposition
-unfolding kind_of
-said op e = said_by op op.fields.disposition e
-
-and_false : (a b c d : Bool) → b ≡ false → (a && b && c && d) ≡ false
-and_false true false c d e = refl
-and_false false b c d e = refl
-and_false true true c d e = absurd (cc)
-
-no_completion : (op : Operation) → is_absent op.fields.disposition ≡ false → is_completion op ≡ false
-unfolding is_completion
-no_completion op e = and_false (may_complete op.target.resource op.target.method) (is_absent op.fields.disposition) _ _ e
-
-takes : (resource : Resource) (method : Method) → takes_kind resource method of.References ≡ true → (method ≡ Post) ⊎ (method ≡ Put)
-takes Service Get h = cc h
-takes Service Head h = cc h
-takes Service Post h = inl refl
-takes Service Put h = cc h
-takes Service Delete h = cc h
-takes (Object n) Get h = cc h
-takes (Object n) Head h = cc h
-takes (Object n) Post h = inl refl
-takes (Object n) Put h = inr refl
-takes (Object n) Delete h = cc h
-takes (Metadata n) Get h = cc h
-takes (Metadata n) Head h = cc h
-takes (Metadata n) Post h = cc h
-takes (Metadata n) Put h = cc h
-takes (Metadata n) Delete h = cc h
-takes (FileSet n) Get h = cc h
-takes (FileSet n) Head h = cc h
-takes (FileSet n) Post h = cc h
-takes (FileSet n) Put h = inr refl
-takes (FileSet n) Delete h = cc h
-takes (File n f) Get h = cc h
-takes (File n f) Head h = cc h
-takes (File n f) Post h = cc h
-takes (File n f) Put h = cc h
-takes (File n f) Delete h = cc h
-takes Staging Get h = cc h
-takes Staging Head h = cc h
-takes Staging Post h = cc h
-takes Staging Put h = cc h
-takes Staging Delete h = cc h
-takes (Upload u) Get h = cc h
-takes (Upload u) Head h = cc h
-takes (Upload u) Post h = cc h
-takes (Upload u) Put h = cc h
-takes (Upload u) Delete h = cc h
-takes (BagList n) Get h = cc h
-takes (BagList n) Head h = cc h
-takes (BagList n) Post h = cc h
-takes (BagList n) Put h = cc h
-takes (BagList n) Delete h = cc h
-takes (BagFile n path) Get h = cc h
-takes (BagFile n path) Head h = cc h
-takes (BagFile n path) Post h = cc h
-takes (BagFile n path) Put h = cc h
-takes (BagFile n path) Delete h = cc h
 
 -- ---- the file
 
@@ -276,17 +182,12 @@ module _ (config : Config) (s : State) (op : Operation) (refs : List Reference) 
   unfolding document_rule
   document e =
       ap (references_refusal (in_state s)) (sym read)
-      ∙ ap (λ (o : Option Kind). option_and_then (document_refusal config (in_state s) op) o) (sym (kind_is config op refs read))
+      ∙ ap (λ (o : Option Kind). option_and_then (document_refusal config (in_state s) op) o) (sym kind)
       ∙ e
-
-  has : (method : Method) → (method ≡ Post) ⊎ (method ≡ Put) → has_content method ≡ true
-  has method (inl by) = ap has_content by
-  has method (inr by) = ap has_content by
 
   passed : refusal config s op ≡ None → (presence_rule (in_state s) op ≡ None) × (document_rule config (in_state s) op ≡ None)
   passed e =
-      let by = has op.target.method (takes op.target.resource op.target.method (said op (kind_is config op refs read)).takes) in
-      (presence_passed config (in_state s) op e, (content_passed config (in_state s) op e by).document)
+      (presence_passed config (in_state s) op e, (content_passed config (in_state s) op e (content_taken op of.References kind)).document)
 
   present : presence_rule (in_state s) op ≡ None → presence_refusal (in_state s) op.target.resource ≡ None
   unfolding presence_rule
@@ -297,12 +198,11 @@ module _ (config : Config) (s : State) (op : Operation) (refs : List Reference) 
   unfolding effect decision_with
   has_it r i accepted at is =
       let both = passed accepted in
-      let said_so = said op (kind_is config op refs read) in
       let placed = file_in_place op r is.upload is.number refs i (all_known s refs (document both.1)) at in
       by_case s op (references_in config op) (referred_files op refs) i is.upload (assembled_file op r is.upload) placed
       (used_up s.uploads (referred_files op refs) i (assembled_file op r is.upload) is.upload placed refl)
-      (deposits_by (references_in config op) op refs read (kind_is config op refs read)) (no_completion op said_so.here)
-      op.target.resource op.target.method said_so.takes (present both.0)
+      (deposits_by (references_in config op) op refs read kind) (uncompleted op of.References kind)
+      op.target.resource op.target.method (taken op of.References kind) (present both.0)
 
   content_is : (u : ℕ) (was : state.Upload) → finmap.get s.uploads u ≡ Some was → option_map_or assembled (finmap.get s.uploads u) [] ≡ assembled was
   content_is u was there = ap (λ (o : Option state.Upload). option_map_or assembled o []) there

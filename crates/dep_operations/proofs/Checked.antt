@@ -11,17 +11,18 @@ use Rattle.dep_fixity.specs.Fixity.{digests_of, promises}
 use Rattle.dep_fixity.specs.declared.field.DigestList.{DigestList}
 use Rattle.dep_fields.specs.declared.field.Field.{Field}
 use Rattle.dep_fields.specs.declared.field.Field.TheVariants.{Absent, Bad, Value}
+use Rattle.dep_fields.specs.declared.kind.Kind.TheVariants as of
 use Rattle.dep_docs_in.specs.declared.reference.Reference.{Reference}
 use Rattle.dep_decisions.specs.Decisions.{upload_number}
 use Rattle.dep_decisions.specs.Rules.{content_by, content_refusal, digest_rule, digests_if_promised, document_rule, fields_refusal, has_content, size_rule}
 use Rattle.dep_decisions.specs.declared.operation.Operation.{Operation}
+use Rattle.dep_decisions.proofs.Taken.{content_taken}
 use Rattle.dep_operations.specs.Checks.{IsChecked, IsCheckedBy}
 use Rattle.dep_operations.specs.Seen.{in_view}
 use Rattle.dep_operations.specs.Views.{uploads_named}
 use Rattle.dep_operations.specs.declared.order.Checked.{Checked}
 use Rattle.dep_operations.specs.declared.order.Checked.TheVariants.{Refused, Passed}
 use Rattle.dep_operations.specs.declared.view.View.{View}
-use Rattle.dep_operations.proofs.Staged.{no_kind}
 
 of_content : (op : Operation) (needed : Bool) → IfSome (if needed then Some (digests_of op.content) else None) (λ d. d ≡ digests_of op.content)
 of_content op true = refl
@@ -52,7 +53,7 @@ pub unchecked : (config : Config) (view : View) (op : Operation) → has_content
 unfolding content_refusal
 unchecked config view op none = (
   ap (λ b. if b then content_by config (in_view view) op else None) none,
-  record { metadata = λ is. let kind = no_kind op none in absurd (cc (kind, is)); digests = tt },
+  record { metadata = λ is. let has = content_taken op of.Metadata is in absurd (cc (has, none)); digests = tt },
 )
 
 -- the uploads named up to one more entry
