@@ -7,7 +7,6 @@ use Rattle.dep_types.specs.State.{State, tick}
 use Rattle.dep_types.specs.declared.config.Config.{Config}
 use Rattle.dep_types.specs.declared.refusal.Refusal.{Refusal}
 use Rattle.dep_types.specs.declared.refusal.Refusal.TheVariants as why
-use Rattle.dep_types.specs.declared.target.Resource.TheVariants as at_resource
 use Rattle.dep_types.specs.declared.target.Method.TheVariants.{Post}
 use Rattle.dep_moment.specs.Civil.{http_text}
 use Rattle.dep_fields.specs.declared.field.Field.{Field}

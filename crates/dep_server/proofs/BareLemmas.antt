@@ -20,7 +20,7 @@ use Rattle.dep_docs_out.specs.Documents.{service_document, error_document, statu
 use Rattle.dep_bag.specs.Bag.{list_text}
 use Rattle.dep_decisions.specs.Decisions.{decision_with}
 use Rattle.dep_decisions.specs.LookUps.{in_state}
-use Rattle.dep_decisions.specs.Rules.{access_refusal, behalf_rule, content_refusal, presence_refusal, presence_rule, refusal, refusal_by, room_rule}
+use Rattle.dep_decisions.specs.Rules.{access_refusal, behalf_rule, content_refusal, presence_refusal, presence_rule, refusal_by, room_rule}
 use Rattle.dep_decisions.specs.declared.operation.Operation.{Operation}
 use Rattle.dep_decisions.proofs.FoundInMaps.{unless-none}
 use Rattle.dep_decisions.proofs.ReadAlone.{reads_keep}
