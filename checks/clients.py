@@ -22,6 +22,7 @@ import tempfile
 
 from crates import ROOT
 from expectations import expect, status_of
+from hosted import Host
 from recipes import files_in, names_in, run, run_by_python, run_by_shell
 from relay import Relay
 from served import Server
@@ -66,7 +67,7 @@ def names(server, path):
 def make_folder(folder):
     """Files of many names and sizes. Returns their digests and names as deposits."""
     files = {"a.txt": b"abc", "empty": b"", "50% of it.txt": b"percent", "dépôt.txt": b"name", "deep/er/x": b"x",
-             "middle.bin": os.urandom(200_000), "large.bin": os.urandom(3_000_001)}
+             "lines\u2028of\u2029all\x85kinds ": b"names", "middle.bin": os.urandom(200_000), "large.bin": os.urandom(3_000_001)}
     for name, content in files.items():
         path = folder / name
         path.parent.mkdir(parents=True, exist_ok=True)
@@ -111,6 +112,43 @@ def folder_of_many(server, place):
     expect("how many came by reference", document.count(b"terms/byReferenceDeposit"), 230 - 33)
 
 
+def names_of_each_character():
+    """Names in which each character up to U+30FF stands that a name may have, every 32nd above, and two of each further plane."""
+    characters = [chr(it) for it in [*range(32, 0x3100), *range(0x3100, 0xD800, 32), *range(0xE000, 0xFFFF, 32), 0xFEFF, 0xFFFF]]
+    characters = [it for it in characters if it not in "/\\\x7f"]
+    characters += [chr(it << 16 | low) for it in range(1, 17) for low in (0, 0xFFFF)]
+    found, name = [], ""
+    for it in characters:
+        if len((name + it).encode()) > 255:
+            found.append(name)
+            name = ""
+        name += it
+    return [*found, name]
+
+
+def folder_of_each_character(server, place):
+    folder, contents = place / "characters", {name: b"%d" % number for number, name in enumerate(names_of_each_character())}
+    folder.mkdir()
+    for name, content in contents.items():
+        (folder / name).write_bytes(content)
+    url = run("a folder of each character", [sys.executable, TOOL, server.base, folder], place, dict(os.environ)).strip()
+    wanted = sorted(f"{hashlib.sha256(content).hexdigest()} {name}" for name, content in contents.items())
+    expect("whether the names are those of each character", manifest(server, server.path_of(url)) == wanted, True)
+
+
+def folder_with_tags(place):
+    """Where a change needs the tag of what it changes."""
+    place.mkdir()
+    wanted = make_folder(place / "folder")
+    with Host(place / "host", require_if_match=True) as host:
+        host.ask(201, "POST", "/service", b"abc", {"Content-Disposition": "attachment; filename=a"})
+        host.ask(412, "POST", "/objects/1", b"abc", {"Content-Disposition": "attachment; filename=a"})
+        command = [sys.executable, TOOL, "--segment", "262144", host.base, place / "folder"]
+        url = run("the tool where tags are required", command, place, dict(os.environ)).strip()
+        expect("the files where tags are required", manifest(host, host.path_of(url)), wanted)
+        expect("the state", b"state/ingested" in host.ask(200, "GET", host.path_of(url))[1], True)
+
+
 def bar_of_progress(server, place):
     """On a terminal it shows how far it came."""
     folder = place / "shown"
@@ -146,6 +184,8 @@ def main():
         recipes_by_python(server, relay, place / "python", 4 if has_curl else 1)
         folder_broken_off(server, relay, place)
         folder_of_many(server, place)
+        folder_of_each_character(server, place)
+        folder_with_tags(place / "tags")
         bar_of_progress(server, place)
         statuses_of_the_tool(server, place)
         expect("whether connections were broken", relay.broken > 3, True)
