@@ -135,17 +135,24 @@ def still_there(host):
 
 
 def back_up(root, work, folder):
-    """A copy while the host would run, which it ends and starts; then a deposit that the copy hasn't."""
+    """A copy while the host runs, and one for which it is ended and started; then a deposit that they haven't."""
     tool, store = root / "usr/local/bin/swordd-backup", settings(root)["database"]
     with hosted(root, work) as host:
         deposits(host)
         pid = host.process.pid
+        first = run(0, tool, "--pid", pid, store, folder / "copies").strip()
+        host.ask(200, "GET", "/objects/1")
         end = f'kill {pid}; until [ "$(cut -d" " -f3 /proc/{pid}/stat)" = Z ]; do sleep 0.01; done'
-        copy = run(0, tool, "--stop", end, "--start", f"touch {folder}/started", store, folder / "copies").strip()
+        copy = run(0, tool, "--ended", "--stop", end, "--start", f"touch {folder}/started", store, folder / "copies").strip()
     expect("whether the server was started", (folder / "started").exists(), True)
+    expect("whether both copies have the same bytes", both_bytes(first) == both_bytes(copy), True)
     with hosted(root, work) as host:
         host.ask(201, "POST", "/service", b"later", {"Content-Disposition": "attachment; filename=later"})
     return tool, pathlib.Path(store), pathlib.Path(copy)
+
+
+def both_bytes(copy):
+    return [it.read_bytes() for it in sorted(pathlib.Path(copy).iterdir())]
 
 
 def restore(root, work, tool, store, copy):
@@ -173,12 +180,36 @@ def audits(root, tool, copy):
 
 
 def copies_are_kept(tool, store, folder):
-    """The newest ones, and no more."""
+    """The newest ones, and no more; what is no whole copy isn't counted, and what was begun is removed."""
     for number in range(4):
-        (folder / f"2026010{number}T000000Z").mkdir(parents=True)
-    run(0, tool, "--keep", "2", store, folder)
+        copy = folder / f"2026010{number}T000000Z"
+        copy.mkdir(parents=True)
+        (copy / "deposits.db").write_bytes(b"x")
+    (folder / "20260104T000000Z").mkdir()
+    (folder / "20260105T000000Z.new").mkdir()
+    for keep in ("0", "x"):
+        run(1, tool, "--keep", keep, store, folder)
+    copy = run(0, tool, "--keep", "2", store, folder).strip()
     names = sorted(it.name for it in folder.iterdir())
-    expect("the copies that are kept", (len(names), names[0]), (2, "20260103T000000Z"))
+    expect("the copies that are kept", names, ["20260103T000000Z", "20260104T000000Z", pathlib.Path(copy).name])
+
+
+def room_is_looked_at(tool, folder):
+    """A store that fits, one that is too large for the memory of its unit, and one that will be in a week."""
+    commands, store, copies = folder / "commands", folder / "large.db", folder / "of-large"
+    commands.mkdir()
+    (commands / "systemctl").write_text('#!/bin/sh\necho "$MOST"\n', encoding="utf-8")
+    (commands / "systemctl").chmod(0o755)
+    (folder / "meminfo").write_text("MemTotal: 1000 kB\nMemFree: 1 kB\nSwapTotal: 500 kB\n", encoding="utf-8")
+    old = copies / "20260101T000000Z"
+    old.mkdir(parents=True)
+    (old / "deposits.db").write_bytes(bytes(400 * 1024))
+    told = {**os.environ, "PATH": f"{commands}:{os.environ['PATH']}", "MEMINFO": str(folder / "meminfo")}
+    for kib, most, status in ((600, "infinity", 0), (600, "716800", 0), (600, "204800", 1), (1000, "infinity", 1), (1000, "1024000", 1)):
+        store.write_bytes(bytes(kib * 1024))
+        run(status, tool, "--room", "swordd-host", store, copies, env={**told, "MOST": most})
+    (old / "deposits.db").write_bytes(bytes(950 * 1024))
+    run(0, tool, "--room", "swordd-host", store, copies, env={**told, "MOST": "infinity"})
 
 
 def main():
@@ -192,6 +223,7 @@ def main():
         restore(root, work, tool, store, copy)
         audits(root, tool, copy)
         copies_are_kept(tool, store, folder / "kept")
+        room_is_looked_at(tool, folder)
     return status_of(f"installed: {len(FILES)} files and folders, a backup and its restore{left_out}")
 
 
