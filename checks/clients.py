@@ -1,6 +1,7 @@
 #!/usr/bin/env python3
 """Runs the recipes of docs/CLIENTS.md word for word as they stand there, against `swordd serve` on a new store, through a relay
-that breaks connections; and deploy/deposit.py, which is broken off again and again. What the archive then has is compared.
+that breaks connections; and deploy/deposit.py, which is broken off again and again. What the archive then has is compared. And
+fetches bags from it by deploy/fetch_bag.py, which is broken off as often.
 
     checks/clients.py
 
@@ -27,7 +28,7 @@ from recipes import files_in, names_in, run, run_by_python, run_by_shell
 from relay import Relay
 from served import Server
 
-TOOL = ROOT / "deploy/deposit.py"
+TOOL, FETCHER, VALIDATOR = ROOT / "deploy/deposit.py", ROOT / "deploy/fetch_bag.py", ROOT / "checks/validate-bag"
 MOST_CONNECTIONS = 1_000_000
 
 
@@ -96,6 +97,67 @@ def folder_broken_off(server, relay, place):
     expect("the uploads that are left in the journal", '"uploads": {}' in (place / "folder.deposit").read_text(), True)
     again = run("the tool once more", command, place, dict(os.environ))
     expect("the object", (again, manifest(server, path)), (url, wanted))
+    return path
+
+
+def bag_broken_off(relay, place, path):
+    """The bag of the folder's object, by a tool that is killed again and again; then once more, over what is there."""
+    bag, command = place / "bag", [sys.executable, FETCHER, "--rate", "2e6", f"{relay.url}{path}", place / "bag"]
+    for number in range(60):
+        with subprocess.Popen(command, stdout=subprocess.PIPE, stderr=subprocess.DEVNULL, text=True) as tool:
+            try:
+                said, _ = tool.communicate(timeout=0.3 + 0.1 * number)
+                break
+            except subprocess.TimeoutExpired:
+                tool.kill()
+    expect("whether the fetch was killed before", number > 0, True)
+    expect("how the fetch ends", (tool.returncode, said), (0, f"{bag}\n"))
+    is_the_folder(bag, place / "folder")
+    fetched = {it: it.stat().st_mtime_ns for it in bag.glob("data/*/*")}
+    (bag / "bagit.txt").unlink()
+    damaged = next(it for it in fetched if it.name == "a.txt")
+    damaged.write_bytes(b"abd")
+    run("the fetch once more", command, place, dict(os.environ))
+    is_the_folder(bag, place / "folder")
+    expect("what was fetched anew", [it.name for it, when in fetched.items() if it.stat().st_mtime_ns != when], ["a.txt"])
+
+
+def is_the_folder(bag, folder):
+    """The bag is valid, and has just the files of the folder."""
+    ran = subprocess.run([sys.executable, "-B", VALIDATOR, bag], capture_output=True, text=True, check=False)
+    expect("the validator's word on the bag", (ran.returncode, ran.stdout), (0, "valid\n"))
+    wanted = {str(it.relative_to(folder)).replace("/", "__"): it.read_bytes() for it in folder.rglob("*") if it.is_file()}
+    came = {it.name: it.read_bytes() for it in bag.glob("data/*/*")}
+    expect("whether the bag has the folder's files", came == wanted, True)
+
+
+def bags_of_all(server, relay, place):
+    """A range of objects: kept, and only read. Those that aren't there are left out."""
+    last = int(server.ask(201, "POST", "/service", b"abc", {"Content-Disposition": "attachment; filename=a"})[0]
+               .headers["Location"].rpartition("/")[2])
+    server.ask(204, "DELETE", f"/objects/{last - 1}")
+    words = [sys.executable, FETCHER, "--all", str(last - 2), str(last + 2), relay.url]
+    kept, read = (subprocess.run([*words, *where], capture_output=True, text=True, check=False) for where in ([place / "all"], []))
+    expect(f"the end of a fetch of a range: {kept.stderr}{read.stderr}", (kept.returncode, read.returncode), (0, 0))
+    expect("what is told of two objects of a file each", (kept.stdout, read.stdout), 2 * ("objects 2 files 2 wrong 0\n",))
+    expect("the bags", sorted(it.name for it in (place / "all").iterdir()), [str(last - 2), str(last)])
+
+
+def statuses_of_the_fetcher(server, place, path):
+    """Refused or otherwise than it was is 1, unfit 2, not reached 3."""
+    changing = Relay(server.port, change=lambda piece: piece.replace(b"percent", b"Percent"))
+    (place / "others").mkdir()
+    (place / "others/x").write_bytes(b"")
+    object_number = path.rpartition("/")[2]
+    for status, words in (
+            (1, [f"{server.base}/objects/999", place / "none"]), (1, [f"{changing.url}{path}", place / "otherwise"]),
+            (1, ["--all", object_number, object_number, changing.url]), (2, [f"{server.base}{path}", place / "others"]),
+            (2, [f"{server.base}{path}"]), (2, [server.base, place / "none"]), (2, ["ftp://a/objects/1", place / "none"]),
+            (3, ["--tries", "1", "http://127.0.0.1:9/objects/1", place / "none"])):
+        ran = subprocess.run([sys.executable, FETCHER, *words], capture_output=True, check=False)
+        expect(f"the status of fetch_bag.py {' '.join(map(str, words))}", ran.returncode, status)
+    expect("whether what isn't right is a bag", (place / "otherwise/bagit.txt").exists(), False)
+    changing.close()
 
 
 def folder_of_many(server, place):
@@ -182,7 +244,10 @@ def main():
         if has_curl:
             recipes_by_curl(server, relay, place / "curl")
         recipes_by_python(server, relay, place / "python", 4 if has_curl else 1)
-        folder_broken_off(server, relay, place)
+        path = folder_broken_off(server, relay, place)
+        bag_broken_off(relay, place, path)
+        statuses_of_the_fetcher(server, place, path)
+        bags_of_all(server, relay, place)
         folder_of_many(server, place)
         folder_of_each_character(server, place)
         folder_with_tags(place / "tags")
@@ -191,7 +256,7 @@ def main():
         expect("whether connections were broken", relay.broken > 3, True)
         relay.close()
     left_out = "" if has_curl else ", those by curl left out, since there is none"
-    return status_of(f"clients: the recipes of the page and deposit.py, over {relay.broken} broken connections{left_out}")
+    return status_of(f"clients: the recipes of the page, deposit.py and fetch_bag.py, over {relay.broken} broken connections{left_out}")
 
 
 if __name__ == "__main__":
