@@ -29,9 +29,10 @@ FILES = {
     "etc/swordd/configuration.json": 0o644, "etc/systemd/system/swordd-alert@.service": 0o644,
     "etc/systemd/system/swordd-audit.service": 0o644, "etc/systemd/system/swordd-audit.timer": 0o644,
     "etc/systemd/system/swordd-backup.service": 0o644, "etc/systemd/system/swordd-backup.timer": 0o644,
-    "etc/systemd/system/swordd-host.service": 0o644, "usr/local/bin/swordd": 0o755, "usr/local/bin/swordd-alert": 0o755,
+    "etc/systemd/system/swordd-host.service": 0o644, "etc/systemd/system/swordd-room.service": 0o644,
+    "usr/local/bin/swordd": 0o755, "usr/local/bin/swordd-alert": 0o755, "usr/local/bin/swordd-ready": 0o755,
     "usr/local/bin/swordd-backup": 0o755, "usr/local/bin/swordd_host": 0o755, "var/backups/swordd": 0o700,
-    "var/lib/swordd": 0o750, "var/lib/swordd/spools": 0o750}
+    "var/lib/swordd": 0o750, "var/spool/swordd": 0o750}
 # What systemd makes of a unit, from 0 (safe) to 10.
 MOST_EXPOSURE = 2.0
 
@@ -145,14 +146,38 @@ def back_up(root, work, folder):
         end = f'kill {pid}; until [ "$(cut -d" " -f3 /proc/{pid}/stat)" = Z ]; do sleep 0.01; done'
         copy = run(0, tool, "--ended", "--stop", end, "--start", f"touch {folder}/started", store, folder / "copies").strip()
     expect("whether the server was started", (folder / "started").exists(), True)
-    expect("whether both copies have the same bytes", both_bytes(first) == both_bytes(copy), True)
+    expect("the audit of the copy of a host that runs", run(0, root / "usr/local/bin/swordd", "audit", f"{first}/deposits.db"),
+           "files 3 damaged 0\n")
     with hosted(root, work) as host:
         host.ask(201, "POST", "/service", b"later", {"Content-Disposition": "attachment; filename=later"})
     return tool, pathlib.Path(store), pathlib.Path(copy)
 
 
-def both_bytes(copy):
-    return [it.read_bytes() for it in sorted(pathlib.Path(copy).iterdir())]
+def as_units_have_it(root, work, folder):
+    """The commands of the units, in the root, over a systemctl that tells the host's process and its memory."""
+    commands = folder / "systemctl-of-host"
+    commands.mkdir()
+    (commands / "systemctl").write_text('#!/bin/sh\ncase $* in *MainPID*) echo "$MAINPID" ;; *) echo infinity ;; esac\n', encoding="utf-8")
+    (commands / "systemctl").chmod(0o755)
+    with hosted(root, work) as host:
+        told = {**os.environ, "PATH": f"{commands}:{os.environ['PATH']}", "MAINPID": str(host.process.pid),
+                "SWORDD": str(root / "usr/local/bin/swordd"), "CONFIGURATION": str(host.folder / "configuration.json")}
+        for unit, field in (("host", "ExecStartPost=+"), ("room", "ExecStart="), ("backup", "ExecStart="),
+                            ("audit", "ExecStart=")):
+            run(0, *words_of(root, unit, field, told), env=told)
+        copies = list((root / "var/backups/swordd").iterdir())
+        expect("the copy of the unit", [it.name for it in copies[0].iterdir()][:1], ["deposits.db"])
+        shutil.rmtree(copies[0])
+        host.kill()
+        run(1, *words_of(root, "host", "ExecStartPost=+", told), env=told)
+
+
+def words_of(root, unit, field, told):
+    """The words of a unit's command, with the paths of the root, and what systemd puts in."""
+    text = (root / f"etc/systemd/system/swordd-{unit}.service").read_text(encoding="utf-8")
+    line = re.search(rf"(?m)^{re.escape(field)}(.*)$", text)[1].replace("$MAINPID", told["MAINPID"])
+    line = line.replace("/etc/swordd/configuration.json", told["CONFIGURATION"])
+    return [f"{root}{it}" if it.startswith(("/usr/local/", "/var/")) else it for it in line.split()]
 
 
 def restore(root, work, tool, store, copy):
@@ -221,6 +246,7 @@ def main():
         left_out = units(root) + system_calls(root, place / "strace")
         tool, store, copy = back_up(root, work, folder)
         restore(root, work, tool, store, copy)
+        as_units_have_it(root, work, folder)
         audits(root, tool, copy)
         copies_are_kept(tool, store, folder / "kept")
         room_is_looked_at(tool, folder)
