@@ -101,8 +101,9 @@ runs 1 'swordd: no such object' export "$store" 9 "$folder/none"
 # audits
 runs 0 '' audit "$store"
 prints 'files 5 damaged 0'
-runs 0 '' audit "$folder/new.db"
-prints 'files 0 damaged 0'
+runs 2 'swordd: store fault' audit "$folder/absent.db"
+runs 2 'swordd: store fault' export "$folder/absent.db" 1 "$folder/none-of-it"
+[ ! -e "$folder/absent.db" ] || wrong 'a store was made'
 runs 2 'swordd: store fault' audit "$folder/other.db"
 runs 1 "$usage" audit
 sqlite3 "$store" "UPDATE blocks SET bytes = X'616264' WHERE owner = 5; UPDATE files SET size = 4 WHERE file = 4;

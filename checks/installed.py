@@ -29,9 +29,10 @@ FILES = {
     "etc/swordd/configuration.json": 0o644, "etc/systemd/system/swordd-alert@.service": 0o644,
     "etc/systemd/system/swordd-audit.service": 0o644, "etc/systemd/system/swordd-audit.timer": 0o644,
     "etc/systemd/system/swordd-backup.service": 0o644, "etc/systemd/system/swordd-backup.timer": 0o644,
-    "etc/systemd/system/swordd-host.service": 0o644, "usr/local/bin/swordd": 0o755, "usr/local/bin/swordd-alert": 0o755,
+    "etc/systemd/system/swordd-host.service": 0o644, "etc/systemd/system/swordd-room.service": 0o644,
+    "usr/local/bin/swordd": 0o755, "usr/local/bin/swordd-alert": 0o755, "usr/local/bin/swordd-ready": 0o755,
     "usr/local/bin/swordd-backup": 0o755, "usr/local/bin/swordd_host": 0o755, "var/backups/swordd": 0o700,
-    "var/lib/swordd": 0o750, "var/lib/swordd/spools": 0o750}
+    "var/lib/swordd": 0o750, "var/spool/swordd": 0o750}
 # What systemd makes of a unit, from 0 (safe) to 10.
 MOST_EXPOSURE = 2.0
 
@@ -135,17 +136,48 @@ def still_there(host):
 
 
 def back_up(root, work, folder):
-    """A copy while the host would run, which it ends and starts; then a deposit that the copy hasn't."""
+    """A copy while the host runs, and one for which it is ended and started; then a deposit that they haven't."""
     tool, store = root / "usr/local/bin/swordd-backup", settings(root)["database"]
     with hosted(root, work) as host:
         deposits(host)
         pid = host.process.pid
+        first = run(0, tool, "--pid", pid, store, folder / "copies").strip()
+        host.ask(200, "GET", "/objects/1")
         end = f'kill {pid}; until [ "$(cut -d" " -f3 /proc/{pid}/stat)" = Z ]; do sleep 0.01; done'
-        copy = run(0, tool, "--stop", end, "--start", f"touch {folder}/started", store, folder / "copies").strip()
+        copy = run(0, tool, "--ended", "--stop", end, "--start", f"touch {folder}/started", store, folder / "copies").strip()
     expect("whether the server was started", (folder / "started").exists(), True)
+    expect("the audit of the copy of a host that runs", run(0, root / "usr/local/bin/swordd", "audit", f"{first}/deposits.db"),
+           "files 3 damaged 0\n")
     with hosted(root, work) as host:
         host.ask(201, "POST", "/service", b"later", {"Content-Disposition": "attachment; filename=later"})
     return tool, pathlib.Path(store), pathlib.Path(copy)
+
+
+def as_units_have_it(root, work, folder):
+    """The commands of the units, in the root, over a systemctl that tells the host's process and its memory."""
+    commands = folder / "systemctl-of-host"
+    commands.mkdir()
+    (commands / "systemctl").write_text('#!/bin/sh\ncase $* in *MainPID*) echo "$MAINPID" ;; *) echo infinity ;; esac\n', encoding="utf-8")
+    (commands / "systemctl").chmod(0o755)
+    with hosted(root, work) as host:
+        told = {**os.environ, "PATH": f"{commands}:{os.environ['PATH']}", "MAINPID": str(host.process.pid),
+                "SWORDD": str(root / "usr/local/bin/swordd"), "CONFIGURATION": str(host.folder / "configuration.json")}
+        for unit, field in (("host", "ExecStartPost=+"), ("room", "ExecStart="), ("backup", "ExecStart="),
+                            ("audit", "ExecStart=")):
+            run(0, *words_of(root, unit, field, told), env=told)
+        copies = list((root / "var/backups/swordd").iterdir())
+        expect("the copy of the unit", [it.name for it in copies[0].iterdir()][:1], ["deposits.db"])
+        shutil.rmtree(copies[0])
+        host.kill()
+        run(1, *words_of(root, "host", "ExecStartPost=+", told), env=told)
+
+
+def words_of(root, unit, field, told):
+    """The words of a unit's command, with the paths of the root, and what systemd puts in."""
+    text = (root / f"etc/systemd/system/swordd-{unit}.service").read_text(encoding="utf-8")
+    line = re.search(rf"(?m)^{re.escape(field)}(.*)$", text)[1].replace("$MAINPID", told["MAINPID"])
+    line = line.replace("/etc/swordd/configuration.json", told["CONFIGURATION"])
+    return [f"{root}{it}" if it.startswith(("/usr/local/", "/var/")) else it for it in line.split()]
 
 
 def restore(root, work, tool, store, copy):
@@ -173,12 +205,36 @@ def audits(root, tool, copy):
 
 
 def copies_are_kept(tool, store, folder):
-    """The newest ones, and no more."""
+    """The newest ones, and no more; what is no whole copy isn't counted, and what was begun is removed."""
     for number in range(4):
-        (folder / f"2026010{number}T000000Z").mkdir(parents=True)
-    run(0, tool, "--keep", "2", store, folder)
+        copy = folder / f"2026010{number}T000000Z"
+        copy.mkdir(parents=True)
+        (copy / "deposits.db").write_bytes(b"x")
+    (folder / "20260104T000000Z").mkdir()
+    (folder / "20260105T000000Z.new").mkdir()
+    for keep in ("0", "x"):
+        run(1, tool, "--keep", keep, store, folder)
+    copy = run(0, tool, "--keep", "2", store, folder).strip()
     names = sorted(it.name for it in folder.iterdir())
-    expect("the copies that are kept", (len(names), names[0]), (2, "20260103T000000Z"))
+    expect("the copies that are kept", names, ["20260103T000000Z", "20260104T000000Z", pathlib.Path(copy).name])
+
+
+def room_is_looked_at(tool, folder):
+    """A store that fits, one that is too large for the memory of its unit, and one that will be in a week."""
+    commands, store, copies = folder / "commands", folder / "large.db", folder / "of-large"
+    commands.mkdir()
+    (commands / "systemctl").write_text('#!/bin/sh\necho "$MOST"\n', encoding="utf-8")
+    (commands / "systemctl").chmod(0o755)
+    (folder / "meminfo").write_text("MemTotal: 1000 kB\nMemFree: 1 kB\nSwapTotal: 500 kB\n", encoding="utf-8")
+    old = copies / "20260101T000000Z"
+    old.mkdir(parents=True)
+    (old / "deposits.db").write_bytes(bytes(400 * 1024))
+    told = {**os.environ, "PATH": f"{commands}:{os.environ['PATH']}", "MEMINFO": str(folder / "meminfo")}
+    for kib, most, status in ((600, "infinity", 0), (600, "716800", 0), (600, "204800", 1), (1000, "infinity", 1), (1000, "1024000", 1)):
+        store.write_bytes(bytes(kib * 1024))
+        run(status, tool, "--room", "swordd-host", store, copies, env={**told, "MOST": most})
+    (old / "deposits.db").write_bytes(bytes(950 * 1024))
+    run(0, tool, "--room", "swordd-host", store, copies, env={**told, "MOST": "infinity"})
 
 
 def main():
@@ -190,8 +246,10 @@ def main():
         left_out = units(root) + system_calls(root, place / "strace")
         tool, store, copy = back_up(root, work, folder)
         restore(root, work, tool, store, copy)
+        as_units_have_it(root, work, folder)
         audits(root, tool, copy)
         copies_are_kept(tool, store, folder / "kept")
+        room_is_looked_at(tool, folder)
     return status_of(f"installed: {len(FILES)} files and folders, a backup and its restore{left_out}")
 
 

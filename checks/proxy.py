@@ -1,7 +1,8 @@
 #!/usr/bin/env python3
 """Plays a depositor's story through Debian's nginx with deploy/nginx.conf, over TLS and with a password, by Python's http.client
 and by curl: each reply has to be the one that comes without a proxy, but for Date, Connection and nginx's own Server. And
-clients that are slow hold nobody up.
+clients that are slow hold nobody up, each user may do what its role says, a file names who deposited it, and the groups of
+deploy/shards.conf have stores of their own.
 
     checks/proxy.py
 
@@ -12,8 +13,8 @@ where something is missing, it says what it skips. It takes some five processor 
 import sys
 sys.path.insert(0, f"{sys.path[0]}/lib")
 
-import base64
 import concurrent.futures
+import contextlib
 import hashlib
 import http.client
 import json
@@ -21,22 +22,30 @@ import os
 import pathlib
 import re
 import shutil
+import socket
 import subprocess
 import tempfile
 import time
 from typing import NamedTuple
+from urllib.parse import urlsplit
 
 import fronted
 import recipes
+import shards
 from conformance import folder_in_memory
 from crates import ROOT
 from depositing import digest
 from expectations import expect, status_of
+from hosted import until
 
 SEGMENT = 65_536
 NOT_COMPARED = {"date", "connection", "server", "keep-alive"}
 MOMENT = re.compile(rb"\d{4}-\d\d-\d\dT\d\d:\d\d:\d\dZ")
 SLOW, UNREAD = 30, 5
+# Who may do all.
+CURATOR = "curator"
+# What the roles of the site allow, by the methods in the order that they are tried.
+ALLOWED = {"reader": "GET HEAD", "robot": "GET HEAD POST", fronted.USER: "GET HEAD POST PUT", CURATOR: "GET HEAD POST PUT DELETE"}
 # An object of the story that is there in the end, which gets the greatest content.
 LARGE_OBJECT = "/objects/2"
 
@@ -98,9 +107,8 @@ def story(base):
     ]
 
 
-def authorized(fields):
-    spelled = base64.b64encode(f"{fronted.USER}:{fronted.PASSWORD}".encode()).decode()
-    return {**fields, "Host": fronted.NAME, "Authorization": f"Basic {spelled}"}
+def authorized(fields, user=CURATOR, **how):
+    return {**fields, "Host": fronted.NAME, **fronted.password_of(user, **how)}
 
 
 def by_http_client(connection, request, fields):
@@ -112,7 +120,7 @@ def by_http_client(connection, request, fields):
 def by_curl(proxy, folder, request):
     """The same by curl, with a connection of its own. A file name and a URL are sent as they stand."""
     (folder / "content").write_bytes(request.content)
-    words = ["curl", "--silent", "--show-error", "--cacert", proxy.certificate, "--user", f"{fronted.USER}:{fronted.PASSWORD}",
+    words = ["curl", "--silent", "--show-error", "--cacert", proxy.certificate, "--user", f"{CURATOR}:{fronted.PASSWORD}",
              "--resolve", f"{fronted.NAME}:{proxy.port}:127.0.0.1", "--http1.1", "--path-as-is", "--dump-header", folder / "head",
              "--output", folder / "body", *[it for pair in request.fields.items() for it in ("-H", ": ".join(pair))]]
     words += ["--head"] if request.method == "HEAD" else ["-X", request.method]
@@ -128,10 +136,10 @@ def by_curl(proxy, folder, request):
 
 
 def replies_alone():
-    """The replies of the host without a proxy."""
+    """The replies of the host without a proxy, to requests on behalf of the user that the proxy knows."""
     with tempfile.TemporaryDirectory(dir=folder_in_memory()) as name, fronted.host(name) as host:
         connection = http.client.HTTPConnection("127.0.0.1", host.port, timeout=60)
-        return [by_http_client(connection, it, it.fields) for it in story(host.base)]
+        return [by_http_client(connection, it, {**it.fields, "On-Behalf-Of": CURATOR}) for it in story(host.base)]
 
 
 def compare(what, requests, came, wanted):
@@ -147,7 +155,10 @@ def tls_story(wanted):
         compare("by http.client", requests, [by_http_client(connection, it, authorized(it.fields)) for it in requests], wanted)
         connection.close()
         answers_of_its_own(proxy)
-        slow_clients(proxy)
+        slow_clients(host, proxy)
+        roles(proxy)
+        one_user_everywhere(proxy)
+        who_deposited(proxy)
         recipes_through_tls(host, proxy, pathlib.Path(name))
 
 
@@ -158,9 +169,9 @@ def curl_story(wanted):
         compare("by curl", requests, [by_curl(proxy, pathlib.Path(name), it) for it in requests], wanted)
 
 
-def ask(proxy, method, path, content=None, fields=None, has_password=True):
+def ask(proxy, method, path, content=None, fields=None, user=CURATOR, **how):
     connection = http.client.HTTPSConnection("127.0.0.1", proxy.port, timeout=120, context=proxy.context())
-    connection.request(method, path, content, authorized(fields or {}) if has_password else fields or {})
+    connection.request(method, path, content, authorized(fields or {}, user, **how) if user else fields or {})
     reply = connection.getresponse()
     content = reply.read()
     connection.close()
@@ -169,12 +180,15 @@ def ask(proxy, method, path, content=None, fields=None, has_password=True):
 
 def answers_of_its_own(proxy):
     """No password, no TLS, and a content that is too large, which is told as the server would tell it."""
-    expect("without a password", ask(proxy, "GET", "/service", has_password=False)[0].status, 401)
+    for method in ("GET", "DELETE"):
+        expect(f"{method} without a password", ask(proxy, method, "/objects/1", user=None)[0].status, 401)
+        expect(f"{method} with a wrong one", ask(proxy, method, "/objects/1", password="b")[0].status, 401)
     clear = http.client.HTTPConnection("127.0.0.1", proxy.clear_port, timeout=60)
     clear.request("POST", "/service?x", b"abc", {"Host": fronted.NAME})
     reply = clear.getresponse()
-    expect("without TLS", (reply.status, reply.headers["Location"]), (308, f"https://{fronted.NAME}/service?x"))
+    expect("without TLS", (reply.status, reply.headers["Location"], reply.read()[:11]), (403, None, b"https alone"))
     clear.close()
+    expect("what a password in clear gets", in_clear(proxy), b"")
     fields = {"Content-Disposition": "attachment; filename=x"}
     expect("the greatest content", ask(proxy, "POST", LARGE_OBJECT, 16_777_216 * b"x", fields)[0].status, 200)
     reply, document = ask(proxy, "POST", "/service", 16_777_217 * b"x", fields)
@@ -184,7 +198,15 @@ def answers_of_its_own(proxy):
         b'"error":"The content is too large","log":"refusal 15","timestamp":"MOMENT"}'))
 
 
-def slow_clients(proxy):
+def in_clear(proxy):
+    """All that comes to a request in clear that has a password."""
+    with socket.create_connection(("127.0.0.1", proxy.clear_port), timeout=60) as wire:
+        password = authorized({})["Authorization"]
+        wire.sendall(f"GET /service HTTP/1.1\r\nHost: {fronted.NAME}\r\nAuthorization: {password}\r\n\r\n".encode())
+        return wire.recv(1000)
+
+
+def slow_clients(host, proxy):
     """Clients that stop in their head or their content, or don't read what they asked for, hold up none that deposit."""
     password = authorized({})["Authorization"]
     heads = (f"POST /service HTTP/1.1\r\nHost: {fronted.NAME}\r\nAuthorization: {password}\r\nContent-Length: 100000\r\n"
@@ -205,8 +227,79 @@ def slow_clients(proxy):
         outcomes = list(pool.map(deposit, range(40)))
     expect("deposits beside slow clients", {status for status, _ in outcomes}, {201})
     expect("whether one waited for 20 seconds", max(seconds for _, seconds in outcomes) < 20, True)
+    expect("whether the host keeps what isn't read", until(lambda: len(host.spools()) == UNREAD), True)
+    expect("the files in which nginx does", proxy.held_in_files(), 0)
     for connection in slow:
         connection.close()
+
+
+def roles(proxy):
+    """Each user by each method: what the role doesn't allow gets 403, and changes nothing."""
+    ask(proxy, "POST", "/service", b"abc", {"Content-Disposition": "attachment; filename=a"})
+    requests = {"GET": {}, "HEAD": {}, "POST": {"Content-Disposition": "attachment; filename=b"},
+                "PUT": {"Content-Disposition": "attachment; filename=c"}, "DELETE": {}}
+    path = urlsplit(ask(proxy, "POST", "/service", b"abc", requests["POST"])[0].headers["Location"]).path
+    for user, methods in ALLOWED.items():
+        for method, fields in requests.items():
+            reply, _ = ask(proxy, method, path, b"abc" if fields else None, fields, user)
+            expect(f"{method} of {user}", reply.status, 403 if method not in methods.split() else 204 if method == "DELETE" else 200)
+    expect("DELETE of what is gone", ask(proxy, "GET", path)[0].status, 404)
+
+
+def one_user_everywhere(proxy):
+    """A user may have 100 requests under way, also from several addresses; others aren't held up."""
+    head = "".join(f"{name}: {value}\r\n" for name, value in authorized({"Content-Length": "9"}, "robot").items())
+    slow = [proxy.connect(f"127.0.0.{2 + number // 40}") for number in range(110)]
+    for connection in slow:
+        connection.sendall(f"POST /service HTTP/1.1\r\n{head}\r\n".encode())
+    is_full = until(lambda: ask(proxy, "GET", "/service", user="robot")[0].status == 503)
+    expect("whether a user with 110 requests under way is turned away", is_full, True)
+    expect("another user then", ask(proxy, "GET", "/service")[0].status, 200)
+    for connection in slow:
+        connection.close()
+    expect("the user later", until(lambda: ask(proxy, "GET", "/service", user="robot")[0].status == 200), True)
+
+
+def who_deposited(proxy):
+    """A file names the user, whatever the client says, and so does the log."""
+    fields = {"Content-Disposition": "attachment; filename=a", "On-Behalf-Of": "lee"}
+    reply, document = ask(proxy, "POST", "/service?who", b"abc", fields, user="robot")
+    expect("on whose behalf a file came", json.loads(document)["links"][0]["depositedOnBehalfOf"], "robot")
+    wanted = {"user": "robot", "method": "POST", "path": "/service?who", "status": 201, "location": reply.headers["Location"]}
+    log = [json.loads(it) for it in (proxy.folder / "deposit.log").read_text(encoding="utf-8").splitlines()]
+    expect("the lines of the log", [{name: it[name] for name in wanted} for it in log if "who" in it["path"]], [wanted])
+
+
+def kept_connections():
+    """nginx gives a connection up before the host does, so that no request goes out on one that is being closed."""
+    told = json.loads((ROOT / "deploy/configuration.json").read_text(encoding="utf-8"))
+    for site in (fronted.SITE, shards.SITE):
+        seconds = re.findall(r"keepalive 16;\s+(?:#.*\s+)*keepalive_timeout (\d+)s;", site.read_text(encoding="utf-8"))
+        expect(f"whether {site.name} has it so", [int(it) < told["idle_seconds"] for it in seconds], [True] * max(1, len(seconds)))
+    with tempfile.TemporaryDirectory(dir=folder_in_memory()) as name, fronted.host(name, idle_seconds=3) as host, \
+            fronted.Proxy(name, host.port, {"keepalive_timeout 30s;": "keepalive_timeout 1s;"}) as proxy:
+        for _ in range(2):
+            ask(proxy, "POST", "/service", b"abc", {"Content-Disposition": "attachment; filename=a"})
+            time.sleep(4)
+        expect("the connections that the host closed", host.lines("closed"), [])
+
+
+def groups():
+    """Each store has users of its own."""
+    with tempfile.TemporaryDirectory(dir=folder_in_memory()) as name, contextlib.ExitStack() as kept:
+        stores = shards.Stores(pathlib.Path(name), kept)
+
+        def status(method, store, user, path="/service"):
+            connection = http.client.HTTPConnection("127.0.0.1", stores.port, timeout=60)
+            fields = {**shards.fields_of(store, user), "Content-Disposition": "attachment; filename=a"}
+            connection.request(method, path, b"abc" if method == "POST" else None, fields)
+            reply = connection.getresponse()
+            reply.read()
+            connection.close()
+            return reply.status
+        expect("a group in its store", [status("POST", store, store + 1) for store in range(4)], 4 * [201])
+        expect("a group in another's", [status("GET", store, 4 - store) for store in range(4)], 4 * [401])
+        expect("DELETE of a user without a role", status("DELETE", 0, 1, "/objects/1"), 403)
 
 
 def recipes_through_tls(host, proxy, folder):
@@ -242,6 +335,8 @@ def main():
         return 0
     wanted = replies_alone()
     tls_story(wanted)
+    kept_connections()
+    groups()
     if shutil.which("curl"):
         curl_story(wanted)
     else:

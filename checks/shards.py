@@ -1,6 +1,6 @@
 #!/usr/bin/env python3
-"""Four stores behind nginx by server name, with deploy/shards.conf: a load of deposits on one, then on all four, while one of
-them is moved to another folder and port. Each deposit that was answered is looked up in the end.
+"""Four stores behind nginx by server name, with deploy/shards.conf, each with a user of its own: a load of deposits on one, then on
+all four, while one of them is moved to another folder and port. Each deposit that was answered is looked up in the end.
 
     checks/shards.py [SECONDS]      of each load, 4 by default
 
@@ -39,11 +39,20 @@ def name_of(store):
     return f"{NAMES[store]}.deposit.example.org"
 
 
-def site(port, ports):
-    """The site over these stores, in clear, since it is the stores that are measured."""
+def site(folder, port, ports):
+    """The site over these stores, in clear, since it is the stores that are measured, with its users' files in the folder."""
+    for number in range(1, len(NAMES) + 1):
+        (folder / f"store_{number}.users").write_text(f"user-{number}:{{PLAIN}}{fronted.PASSWORD}\n", encoding="utf-8")
     text = fronted.fitted(SITE.read_text(encoding="utf-8"), {
-        "listen 443 ssl;": f"listen 127.0.0.1:{port};", **{f"127.0.0.1:{8081 + at}": f"127.0.0.1:{it}" for at, it in enumerate(ports)}})
+        "listen 443 ssl;": f"listen 127.0.0.1:{port};", "listen 80;": f"listen 127.0.0.1:{free_port()};",
+        "/etc/nginx/": f"{folder}/", "/var/log/nginx/": f"{folder}/",
+        **{f"127.0.0.1:{8081 + at}": f"127.0.0.1:{it}" for at, it in enumerate(ports)}})
     return re.sub(r"(?m)^ *ssl_.*\n", "", text)
+
+
+def fields_of(store, user=None):
+    """The name of a store, and the password of its user or of another's."""
+    return {"Host": name_of(store), **fronted.password_of(f"user-{user or store + 1}")}
 
 
 def content_of(client, number):
@@ -58,7 +67,7 @@ def deposit_on(port, store, client, until, outcome):
         try:
             connection = connection or http.client.HTTPConnection("127.0.0.1", port, timeout=60)
             connection.request("POST", "/service", content_of(client, number), {
-                "Host": name_of(store), "Content-Disposition": f"attachment; filename={client}-{number}"})
+                **fields_of(store), "Content-Disposition": f"attachment; filename={client}-{number}"})
             reply = connection.getresponse()
             document = reply.read()
             if reply.status == 201:
@@ -98,10 +107,10 @@ class Stores:
         self.seconds_of_move = 0
 
     def start(self, store, folder):
-        return self.kept.enter_context(Host(folder, base=f"http://{name_of(store)}"))
+        return self.kept.enter_context(Host(folder, base=f"http://{name_of(store)}", on_behalf_of=True))
 
     def site(self):
-        return site(self.port, [it.port for it in self.hosts])
+        return site(self.place / "nginx", self.port, [it.port for it in self.hosts])
 
     def move(self):
         """One store goes to another folder and port: its host ends, database and log are copied, another one begins."""
@@ -122,7 +131,7 @@ def look_up(port, answered):
     """Each deposit that was answered is there, with its bytes."""
     connection, lost = http.client.HTTPConnection("127.0.0.1", port, timeout=60), 0
     for store, url, client, number in answered:
-        connection.request("GET", url.removeprefix(f"http://{name_of(store)}"), headers={"Host": name_of(store)})
+        connection.request("GET", url.removeprefix(f"http://{name_of(store)}"), headers=fields_of(store))
         reply = connection.getresponse()
         lost += (reply.status, reply.read()) != (200, content_of(client, number))
     expect("deposits that were answered and are lost", lost, 0)

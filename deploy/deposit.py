@@ -31,6 +31,8 @@ from typing import NamedTuple
 from urllib.parse import quote, urlsplit
 
 BLOCK = 1 << 20
+# What adds to an object names no tag of it, also where the server asks for one.
+ANY_TAG = {"If-Match": "*"}
 LONGEST_NAME = 255
 # A folder of more files is deposited by reference, so many of them at once, or so many bytes: each deposit is answered by a
 # document that names all files of the object.
@@ -158,6 +160,14 @@ def told(document):
         return document[:200].decode(errors="replace")
 
 
+def lines_of(manifest):
+    """The digests and the paths of a bag's manifest. Its lines end by LF alone: a name may have what Python takes for another end
+    of a line, as U+2028."""
+    for line in manifest.decode().split("\n")[:-1]:
+        digest, path = line.split("  ", 1)
+        yield digest, path.replace("%25", "%")
+
+
 def sha256_of(path):
     digest = hashlib.sha256()
     with path.open("rb") as file:
@@ -222,7 +232,7 @@ class Deposit:
         self.progress.end()
         self.check(url)
         self.journal.keep(uploads={})
-        fields = {"In-Progress": "false"}
+        fields = {"In-Progress": "false", **ANY_TAG}
         self.server.insist(lambda: self.server.ask("POST", url, fields=fields))
         return url
 
@@ -240,16 +250,15 @@ class Deposit:
     def manifest(self, url):
         """The names and SHA-256 of the files that the object has, by the manifest of its bag."""
         there = set()
-        for line in self.server.get(f"{url}/bag/manifest-sha256.txt")[1].decode().splitlines():
-            sha256, path = line.split("  ", 1)
-            there.add((path.split("/", 2)[2].replace("%25", "%"), sha256))
+        for sha256, path in lines_of(self.server.get(f"{url}/bag/manifest-sha256.txt")[1]):
+            there.add((path.split("/", 2)[2], sha256))
         return there
 
     def send_whole(self, url, file):
         """A file in one request. One whose reply was lost may be there: the manifest tells."""
         content = file.path.read_bytes()
         fields = {"Content-Disposition": disposition(file.name), "Content-Type": "application/octet-stream",
-                  "Digest": f"SHA-256={file.sha256}", "In-Progress": "true"}
+                  "Digest": f"SHA-256={file.sha256}", "In-Progress": "true", **ANY_TAG}
         tries = iter(range(self.server.tries))
 
         def send():
@@ -313,7 +322,7 @@ class Deposit:
         entries = [{"@id": upload["url"], "contentDisposition": disposition(file.name), "contentType": "application/octet-stream",
                     "contentLength": file.size, "digest": f"SHA-256={file.sha256}"} for upload, file in batch]
         fields = {"Content-Disposition": "attachment; by-reference=true", "Content-Type": "application/json",
-                  "In-Progress": "true"}
+                  "In-Progress": "true", **ANY_TAG}
         self.server.ask("POST", url, json.dumps({"byReferenceFiles": entries}).encode(), fields)
 
     def check(self, url):

@@ -1,5 +1,6 @@
 """Starts Debian's nginx with deploy/nginx.conf in front of a host, with a certificate and a password of its own making."""
 
+import base64
 import os
 import pathlib
 import shutil
@@ -14,6 +15,8 @@ from served import free_port, wait_for_listener
 
 SITE = ROOT / "deploy/nginx.conf"
 NAME, USER, PASSWORD = "deposit.example.org", "kim", "a-word"
+# Users whom the site's remarks give a role.
+ROLES = {"reader": "reads", "robot": "adds", "curator": "all"}
 MAIN = """daemon off;
 user {user};
 pid {folder}/nginx.pid;
@@ -32,9 +35,14 @@ http {{
 """
 
 
-def host(folder):
-    """A host over the store of a folder, whose base is the public name."""
-    return Host(folder, base=f"http://{NAME}")
+def host(folder, **settings):
+    """A host over the store of a folder, whose base is the public name, and which takes deposits on behalf of others."""
+    return Host(folder, base=f"http://{NAME}", on_behalf_of=True, **settings)
+
+
+def password_of(user, password=PASSWORD):
+    """The field that tells a user's password."""
+    return {"Authorization": "Basic " + base64.b64encode(f"{user}:{password}".encode()).decode()}
 
 
 def missing():
@@ -95,28 +103,35 @@ class Nginx:
 class Proxy(Nginx):
     """deploy/nginx.conf in front of the server at a port of 127.0.0.1."""
 
-    def __init__(self, folder, behind):
+    def __init__(self, folder, behind, changes=None):
         folder, self.clear_port = pathlib.Path(folder), free_port()
         port, self.certificate = free_port(), folder / "deposit.crt"
         self.url = f"https://127.0.0.1:{port}"
         super().__init__(folder, fitted(SITE.read_text(encoding="utf-8"), {
             "127.0.0.1:8080": f"127.0.0.1:{behind}", "listen 80;": f"listen 127.0.0.1:{self.clear_port};",
-            "listen 443 ssl;": f"listen 127.0.0.1:{port} ssl;", "/etc/nginx/": f"{folder}/"}), port)
+            "listen 443 ssl;": f"listen 127.0.0.1:{port} ssl;", "/etc/nginx/": f"{folder}/", "/var/log/nginx/": f"{folder}/",
+            **{f"# {name:<8} {role};": f"{name} {role};" for name, role in ROLES.items()}, **(changes or {})}), port)
         self.make_secrets()
 
     def make_secrets(self):
-        """A certificate for the public name, and one user's password."""
+        """A certificate for the public name, and the users, who have one password."""
         names = f"subjectAltName=DNS:{NAME},IP:127.0.0.1"
         words = ["req", "-x509", "-newkey", "rsa:2048", "-nodes", "-days", "2", "-subj", f"/CN={NAME}", "-addext", names,
                  "-keyout", self.folder / "deposit.key", "-out", self.certificate]
         subprocess.run([program("openssl"), *words], check=True, capture_output=True)
-        spelled = subprocess.run([program("openssl"), "passwd", "-apr1", PASSWORD], check=True, capture_output=True, text=True)
-        (self.folder / "deposit.users").write_text(f"{USER}:{spelled.stdout}", encoding="utf-8")
+        spelled = subprocess.run([program("openssl"), "passwd", "-apr1", PASSWORD], check=True, capture_output=True, text=True).stdout
+        (self.folder / "deposit.users").write_text("".join(f"{it}:{spelled}" for it in (USER, *ROLES)), encoding="utf-8")
 
     def context(self):
         return ssl.create_default_context(cafile=str(self.certificate))
 
-    def connect(self):
-        """A connection with TLS, which nothing is sent on yet."""
-        clear = socket.create_connection(("127.0.0.1", self.port), timeout=60)
+    def held_in_files(self):
+        """How many files nginx has open in which it keeps replies."""
+        workers = pathlib.Path(f"/proc/{self.process.pid}/task/{self.process.pid}/children").read_text().split()
+        files = [it for worker in workers for it in pathlib.Path(f"/proc/{worker}/fd").iterdir()]
+        return sum(os.readlink(it).startswith(f"{self.folder}/replies/") for it in files)
+
+    def connect(self, source="127.0.0.1"):
+        """A connection with TLS from this address of the loopback, which nothing is sent on yet."""
+        clear = socket.create_connection(("127.0.0.1", self.port), timeout=60, source_address=(source, 0))
         return self.context().wrap_socket(clear, server_hostname=NAME)

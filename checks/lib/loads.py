@@ -116,7 +116,10 @@ def deposit_upload(connection, known, path):
 
 def load(port, known):
     """Asks for changes until the server is gone."""
-    connection = http.client.HTTPConnection(ADDRESS, port, timeout=60)
+    load_over(http.client.HTTPConnection(ADDRESS, port, timeout=60), known)
+
+
+def load_over(connection, known):
     try:
         while True:
             works = [deposit, send_segment, send_segment]

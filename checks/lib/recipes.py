@@ -52,7 +52,7 @@ def run_by_python(folder, environment):
 
 def files_in(manifest_text):
     """The digests and names of an object's files, by the manifest of its bag."""
-    return sorted(re.sub("  data/[0-9]*/", " ", line).replace("%25", "%") for line in manifest_text.splitlines())
+    return sorted(re.sub("  data/[0-9]*/", " ", line).replace("%25", "%") for line in manifest_text.split("\n")[:-1])
 
 
 def names_in(manifest_text):

@@ -5,12 +5,13 @@ import threading
 
 
 class Relay:
-    """Listens at a port of its own and passes on what comes, to the server and back. It breaks each connection whose number
-    in a round of `every` is the last one, once so many bytes went to the server over it; one that sends less is left whole."""
+    """Listens at a port of its own and passes on what comes, to the server and back, where `change` may have it otherwise. It
+    breaks each connection whose number in a round of `every` is the last one, once so many bytes went over it either way; one
+    over which less goes is left whole."""
 
-    def __init__(self, port, every=3, most=150_000):
+    def __init__(self, port, every=3, most=150_000, change=lambda piece: piece):
         self.target, self.every, self.most = ("127.0.0.1", port), every, most
-        self.broken, self.long_ones, self.lock = 0, 0, threading.Lock()
+        self.broken, self.long_ones, self.lock, self.change = 0, 0, threading.Lock(), change
         self.listener = socket.create_server(("127.0.0.1", 0), backlog=64)
         self.port = self.listener.getsockname()[1]
         self.url = f"http://127.0.0.1:{self.port}"
@@ -48,11 +49,14 @@ class Relay:
             pass
         end(client, server)
 
-    @staticmethod
-    def pass_back(server, client):
+    def pass_back(self, server, client):
+        passed = 0
         try:
             while piece := server.recv(65_536):
-                client.sendall(piece)
+                was, passed = passed, passed + len(piece)
+                if was < self.most <= passed and self.is_to_break():
+                    break
+                client.sendall(self.change(piece))
         except OSError:
             pass
         end(client, server)
