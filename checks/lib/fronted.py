@@ -101,7 +101,8 @@ class Proxy(Nginx):
         self.url = f"https://127.0.0.1:{port}"
         super().__init__(folder, fitted(SITE.read_text(encoding="utf-8"), {
             "127.0.0.1:8080": f"127.0.0.1:{behind}", "listen 80;": f"listen 127.0.0.1:{self.clear_port};",
-            "listen 443 ssl;": f"listen 127.0.0.1:{port} ssl;", "/etc/nginx/": f"{folder}/"}), port)
+            "listen 443 ssl;": f"listen 127.0.0.1:{port} ssl;", "/etc/nginx/": f"{folder}/",
+            "/usr/share/swordd": str(ROOT / "deploy")}), port)
         self.make_secrets()
 
     def make_secrets(self):
