@@ -53,6 +53,7 @@ class Site:
     def start(self, port=None):
         """Starts the host, again at the port that it had."""
         self.host = fronted.Host(self.store, **self.settings, **({"port": port} if port else {}))
+        self.host.port = port or self.host.port
         self.kept.enter_context(self.host)
 
     def front(self, behind=None):
@@ -128,8 +129,12 @@ class Browser:
 
     def wait(self, condition, seconds=MOST_SECONDS):
         """Waits until it holds, by an observer of the document: polling would slow the page. Returns what it is."""
+        from selenium.common.exceptions import TimeoutException  # pylint: disable=import-outside-toplevel
         self.driver.set_script_timeout(seconds)
-        return self.driver.execute_async_script(WAIT % condition)
+        try:
+            return self.driver.execute_async_script(WAIT % condition)
+        except TimeoutException:
+            raise TimeoutError(f"{condition} doesn't come to hold; the page says {self.text('body')}") from None
 
     def run(self, script, *words):
         return self.driver.execute_script(script, *words)

@@ -83,9 +83,10 @@ export class CheckView {
         }
     }
 
-    end({ all, differs, unread, bytes, isOld }) {
+    end({ all, own, differs, unread, bytes, isOld }) {
         const isWell = differs === 0 && unread === 0 && !isOld;
-        this.line.textContent = isOld ? text.checkChanged : isWell ? text.allWell(all, bytes) : text.damage(all, differs, unread);
+        this.line.textContent = isOld ? text.checkChanged : isWell ? text.allWell(all - own, own, bytes)
+            : text.damage(all - own, own, differs, unread);
         this.line.className = isWell ? "good" : "bad";
     }
 }

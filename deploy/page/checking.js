@@ -29,7 +29,8 @@ export async function checkObject(path, { signal, onPlan, onBytes, onMark }) {
     const before = await get(path, { signal, tries: TRIES });
     const { entries, numbers } = await plan(path, signal);
     const lacking = JSON.parse(before.text).links.map((link) => pathOf(link["@id"]).split("/").at(-1)).filter((it) => !numbers.has(it));
-    const counts = { all: entries.size + lacking.length, same: 0, differs: 0, unread: 0, bytes: 0 };
+    const own = [...entries.keys()].filter((file) => !payloadOf(file)).length;
+    const counts = { all: entries.size + lacking.length, own, same: 0, differs: 0, unread: 0, bytes: 0 };
     const tell = (file, mark, detail) => {
         counts[mark] += 1;
         onMark(file, mark, detail);

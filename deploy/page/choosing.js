@@ -8,8 +8,10 @@ function chosenFile(path, file, entry = null) {
     return { path, name: nameOf(path), size: file.size, modified: file.lastModified, file, entry };
 }
 
-// The path of a file of an input, below the chosen folder.
-const below = (file) => (file.webkitRelativePath ? file.webkitRelativePath.split("/").slice(1).join("/") : file.name);
+// The path of a file of an input, below the chosen folder. Chromium writes a backslash of a name as `/` there, and not in the name.
+function below({ name, webkitRelativePath: path }) {
+    return path === "" ? name : (path.slice(0, path.length - name.length) + name).split("/").slice(1).join("/");
+}
 
 export const fromInput = (input) => [...input.files].map((file) => chosenFile(below(file), file));
 

@@ -277,7 +277,12 @@ export class Deposit {
             item.flying.set(number, bytes);
             this.onChange(item);
         };
-        const send = () => insist(() => ask("POST", pathOf(upload.url), { content, fields, signal, onSent }), { signal });
+        const path = pathOf(upload.url);
+        const send = () => insist(async (tries) => {
+            if (tries === 1 || !(await this.hasSegment(path, number))) {
+                await ask("POST", path, { content, fields, signal, onSent });
+            }
+        }, { signal });
         await send().catch((fault) => (fault.name === "DigestMismatch" ? send() : Promise.reject(fault))).catch((fault) => {
             throw isOver(fault) ? new Anew() : fault;
         }).finally(() => item.flying.delete(number));
@@ -285,6 +290,12 @@ export class Deposit {
         item.sent += content.byteLength;
         item.sha256 = upload.count === 1 ? sha256 : item.sha256;
         this.onChange(item);
+    }
+
+    // Whether the upload has a segment whose reply was lost.
+    async hasSegment(path, number) {
+        const reply = await ask("GET", path, { signal: this.signal });
+        return JSON.parse(reply.text).segments.received.includes(number);
     }
 
     // The upload of a file, and the segments that it expects: the one that is known, where it is of this very file.

@@ -22,7 +22,8 @@ export class ObjectView {
         const form = make("form", { className: "row", on: { submit: (event) => this.ask(event) } }, labelled(text.ask, this.field),
             make("button", { className: "main", textContent: text.showIt }));
         fill(place, make("h2", { textContent: text.objects }), form, this.remark, this.own, this.object);
-        this.sizes = new IntersectionObserver((seen) => seen.filter((it) => it.isIntersecting).forEach((it) => this.showSize(it.target)));
+        this.sizes = new IntersectionObserver((seen) => seen.filter((it) => it.isIntersecting).forEach((it) => this.showSize(it.target)),
+            { rootMargin: "1000px" });
     }
 
     // Goes to the object that was asked for.
