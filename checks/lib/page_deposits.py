@@ -124,7 +124,8 @@ def folder_is_dropped(kept, place):
     wanted = {it.name: it.path.read_bytes() for it in tool.files_of(place / "folder", "__")}
     browser.drop(place / "folder")
     browser.wait(f"document.querySelectorAll('#chosen li').length === {len(contents)}")
-    find("the map is shown", "deep/er/x y is deposited as deep__er__x y" in browser.text("#chosen").replace("\n", " "))
+    find("the map is shown", "deep/er/x y is deposited as deep__er__x y" in browser.run(
+        "return document.querySelector('#chosen').textContent"))
     browser.begin()
     compare("a folder that is dropped", site, browser.ends(), wanted)
     browser.press("Another deposit")

@@ -87,6 +87,7 @@ export class Deposit {
 
     async carryOut() {
         const { record, signal } = this;
+        this.batch = [];
         this.service = await serviceOf({ signal });
         record.files = this.items.map((item) => item.kept);
         await keepDeposit(record);

@@ -1,13 +1,21 @@
 // The page's side of the worker: the SHA-256 of a file, or of what stands at a path.
 
-import { Changed, refusalOf, Unreachable } from "./server.js";
+import { Changed, insist, refusalOf, Unreachable } from "./server.js";
 
+// How often a worker is begun that doesn't come.
+const WORKERS = 8;
 const waiting = new Map();
 let worker, last = 0;
 
 function begin() {
     worker = new Worker(`${location.origin}/page/worker.js`, { type: "module" });
     worker.addEventListener("message", ({ data }) => waiting.get(data.id)?.(data));
+    // It didn't come, or broke down: its tasks are told so, and the next one begins another.
+    worker.addEventListener("error", (event) => {
+        event.target.terminate();
+        worker = undefined;
+        [...waiting.values()].forEach((tell) => tell({ fault: "Worker", message: event.message ?? "" }));
+    });
 }
 
 function ask(task, onDone, signal) {
@@ -17,7 +25,7 @@ function ask(task, onDone, signal) {
     const id = (last += 1);
     return new Promise((resolve, reject) => {
         const stop = () => {
-            worker.postMessage({ id, stop: true });
+            worker?.postMessage({ id, stop: true });
             waiting.delete(id);
             reject(signal.reason);
         };
@@ -36,12 +44,14 @@ function ask(task, onDone, signal) {
 }
 
 // The SHA-256 of a whole file. One that can't be read as it was chosen has changed.
-export async function digestOfFile(file, onDone, signal) {
-    const told = await ask({ file }, onDone, signal);
-    if (told.fault) {
-        throw new Changed(told.message);
-    }
-    return told.sha256;
+export function digestOfFile(file, onDone, signal) {
+    return insist(async () => {
+        const told = await ask({ file }, onDone, signal);
+        if (told.fault) {
+            throw told.fault === "Worker" ? new Unreachable(told.message) : new Changed(told.message);
+        }
+        return told.sha256;
+    }, { signal, tries: WORKERS });
 }
 
 // The SHA-256 and the size of what the server gives at a path.
