@@ -4,9 +4,12 @@ deposits that are broken off and gone on with, objects that are looked at, check
 safe from. What the archive then has is read back over HTTP, and compared byte by byte.
 
     checks/page.py [--large BYTES] [--count FILES] [--list] [STORY..]
+    checks/page.py --pictures FOLDER
+    checks/page.py --speed [--large BYTES] [--count FILES]
 
 --large is the size of the large files, 300 MiB by default, --count the number of the many ones, 2,000 by default; --list prints
-the stories. The status is 0 where all came as it should. It needs nginx, openssl, chromium, chromium-driver and python3-selenium
+the stories; --pictures draws those of docs/page instead, and --speed prints the
+figures of docs/SPEED.md. The status is 0 where all came as it should. It needs nginx, openssl, chromium, chromium-driver and python3-selenium
 (apt-get install them), and says so where one is missing. It takes some ten minutes.
 """
 
@@ -23,7 +26,9 @@ import traceback
 
 import page_deposits
 import page_objects
+import page_pictures
 import page_safety
+import page_speed
 import paged
 from expectations import expect, status_of
 
@@ -58,6 +63,8 @@ def main():
     words.add_argument("--large", type=int, default=300 << 20)
     words.add_argument("--count", type=int, default=2000)
     words.add_argument("--list", action="store_true")
+    words.add_argument("--pictures", type=pathlib.Path)
+    words.add_argument("--speed", action="store_true")
     words.add_argument("stories", nargs="*", metavar="STORY")
     given = words.parse_args()
     known = stories(given.large, given.count)
@@ -67,6 +74,10 @@ def main():
     if paged.missing():
         print(f"page: skipped, since {paged.missing()} isn't installed (apt-get install nginx openssl chromium chromium-driver python3-selenium)")
         return 0
+    if given.pictures:
+        known = {"pictures": functools.partial(page_pictures.draw, folder=given.pictures)}
+    if given.speed:
+        known = {"speed": functools.partial(page_speed.measure, size=given.large, count=given.count)}
     chosen = given.stories or list(known)
     for name in chosen:
         tell(name, known[name])
