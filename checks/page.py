@@ -39,10 +39,12 @@ def stories(large, count):
         page_deposits.three_files, page_deposits.names_are_kept, page_deposits.names_that_do_not_fit, page_deposits.folder_is_dropped,
         functools.partial(page_deposits.server_is_killed, size=large), page_deposits.browser_is_killed, page_deposits.connections_are_cut,
         page_deposits.two_tabs, page_deposits.digest_is_refused, page_deposits.file_changes, page_deposits.change_before_the_end,
-        page_deposits.uploads_are_kept_alive, page_deposits.server_is_away, page_deposits.behalf_is_told,
+        page_deposits.uploads_are_kept_alive, page_deposits.password_in_the_url, page_deposits.server_is_away,
+        page_deposits.behalf_is_told,
         functools.partial(page_deposits.many_files, count=count), page_objects.object_is_shown, page_objects.metadata_in_two_tabs,
         page_objects.damage_is_seen, page_objects.things_are_deleted, functools.partial(page_objects.large_file_is_checked, size=large),
-        page_safety.deposits_do_nothing, page_safety.foreign_forms_do_nothing, page_safety.fields_of_replies, page_safety.everybody_can_use_it,
+        page_safety.deposits_do_nothing, page_safety.foreign_forms_do_nothing, page_safety.fields_of_replies,
+        page_safety.words_and_digests, page_safety.everybody_can_use_it,
     ]
     return {getattr(it, "func", it).__name__: it for it in told}
 

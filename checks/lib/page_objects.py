@@ -6,6 +6,7 @@ import sqlite3
 
 from depositing import as_file
 from expectations import expect, find
+from hosted import until
 from page_deposits import check, write
 from paged import Browser, Site
 
@@ -44,6 +45,7 @@ def object_is_shown(kept, place):
     for words in (f"http://deposit.example.org/objects/{number}", "ingested", "T⟨U+202E⟩urned", "Kim", "Lee", "a.txt", "3 bytes", "text/plain",
                   "depositor", "number 2"):
         find(f"the page shows {words!r}", words in told)
+    download(browser, place, "a.txt", b"abc")
     browser.press("The list of its bag", "#object")
     expect("the list of the bag", browser.text("#bag").split("\n"), site.ask("GET", f"/objects/{number}/bag")[2].decode().split("\n")[:-1])
     for words, wanted in (("9", "There is nothing at this URL (NotFound, refusal 7)"), ("nine", "no number and no address"),
@@ -52,6 +54,15 @@ def object_is_shown(kept, place):
         browser.find("#object-view input").send_keys(words)
         browser.press("Show", "#object-view")
         browser.wait(f"document.body.innerText.includes({json.dumps(wanted)})")
+
+
+def download(browser, place, name, content):
+    """The link of a file gives the file, under its name."""
+    folder = place / "downloads"
+    folder.mkdir()
+    browser.driver.execute_cdp_cmd("Browser.setDownloadBehavior", {"behavior": "allow", "downloadPath": str(folder)})
+    browser.driver.find_element("link text", name).click()
+    find(f"{name} is downloaded", until(lambda: (folder / name).exists() and (folder / name).read_bytes() == content, 20))
 
 
 def metadata_in_two_tabs(kept, place):

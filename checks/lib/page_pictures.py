@@ -42,13 +42,10 @@ def draw(kept, place, folder):
 def draw_object(site, browser, number, folder):
     check(shown(browser, number), "none differs")
     browser.picture(folder / "object.png", 1300)
-    with sqlite3.connect(site.host.store) as database:
-        last = database.execute("SELECT max(file) FROM files WHERE size < 1000").fetchone()[0]
-    database.close()
     site.host.process.terminate()
     site.host.process.wait()
     with sqlite3.connect(site.host.store) as database:
-        database.execute("UPDATE blocks SET bytes = ? WHERE kind = 0 AND owner = ?", (b"x", last))
+        database.execute("UPDATE blocks SET bytes = x'00' WHERE kind = 0 AND owner IN (SELECT max(file) FROM files WHERE size < 1000)")
     database.close()
     site.again()
     check(shown(browser, number), "1 differs")

@@ -4,9 +4,11 @@ import contextlib
 import functools
 import http.client
 import http.server
+import re
 import ssl
 import threading
 
+from crates import ROOT
 from expectations import expect, find
 from fronted import NAME
 from page_deposits import write
@@ -138,6 +140,30 @@ def fields_of_replies(kept, _):
     expect("// is the server's", ask("GET", "//", {})[1]["Content-Type"], "application/json")
     _, _, content = ask("GET", "/", {})
     expect("inline scripts and styles", [it for it in (b"<style", b"style=", b"onclick", b"<script>") if it in content], [])
+
+
+def words_and_digests(kept, place):
+    """Each refusal of the profile has words and a help; and the page's SHA-256 is that of the browser, whatever the pieces."""
+    browser = kept.enter_context(Browser(Site(kept).front().port, place / "profile")).enter()
+    names = re.findall(r"(?m)^\| \d+ \| (\w+) \| \d+ \|", (ROOT / "docs/PROFILE.md").read_text(encoding="utf-8"))
+    expect("the refusals of the profile", len(names), 19)
+    lacking = browser.driver.execute_async_script("""const [names, done] = arguments;
+        Promise.all([import("/page/texts.js"), import("/page/server.js")]).then(([{ told }, { Refused }]) => done(names.filter((name) => {
+            const { words, help } = told(new Refused(400, { "@type": name, error: "Why", log: "refusal 0" }));
+            return words !== `Why (${name}, refusal 0).` || !help; })))""", names)
+    expect("the refusals that have none", lacking, [])
+    wrong = browser.driver.execute_async_script("""const done = arguments[0];
+        import("/page/sha256.js").then(async ({ Sha256 }) => {
+            const wrong = [];
+            for (let length = 0; length < 400; length += 1) {
+                const bytes = crypto.getRandomValues(new Uint8Array(length)), digest = new Sha256();
+                for (let from = 0, step = 1; from < length; from += step, step = (step * 7 + 3) % 131) {
+                    digest.update(bytes.subarray(from, Math.min(from + step, length))); }
+                const wanted = [...new Uint8Array(await crypto.subtle.digest("SHA-256", bytes))].map((it) => it.toString(16).padStart(2, "0")).join("");
+                if (digest.hex() !== wanted) { wrong.push(length); }
+            }
+            done(wrong); })""")
+    expect("the lengths whose digest is wrong", wrong, [])
 
 
 def everybody_can_use_it(kept, place):

@@ -384,7 +384,7 @@ export class Deposit {
     // After a fault of a change: looks what stands there, where that may help, or tells the fault.
     async mayGoOn(fault, number) {
         const isUnsure = fault instanceof Unreachable || [404, 410, 412].includes(fault.status);
-        if (!isUnsure || number >= MOST_TRIES && fault instanceof Refused) {
+        if (!isUnsure || (number >= MOST_TRIES && (fault instanceof Refused || fault.status === 500))) {
             throw fault;
         }
         if (fault instanceof Unreachable) {

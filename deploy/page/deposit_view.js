@@ -50,7 +50,7 @@ export class DepositView {
             const records = (await deposits()).filter((it) => it.state !== "ingested");
             const left = [];
             for (const record of records) {
-                if (!(await wasIngested(record))) {
+                if (!(await wasIngested(record).catch(() => false))) {
                     left.push(record);
                 }
             }

@@ -17,7 +17,7 @@ const places = { deposit: make("section", { id: "deposit-view" }), objects: make
 document.body.append(make("a", { className: "skip", href: "#content", textContent: text.skip, on: { click: (event) => {
     event.preventDefault();
     main.focus();
-} } }), make("header", {}, title, abstract, make("nav", { "aria-label": text.objects }, links.deposit, links.objects)), waits, main);
+} } }), make("header", {}, title, abstract, make("nav", { "aria-label": text.views }, links.deposit, links.objects)), waits, main);
 
 line.addEventListener("waits", ({ detail }) => {
     waiting.textContent = text.waits(detail);
@@ -30,7 +30,7 @@ function route(views) {
     const [, name, number] = /^#(deposit|objects)(?:\/(\d+))?/.exec(location.hash) ?? [null, "deposit"];
     for (const [id, place] of Object.entries(places)) {
         place.hidden = id !== name;
-        links[id].toggleAttribute("aria-current", id === name);
+        links[id].ariaCurrent = id === name ? "page" : null;
     }
     if (name === "objects") {
         views.objects.open(number);

@@ -34,7 +34,7 @@ export const ELEMENTS = {
 };
 
 export const text = {
-    deposit: "Deposit", objects: "Objects", skip: "To the content",
+    deposit: "Deposit", objects: "Objects", views: "Views", skip: "To the content",
     loading: "Asking the server.",
     noJournal: "This browser lets the page keep nothing, so no deposit can be gone on with. Leave private browsing, or allow the page to store data.",
     mark: (id) => `Deposit ${id} is in progress`,
