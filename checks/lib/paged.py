@@ -178,12 +178,14 @@ class Browser:
         self.wait(f"{STATE} === '{state}'", seconds)
         return int(self.find("#running a").get_attribute("href").split("/")[-1]) if state == "done" else None
 
-    def picture(self, path, height=None):
-        size = self.driver.get_window_size()
-        if height:
-            self.driver.set_window_size(size["width"], height)
+    def picture(self, path, height=1000):
+        """What is seen in a window of this height."""
+        width = self.driver.get_window_size()["width"]
+        self.driver.execute_cdp_cmd("Emulation.setScrollbarsHidden", {"hidden": True})
+        self.driver.execute_cdp_cmd("Emulation.setDeviceMetricsOverride",
+                                    {"width": width, "height": height, "deviceScaleFactor": 1, "mobile": False})
         self.driver.save_screenshot(str(path))
-        self.driver.set_window_size(size["width"], size["height"])
+        self.driver.execute_cdp_cmd("Emulation.clearDeviceMetricsOverride", {})
 
     def faults(self):
         """What its console told of faults of the page."""

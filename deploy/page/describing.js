@@ -5,11 +5,19 @@ import { ELEMENTS, text } from "./texts.js";
 
 const FIRST = ["dc:title", "dc:creator"];
 
+// The names and texts of a description, one by one, in the order in which they are offered; other names after them.
+export function pairsOf(names) {
+    const order = Object.keys(ELEMENTS);
+    const place = (name) => (name in ELEMENTS ? order.indexOf(name) : order.length);
+    const sorted = Object.entries(names).sort(([a], [b]) => place(a) - place(b));
+    return sorted.flatMap(([name, texts]) => texts.map((it) => [name, it]));
+}
+
 export class Description {
     constructor(names = null) {
         this.rows = make("div", { className: "rows" });
         this.place = make("div", {}, this.rows, button(text.addField, () => this.add("dc:title", "").focus()));
-        const pairs = names ? Object.entries(names).flatMap(([name, texts]) => texts.map((it) => [name, it])) : FIRST.map((it) => [it, ""]);
+        const pairs = names ? pairsOf(names) : FIRST.map((it) => [it, ""]);
         pairs.forEach(([name, value]) => this.add(name, value));
     }
 

@@ -1,6 +1,6 @@
 // The description of an object, which can be edited. Who comes second is told, and sees both.
 
-import { Description } from "./describing.js";
+import { Description, pairsOf } from "./describing.js";
 import { button, faultBox, fill, make, shownLines } from "./elements.js";
 import { areEqual, namesIn } from "./making.js";
 import { ask, get, insist } from "./server.js";
@@ -9,7 +9,7 @@ import { ELEMENTS, text } from "./texts.js";
 const TRIES = 4;
 
 const listOf = (names) => {
-    const pairs = Object.entries(names).flatMap(([name, texts]) => texts.map((it) => [name, it]));
+    const pairs = pairsOf(names);
     return pairs.length === 0 ? make("p", { className: "soft", textContent: text.noMetadata })
         : make("dl", {}, ...pairs.flatMap(([name, value]) => [make("dt", { textContent: ELEMENTS[name] ?? name }), make("dd", {}, shownLines(value))]));
 };

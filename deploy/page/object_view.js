@@ -123,8 +123,8 @@ export class ObjectView {
         const name = this.names.get(number) ?? number;
         const behalf = link.depositedOnBehalfOf;
         const facts = make("span", { className: "soft wide" }, make("span", { className: "size" }), ` ${text.number(number)}, `,
-            shown(link.contentType), `, ${moment(link.depositedOn)}, `, shown(link.depositedBy),
-            ...(behalf ? [", ", text.behalfOf(""), shown(behalf)] : []));
+            shown(link.contentType), `, ${moment(link.depositedOn)}, ${text.by} `, shown(link.depositedBy),
+            ...(behalf ? [`, ${text.behalfOf} `, shown(behalf)] : []));
         const anchor = make("a", { href: path, download: name }, shown(name));
         const remove = button(text.deleteFile, () => this.deleteFile(number, name, link.eTag), { className: "danger", "aria-label": text.deleteFileNamed(name) });
         const card = make("li", {}, anchor, remove, facts, make("span", { className: "mark wide" }));

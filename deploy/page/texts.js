@@ -85,7 +85,6 @@ export const text = {
     notOfIt: (number) => `${files(number)} of those chosen are no part of this deposit, and are left out.`,
     leaveMissing: (number) => `Go on without ${files(number)}`,
     show: (number) => `Show object ${number}`,
-    leaves: "A deposit is under way.",
 
     ask: "Address or number of an object", showIt: "Show",
     noList: "The server has no list of its objects. These are the ones that this browser deposited:",
@@ -100,8 +99,7 @@ export const text = {
     conflict: "Somebody else changed the description meanwhile, so yours was not saved. Both stand below.",
     theirs: "What stands there now", yours: "What you wrote", saveOver: "Save yours in its place", keepTheirs: "Keep what stands there",
     filesOf: (number) => `Files (${number})`, noFiles: "This object has no files.",
-    fileLine: (type, moment, by) => `${type}, ${moment}, by ${by}`,
-    behalfOf: (who) => `on behalf of ${who}`,
+    by: "by", behalfOf: "on behalf of",
     number: (number) => `number ${number}`,
     deleteFile: "Delete", deleteFileNamed: (name) => `Delete ${name}`, deleteObject: "Delete the object",
     deleteAsk: (number, what) => `This can't be undone. To delete ${what}, type its number, ${number}.`,
