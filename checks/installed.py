@@ -32,7 +32,8 @@ FILES = {
     "etc/systemd/system/swordd-host.service": 0o644, "etc/systemd/system/swordd-room.service": 0o644,
     "usr/local/bin/swordd": 0o755, "usr/local/bin/swordd-alert": 0o755, "usr/local/bin/swordd-ready": 0o755,
     "usr/local/bin/swordd-backup": 0o755, "usr/local/bin/swordd_host": 0o755, "var/backups/swordd": 0o700,
-    "var/lib/swordd": 0o750, "var/spool/swordd": 0o750}
+    "var/lib/swordd": 0o750, "var/spool/swordd": 0o750,
+    **{f"usr/share/swordd/page/{it.name}": 0o644 for it in (ROOT / "deploy/page").iterdir()}}
 # What systemd makes of a unit, from 0 (safe) to 10.
 MOST_EXPOSURE = 2.0
 

@@ -110,6 +110,7 @@ class Proxy(Nginx):
         super().__init__(folder, fitted(SITE.read_text(encoding="utf-8"), {
             "127.0.0.1:8080": f"127.0.0.1:{behind}", "listen 80;": f"listen 127.0.0.1:{self.clear_port};",
             "listen 443 ssl;": f"listen 127.0.0.1:{port} ssl;", "/etc/nginx/": f"{folder}/", "/var/log/nginx/": f"{folder}/",
+            "/usr/share/swordd": str(ROOT / "deploy"),
             **{f"# {name:<8} {role};": f"{name} {role};" for name, role in ROLES.items()}, **(changes or {})}), port)
         self.make_secrets()
 

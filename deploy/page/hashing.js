@@ -1,0 +1,72 @@
+// The page's side of the worker: the SHA-256 of a file, or of what stands at a path.
+
+import { Changed, insist, refusalOf, Unreachable } from "./server.js";
+
+// How often a worker is begun that doesn't come.
+const WORKERS = 8;
+const waiting = new Map();
+let worker, last = 0;
+
+function begin() {
+    worker = new Worker(`${location.origin}/page/worker.js`, { type: "module" });
+    worker.addEventListener("message", ({ data }) => waiting.get(data.id)?.(data));
+    // It didn't come, or broke down: its tasks are told so, and the next one begins another.
+    worker.addEventListener("error", (event) => {
+        event.target.terminate();
+        worker = undefined;
+        [...waiting.values()].forEach((tell) => tell({ fault: "Worker", message: event.message ?? "" }));
+    });
+}
+
+function ask(task, onDone, signal) {
+    if (!worker) {
+        begin();
+    }
+    const id = (last += 1);
+    return new Promise((resolve, reject) => {
+        const stop = () => {
+            worker?.postMessage({ id, stop: true });
+            waiting.delete(id);
+            reject(signal.reason);
+        };
+        signal?.addEventListener("abort", stop, { once: true });
+        waiting.set(id, (told) => {
+            onDone?.(told.done ?? 0);
+            if (told.sha256 || told.fault) {
+                waiting.delete(id);
+                signal?.removeEventListener("abort", stop);
+                resolve(told);
+            }
+        });
+        signal?.throwIfAborted();
+        worker.postMessage({ id, ...task });
+    });
+}
+
+// The SHA-256 of a whole file. One that can't be read as it was chosen has changed.
+export function digestOfFile(file, onDone, signal) {
+    return insist(async () => {
+        const told = await ask({ file }, onDone, signal);
+        if (told.fault) {
+            throw told.fault === "Worker" ? new Unreachable(told.message) : new Changed(told.message);
+        }
+        return told.sha256;
+    }, { signal, tries: WORKERS });
+}
+
+// The SHA-256 and the size of what the server gives at a path.
+export async function digestOfPath(path, onDone, signal) {
+    const told = await ask({ path }, onDone, signal);
+    if (told.fault === "Status") {
+        throw refusalOf({ status: told.status, text: told.message });
+    }
+    if (told.fault) {
+        throw new Unreachable(told.message);
+    }
+    return told;
+}
+
+export async function digestOfBytes(bytes) {
+    const digest = new Uint8Array(await crypto.subtle.digest("SHA-256", bytes));
+    return Array.from(digest, (byte) => byte.toString(16).padStart(2, "0")).join("");
+}

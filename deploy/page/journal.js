@@ -1,0 +1,81 @@
+// What only this browser knows, in IndexedDB: the deposits that it began, their objects, and the uploads of their files.
+
+const NAME = "swordd", VERSION = 1;
+let opening;
+
+function open() {
+    opening ??= new Promise((resolve, reject) => {
+        const request = indexedDB.open(NAME, VERSION);
+        request.onupgradeneeded = () => {
+            request.result.createObjectStore("deposits", { keyPath: "id" });
+            request.result.createObjectStore("uploads", { keyPath: ["deposit", "name"] });
+        };
+        request.onerror = () => reject(request.error);
+        request.onsuccess = () => {
+            request.result.onversionchange = () => request.result.close();
+            request.result.onclose = () => (opening = undefined);
+            resolve(request.result);
+        };
+    });
+    return opening;
+}
+
+// One transaction, which is on the disk once it is over.
+async function change(work) {
+    const base = await open();
+    return new Promise((resolve, reject) => {
+        const transaction = base.transaction(["deposits", "uploads"], "readwrite", { durability: "strict" });
+        transaction.oncomplete = () => resolve();
+        transaction.onabort = () => reject(transaction.error);
+        work(transaction.objectStore("deposits"), transaction.objectStore("uploads"));
+    });
+}
+
+async function read(store, ask) {
+    const base = await open();
+    return new Promise((resolve, reject) => {
+        const request = ask(base.transaction(store).objectStore(store));
+        request.onsuccess = () => resolve(request.result);
+        request.onerror = () => reject(request.error);
+    });
+}
+
+const all = (deposit) => IDBKeyRange.bound([deposit], [deposit, []]);
+
+export const deposits = () => read("deposits", (store) => store.getAll());
+
+export const uploadsOf = (deposit) => read("uploads", (store) => store.getAll(all(deposit)));
+
+export const keepDeposit = (record) => change((records) => records.put(record));
+
+// The deposit is over: its uploads are forgotten, and its files.
+export const keepDone = (record) =>
+    change((records, uploads) => {
+        records.put(record);
+        uploads.delete(all(record.id));
+    });
+
+export const forget = (deposit) =>
+    change((records, uploads) => {
+        records.delete(deposit);
+        uploads.delete(all(deposit));
+    });
+
+export const dropUploads = (deposit, names) =>
+    change((_, uploads) => names.forEach((name) => uploads.delete([deposit, name])));
+
+let waiting = [], flushing = null;
+
+// An upload is kept before its first segment goes. Those that come while another is written are written together.
+export async function keepUpload(upload) {
+    const mine = waiting;
+    mine.push(upload);
+    const before = flushing;
+    await before?.catch(() => {});
+    if (waiting === mine) {
+        waiting = [];
+        flushing = change((_, uploads) => mine.forEach((it) => uploads.put(it)));
+        mine.written = flushing;
+    }
+    await mine.written;
+}
