@@ -127,13 +127,24 @@ class Stores:
             file.unlink()
 
 
+def get(connection, store, path):
+    """A GET, once more where nginx closed the connection meanwhile, as those of before a reload."""
+    for is_last in (False, True):
+        try:
+            connection.request("GET", path, headers=fields_of(store))
+            reply = connection.getresponse()
+            return reply.status, reply.read()
+        except http.client.RemoteDisconnected:
+            connection.close()
+            if is_last:
+                raise
+
+
 def look_up(port, answered):
     """Each deposit that was answered is there, with its bytes."""
     connection, lost = http.client.HTTPConnection("127.0.0.1", port, timeout=60), 0
     for store, url, client, number in answered:
-        connection.request("GET", url.removeprefix(f"http://{name_of(store)}"), headers=fields_of(store))
-        reply = connection.getresponse()
-        lost += (reply.status, reply.read()) != (200, content_of(client, number))
+        lost += get(connection, store, url.removeprefix(f"http://{name_of(store)}")) != (200, content_of(client, number))
     expect("deposits that were answered and are lost", lost, 0)
 
 
