@@ -14,12 +14,15 @@ Without PART all parts are played, one after another. Each has a line, and what 
     spools       more bytes than the spools may have, and a folder of spools that is gone
     address      more connections from one address than it may have
     unfinished   more bytes of unfinished requests than there may be
+    stopped      a host that is told to stop under the load of 20 clients, and opened again
+    ended        what a host says that ends for a fault of its disk or of its sockets
     killed       a host that is killed under the load of 20 clients, and opened again
     examples     the example files over sockets, 50 examples at once over one store
     statuses     its names, what it prints of a configuration, each fault of one by its field, and each exit status
 
 What has to come is waited for at most a minute, so a slow machine is no fault; the times that are told are for the reader. The
-status is 0 where all came as it should. It needs Linux, and 4,096 files for a process.
+status is 0 where all came as it should. It needs Linux, 4,096 files for a process, and the kit's clang
+(checks/lib/system_faults.py).
 """
 
 import sys
@@ -38,6 +41,7 @@ from functools import partial
 
 import host_clients
 import host_examples
+import host_stops
 import loads
 from commands import USAGE
 from crates import ROOT, built_program
@@ -93,7 +97,7 @@ def examples():
 REQUIRED = ("database", "spool_folder", "base")
 WRONG_VALUES = {
     "address": ("localhost", "", 1, None), "port": (0, 65_536, "8080", -1, 1.5), "database": (1, None, "", "/", "/no/such/folder/a.db"),
-    "spool_folder": (False, "", "/no/such/folder"), "base": ("nonsense", "https://a", "http://a/", 7), "title": (1,),
+    "spool_folder": (False, "", "/no/such/folder"), "stop_file": (1, None), "base": ("nonsense", "https://a", "http://a/", 7), "title": (1,),
     "abstract": ([],), "depositor": ({},), "on_behalf_of": ("true", 1), "require_if_match": (0,),
     "max_upload": (0, 16 * MIB + 1, "1"), "max_assembled": (0, 2**34 + 1), "max_segments": (0, 10_001),
     "staging_max_idle": (0, 31_536_001), "idle_seconds": (0, 86_401, "60"), "least_rate": (-1, "1", 1_000_000_001),
@@ -165,6 +169,15 @@ def checked():
     expect("what is printed of checked.json", (program.returncode, *printed), (0, (place / "checked.txt").read_bytes(), b""))
 
 
+def unprinted(configuration):
+    """What can't be printed on standard output is told, behind the fields that are explained."""
+    for words in (["--example"], ["--check", configuration]):
+        with open("/dev/full", "wb") as full:
+            ran = subprocess.run([built_program("swordd_host"), *words], stdout=full, stderr=subprocess.PIPE, check=False)
+        said = ran.stderr.decode().splitlines()[-1:]
+        expect(f"the end of {words[0]}", (ran.returncode, said), (3, ["swordd_host: standard output can't be written"]))
+
+
 def statuses():
     names()
     checked()
@@ -185,7 +198,15 @@ def statuses():
         good, other = folder / "good.json", folder / "other.db"
         good.write_text(json.dumps({**settings, "database": str(other)}))
         ends(["--check", good], 0, "")
-        expect("whether a check makes a store", other.exists(), False)
+        stop = folder / "stop"
+        stop.touch()
+        good.write_text(json.dumps({**settings, "database": str(other), "stop_file": str(stop)}))
+        ends(["--check", good], 0, "")
+        ends([good], 1, "stop_file: the file is there")
+        expect("whether a check, or a start that is told to stop, makes a store", other.exists(), False)
+        expect("whether a start leaves the stop file", stop.exists(), True)
+        stop.unlink()
+        unprinted(good)
         other.write_text("no database at all, but a text that is longer than a head of one: " + 200 * "0")
         ends([good], 2, "")
         other.unlink()
@@ -196,7 +217,7 @@ def statuses():
         return f"{number + 1} faults of configurations by their fields, and the statuses 0 to 3"
 
 
-PARTS = {**host_clients.PARTS, **{it.__name__: it for it in (killed, examples, statuses)}}
+PARTS = {**host_clients.PARTS, **host_stops.PARTS, **{it.__name__: it for it in (killed, examples, statuses)}}
 
 
 def allow_files():

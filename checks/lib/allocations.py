@@ -109,11 +109,15 @@ __attribute__((destructor)) static void end(void) {
 """
 
 
-def build_refuser(folder):
-    """Compiles the library into the folder. Returns its path."""
+def compile_library(source, made):
+    """Compiles this source, as a library of this path, which it returns."""
     page = subprocess.run(["rt", "doc"], capture_output=True, text=True, check=True).stdout.strip()
     clang = pathlib.Path(page).parent / "toolchain/bin/clang"
-    made = pathlib.Path(folder) / "refuser.so"
     words = ["--no-default-config", "-O2", "-shared", "-fPIC", "-nostdinc", "-nostdlib", "-fuse-ld=lld", "-Wall", "-Werror"]
-    subprocess.run([clang, *words, "-x", "c", "-", "-o", made], input=SOURCE, text=True, check=True)
+    subprocess.run([clang, *words, "-x", "c", "-", "-o", made], input=source, text=True, check=True)
     return made
+
+
+def build_refuser(folder):
+    """Compiles the library into the folder. Returns its path."""
+    return compile_library(SOURCE, pathlib.Path(folder) / "refuser.so")

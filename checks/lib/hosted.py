@@ -35,9 +35,9 @@ def until(holds, patience=PATIENCE):
 
 class Host(Served):
     """A host by the configuration of these settings, and of others where they are not given, in this folder or in one of its
-    own. It begins with a copy of this store, where one is given."""
+    own. It begins with a copy of this store, where one is given. `how` is what `subprocess.Popen` takes besides."""
 
-    def __init__(self, folder=None, begun_with=None, **settings):
+    def __init__(self, folder=None, begun_with=None, how=None, **settings):
         super().__init__(folder, None, PATIENCE)
         self.spool_folder = self.folder / "spools"
         self.spool_folder.mkdir(parents=True, exist_ok=True)
@@ -50,7 +50,7 @@ class Host(Served):
         configuration = self.folder / "configuration.json"
         configuration.write_text(json.dumps(self.settings))
         with open(self.log, "wb") as log:
-            self.process = begin(configuration, stdin=subprocess.DEVNULL, stdout=subprocess.DEVNULL, stderr=log)
+            self.process = begin(configuration, stdin=subprocess.DEVNULL, stdout=subprocess.DEVNULL, stderr=log, **(how or {}))
 
     def said(self):
         return self.log.read_text(errors="replace")

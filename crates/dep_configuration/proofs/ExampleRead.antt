@@ -35,6 +35,10 @@ example_lexemes =
     ∷ colon
     ∷ (token (Token.string (codes "/var/lib/swordd/spools")))
     ∷ comma
+    ∷ (token (Token.string (codes "stop_file")))
+    ∷ colon
+    ∷ (token (Token.string []))
+    ∷ comma
     ∷ (token (Token.string (codes "base")))
     ∷ colon
     ∷ (token (Token.string (codes "http://127.0.0.1:8080")))
@@ -107,6 +111,8 @@ example_tokens =
     ∷ (Token.string (codes "/var/lib/swordd/deposits.db"))
     ∷ (Token.key (codes "spool_folder"))
     ∷ (Token.string (codes "/var/lib/swordd/spools"))
+    ∷ (Token.key (codes "stop_file"))
+    ∷ (Token.string [])
     ∷ (Token.key (codes "base"))
     ∷ (Token.string (codes "http://127.0.0.1:8080"))
     ∷ (Token.key (codes "title"))
@@ -144,6 +150,7 @@ example_members = member (codes "address") (Json.string (codes "127.0.0.1")) (
     member (codes "port") (Json.number (codes "8080")) (
     member (codes "database") (Json.string (codes "/var/lib/swordd/deposits.db")) (
     member (codes "spool_folder") (Json.string (codes "/var/lib/swordd/spools")) (
+    member (codes "stop_file") (Json.string []) (
     member (codes "base") (Json.string (codes "http://127.0.0.1:8080")) (
     member (codes "title") (Json.string (codes "swordd")) (
     member (codes "abstract") (Json.string (codes "Deposit service")) (
@@ -159,7 +166,7 @@ example_members = member (codes "address") (Json.string (codes "127.0.0.1")) (
     member (codes "address_connections") (Json.number (codes "1024")) (
     member (codes "spool_bytes") (Json.number (codes "68719476736")) (
     member (codes "unfinished_bytes") (Json.number (codes "1073741824")) (
-    no_members)))))))))))))))))))
+    no_members))))))))))))))))))))
 
 punctuated : punctuate fresh example_lexemes ≡ example_tokens
 unfolding punctuate example_lexemes example_tokens
@@ -222,6 +229,7 @@ example-given = record {
   port = refl;
   database = refl;
   spool_folder = refl;
+  stop_file = refl;
   config = example-config;
   limits = example-limits;
 }

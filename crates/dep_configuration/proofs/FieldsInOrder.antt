@@ -5,7 +5,7 @@ use Rattle.json.specs.Json.{Json}
 use Rattle.dep_configuration.specs.Faults.{AreReadable, IsFaultOf, IsFirstOfFields, IsReadable}
 use Rattle.dep_configuration.specs.declared.field.TheConstants.{FIELDS}
 use Rattle.dep_configuration.specs.declared.field.Field.{Field}
-use Rattle.dep_configuration.specs.declared.field.Field.TheVariants.{Address, Port, Database, SpoolFolder, Base, Title, Abstract, Depositor, OnBehalfOf, RequireIfMatch, MaxUpload, MaxAssembled, MaxSegments, StagingMaxIdle, IdleSeconds, LeastRate, Connections, AddressConnections, SpoolBytes, UnfinishedBytes}
+use Rattle.dep_configuration.specs.declared.field.Field.TheVariants.{Address, Port, Database, SpoolFolder, StopFile, Base, Title, Abstract, Depositor, OnBehalfOf, RequireIfMatch, MaxUpload, MaxAssembled, MaxSegments, StagingMaxIdle, IdleSeconds, LeastRate, Connections, AddressConnections, SpoolBytes, UnfinishedBytes}
 use Rattle.dep_configuration.specs.declared.fault.ConfigurationFault.{ConfigurationFault}
 
 -- what holds of all of `FIELDS` holds of each field
@@ -14,22 +14,23 @@ each-field P all Address = all 0 Address (omega arith)
 each-field P all Port = all 1 Port (omega arith)
 each-field P all Database = all 2 Database (omega arith)
 each-field P all SpoolFolder = all 3 SpoolFolder (omega arith)
-each-field P all Base = all 4 Base (omega arith)
-each-field P all Title = all 5 Title (omega arith)
-each-field P all Abstract = all 6 Abstract (omega arith)
-each-field P all Depositor = all 7 Depositor (omega arith)
-each-field P all OnBehalfOf = all 8 OnBehalfOf (omega arith)
-each-field P all RequireIfMatch = all 9 RequireIfMatch (omega arith)
-each-field P all MaxUpload = all 10 MaxUpload (omega arith)
-each-field P all MaxAssembled = all 11 MaxAssembled (omega arith)
-each-field P all MaxSegments = all 12 MaxSegments (omega arith)
-each-field P all StagingMaxIdle = all 13 StagingMaxIdle (omega arith)
-each-field P all IdleSeconds = all 14 IdleSeconds (omega arith)
-each-field P all LeastRate = all 15 LeastRate (omega arith)
-each-field P all Connections = all 16 Connections (omega arith)
-each-field P all AddressConnections = all 17 AddressConnections (omega arith)
-each-field P all SpoolBytes = all 18 SpoolBytes (omega arith)
-each-field P all UnfinishedBytes = all 19 UnfinishedBytes (omega arith)
+each-field P all StopFile = all 4 StopFile (omega arith)
+each-field P all Base = all 5 Base (omega arith)
+each-field P all Title = all 6 Title (omega arith)
+each-field P all Abstract = all 7 Abstract (omega arith)
+each-field P all Depositor = all 8 Depositor (omega arith)
+each-field P all OnBehalfOf = all 9 OnBehalfOf (omega arith)
+each-field P all RequireIfMatch = all 10 RequireIfMatch (omega arith)
+each-field P all MaxUpload = all 11 MaxUpload (omega arith)
+each-field P all MaxAssembled = all 12 MaxAssembled (omega arith)
+each-field P all MaxSegments = all 13 MaxSegments (omega arith)
+each-field P all StagingMaxIdle = all 14 StagingMaxIdle (omega arith)
+each-field P all IdleSeconds = all 15 IdleSeconds (omega arith)
+each-field P all LeastRate = all 16 LeastRate (omega arith)
+each-field P all Connections = all 17 Connections (omega arith)
+each-field P all AddressConnections = all 18 AddressConnections (omega arith)
+each-field P all SpoolBytes = all 19 SpoolBytes (omega arith)
+each-field P all UnfinishedBytes = all 20 UnfinishedBytes (omega arith)
 
 pub all-readable : (j : Json) (i : ℕ) → length FIELDS ≤ i → All (λ f. IsReadable f j) (take i FIELDS) → AreReadable j
 all-readable j i past all = each-field (λ f. IsReadable f j) (subst (All (λ f. IsReadable f j)) (take_all i FIELDS past) all)

@@ -1,7 +1,7 @@
 -- The lines of the access log.
 use Rattle.std.specs.Prelude.{ℕ, List, codes}
 use Rattle.dep_configuration.specs.declared.access_log.Reason.{Reason}
-use Rattle.dep_configuration.specs.declared.access_log.Reason.TheVariants.{Idle, Slow, AddressLimit, UnfinishedLimit, ReplyCut, StoreShut, Full, Memory}
+use Rattle.dep_configuration.specs.declared.access_log.Reason.TheVariants.{Idle, Slow, AddressLimit, UnfinishedLimit, ReplyCut, StoreShut, Stopping, Full, Memory}
 
 -- why a connection was ended early, as a word of the log
 abbrev pub reason_name : Reason → List ℕ
@@ -11,5 +11,6 @@ reason_name AddressLimit = codes "address_limit"
 reason_name UnfinishedLimit = codes "unfinished_limit"
 reason_name ReplyCut = codes "reply_cut"
 reason_name StoreShut = codes "store_shut"
+reason_name Stopping = codes "stopping"
 reason_name Full = codes "full"
 reason_name Memory = codes "memory"

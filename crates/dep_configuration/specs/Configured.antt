@@ -1,5 +1,5 @@
 -- What a configuration is read from.
-use Rattle.std.specs.Prelude.{◌≡◌, ℕ, List, Some, codes}
+use Rattle.std.specs.Prelude.{◌≡◌, ℕ, List, [], Some, codes}
 use Rattle.json.specs.Json.{Json, document}
 use Rattle.dep_types.specs.Config.{IsChecked}
 use Rattle.dep_types.specs.declared.config.Config.{Config}
@@ -7,7 +7,7 @@ use Rattle.dep_configuration.specs.Names.{GivesFields}
 use Rattle.dep_configuration.specs.Readings.{filled_text_of, flag_of, given_text, number_of, optional_number_of, text_of, IsAddressOf}
 use Rattle.dep_configuration.specs.declared.configuration.Configuration.{Configuration}
 use Rattle.dep_configuration.specs.declared.configuration.Limits.{Limits}
-use Rattle.dep_configuration.specs.declared.field.Field.TheVariants.{Port, Database, SpoolFolder, Base, Title, Abstract, Depositor, OnBehalfOf, RequireIfMatch, MaxUpload, MaxAssembled, MaxSegments, StagingMaxIdle, IdleSeconds, LeastRate, Connections, AddressConnections, SpoolBytes, UnfinishedBytes}
+use Rattle.dep_configuration.specs.declared.field.Field.TheVariants.{Port, Database, SpoolFolder, StopFile, Base, Title, Abstract, Depositor, OnBehalfOf, RequireIfMatch, MaxUpload, MaxAssembled, MaxSegments, StagingMaxIdle, IdleSeconds, LeastRate, Connections, AddressConnections, SpoolBytes, UnfinishedBytes}
 
 -- a value gives these limits
 pub record HasLimits (limits : Limits) (j : Json) : Type 0 where
@@ -37,6 +37,7 @@ pub record HasConfiguration (c : Configuration) (j : Json) : Type 0 where
   pub port : number_of Port 8080 j ≡ Some c.port
   pub database : filled_text_of Database j ≡ Some c.database
   pub spool_folder : filled_text_of SpoolFolder j ≡ Some c.spool_folder
+  pub stop_file : text_of StopFile [] j ≡ Some c.stop_file
   pub config : HasConfig c.config j
   pub limits : HasLimits c.limits j
 

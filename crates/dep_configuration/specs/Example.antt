@@ -36,6 +36,7 @@ example_configuration = record {
   port = 8080;
   database = codes "/var/lib/swordd/deposits.db";
   spool_folder = codes "/var/lib/swordd/spools";
+  stop_file = [];
   config = example_config;
   limits = example_limits;
 }

@@ -1,7 +1,7 @@
 -- The fields of a configuration: what each is called, and what it has to be.
 use Rattle.std.specs.Prelude.{ℕ, List, codes}
 use Rattle.dep_configuration.specs.declared.field.Field.{Field}
-use Rattle.dep_configuration.specs.declared.field.Field.TheVariants.{Address, Port, Database, SpoolFolder, Base, Title, Abstract, Depositor, OnBehalfOf, RequireIfMatch, MaxUpload, MaxAssembled, MaxSegments, StagingMaxIdle, IdleSeconds, LeastRate, Connections, AddressConnections, SpoolBytes, UnfinishedBytes}
+use Rattle.dep_configuration.specs.declared.field.Field.TheVariants.{Address, Port, Database, SpoolFolder, StopFile, Base, Title, Abstract, Depositor, OnBehalfOf, RequireIfMatch, MaxUpload, MaxAssembled, MaxSegments, StagingMaxIdle, IdleSeconds, LeastRate, Connections, AddressConnections, SpoolBytes, UnfinishedBytes}
 use Rattle.dep_configuration.specs.declared.field.Bounds.{Bounds}
 use Rattle.dep_configuration.specs.declared.field.Wanted.{Wanted}
 use Rattle.dep_configuration.specs.declared.field.Wanted.TheVariants as Kind
@@ -12,6 +12,7 @@ name_of Address = codes "address"
 name_of Port = codes "port"
 name_of Database = codes "database"
 name_of SpoolFolder = codes "spool_folder"
+name_of StopFile = codes "stop_file"
 name_of Base = codes "base"
 name_of Title = codes "title"
 name_of Abstract = codes "abstract"
@@ -38,6 +39,7 @@ bounds_of Address = bounds 0 0
 bounds_of Port = bounds 1 65535
 bounds_of Database = bounds 0 0
 bounds_of SpoolFolder = bounds 0 0
+bounds_of StopFile = bounds 0 0
 bounds_of Base = bounds 0 0
 bounds_of Title = bounds 0 0
 bounds_of Abstract = bounds 0 0
@@ -61,6 +63,7 @@ wanted_of Address = Kind.Address
 wanted_of Port = Kind.WholeNumber (bounds 1 65535)
 wanted_of Database = Kind.FilledText
 wanted_of SpoolFolder = Kind.FilledText
+wanted_of StopFile = Kind.AnyText
 wanted_of Base = Kind.Base
 wanted_of Title = Kind.AnyText
 wanted_of Abstract = Kind.AnyText

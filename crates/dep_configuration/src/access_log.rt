@@ -50,6 +50,8 @@ pub enum Reason {
     ReplyCut,
     /// A fault of the disk has shut the store.
     StoreShut,
+    /// The server was told to stop.
+    Stopping,
     /// No further connection can be opened.
     Full,
     /// There was no memory.
@@ -68,6 +70,7 @@ impl Reason {
             Reason::UnfinishedLimit => "unfinished_limit",
             Reason::ReplyCut => "reply_cut",
             Reason::StoreShut => "store_shut",
+            Reason::Stopping => "stopping",
             Reason::Full => "full",
             Reason::Memory => "memory",
         }

@@ -31,6 +31,8 @@ pub struct Configuration {
     pub database: Text,
     /// The path of the folder for what is to be sent to slow clients.
     pub spool_folder: Text,
+    /// The path of the file by which the server is told to stop; it has none where it is empty.
+    pub stop_file: Text,
     /// What the server itself is set up with.
     pub config: Config,
     /// What bounds its connections.
@@ -109,12 +111,14 @@ fn configuration_in(alloc: Global, value: &Value<'_>) -> Result<Configuration, A
 {
     let database = filled_text(alloc, value, Field::Database)?;
     let spool_folder = filled_text(alloc, value, Field::SpoolFolder)?;
+    let stop_file = text(alloc, value, Field::StopFile, "")?;
     let config = config_in(alloc, value)?;
     Ok(Configuration {
         address: address(value),
         port: number(value, Field::Port, 8_080) as u16,
         database,
         spool_folder,
+        stop_file,
         config,
         limits: limits_in(value),
     })

@@ -10,6 +10,7 @@ pub const EXAMPLE: &str = "{
   \"port\": 8080,
   \"database\": \"/var/lib/swordd/deposits.db\",
   \"spool_folder\": \"/var/lib/swordd/spools\",
+  \"stop_file\": \"\",
   \"base\": \"http://127.0.0.1:8080\",
   \"title\": \"swordd\",
   \"abstract\": \"Deposit service\",
@@ -36,6 +37,9 @@ impl Field {
             Field::Port => "the TCP port to listen at; 8080 by default",
             Field::Database => "the file of the database, which is made where it isn't there",
             Field::SpoolFolder => "the folder for what is to be sent to slow clients",
+            Field::StopFile => {
+                "the file whose being there tells the server to stop; empty for none, as by default"
+            }
             Field::Base => "what all URLs of the server begin with, as clients see them",
             Field::Title => "the title in the service document; swordd by default",
             Field::Abstract => "the abstract in the service document; Deposit service by default",

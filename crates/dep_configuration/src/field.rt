@@ -18,6 +18,8 @@ pub enum Field {
     Database,
     /// The path of the folder for what is to be sent to slow clients.
     SpoolFolder,
+    /// The path of the file by which the server is told to stop.
+    StopFile,
     /// The URL that all of the server's URLs begin with.
     Base,
     /// The title in the service document.
@@ -53,11 +55,12 @@ pub enum Field {
 }
 
 /// All fields, in the order in which the example has them.
-pub const FIELDS: [Field; 20] = [
+pub const FIELDS: [Field; 21] = [
     Field::Address,
     Field::Port,
     Field::Database,
     Field::SpoolFolder,
+    Field::StopFile,
     Field::Base,
     Field::Title,
     Field::Abstract,
@@ -129,6 +132,7 @@ impl Field {
             Field::Port => "port",
             Field::Database => "database",
             Field::SpoolFolder => "spool_folder",
+            Field::StopFile => "stop_file",
             Field::Base => "base",
             Field::Title => "title",
             Field::Abstract => "abstract",
@@ -157,7 +161,7 @@ impl Field {
             Field::Address => Wanted::Address,
             Field::Base => Wanted::Base,
             Field::Database | Field::SpoolFolder => Wanted::FilledText,
-            Field::Title | Field::Abstract | Field::Depositor => Wanted::AnyText,
+            Field::StopFile | Field::Title | Field::Abstract | Field::Depositor => Wanted::AnyText,
             Field::OnBehalfOf | Field::RequireIfMatch => Wanted::Flag,
             _ => Wanted::WholeNumber(self.bounds()),
         }

@@ -42,6 +42,7 @@ fn value_of<'a>(configuration: &'a Configuration, field: Field) -> Given<'a> {
         Field::Port => Given::Number(u64::from(configuration.port)),
         Field::Database => Given::Text(configuration.database.as_str()),
         Field::SpoolFolder => Given::Text(configuration.spool_folder.as_str()),
+        Field::StopFile => Given::Text(configuration.stop_file.as_str()),
         Field::Base => Given::Text(config.base.as_str()),
         Field::Title => Given::Text(config.title.as_str()),
         Field::Abstract => Given::Text(config.abstract_text.as_str()),

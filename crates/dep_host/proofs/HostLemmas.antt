@@ -120,7 +120,7 @@ pub stays_same : {A R K S : Type 0} (p : Host A R K S) → Stays p p
 stays_same p = record { places = refl; limits = refl; shut = refl; unanswered = refl }
 
 -- one place changed
-pub stays_set : {A R K S : Type 0} (p q : Host A R K S) (at : ℕ) (x : Option (Seat R K S)) → q.seats.items ≡ set p.seats.items at x → q.limits ≡ p.limits → q.shut_since ≡ p.shut_since
+pub stays_set : {A R K S : Type 0} (p q : Host A R K S) (at : ℕ) (x : Option (Seat R K S)) → q.seats.items ≡ set p.seats.items at x → q.limits ≡ p.limits → q.shut ≡ p.shut
     → q.unanswered ≡ p.unanswered → Stays p q
 stays_set {R = R} {K = K} {S = S} p q at x seats limits shut unanswered = record {
   places = ap (λ (l : List (Option (Seat R K S))). length l) seats ∙ length-set p.seats.items at x;
@@ -138,7 +138,7 @@ stays_on p q r s t = record {
 }
 
 -- one place changed, and then nothing of what stays
-pub stays_after : {A R K S : Type 0} (p q r : Host A R K S) (at : ℕ) (x : Option (Seat R K S)) → Stays q r → q.seats.items ≡ set p.seats.items at x → q.limits ≡ p.limits → q.shut_since ≡ p.shut_since
+pub stays_after : {A R K S : Type 0} (p q r : Host A R K S) (at : ℕ) (x : Option (Seat R K S)) → Stays q r → q.seats.items ≡ set p.seats.items at x → q.limits ≡ p.limits → q.shut ≡ p.shut
     → q.unanswered ≡ p.unanswered → Stays p r
 stays_after p q r at x t seats limits shut unanswered = stays_on p q r (stays_set p q at x seats limits shut unanswered) t
 

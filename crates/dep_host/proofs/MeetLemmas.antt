@@ -1,40 +1,49 @@
 -- What a host makes of what comes to it.
-use Rattle.std.proofs.Common.{◌≡◌, inl, inr, ◌<◌, ◌+◌, ℕ, Bool, true, false, if◌then◌else◌, List, [], ◌∷◌, ◌++◌, Option, None, Some, is_some, refl, sym, ap, subst, ◌∙◌, append_assoc, length, set, IsSome, arith}
+use Rattle.std.proofs.Common.{◌≡◌, ◌⊎◌, inl, inr, ◌<◌, ◌+◌, ℕ, Bool, true, false, List, [], ◌∷◌, ◌++◌, Option, None, Some, is_some, refl, sym, ap, subst, ◌∙◌, append_assoc, length, set, IsSome, IfSome, arith}
 use Rattle.std.specs.Option.{option_map}
 use Rattle.std.specs.declared.result.Result.{Result}
 use Rattle.std.specs.declared.result.Result.TheVariants.{Ok, Err}
 use Rattle.std.specs.List.{AllByRecursion}
 use Rattle.std.proofs.lemmas.Bool.{cases_eq, cases_lt}
-use Rattle.std.proofs.lemmas.List.Elements.{Contains-append_right}
+use Rattle.std.proofs.lemmas.List.Elements.{Contains-append_right, Contains-push}
 use Rattle.std.proofs.lemmas.List.{append-nil, length-append, set-get_or, get_or_past, get_or-set_same, get_or-set_other}
 use Rattle.std.proofs.lemmas.Grind.{flat_map-append}
 use Rattle.dep_types.specs.Conditions.{Condition}
 use Rattle.dep_hub.specs.Errands.{Account}
 use Rattle.dep_host.specs.declared.seat.Seat.{Seat}
 use Rattle.dep_host.specs.declared.host.Host.{Host}
+use Rattle.dep_host.specs.declared.ending.Cause.{Cause}
+use Rattle.dep_host.specs.declared.ending.Cause.TheVariants as cause
+use Rattle.dep_host.specs.declared.ending.Shut.{Shut}
 use Rattle.dep_host.specs.declared.log.Refusal.{Refusal}
-use Rattle.dep_host.specs.declared.log.Refusal.TheVariants as refusal
 use Rattle.dep_host.specs.declared.events.Client.{Client}
 use Rattle.dep_host.specs.declared.events.Event.{Event}
 use Rattle.dep_host.specs.declared.events.Event.TheVariants as came
 use Rattle.dep_host.specs.declared.serving.Ended.{Ended}
 use Rattle.dep_host.specs.declared.serving.Ended.TheVariants as ended
 use Rattle.dep_host.specs.Coming.{Call, seconds_of, seconds_in}
-use Rattle.dep_host.specs.Courses.{is_overdue}
+use Rattle.dep_host.specs.Courses.{is_overdue, is_past}
 use Rattle.dep_host.specs.Seats.{woken_seat}
-use Rattle.dep_host.specs.Hosting.{Deed, Position, Steps, position, slot, refused, comes}
-use Rattle.dep_host.specs.Meeting.{IsOffer, MayEnd, Wakes, MayRefuse, TurnsAway, Admits, Meets, wakes, lets_in, turns_away, makes_round, IsMet, begins, goes_on, all_given, Met}
+use Rattle.dep_hub.specs.declared.hub.Hub.{Hub}
+use Rattle.dep_hub.specs.Standing.{IsClean, IsHonest}
+use Rattle.dep_hub.specs.Holding.{StandsHoldingAfter, StandsOn}
+use Rattle.dep_host.specs.Hosting.{Deed, IsEmpty, Position, Steps, position, slot, refused, comes}
+use Rattle.dep_host.specs.Meeting.{IsOffer, IsShutBy, MayEnd, Stops, Wakes, MayRefuse, TurnsAway, Admits, Meets, refusal_for, refusal_of, shut_by, wakes, lets_in, turns_away, makes_round, stops, IsMet, begins, goes_on, all_given, Met}
 use Rattle.dep_host.specs.Notes.{Note, Grows}
 use Rattle.dep_host.specs.Rounds.{IsTold, EndsInTime}
-use Rattle.dep_host.proofs.HostLemmas.{untouched, woken, alone, stands_still, steps_join}
+use Rattle.dep_host.proofs.HostLemmas.{asked, untouched, woken, alone, stands_still, steps_join}
 use Rattle.dep_host.proofs.RoundLemmas.{rounds_begin, rounds_go_on, one_second}
 
--- what goes on has not ended, and what a fault shut has ended for nothing else
+-- what goes on has not ended, and what is shut has ended for nothing else
 pub not_yet_ended : {X : Type 0} (x : X) (end : Ended) → (let r : Result X Ended = Ok x in r) ≡ Err end → ⊥
 not_yet_ended {X = X} x end e = let bad : (let r : Result X Ended = Ok x in r) ≡ Err end = e in cc
 
-pub shut_alone : {X : Type 0} (end : Ended) → (ended.Shut ≡ end → ⊥) → (let r : Result X Ended = Err ended.Shut in r) ≡ Err end → ⊥
-shut_alone {X = X} end ne e = ne (let same : (let r : Result X Ended = Err ended.Shut in r) ≡ Err end = e in cc)
+pub shut_alone : {X : Type 0} (why : Cause) (end : Ended) → (ended.Shut why ≡ end → ⊥) → (let r : Result X Ended = Err (ended.Shut why) in r) ≡ Err end → ⊥
+shut_alone {X = X} why end ne e = ne (let same : (let r : Result X Ended = Err (ended.Shut why) in r) ≡ Err end = e in cc)
+
+-- the cause for which it ended
+pub shut_for : {X : Type 0} (why told : Cause) → (let r : Result X Ended = Err (ended.Shut why) in r) ≡ Err (ended.Shut told) → why ≡ told
+shut_for {X = X} why told e = let same : (let r : Result X Ended = Err (ended.Shut why) in r) ≡ Err (ended.Shut told) = e in cc
 
 pub grows_none : {X : Type 0} (told : Option (List X)) → Grows told told []
 grows_none None = tt
@@ -93,39 +102,55 @@ offer_kept {R = R} {K = K} {S = S} p q at r w None none h = λ place v.
     none place (
       subst (λ (n : ℕ). place < n) h.stays.places v.0,
       free_back (λ (s : Seat R K S). woken_seat s r w) p.seats.items at place (subst (λ (l : List (Option (Seat R K S))). slot place l ≡ None) h.seats v.1),
-      subst (λ (s : Option ℕ). is_some s ≡ false) h.stays.shut v.2,
+      subst (λ (s : Option Shut). is_some s ≡ false) h.stays.shut v.2,
     )
 offer_kept {R = R} {K = K} {S = S} p q at r w (Some place) v h = (
   subst (λ (n : ℕ). place < n) (sym h.stays.places) v.0,
   subst (λ (l : List (Option (Seat R K S))). slot place l ≡ None) (sym h.seats) (free_on (λ (s : Seat R K S). woken_seat s r w) p.seats.items at place v.1),
-  subst (λ (s : Option ℕ). is_some s ≡ false) (sym h.stays.shut) v.2,
+  subst (λ (s : Option Shut). is_some s ≡ false) (sym h.stays.shut) v.2,
 )
 
 pub not_told : {X : Type 0} (o : Option X) → IsSome o → is_some o ≡ false → ⊥
 not_told o some none = let bad : true ≡ false = sym some ∙ none in cc
 
--- nothing is vacant once it was told that the store is shut
-pub none_once_shut : {A R K S : Type 0} (p : Host A R K S) → IsSome p.shut_since → IsOffer p None
-none_once_shut p shut = λ at v. let bad : true ≡ false = sym shut ∙ v.2 in cc
-
 pub none_offered : {A R K S : Type 0} (p : Host A R K S) (o : Option ℕ) → o ≡ None → IsOffer p o → IsOffer p None
 none_offered p o none h = subst (λ (v : Option ℕ). IsOffer p v) none h
 
 -- why a client is turned away where no place was offered
-refuses_by : {A R K S : Type 0} (p : Host A R K S) (client : Client R K S) (b : Bool) → is_some p.shut_since ≡ b → IsOffer p None → MayRefuse p client (if b then refusal.Shut else refusal.Full)
-refuses_by p client true e none = e
-refuses_by p client false e none = (e, inl none)
+refuses_for : {A R K S : Type 0} (p : Host A R K S) (client : Client R K S) (why : Cause) → IsShutBy p.shut why → MayRefuse p client (refusal_for why)
+refuses_for p client cause.Store shut = shut
+refuses_for p client cause.Stop shut = shut
 
-pub may_refuse : {A R K S : Type 0} (p : Host A R K S) (client : Client R K S) (why : Refusal) → why ≡ (if is_some p.shut_since then refusal.Shut else refusal.Full) → IsOffer p None → MayRefuse p client why
-may_refuse p client why is none = subst (λ (r : Refusal). MayRefuse p client r) (sym is) (refuses_by p client (is_some p.shut_since) refl none)
+shut_by_its_cause : (o : Option Shut) (shut : Shut) → o ≡ Some shut → IsShutBy o shut.cause
+shut_by_its_cause o shut e = subst (λ (s : Option Shut). IsShutBy s shut.cause) (sym e) refl
 
-may_end_on : {A R K S : Type 0} (host : Host A R K S) (xs ys : List ℕ) → MayEnd host ys → MayEnd host (xs ++ ys)
-may_end_on host xs ys (shut, inl empty) = (shut, inl empty)
-may_end_on host xs ys (shut, inr late) = (shut, inr (late.0, Contains-append_right xs ys late.0 late.1, late.2))
+refuses_by : {A R K S : Type 0} (p : Host A R K S) (client : Client R K S) (o : Option Shut) → p.shut ≡ o → IsOffer p None → MayRefuse p client (refusal_of o)
+refuses_by p client None e none = (ap is_some e, inl none)
+refuses_by p client (Some shut) e none = refuses_for p client shut.cause (shut_by_its_cause p.shut shut e)
+
+pub may_refuse : {A R K S : Type 0} (p : Host A R K S) (client : Client R K S) (why : Refusal) → why ≡ refusal_of p.shut → IsOffer p None → MayRefuse p client why
+may_refuse p client why is none = subst (λ (r : Refusal). MayRefuse p client r) (sym is) (refuses_by p client p.shut refl none)
+
+-- it was told so at that second, or was shut before
+told_by : (o : Option Shut) (second : ℕ) → IsTold o (shut_by o second) (second ∷ [])
+told_by None second = inr (refl, Contains-push [] second)
+told_by (Some shut) second = inl refl
+
+pub stops_told : {A R K S : Type 0} (p q : Host A R K S) (second : ℕ) → Stops p q second → IsTold p.shut q.shut (second ∷ [])
+stops_told p q second h = subst (λ (o : Option Shut). IsTold p.shut o (second ∷ [])) (sym h.shut) (told_by p.shut second)
+
+-- why it ends that is shut
+pub ends_for : {A R K S : Type 0} (host : Host A R K S) (shut : Shut) (second : ℕ) → host.shut ≡ Some shut → IsEmpty (position host) ⊎ (is_past shut.second second host.limits ≡ true) → MayEnd host shut.cause (second ∷ [])
+ends_for host shut second e (inl empty) = (shut_by_its_cause host.shut shut e, inl empty)
+ends_for host shut second e (inr late) = (shut_by_its_cause host.shut shut e, inr (second, Contains-push [] second, ap (λ (o : Option Shut). is_overdue o second host.limits) e ∙ late))
+
+may_end_on : {A R K S : Type 0} (host : Host A R K S) (why : Cause) (xs ys : List ℕ) → MayEnd host why ys → MayEnd host why (xs ++ ys)
+may_end_on host why xs ys (shut, inl empty) = (shut, inl empty)
+may_end_on host why xs ys (shut, inr late) = (shut, inr (late.0, Contains-append_right xs ys late.0 late.1, late.2))
 
 given_more : {R K S : Type 0} (old new : Option (List (Call R K S))) (calls : List (Call R K S)) (end : Ended) → (end ≡ ended.Events → ⊥) → Grows old new calls → Grows old new (all_given end None calls)
 given_more old new calls ended.Events more g = absurd (more refl)
-given_more old new calls ended.Shut more g = g
+given_more old new calls (ended.Shut why) more g = g
 given_more old new calls ended.Spent more g = g
 
 seconds_more : {R K S : Type 0} (calls : List (Call R K S)) (call : Call R K S) → seconds_in (calls ++ call ∷ []) ≡ seconds_in calls ++ seconds_of call.event
@@ -141,6 +166,29 @@ module _ {A R K S : Type 0} (condition : A → Condition) (unread : R → Option
       woken condition unread taken held (position p) (position q) at before (woken_seat before r w) (sits_within p.seats.items at before e) e
       (h.seats ∙ ap (λ (o : Option (Seat R K S)). set p.seats.items at (option_map (λ (s : Seat R K S). woken_seat s r w) o)) e)
       h.same_hub h.stays.limits h.stays.shut (record { connection = refl; address = refl }) refl refl (λ h. h) (λ h. h) refl
+
+  same_hub_stands : (old new : Hub A) → new ≡ old → StandsOn condition old new
+  same_hub_stands old new same = λ is_clean first records held at. subst (λ (h : Hub A). StandsHoldingAfter condition h first records held) (sym same) at
+
+  -- what is told to stop isn't told of its store
+  told_of_a_stop : (hub : Hub A) (o : Option Shut) (second : ℕ) → (shut_by o second ≡ o) ⊎ ((is_some o ≡ false) × IfSome (shut_by o second) (λ shut. shut.cause ≡ cause.Store → IsClean condition hub → ⊥))
+  told_of_a_stop hub None second = inr (refl, λ is. absurd (let bad : cause.Stop ≡ cause.Store = is in cc))
+  told_of_a_stop hub (Some shut) second = inl refl
+
+  -- it was told to stop
+  pub stops_there : (p q : Host A R K S) (second : ℕ) → Stops p q second → Steps condition unread taken held (position p) [] (position q)
+  stops_there p q second h = asked condition unread taken held (position p) (position q) (record {
+    sits = h.same_seats;
+    hub = record {
+      next = ap (λ (k : Hub A). k.next) h.same_hub;
+      same_config = ap (λ (k : Hub A). k.config) h.same_hub;
+      clean = λ is. subst (λ (k : Hub A). IsClean condition k) h.same_hub is;
+      honest = λ is. subst (λ (k : Hub A). IsHonest condition k) h.same_hub is;
+    };
+    stands = same_hub_stands p.hub q.hub h.same_hub;
+    same_limits = h.limits;
+    told = subst (λ (o : Option Shut). (o ≡ p.shut) ⊎ ((is_some p.shut ≡ false) × IfSome o (λ shut. shut.cause ≡ cause.Store → IsClean condition q.hub → ⊥))) (sym h.shut) (told_of_a_stop q.hub p.shut second);
+  })
 
   -- behind what was done nothing more is
   still_on : (p q r : Position A R K S) (deeds : List Deed) → Steps condition unread taken held p deeds q → Steps condition unread taken held q [] r → Steps condition unread taken held p deeds r
@@ -169,7 +217,7 @@ module _ {A R K S : Type 0} (condition : A → Condition) (unread : R → Option
         → IsMetBySome p q l m offer event → IsMet condition account unread taken held size notes p q l m offer event result
     round_met p q l m offer event (Ok now) more few h = h
     round_met p q l m offer event (Err ended.Events) more few h = absurd (more refl)
-    round_met p q l m offer event (Err ended.Shut) more few h = h
+    round_met p q l m offer event (Err (ended.Shut why)) more few h = h
     round_met p q l m offer event (Err ended.Spent) more few h = absurd (few refl)
 
     -- what comes of an event
@@ -181,20 +229,23 @@ module _ {A R K S : Type 0} (condition : A → Condition) (unread : R → Option
     meets_go {p = p} {q = q} (makes_round h) =
         still_on (position p) (position h.asks.mid) (position q) h.goes.deeds
         (still_on (position p) (position h.mid) (position h.asks.mid) h.goes.deeds h.goes.steps h.asks.asks.steps) h.asks.works
+    meets_go {p = p} {q = q} (stops {second = second} h same) = stops_there p q second h
 
     pub meets_limits : {p q : Host A R K S} {l m : L} {offer : Option ℕ} {event : Event R K S} {deeds : List Deed} → Meets condition account unread taken held size notes p q l m offer event deeds → q.limits ≡ p.limits
     meets_limits (wakes h same) = h.stays.limits
     meets_limits (lets_in h) = h.stays.limits
     meets_limits (turns_away h) = h.stays.limits
     meets_limits (makes_round h) = h.asks.stays.limits ∙ (h.asks.asks.limits ∙ h.stays.limits)
+    meets_limits (stops h same) = h.limits
 
-    pub meets_told : {p q : Host A R K S} {l m : L} {offer : Option ℕ} {event : Event R K S} {deeds : List Deed} → Meets condition account unread taken held size notes p q l m offer event deeds → IsTold p.shut_since q.shut_since (seconds_of event)
+    pub meets_told : {p q : Host A R K S} {l m : L} {offer : Option ℕ} {event : Event R K S} {deeds : List Deed} → Meets condition account unread taken held size notes p q l m offer event deeds → IsTold p.shut q.shut (seconds_of event)
     meets_told (wakes h same) = inl h.stays.shut
     meets_told (lets_in h) = inl h.stays.shut
     meets_told (turns_away h) = inl h.stays.shut
     meets_told {p = p} {q = q} (makes_round {time = time} h) =
-        subst (λ (o : Option ℕ). IsTold o q.shut_since (time.second ∷ [])) h.stays.shut
-        (subst (λ (o : Option ℕ). IsTold h.mid.shut_since o (time.second ∷ [])) (sym h.asks.stays.shut) h.asks.asks.told)
+        subst (λ (o : Option Shut). IsTold o q.shut (time.second ∷ [])) h.stays.shut
+        (subst (λ (o : Option Shut). IsTold h.mid.shut o (time.second ∷ [])) (sym h.asks.stays.shut) h.asks.asks.told)
+    meets_told {p = p} {q = q} (stops {second = second} h same) = stops_told p q second h
 
     pub met_none : (told : Option (List (Call R K S))) (p : Host A R K S) (l : L) → Met condition account unread taken held size notes told told p p l l [] 0 ended.Spent
     met_none told p l = record {
@@ -204,16 +255,16 @@ module _ {A R K S : Type 0} (condition : A → Condition) (unread : R → Option
       each = begins;
       steps = stands_still condition unread taken held (position p);
       offered = λ e. let bad : ended.Spent ≡ ended.Events = e in cc;
-      in_time = rounds_begin p.shut_since p.limits;
-      may_end = λ e. let bad : ended.Spent ≡ ended.Shut = e in cc;
+      in_time = rounds_begin p.shut p.limits;
+      may_end = λ why e. let bad : ended.Spent ≡ ended.Shut why = e in cc;
       spent = λ e. refl;
     }
 
     pub met_on : (old mid new : Option (List (Call R K S))) (p q r : Host A R K S) (l m n : L) (offer : Option ℕ) (event : Event R K S) (deeds more : List Deed) (count most : ℕ) (end : Ended)
         → Met condition account unread taken held size notes old mid p q l m deeds count ended.Spent → Grows mid new (record { offer = offer; event = event } ∷ []) → IsOffer q offer
         → Meets condition account unread taken held size notes q r m n offer event more
-        → (end ≡ ended.Events → ⊥) → ((end ≡ ended.Shut → ⊥) → AllByRecursion (λ second. is_overdue r.shut_since second r.limits ≡ false) (seconds_of event))
-        → (end ≡ ended.Shut → MayEnd r (seconds_of event)) → (end ≡ ended.Spent → most ≡ count + 1)
+        → (end ≡ ended.Events → ⊥) → (((why : Cause) → end ≡ ended.Shut why → ⊥) → AllByRecursion (λ second. is_overdue r.shut second r.limits ≡ false) (seconds_of event))
+        → ((why : Cause) → end ≡ ended.Shut why → MayEnd r why (seconds_of event)) → (end ≡ ended.Spent → most ≡ count + 1)
         → Met condition account unread taken held size notes old new p r l n (deeds ++ more) most end
     met_on old mid new p q r l m n offer event deeds more count most end s g offered h events now may next =
         let call : Call R K S = record { offer = offer; event = event } in
@@ -224,9 +275,9 @@ module _ {A R K S : Type 0} (condition : A → Condition) (unread : R → Option
           each = goes_on s.each offered h;
           steps = steps_join condition unread taken held s.steps (meets_go h);
           offered = λ e. absurd (events e);
-          in_time = subst (λ (l : List ℕ). EndsInTime l p.shut_since r.shut_since r.limits end) (sym (seconds_more s.calls call))
-              (rounds_go_on (seconds_in s.calls) (seconds_of event) p.shut_since q.shut_since r.shut_since q.limits r.limits end s.in_time (meets_told h) (one_second event) (meets_limits h) now);
-          may_end = λ e. subst (λ (l : List ℕ). MayEnd r l) (sym (seconds_more s.calls call)) (may_end_on r (seconds_in s.calls) (seconds_of event) (may e));
+          in_time = subst (λ (l : List ℕ). EndsInTime l p.shut r.shut r.limits end) (sym (seconds_more s.calls call))
+              (rounds_go_on (seconds_in s.calls) (seconds_of event) p.shut q.shut r.shut q.limits r.limits end s.in_time (meets_told h) (one_second event) (meets_limits h) now);
+          may_end = λ why e. subst (λ (l : List ℕ). MayEnd r why l) (sym (seconds_more s.calls call)) (may_end_on r why (seconds_in s.calls) (seconds_of event) (may why e));
           spent = λ e.
               let long : length (s.calls ++ call ∷ []) ≡ length s.calls + 1 = length-append s.calls (call ∷ []) in
               let so_far = s.spent refl in
@@ -238,7 +289,7 @@ module _ {A R K S : Type 0} (condition : A → Condition) (unread : R → Option
     ended_by : (T : Type 0) (old mid new : Option (List (Call R K S))) (p q r : Host A R K S) (l m n : L) (offer : Option ℕ) (event : Event R K S) (deeds : List Deed) (count most : ℕ) (end : Ended)
         → Met condition account unread taken held size notes old mid p q l m deeds count ended.Spent → Grows mid new (record { offer = offer; event = event } ∷ []) → IsOffer q offer
         → IsMet condition account unread taken held size notes {T = T} q r m n offer event (Err end)
-        → (end ≡ ended.Shut → MayEnd r (seconds_of event)) → (all : List Deed) × Met condition account unread taken held size notes old new p r l n all most end
+        → ((why : Cause) → end ≡ ended.Shut why → MayEnd r why (seconds_of event)) → (all : List Deed) × Met condition account unread taken held size notes old new p r l n all most end
     ended_by T old mid new p q r l m n offer event deeds count most ended.Events s g offered h may =
         let now : Met condition account unread taken held size notes old new p q l m deeds most ended.Events = record {
           calls = s.calls;
@@ -248,35 +299,35 @@ module _ {A R K S : Type 0} (condition : A → Condition) (unread : R → Option
           steps = s.steps;
           offered = λ e. offered;
           in_time = record { is_told = s.in_time.is_told; in_time = s.in_time.in_time };
-          may_end = λ e. let bad : ended.Events ≡ ended.Shut = e in cc;
+          may_end = λ why e. let bad : ended.Events ≡ ended.Shut why = e in cc;
           spent = λ e. let bad : ended.Events ≡ ended.Spent = e in cc;
         } in (
           deeds,
           subst (λ (k : L). Met condition account unread taken held size notes old new p r l k deeds most ended.Events) (sym h.2)
               (subst (λ (k : Host A R K S). Met condition account unread taken held size notes old new p k l m deeds most ended.Events) (sym h.1) now),
         )
-    ended_by T old mid new p q r l m n offer event deeds count most ended.Shut s g offered h may = (
+    ended_by T old mid new p q r l m n offer event deeds count most (ended.Shut why) s g offered h may = (
       deeds ++ h.0,
-      met_on old mid new p q r l m n offer event deeds h.0 count most ended.Shut s g offered h.1 (λ e. let bad : ended.Shut ≡ ended.Events = e in cc) (λ more. absurd (more refl)) may
-          (λ e. let bad : ended.Shut ≡ ended.Spent = e in cc),
+      met_on old mid new p q r l m n offer event deeds h.0 count most (ended.Shut why) s g offered h.1 (λ e. let bad : ended.Shut why ≡ ended.Events = e in cc) (λ more. absurd (more why refl)) may
+          (λ e. let bad : ended.Shut why ≡ ended.Spent = e in cc),
     )
     ended_by T old mid new p q r l m n offer event deeds count most ended.Spent s g offered h may = absurd h
 
     pub met_last : {T : Type 0} (old mid new : Option (List (Call R K S))) (p q r : Host A R K S) (l m n : L) (offer : Option ℕ) (event : Event R K S) (deeds : List Deed) (count most : ℕ) (end : Ended) (result : Result T Ended)
         → result ≡ Err end → Met condition account unread taken held size notes old mid p q l m deeds count ended.Spent → Grows mid new (record { offer = offer; event = event } ∷ []) → IsOffer q offer
         → IsMet condition account unread taken held size notes q r m n offer event result
-        → (result ≡ Err ended.Shut → MayEnd r (seconds_of event)) → (all : List Deed) × Met condition account unread taken held size notes old new p r l n all most end
+        → ((why : Cause) → result ≡ Err (ended.Shut why) → MayEnd r why (seconds_of event)) → (all : List Deed) × Met condition account unread taken held size notes old new p r l n all most end
     met_last {T = T} old mid new p q r l m n offer event deeds count most end result is s g offered h may =
-        ended_by T old mid new p q r l m n offer event deeds count most end s g offered (subst (λ (k : Result T Ended). IsMet condition account unread taken held size notes q r m n offer event k) is h) (λ e. may (is ∙ ap Err e))
+        ended_by T old mid new p q r l m n offer event deeds count most end s g offered (subst (λ (k : Result T Ended). IsMet condition account unread taken held size notes q r m n offer event k) is h) (λ why e. may why (is ∙ ap Err e))
 
     pub met_next : (old mid new : Option (List (Call R K S))) (p q r : Host A R K S) (l m n : L) (offer : Option ℕ) (event : Event R K S) (count most : ℕ)
         → (deeds : List Deed) × Met condition account unread taken held size notes old mid p q l m deeds count ended.Spent → Grows mid new (record { offer = offer; event = event } ∷ []) → IsOffer q offer
-        → IsMetBySome q r m n offer event → AllByRecursion (λ second. is_overdue r.shut_since second r.limits ≡ false) (seconds_of event) → most ≡ count + 1
+        → IsMetBySome q r m n offer event → AllByRecursion (λ second. is_overdue r.shut second r.limits ≡ false) (seconds_of event) → most ≡ count + 1
         → (deeds : List Deed) × Met condition account unread taken held size notes old new p r l n deeds most ended.Spent
     met_next old mid new p q r l m n offer event count most s g offered h now next = (
       s.0 ++ h.0,
       met_on old mid new p q r l m n offer event s.0 h.0 count most ended.Spent s.1 g offered h.1 (λ e. let bad : ended.Spent ≡ ended.Events = e in cc) (λ more. now)
-          (λ e. let bad : ended.Spent ≡ ended.Shut = e in cc) (λ e. next),
+          (λ why e. let bad : ended.Spent ≡ ended.Shut why = e in cc) (λ e. next),
     )
 
     -- as many came as may

@@ -1,4 +1,4 @@
--- The rounds of a host that was told that its store is shut.
+-- The rounds of a host that is shut.
 use Rattle.std.proofs.Common.{◌≡◌, inl, inr, ◌≤◌, ◌+◌, ◌-◌, ℕ, true, false, List, [], ◌∷◌, ◌++◌, Option, None, Some, is_some, IfSome, All, Contains, length, take, get_or, refl, sym, ap, subst, ◌∙◌, arith}
 use Rattle.std.proofs.lemmas.List.{get_or_append_left, get_or-append_right, length-append}
 use Rattle.std.proofs.Math.Seq.{take-append_seam}
@@ -6,18 +6,20 @@ use Rattle.std.proofs.lemmas.List.Elements.{All-nil, All-append, All-take, All-f
 use Rattle.std.proofs.lemmas.Bool.{le-ltb}
 use Rattle.std.specs.List.{AllByRecursion}
 use Rattle.std.specs.List.Sorted.{IsNonDecreasing}
+use Rattle.dep_host.specs.declared.ending.Cause.{Cause}
+use Rattle.dep_host.specs.declared.ending.Shut.{Shut}
 use Rattle.dep_host.specs.declared.limits.Limits.{Limits}
 use Rattle.dep_host.specs.declared.seat.Time.{Time}
 use Rattle.dep_host.specs.declared.events.Event.{Event}
-use Rattle.dep_host.specs.declared.events.Event.TheVariants.{Ready, Client, Round, End}
+use Rattle.dep_host.specs.declared.events.Event.TheVariants.{Ready, Client, Round, Stop, End}
 use Rattle.dep_host.specs.declared.serving.Ended.{Ended}
 use Rattle.dep_host.specs.declared.serving.Ended.TheVariants as ended
 use Rattle.dep_host.specs.Coming.{seconds_of}
 use Rattle.dep_host.specs.Courses.{is_past, is_overdue}
 use Rattle.dep_host.specs.Rounds.{IsTold, gone_on, EndsInTime}
 
--- who wasn't told isn't overdue
-pub untold_in_time : (o : Option ℕ) (second : ℕ) (limits : Limits) → is_some o ≡ false → is_overdue o second limits ≡ false
+-- who isn't shut isn't overdue
+pub untold_in_time : (o : Option Shut) (second : ℕ) (limits : Limits) → is_some o ≡ false → is_overdue o second limits ≡ false
 untold_in_time None second limits untold = refl
 untold_in_time (Some since) second limits untold = absurd (let bad : true ≡ false = untold in cc)
 
@@ -25,14 +27,15 @@ pub one_second : {R K S : Type 0} (event : Event R K S) → length (seconds_of e
 one_second (Ready at r w) = omega arith
 one_second (Client client) = omega arith
 one_second (Round time) = omega arith
+one_second (Stop second) = omega arith
 one_second End = omega arith
 
 not_past : (since second : ℕ) (limits : Limits) → second ≤ since → is_past since second limits ≡ false
 not_past since second limits le = le-ltb limits.idle_seconds (second - since) (omega (arith, le))
 
--- no round before the one in which it was told is later, since seconds don't go back
-none_past : (xs ys : List ℕ) (since : ℕ) (limits : Limits) → IsNonDecreasing (xs ++ ys) → Contains ys since → All (λ second. is_overdue (Some since) second limits ≡ false) xs
-none_past xs ys since limits rises at = All-from_get_or (λ second. is_overdue (Some since) second limits ≡ false) xs since (λ i lt.
+-- no round before the one in which it was shut is later, since seconds don't go back
+none_past : (xs ys : List ℕ) (since : ℕ) (limits : Limits) → IsNonDecreasing (xs ++ ys) → Contains ys since → All (λ second. is_past since second limits ≡ false) xs
+none_past xs ys since limits rises at = All-from_get_or (λ second. is_past since second limits ≡ false) xs since (λ i lt.
     let left : get_or (xs ++ ys) i since ≡ get_or xs i since = get_or_append_left xs ys since i lt in
     let place : (length xs + at.0) - length xs ≡ at.0 = omega arith in
     let right : get_or (xs ++ ys) (length xs + at.0) since ≡ since =
@@ -42,12 +45,12 @@ none_past xs ys since limits rises at = All-from_get_or (λ second. is_overdue (
     let le : get_or (xs ++ ys) i since ≤ get_or (xs ++ ys) (length xs + at.0) since = rises i (length xs + at.0) since (omega (arith, lt)) (omega (arith, within, long)) in
     not_past since (get_or xs i since) limits (omega (arith, le, left, right)))
 
--- the rounds of before were in time also by what it was told since
-earlier : (mid last : Option ℕ) (limits : Limits) (xs ys : List ℕ) → IsTold mid last ys → IsNonDecreasing (xs ++ ys) → All (λ second. is_overdue mid second limits ≡ false) xs
+-- the rounds of before were in time also by when it was shut since
+earlier : (mid last : Option Shut) (limits : Limits) (xs ys : List ℕ) → IsTold mid last ys → IsNonDecreasing (xs ++ ys) → All (λ second. is_overdue mid second limits ≡ false) xs
     → All (λ second. is_overdue last second limits ≡ false) xs
-earlier mid last limits xs ys (inl e) rises h = subst (λ (o : Option ℕ). All (λ second. is_overdue o second limits ≡ false) xs) (sym e) h
+earlier mid last limits xs ys (inl e) rises h = subst (λ (o : Option Shut). All (λ second. is_overdue o second limits ≡ false) xs) (sym e) h
 earlier mid None limits xs ys (inr t) rises h = All-from_get_or (λ second. is_overdue None second limits ≡ false) xs 0 (λ i lt. refl)
-earlier mid (Some since) limits xs ys (inr t) rises h = none_past xs ys since limits rises t.1
+earlier mid (Some shut) limits xs ys (inr t) rises h = none_past xs ys shut.second limits rises t.1
 
 rises_front : (xs ys : List ℕ) → IsNonDecreasing (xs ++ ys) → IsNonDecreasing xs
 rises_front xs ys rises = λ i j d le lt.
@@ -58,32 +61,32 @@ rises_front xs ys rises = λ i j d le lt.
     let all : get_or xs i d ≤ get_or xs j d = omega (arith, a, b, both) in
     all
 
-told_left : (o : Option ℕ) (xs ys : List ℕ) → IfSome o (λ second. Contains xs second) → IfSome o (λ second. Contains (xs ++ ys) second)
+told_left : (o : Option Shut) (xs ys : List ℕ) → IfSome o (λ shut. Contains xs shut.second) → IfSome o (λ shut. Contains (xs ++ ys) shut.second)
 told_left None xs ys h = tt
-told_left (Some since) xs ys h = Contains-append_left xs ys since h
+told_left (Some shut) xs ys h = Contains-append_left xs ys shut.second h
 
-told_right : (o : Option ℕ) (xs ys : List ℕ) → IfSome o (λ second. Contains ys second) → IfSome o (λ second. Contains (xs ++ ys) second)
+told_right : (o : Option Shut) (xs ys : List ℕ) → IfSome o (λ shut. Contains ys shut.second) → IfSome o (λ shut. Contains (xs ++ ys) shut.second)
 told_right None xs ys h = tt
-told_right (Some since) xs ys h = Contains-append_right xs ys since h
+told_right (Some shut) xs ys h = Contains-append_right xs ys shut.second h
 
--- it was told in the one stretch or the other
-told_on : (first mid last : Option ℕ) (xs ys : List ℕ) → IsTold first mid xs → IsTold mid last ys → IsTold first last (xs ++ ys)
+-- it was shut in the one stretch or the other
+told_on : (first mid last : Option Shut) (xs ys : List ℕ) → IsTold first mid xs → IsTold mid last ys → IsTold first last (xs ++ ys)
 told_on first mid last xs ys (inl e) (inl f) = inl (f ∙ e)
-told_on first mid last xs ys (inl e) (inr t) = inr (subst (λ (o : Option ℕ). is_some o ≡ false) e t.0, told_right last xs ys t.1)
-told_on first mid last xs ys (inr s) (inl f) = inr (s.0, subst (λ (o : Option ℕ). IfSome o (λ second. Contains (xs ++ ys) second)) (sym f) (told_left mid xs ys s.1))
+told_on first mid last xs ys (inl e) (inr t) = inr (subst (λ (o : Option Shut). is_some o ≡ false) e t.0, told_right last xs ys t.1)
+told_on first mid last xs ys (inr s) (inl f) = inr (s.0, subst (λ (o : Option Shut). IfSome o (λ shut. Contains (xs ++ ys) shut.second)) (sym f) (told_left mid xs ys s.1))
 told_on first mid last xs ys (inr s) (inr t) = inr (s.0, told_right last xs ys t.1)
 
 -- all rounds but one that it ends in are in time
-in_time_on : (P : ℕ → Type 0) (end : Ended) (xs ys : List ℕ) → length ys ≤ 1 → All P xs → ((end ≡ ended.Shut → ⊥) → AllByRecursion P ys) → All P (gone_on end (xs ++ ys))
-in_time_on P ended.Events xs ys short h k = All-append P xs ys h (All-from_recursion P ys (k (λ e. let bad : ended.Events ≡ ended.Shut = e in cc)))
-in_time_on P ended.Spent xs ys short h k = All-append P xs ys h (All-from_recursion P ys (k (λ e. let bad : ended.Spent ≡ ended.Shut = e in cc)))
-in_time_on P ended.Shut xs [] short h k = All-take P (length (xs ++ []) - 1) (xs ++ []) (All-append P xs [] h (All-nil P))
-in_time_on P ended.Shut xs (y ∷ []) short h k =
+in_time_on : (P : ℕ → Type 0) (end : Ended) (xs ys : List ℕ) → length ys ≤ 1 → All P xs → (((why : Cause) → end ≡ ended.Shut why → ⊥) → AllByRecursion P ys) → All P (gone_on end (xs ++ ys))
+in_time_on P ended.Events xs ys short h k = All-append P xs ys h (All-from_recursion P ys (k (λ why e. let bad : ended.Events ≡ ended.Shut why = e in cc)))
+in_time_on P ended.Spent xs ys short h k = All-append P xs ys h (All-from_recursion P ys (k (λ why e. let bad : ended.Spent ≡ ended.Shut why = e in cc)))
+in_time_on P (ended.Shut why) xs [] short h k = All-take P (length (xs ++ []) - 1) (xs ++ []) (All-append P xs [] h (All-nil P))
+in_time_on P (ended.Shut why) xs (y ∷ []) short h k =
     let long = length-append xs (y ∷ []) in
     let one : length (y ∷ []) ≡ 1 = refl in
     let n : length (xs ++ y ∷ []) - 1 ≡ length xs = omega (arith, long, one) in
     subst (λ (l : List ℕ). All P l) (sym (ap (λ (m : ℕ). take m (xs ++ y ∷ [])) n ∙ take-append_seam xs (y ∷ []))) h
-in_time_on P ended.Shut xs (y ∷ (z ∷ ys)) short h k =
+in_time_on P (ended.Shut why) xs (y ∷ (z ∷ ys)) short h k =
     let long : length (y ∷ (z ∷ ys)) ≡ length (y ∷ (z ∷ [])) + length ys = length-append (y ∷ (z ∷ [])) ys in
     let two : length (y ∷ (z ∷ [])) ≡ 2 = refl in
     absurd (let no : ⊥ = omega (arith, short, long, two) in no)
@@ -91,17 +94,20 @@ in_time_on P ended.Shut xs (y ∷ (z ∷ ys)) short h k =
 pub all_round : {R K S : Type 0} (P : ℕ → Type 0) (event : Event R K S) (time : Time) → event ≡ Round time → P time.second → AllByRecursion P (seconds_of event)
 all_round {R = R} {K = K} {S = S} P event time is h = subst (λ (e : Event R K S). AllByRecursion P (seconds_of e)) (sym is) (h, tt)
 
+pub all_stop : {R K S : Type 0} (P : ℕ → Type 0) (event : Event R K S) (second : ℕ) → event ≡ Stop second → P second → AllByRecursion P (seconds_of event)
+all_stop {R = R} {K = K} {S = S} P event second is h = subst (λ (e : Event R K S). AllByRecursion P (seconds_of e)) (sym is) (h, tt)
+
 -- no round so far
-pub rounds_begin : (shut : Option ℕ) (limits : Limits) → EndsInTime [] shut shut limits ended.Spent
+pub rounds_begin : (shut : Option Shut) (limits : Limits) → EndsInTime [] shut shut limits ended.Spent
 rounds_begin shut limits = record {
   is_told = inl refl;
   in_time = λ rises. All-nil (λ second. is_overdue shut second limits ≡ false);
 }
 
 -- an event more
-pub rounds_go_on : (xs ys : List ℕ) (first mid last : Option ℕ) (was limits : Limits) (end : Ended)
+pub rounds_go_on : (xs ys : List ℕ) (first mid last : Option Shut) (was limits : Limits) (end : Ended)
     → EndsInTime xs first mid was ended.Spent → IsTold mid last ys → length ys ≤ 1 → limits ≡ was
-    → ((end ≡ ended.Shut → ⊥) → AllByRecursion (λ second. is_overdue last second limits ≡ false) ys)
+    → (((why : Cause) → end ≡ ended.Shut why → ⊥) → AllByRecursion (λ second. is_overdue last second limits ≡ false) ys)
     → EndsInTime (xs ++ ys) first last limits end
 rounds_go_on xs ys first mid last was limits end it told short same now =
     let s : EndsInTime xs first mid limits ended.Spent = subst (λ (l : Limits). EndsInTime xs first mid l ended.Spent) (sym same) it in

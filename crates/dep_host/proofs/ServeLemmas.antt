@@ -7,6 +7,7 @@ use Rattle.std.specs.Prelude.{IfSome}
 use Rattle.dep_types.specs.Conditions.{Condition}
 use Rattle.dep_outbox.specs.declared.wire.Wire.{Wire}
 use Rattle.dep_outbox.specs.Wires.{told, owed_count}
+use Rattle.dep_host.specs.declared.ending.Shut.{Shut}
 use Rattle.dep_host.specs.declared.course.Phase.{Phase}
 use Rattle.dep_host.specs.Courses.{duty, is_ended, is_held_back, phase_begun}
 use Rattle.dep_host.specs.declared.seat.Seat.{Seat}
@@ -72,7 +73,7 @@ module _ {A R K S : Type 0} (condition : A → Condition) (unread : R → Option
   served_before p q r xs ys is_full before after answered read to.Answer s shut (inl one) = inl one
   served_before p q r xs ys is_full before after answered read to.Answer s shut (inr lost) = inr (lost_before p q r before.connection xs ys s lost)
   served_before p q r xs ys is_full before after answered read to.Read s shut (inl one) = inl one
-  served_before p q r xs ys is_full before after answered read to.Read s shut (inr (inl back)) = inr (inl (subst (λ (o : Option ℕ). is_held_back before.course is_full (is_some o) ≡ true) shut back))
+  served_before p q r xs ys is_full before after answered read to.Read s shut (inr (inl back)) = inr (inl (subst (λ (o : Option Shut). is_held_back before.course is_full (is_some o) ≡ true) shut back))
   served_before p q r xs ys is_full before after answered read to.Read s shut (inr (inr none)) = inr (inr none)
   served_before p q r xs ys is_full before after answered read to.Finish s shut h = h
   served_before p q r xs ys is_full before after answered read to.Drain s shut h = tt
@@ -117,7 +118,7 @@ module _ {A R K S : Type 0} (condition : A → Condition) (unread : R → Option
       let answered : answers_at place ys ≡ answers_at place (xs ++ ys) = let e = answers_append place xs ys in omega (arith, e, none) in
       let pieces : pieces_at place ys ≡ pieces_at place (xs ++ ys) = let e = pieces_append place xs ys in omega (arith, e, unread_yet) in
       served_before p q r xs ys is_full seat (slot place r.seats) (answers_at place (xs ++ ys)) (pieces_at place (xs ++ ys)) (turn_duty size p.shut seat) s shut
-      (subst (λ (o : Option ℕ). IsServed condition unread taken held size q r ys is_full seat (slot place r.seats) (answers_at place (xs ++ ys)) (pieces_at place (xs ++ ys)) (turn_duty size o seat)) shut
+      (subst (λ (o : Option Shut). IsServed condition unread taken held size q r ys is_full seat (slot place r.seats) (answers_at place (xs ++ ys)) (pieces_at place (xs ++ ys)) (turn_duty size o seat)) shut
       (subst (λ (n : ℕ). IsServed condition unread taken held size q r ys is_full seat (slot place r.seats) (answers_at place (xs ++ ys)) n (turn_duty size q.shut seat)) pieces
       (subst (λ (n : ℕ). IsServed condition unread taken held size q r ys is_full seat (slot place r.seats) n (pieces_at place ys) (turn_duty size q.shut seat)) answered h)))
 
@@ -229,7 +230,7 @@ module _ {A R K S : Type 0} (condition : A → Condition) (unread : R → Option
   }
 
   -- what comes next is what came next as the turn began
-  duty_begun : (shut : Option ℕ) (is_shut : Bool) (before mid : Seat R K S) → is_shut ≡ is_some shut → mid.course.phase ≡ phase_begun before.course.phase is_shut → mid.wire ≡ before.wire
+  duty_begun : (shut : Option Shut) (is_shut : Bool) (before mid : Seat R K S) → is_shut ≡ is_some shut → mid.course.phase ≡ phase_begun before.course.phase is_shut → mid.wire ≡ before.wire
       → mid.course.is_readable ≡ before.course.is_readable → mid.course.is_writable ≡ before.course.is_writable → next_duty size mid ≡ turn_duty size shut before
   duty_begun shut is_shut before mid told phase wire readable writable =
       ap (λ (h : Phase). duty h (nat_lt 0 (owed_count size mid.wire)) mid.course.is_readable mid.course.is_writable) (phase ∙ ap (λ (b : Bool). phase_begun before.course.phase b) told)
@@ -241,7 +242,7 @@ module _ {A R K S : Type 0} (condition : A → Condition) (unread : R → Option
       → is_held_back mid.course is_full (is_some m.shut) ≡ true → is_held_back before.course is_full (is_some p.shut) ≡ true
   held_back p m is_full before mid shut count back =
       subst (λ (n : ℕ). (is_some p.shut || (is_full && nat_lt 0 n)) ≡ true) count
-      (subst (λ (o : Option ℕ). (is_some o || (is_full && nat_lt 0 mid.course.unfinished)) ≡ true) shut back)
+      (subst (λ (o : Option Shut). (is_some o || (is_full && nat_lt 0 mid.course.unfinished)) ≡ true) shut back)
 
   -- who was served once its turn had begun was served
   served_begun : (p m q : Position A R K S) (deeds : List Deed) (is_full : Bool) (before mid after : Seat R K S) (answered read : ℕ) (d : Duty) → Steps condition unread taken held p [] m → m.shut ≡ p.shut

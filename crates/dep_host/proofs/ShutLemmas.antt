@@ -1,7 +1,10 @@
--- What a host does once it was told that its store is shut.
-use Rattle.std.proofs.Common.{◌≡◌, inl, inr, ℕ, true, false, List, [], ◌∷◌, ◌++◌, Option, Some, is_some, sym, ap, subst, ◌∙◌}
+-- What a host does once it is shut.
+use Rattle.std.proofs.Common.{◌≡◌, inl, inr, ℕ, true, false, List, [], ◌∷◌, ◌++◌, Option, None, Some, is_some, IfSome, sym, ap, subst, ◌∙◌}
 use Rattle.dep_types.specs.Conditions.{Condition}
 use Rattle.dep_hub.specs.Standing.{IsClean}
+use Rattle.dep_host.specs.declared.ending.Cause.TheVariants.{Store}
+use Rattle.dep_host.specs.declared.ending.Shut.{Shut}
+use Rattle.dep_host.specs.Meeting.{IsShutBy}
 use Rattle.dep_host.specs.Hosting.{Position, Deed, AreOutgoing, IsRightlyTold, Step, refused, asks, comes, rests, offers, refuses, answers, leaves, Steps, begins, goes_on}
 use Rattle.dep_host.proofs.CloseLemmas.{clean_before}
 
@@ -9,11 +12,25 @@ outgoing_append : (xs ys : List Deed) → AreOutgoing xs → AreOutgoing ys → 
 outgoing_append [] ys h k = k
 outgoing_append (d ∷ xs) ys h k = (h.0, outgoing_append xs ys h.1 k)
 
-not_some : (o : Option ℕ) (since : ℕ) → is_some o ≡ false → o ≡ Some since → ⊥
+not_some : (o : Option Shut) (since : Shut) → is_some o ≡ false → o ≡ Some since → ⊥
 not_some o since none told = let bad : true ≡ false = sym (ap is_some told) ∙ none in cc
 
+-- what is shut for another cause than its store tells nothing of that
+rightly_before : {X Y : Type 0} (o : Option Shut) → (Y → X) → IfSome o (λ shut. shut.cause ≡ Store → X → ⊥) → IfSome o (λ shut. shut.cause ≡ Store → Y → ⊥)
+rightly_before None before h = tt
+rightly_before (Some shut) before h = λ is y. h is (before y)
+
+-- what isn't shut is rightly told, and what is shut for its store is told so
+pub untold_rightly : (X : Type 0) (o : Option Shut) → is_some o ≡ false → IfSome o (λ shut. shut.cause ≡ Store → X → ⊥)
+untold_rightly X None none = tt
+untold_rightly X (Some shut) none = absurd (let bad : true ≡ false = none in cc)
+
+pub told_by_store : (X : Type 0) (o : Option Shut) → IsShutBy o Store → IfSome o (λ shut. shut.cause ≡ Store → X → ⊥) → X → ⊥
+told_by_store X None shut h = absurd shut
+told_by_store X (Some shut) is h = h is
+
 module _ {A R K S : Type 0} (condition : A → Condition) (unread : R → Option (List ℕ)) (taken : K → Option (List ℕ)) (held : S → Option (List ℕ)) where
-  step_outgoing : {p q : Position A R K S} {more : List Deed} (since : ℕ) → Step condition unread taken held p q more → p.shut ≡ Some since → AreOutgoing more × (q.shut ≡ Some since)
+  step_outgoing : {p q : Position A R K S} {more : List Deed} (since : Shut) → Step condition unread taken held p q more → p.shut ≡ Some since → AreOutgoing more × (q.shut ≡ Some since)
   step_outgoing since (refused r) told = (tt, r.same_shut ∙ told)
   step_outgoing {p = p} {q = q} since (asks r) told = elim r.told [
     | inl same ↦ (tt, same ∙ told)
@@ -26,7 +43,7 @@ module _ {A R K S : Type 0} (condition : A → Condition) (unread : R → Option
   step_outgoing since (answers t a) told = ((tt, tt), t.same_shut ∙ told)
   step_outgoing since (leaves r) told = ((tt, tt), r.same_shut ∙ told)
 
-  pub steps_outgoing : {p q : Position A R K S} {deeds : List Deed} (since : ℕ) → Steps condition unread taken held p deeds q → p.shut ≡ Some since → AreOutgoing deeds × (q.shut ≡ Some since)
+  pub steps_outgoing : {p q : Position A R K S} {deeds : List Deed} (since : Shut) → Steps condition unread taken held p deeds q → p.shut ≡ Some since → AreOutgoing deeds × (q.shut ≡ Some since)
   steps_outgoing since begins told = (tt, told)
   steps_outgoing since (goes_on {deeds = deeds} {more = more} s t) told =
       let before = steps_outgoing since s told in
@@ -35,13 +52,13 @@ module _ {A R K S : Type 0} (condition : A → Condition) (unread : R → Option
 
   -- what it was told stays true
   rightly_kept : (p q : Position A R K S) → q.shut ≡ p.shut → (IsClean condition q.hub → IsClean condition p.hub) → IsRightlyTold condition p → IsRightlyTold condition q
-  rightly_kept p q same before h = λ told clean. h (subst (λ (o : Option ℕ). is_some o ≡ true) same told) (before clean)
+  rightly_kept p q same before h = subst (λ (o : Option Shut). IfSome o (λ shut. shut.cause ≡ Store → IsClean condition q.hub → ⊥)) (sym same) (rightly_before p.shut before h)
 
   step_rightly : {p q : Position A R K S} {more : List Deed} → Step condition unread taken held p q more → IsRightlyTold condition p → IsRightlyTold condition q
   step_rightly {p = p} {q = q} (refused r) h = rightly_kept p q r.same_shut (clean_before condition unread taken held (refused r)) h
   step_rightly {p = p} {q = q} (asks r) h = elim r.told [
     | inl same ↦ rightly_kept p q same r.hub.clean h
-    | inr first ↦ λ told clean. first.1 clean
+    | inr first ↦ first.1
   ]
   step_rightly {p = p} {q = q} (comes {at = at} {seat = seat} r) h = rightly_kept p q r.same_shut (clean_before condition unread taken held (comes {at = at} {seat = seat} r)) h
   step_rightly {p = p} {q = q} (rests t r) h = rightly_kept p q t.same_shut t.hub.clean h

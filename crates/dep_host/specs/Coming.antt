@@ -8,7 +8,7 @@ use Rattle.std.specs.declared.net.ip_addr.IpAddr.TheVariants.{V4, V6}
 use Rattle.dep_outbox.specs.Wires.{told}
 use Rattle.dep_host.specs.declared.seat.Seat.{Seat}
 use Rattle.dep_host.specs.declared.events.Event.{Event}
-use Rattle.dep_host.specs.declared.events.Event.TheVariants.{Ready, Client, Round, End}
+use Rattle.dep_host.specs.declared.events.Event.TheVariants.{Ready, Client, Round, Stop, End}
 
 -- the way to a client that connects has taken nothing
 abbrev pub IsFresh : {R K S : Type 0} → (K → Option (List ℕ)) → (S → Option (List ℕ))
@@ -16,13 +16,15 @@ abbrev pub IsFresh : {R K S : Type 0} → (K → Option (List ℕ)) → (S → O
 IsFresh taken held (Ready at r w) = Unit {0}
 IsFresh taken held (Client client) = IsAtEnd (told taken held client.wire)
 IsFresh taken held (Round time) = Unit {0}
+IsFresh taken held (Stop second) = Unit {0}
 IsFresh taken held End = Unit {0}
 
--- the second of a round
+-- the second of a round, or at which it is told to stop
 abbrev pub seconds_of : {R K S : Type 0} → Event R K S → List ℕ
 seconds_of (Ready at r w) = []
 seconds_of (Client client) = []
 seconds_of (Round time) = time.second ∷ []
+seconds_of (Stop second) = second ∷ []
 seconds_of End = []
 
 -- what came when it was asked what comes, and the place that was offered then
@@ -30,7 +32,7 @@ pub record Call (R K S : Type 0) : Type 0 where
   pub offer : Option ℕ
   pub event : Event R K S
 
--- the seconds of the rounds among what came
+-- the seconds of the rounds among what came, and of where it was told to stop
 abbrev pub seconds_in : {R K S : Type 0} → List (Call R K S) → List ℕ
 seconds_in calls = flat_map (λ c. seconds_of c.event) calls
 

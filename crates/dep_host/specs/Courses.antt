@@ -5,6 +5,7 @@ use Rattle.dep_host.specs.declared.course.Phase.{Phase}
 use Rattle.dep_host.specs.declared.course.Phase.TheVariants.{Open, Answering, Last, Draining, Over}
 use Rattle.dep_host.specs.declared.course.Duty.{Duty}
 use Rattle.dep_host.specs.declared.course.Duty.TheVariants.{Flush, Answer, Read, Finish, Drain, Wait}
+use Rattle.dep_host.specs.declared.ending.Shut.{Shut}
 use Rattle.dep_host.specs.declared.limits.Limits.{Limits}
 use Rattle.dep_host.specs.declared.log.Closing.{Closing}
 use Rattle.dep_host.specs.declared.log.Closing.TheVariants as ends
@@ -21,7 +22,7 @@ duty Last false r w = Finish
 duty Draining true r w = if w then Flush else Wait
 duty Draining false r w = if r then Drain else Wait
 
--- how far it is once its turn begins: once the store is shut it is read no more
+-- how far it is once its turn begins: once the host is shut it is read no more
 abbrev pub phase_begun : Phase → (is_shut : Bool) → Phase
 phase_begun Open is_shut = if is_shut then Last else Open
 phase_begun Answering is_shut = Answering
@@ -29,7 +30,7 @@ phase_begun Last is_shut = Last
 phase_begun Draining is_shut = Draining
 phase_begun Over is_shut = Over
 
--- it isn't read though it could be: the store is shut, or too many bytes of unfinished requests are
+-- it isn't read though it could be: the host is shut, or too many bytes of unfinished requests are
 -- kept, and some of these are its
 abbrev pub is_held_back : Course → (is_full is_shut : Bool) → Bool
 is_held_back c is_full is_shut = is_shut || (is_full && nat_lt 0 c.unfinished)
@@ -38,10 +39,10 @@ is_held_back c is_full is_shut = is_shut || (is_full && nat_lt 0 c.unfinished)
 abbrev pub is_past : (since second : ℕ) → Limits → Bool
 is_past since second limits = nat_lt limits.idle_seconds (second - since)
 
--- an idle time has passed since this second, if there is one
-abbrev pub is_overdue : (told : Option ℕ) → (second : ℕ) → Limits → Bool
+-- an idle time has passed since a host was shut, if it is
+abbrev pub is_overdue : Option Shut → (second : ℕ) → Limits → Bool
 is_overdue None second limits = false
-is_overdue (Some since) second limits = is_past since second limits
+is_overdue (Some shut) second limits = is_past shut.second second limits
 
 -- it was silent for longer than it may be
 abbrev pub is_silent : Course → (second : ℕ) → Limits → Bool

@@ -1,5 +1,5 @@
 -- How a host goes on: what becomes of its places, what comes to its hub, and what its wires take for it.
-use Rattle.std.specs.Prelude.{◌≡◌, ◌⊎◌, ◌<◌, ◌≤◌, ◌+◌, ◌==◌, nat_lt, ℕ, Bool, List, [], ◌∷◌, ◌++◌, length, get_or, set, Option, None, Some, is_some, IsSome, IfSome, IsNone, if◌then◌else◌, true, false}
+use Rattle.std.specs.Prelude.{◌≡◌, ◌⊎◌, ◌<◌, ◌≤◌, ◌+◌, ◌==◌, nat_lt, ℕ, Bool, List, [], ◌∷◌, ◌++◌, length, get_or, set, Option, None, Some, is_some, IfSome, IsNone, if◌then◌else◌, true, false}
 use Rattle.std.specs.List.{flat_map}
 use Rattle.std.specs.Io.KnownBytes.{IsAtEnd}
 use Rattle.dep_types.specs.Conditions.{Condition}
@@ -14,18 +14,20 @@ use Rattle.dep_host.specs.declared.course.Duty.TheVariants as to
 use Rattle.dep_host.specs.declared.seat.Seat.{Seat}
 use Rattle.dep_host.specs.declared.seat.Time.{Time}
 use Rattle.dep_host.specs.declared.host.Host.{Host}
+use Rattle.dep_host.specs.declared.ending.Cause.TheVariants as cause
+use Rattle.dep_host.specs.declared.ending.Shut.{Shut}
 use Rattle.dep_host.specs.declared.limits.Limits.{Limits}
 use Rattle.dep_host.specs.declared.log.Closing.{Closing}
 use Rattle.dep_host.specs.declared.log.Closing.TheVariants as ends
 use Rattle.dep_host.specs.Courses.{closing, duty, is_ended, is_held_back, phase_begun}
 use Rattle.dep_host.specs.Seats.{HubStays, SameClient, SendsOn, next_duty, IsUnknown, Rests, Offers, Refuses, Answers}
 
--- the hub, who sits where, what bounds them, and at which second it was told that the store is shut
+-- the hub, who sits where, what bounds them, and since when it is shut
 pub record Position (A R K S : Type 0) : Type 0 where
   pub hub : Hub A
   pub seats : List (Option (Seat R K S))
   pub limits : Limits
-  pub shut : Option ℕ
+  pub shut : Option Shut
 
 -- a host, by its parts
 abbrev pub position : {A R K S : Type 0} → Host A R K S → Position A R K S
@@ -33,7 +35,7 @@ position host = record {
   hub = host.hub;
   seats = host.seats.items;
   limits = host.limits;
-  shut = host.shut_since;
+  shut = host.shut;
 }
 
 -- who sits at a place
@@ -119,11 +121,12 @@ abbrev pub AreDoneAt : Time → List Deed → Type 0
 AreDoneAt time [] = Unit {0}
 AreDoneAt time (d ∷ deeds) = IsDoneAt time d × AreDoneAt time deeds
 
--- the store is shut, if a host was told so
+-- the store is shut, if a host is shut for that cause
 abbrev pub IsRightlyTold : {A R K S : Type 0} → (A → Condition) → Position A R K S → Type 0
-IsRightlyTold condition p = IsSome p.shut → IsClean condition p.hub → ⊥
+IsRightlyTold condition p =
+    IfSome p.shut (λ shut. shut.cause ≡ cause.Store → IsClean condition p.hub → ⊥)
 
--- what a host still does once it was told that its store is shut: nothing is opened and nothing read
+-- what a host still does once it is shut: nothing is opened and nothing read
 abbrev pub IsOutgoing : Deed → Type 0
 IsOutgoing (Opens at n given) = ⊥
 IsOutgoing (Takes at n piece) = ⊥
@@ -151,8 +154,8 @@ HasReason p second seat reason = (closing seat.course second p.limits ≡ Some r
 
 module _ {A R K S : Type 0} (condition : A → Condition) (unread : R → Option (List ℕ))
     (taken : K → Option (List ℕ)) (held : S → Option (List ℕ)) where
-  -- a connection is opened, over a wire that took nothing, and sits where nobody sat; not once it was
-  -- told that the store is shut
+  -- a connection is opened, over a wire that took nothing, and sits where nobody sat; not once it is
+  -- shut
   pub record Comes (p q : Position A R K S) (at : ℕ) (seat : Seat R K S) : Type 0 where
     pub there : at < length p.seats
     pub free : slot at p.seats ≡ None
@@ -181,13 +184,13 @@ module _ {A R K S : Type 0} (condition : A → Condition) (unread : R → Option
     pub same_shut : q.shut ≡ p.shut
 
   -- the hub is asked whether its store is open, and may say for the first time that it isn't; or the
-  -- store works ahead
+  -- store works ahead; or it is told to stop, for the first time
   pub record Asks (p q : Position A R K S) : Type 0 where
     pub sits : q.seats ≡ p.seats
     pub hub : HubStays condition p.hub q.hub
     pub stands : StandsOn condition p.hub q.hub
     pub same_limits : q.limits ≡ p.limits
-    pub told : (q.shut ≡ p.shut) ⊎ (IsNone p.shut × (IsClean condition q.hub → ⊥))
+    pub told : (q.shut ≡ p.shut) ⊎ (IsNone p.shut × IsRightlyTold condition q)
 
   -- a connection has its turn, and no other place changes
   pub record HasTurn (p q : Position A R K S) (at : ℕ) (before after : Seat R K S) : Type 0 where
@@ -251,7 +254,7 @@ module _ {A R K S : Type 0} (condition : A → Condition) (unread : R → Option
   Sheds p q second = (q ≡ p) ⊎ ((at : ℕ) × (seat : Seat R K S) × Goes p q at second seat)
 
 -- what a connection does next once its turn begins
-abbrev pub turn_duty : {R K S : Type 0} → (S → ℕ) → (shut : Option ℕ) → Seat R K S → Duty
+abbrev pub turn_duty : {R K S : Type 0} → (S → ℕ) → Option Shut → Seat R K S → Duty
 turn_duty size shut seat = duty (phase_begun seat.course.phase (is_some shut))
     (nat_lt 0 (owed_count size seat.wire)) seat.course.is_readable seat.course.is_writable
 
@@ -330,13 +333,13 @@ IsWaiting size (Some seat) = next_duty size seat ≡ to.Wait
 -- a further connection can be seated at a place
 abbrev pub IsVacant : {A R K S : Type 0} → Host A R K S → ℕ → Type 0
 IsVacant host at = (at < length host.seats.items) × (slot at host.seats.items ≡ None)
-    × IsNone host.shut_since
+    × IsNone host.shut
 
--- what bounds a host, what it was told and how many places it has is as it was
+-- what bounds a host, since when it is shut and how many places it has is as it was
 pub record Stays {A R K S : Type 0} (old new : Host A R K S) : Type 0 where
   pub places : length new.seats.items ≡ length old.seats.items
   pub limits : new.limits ≡ old.limits
-  pub shut : new.shut_since ≡ old.shut_since
+  pub shut : new.shut ≡ old.shut
   pub unanswered : new.unanswered ≡ old.unanswered
 
 -- a connection sits at a place that may be closed for a reason

@@ -6,6 +6,7 @@ use Rattle.dep_hub.specs.Records.{Record}
 use Rattle.dep_hub.specs.Standing.{IsClean}
 use Rattle.dep_hub.specs.Holding.{StandsHoldingAfter}
 use Rattle.dep_outbox.specs.Wires.{told}
+use Rattle.dep_host.specs.declared.ending.Shut.{Shut}
 use Rattle.dep_host.specs.declared.seat.Seat.{Seat}
 use Rattle.dep_host.specs.Hosting.{Position, Deed, Steps, Tells, AreOutgoing, IsEmpty, slot, replies_to}
 use Rattle.dep_host.specs.Runs.{StandsBehind, KeepsPromise, Follows, StaysOpen, read_of, arrived_of}
@@ -54,7 +55,7 @@ module _ {A R K S : Type 0} (condition : A → Condition) (unread : R → Option
       → Steps condition unread taken held p deeds q → IsClean condition q.hub
       → KeepsPromise condition unread taken held q first before deeds
 
-  -- who was told that the store is shut lets nobody in, reads nothing, and forgets it never
+  -- a host that is shut lets nobody in, reads nothing, and stays so
   abbrev pub TakesNothing : Type 0
-  TakesNothing = (p q : Position A R K S) (deeds : List Deed) (since : ℕ) → p.shut ≡ Some since
+  TakesNothing = (p q : Position A R K S) (deeds : List Deed) (since : Shut) → p.shut ≡ Some since
       → Steps condition unread taken held p deeds q → AreOutgoing deeds × (q.shut ≡ Some since)

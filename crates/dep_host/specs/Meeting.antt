@@ -1,5 +1,5 @@
 -- What a host makes of what comes to it, event by event.
-use Rattle.std.specs.Prelude.{◌≡◌, ◌⊎◌, ◌<◌, ◌≤◌, ◌-◌, ◌^◌, ℕ, Bool, true, false, List, [], ◌∷◌, ◌++◌, length, set, Option, None, Some, IsNone, IsSome}
+use Rattle.std.specs.Prelude.{◌≡◌, ◌⊎◌, ◌<◌, ◌≤◌, ◌-◌, ◌^◌, ℕ, Bool, true, false, List, [], ◌∷◌, ◌++◌, length, set, Option, None, Some, IsNone, IsSome, IsSomeAnd}
 use Rattle.std.specs.List.{Contains}
 use Rattle.std.specs.Option.{option_map}
 use Rattle.std.specs.declared.result.Result.{Result}
@@ -14,6 +14,9 @@ use Rattle.dep_hub.specs.declared.hub.Hub.{Hub}
 use Rattle.dep_host.specs.declared.seat.Seat.{Seat}
 use Rattle.dep_host.specs.declared.seat.Time.{Time}
 use Rattle.dep_host.specs.declared.host.Host.{Host}
+use Rattle.dep_host.specs.declared.ending.Cause.{Cause}
+use Rattle.dep_host.specs.declared.ending.Cause.TheVariants as cause
+use Rattle.dep_host.specs.declared.ending.Shut.{Shut}
 use Rattle.dep_host.specs.declared.log.Refusal.{Refusal}
 use Rattle.dep_host.specs.declared.log.Refusal.TheVariants as refusal
 use Rattle.dep_host.specs.declared.events.Client.{Client}
@@ -41,18 +44,35 @@ pub record Wakes {A R K S : Type 0} (p q : Host A R K S) (at : ℕ) (is_readable
       (option_map (λ s. woken_seat s is_readable is_writable) (slot at p.seats.items))
   pub stays : Stays p q
 
--- It may end because its store is shut, as it was told: nobody sits there any more, or one of these
--- rounds was an idle time later.
-abbrev pub MayEnd : {A R K S : Type 0} → Host A R K S → (rounds : List ℕ) → Type 0
-MayEnd host rounds = IsSome host.shut_since × (IsEmpty (position host)
+-- it is shut, for this cause
+abbrev pub IsShutBy : Option Shut → Cause → Type 0
+IsShutBy shut why = IsSomeAnd shut (λ s. s.cause ≡ why)
+
+-- It may end as it is shut for this cause: nobody sits there any more, or one of these rounds was an
+-- idle time later.
+abbrev pub MayEnd : {A R K S : Type 0} → Host A R K S → Cause → (rounds : List ℕ) → Type 0
+MayEnd host why rounds = IsShutBy host.shut why × (IsEmpty (position host)
     ⊎ ((second : ℕ) × Contains rounds second
-    × (is_overdue host.shut_since second host.limits ≡ true)))
+    × (is_overdue host.shut second host.limits ≡ true)))
+
+-- since when it is shut once it was told at a second to stop
+abbrev pub shut_by : Option Shut → (second : ℕ) → Option Shut
+shut_by None second = Some record { second = second; cause = cause.Stop }
+shut_by (Some shut) second = Some shut
+
+-- it was told at a second to stop, and nothing else changes
+pub record Stops {A R K S : Type 0} (p q : Host A R K S) (second : ℕ) : Type 0 where
+  pub same_hub : q.hub ≡ p.hub
+  pub same_seats : q.seats.items ≡ p.seats.items
+  pub limits : q.limits ≡ p.limits
+  pub unanswered : q.unanswered ≡ p.unanswered
+  pub shut : q.shut ≡ shut_by p.shut second
 
 -- what came, of which these were met: an end is the last, for which this place was offered
 abbrev pub all_given : {R K S : Type 0} → Ended → (last : Option ℕ) → List (Call R K S)
     → List (Call R K S)
 all_given ended.Events last calls = calls ++ record { offer = last; event = came.End } ∷ []
-all_given ended.Shut last calls = calls
+all_given (ended.Shut why) last calls = calls
 all_given ended.Spent last calls = calls
 
 -- the hub opens no further connection
@@ -64,30 +84,41 @@ abbrev pub MayRefuse : {A R K S : Type 0} → Host A R K S → Client R K S → 
 MayRefuse p client refusal.Address =
     p.limits.address_connections ≤ seated_from (origin client.address) p.seats.items
 MayRefuse p client refusal.Full =
-    IsNone p.shut_since × (IsOffer p None ⊎ IsFull p.hub)
-MayRefuse p client refusal.Memory = IsNone p.shut_since
-MayRefuse p client refusal.Shut = IsSome p.shut_since
+    IsNone p.shut × (IsOffer p None ⊎ IsFull p.hub)
+MayRefuse p client refusal.Memory = IsNone p.shut
+MayRefuse p client refusal.Shut = IsShutBy p.shut cause.Store
+MayRefuse p client refusal.Stopped = IsShutBy p.shut cause.Stop
+
+-- why a client is turned away where no place is offered
+abbrev pub refusal_for : Cause → Refusal
+refusal_for cause.Store = refusal.Shut
+refusal_for cause.Stop = refusal.Stopped
+
+abbrev pub refusal_of : Option Shut → Refusal
+refusal_of None = refusal.Full
+refusal_of (Some shut) = refusal_for shut.cause
 
 module _ {A R K S : Type 0} (condition : A → Condition) (account : A → Account)
     (unread : R → Option (List ℕ)) (taken : K → Option (List ℕ)) (held : S → Option (List ℕ)) where
   -- What it makes of the answer whether its store is open: it goes on, unless the store is shut, and
   -- counts where this could not be known, for which there was a cause.
   abbrev pub GoesBy : (p q : Host A R K S) → (second : ℕ) → Result Bool StoreFault → Type 0
-  GoesBy p q second (result.Ok true) = IsNone q.shut_since × (q.unanswered ≡ p.unanswered)
+  GoesBy p q second (result.Ok true) = IsNone q.shut × (q.unanswered ≡ p.unanswered)
       × TellsOpen (condition q.hub.store) true
-  GoesBy p q second (result.Ok false) = (q.shut_since ≡ Some second)
+  GoesBy p q second (result.Ok false) =
+      (q.shut ≡ Some record { second = second; cause = cause.Store })
       × (q.unanswered ≡ p.unanswered) × TellsOpen (condition q.hub.store) false
-  GoesBy p q second (result.Err fault) = IsNone q.shut_since × HasRisen p.unanswered q.unanswered
+  GoesBy p q second (result.Err fault) = IsNone q.shut × HasRisen p.unanswered q.unanswered
       × (HasCleanDisk (condition q.hub.store)
       → FailsToTell (account p.hub.store) (account q.hub.store) fault)
 
-  -- it asked its store at a second whether it is open, and went by the answer, unless it was told
-  -- before that it is shut
+  -- it asked its store at a second whether it is open, and went by the answer, unless it was shut
+  -- before
   pub record IsAsked (p q : Host A R K S) (second : ℕ) : Type 0 where
     pub steps : Steps condition unread taken held (position p) [] (position q)
-    pub told : IsTold p.shut_since q.shut_since (second ∷ [])
+    pub told : IsTold p.shut q.shut (second ∷ [])
     pub limits : q.limits ≡ p.limits
-    pub known : (IsSome p.shut_since × (q ≡ p)) ⊎ ((answer : Result Bool StoreFault)
+    pub known : (IsSome p.shut × (q ≡ p)) ⊎ ((answer : Result Bool StoreFault)
         × Runs (Asked answer) (account p.hub.store) (account q.hub.store)
         × GoesBy p q second answer)
 
@@ -97,7 +128,7 @@ module _ {A R K S : Type 0} (condition : A → Condition) (account : A → Accou
     pub asks : IsAsked p mid second
     pub works : Steps condition unread taken held (position mid) [] (position q)
     pub stays : Stays mid q
-    pub ahead : IsNone mid.shut_since
+    pub ahead : IsNone mid.shut
         → Runs WorkedAhead (account mid.hub.store) (account q.hub.store)
 
   -- each place had its turn at that time, and then it was asked whether the store is open
@@ -155,6 +186,8 @@ module _ {A R K S L : Type 0} (condition : A → Condition) (account : A → Acc
     makes_round : {offer : Option ℕ} {time : Time}
         → (round : MakesRound condition account unread taken held size p q time)
         → Meets p q l m offer (came.Round time) round.goes.deeds
+    stops : {offer : Option ℕ} {second : ℕ} → Stops p q second → m ≡ l
+        → Meets p q l m offer (came.Stop second) []
 
   -- an event was met by some deeds, or was the end, by whether it goes on
   abbrev pub IsMet : {T : Type 0} → (p q : Host A R K S) → (l m : L) → (offer : Option ℕ)
@@ -162,7 +195,7 @@ module _ {A R K S L : Type 0} (condition : A → Condition) (account : A → Acc
   IsMet p q l m offer event (result.Ok now) =
       (deeds : List Deed) × Meets p q l m offer event deeds
   IsMet p q l m offer event (result.Err ended.Events) = (event ≡ came.End) × (q ≡ p) × (m ≡ l)
-  IsMet p q l m offer event (result.Err ended.Shut) =
+  IsMet p q l m offer event (result.Err (ended.Shut why)) =
       (deeds : List Deed) × Meets p q l m offer event deeds
   IsMet p q l m offer event (result.Err ended.Spent) = ⊥
 
@@ -177,8 +210,8 @@ module _ {A R K S L : Type 0} (condition : A → Condition) (account : A → Acc
         → MeetsAll p l (calls ++ record { offer = offer; event = event } ∷ []) (deeds ++ more) n o
 
   -- What came in a call, where it is shown, and what became of each, by these deeds and no others: it
-  -- was met, up to the end, and no round was too late, nor a shut store left too soon. No more is
-  -- asked for once so many came.
+  -- was met, up to the end, and no round was too late, nor the end of what is shut too soon. No more
+  -- is asked for once so many came.
   pub record Met (told_old told_new : Option (List (Call R K S))) (p q : Host A R K S) (l m : L)
       (deeds : List Deed) (most : ℕ) (end : Ended) : Type 0 where
     pub calls : List (Call R K S)
@@ -187,8 +220,8 @@ module _ {A R K S L : Type 0} (condition : A → Condition) (account : A → Acc
     pub each : MeetsAll p l calls deeds q m
     pub steps : Steps condition unread taken held (position p) deeds (position q)
     pub offered : end ≡ ended.Events → IsOffer q last
-    pub in_time : EndsInTime (seconds_in calls) p.shut_since q.shut_since q.limits end
-    pub may_end : end ≡ ended.Shut → MayEnd q (seconds_in calls)
+    pub in_time : EndsInTime (seconds_in calls) p.shut q.shut q.limits end
+    pub may_end : (why : Cause) → end ≡ ended.Shut why → MayEnd q why (seconds_in calls)
     pub spent : end ≡ ended.Spent → length calls ≡ most
 
 -- so many events are met at most

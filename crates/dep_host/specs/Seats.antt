@@ -112,7 +112,7 @@ module _ {A R K S : Type 0} (condition : A → Condition) (unread : R → Option
     pub keeps_count : is_ended after.course.phase ≡ false
         → after.course.unfinished ≡ before.course.unfinished
 
-  -- a piece was read where nothing was owed and all that was read before was answered, the store isn't
+  -- a piece was read where nothing was owed and all that was read before was answered, the host isn't
   -- shut, and where too many bytes of unfinished requests are kept only as the first of one
   pub record IsRead (before after : Seat R K S) (piece : List ℕ) (is_full is_shut : Bool) : Type 0 where
     pub unowed : IsAtEnd (owed held before.wire)

@@ -94,6 +94,8 @@ pub enum Event<R, K, S> {
     Client(Client<R, K, S>),
     /// Each socket that was ready was among the events before it: each connection has its turn.
     Round(Time),
+    /// The host is told at a second to stop: from then on it is shut.
+    Stop(u64),
     /// No more is served.
     End,
 }

@@ -2,6 +2,7 @@
 ghost use Rattle.std.specs.Prelude.{◌≡◌, ◌≤◌, ℕ, None, length, get_or, IfOk};
 
 use crate::course::is_past;
+use crate::ending::{Cause, Shut};
 use crate::events::{Client, comes_from, origin, turn_away};
 use crate::limits::Limits;
 use crate::log::{Closing, HostLog, Refusal};
@@ -23,8 +24,8 @@ pub struct Host<A, R, K, S> {
     /// Nobody sits at this place, nor behind it.
     end: usize,
     limits: Limits,
-    /// The second at which it was told that the store is shut.
-    shut_since: Option<u64>,
+    /// Since when it is shut, and why, if it is.
+    shut: Option<Shut>,
     /// How often it could not be known whether the store is open, up to 2^64 - 1. Clauses alone read it.
     unanswered: u64,
     ghost within: { end ≤ length seats.items },
@@ -32,20 +33,20 @@ pub struct Host<A, R, K, S> {
 }
 
 impl<A: Archive, R: Source + Drop, K: Sink + Drop, S: Spool + Drop> Host<A, R, K, S> {
-    ghost use Rattle.std.specs.Prelude.{◌⊎◌, ◌<◌, [], nat_lt, IfErr, IfSome, is_some, IsSome, IsNone, if◌then◌else◌, true, false};
+    ghost use Rattle.std.specs.Prelude.{◌⊎◌, ◌<◌, [], ◌∷◌, nat_lt, IfErr, IfSome, is_some, IsSome, IsNone, true, false};
     ghost use Rattle.std.specs.Io.KnownBytes.{IsAtEnd};
     ghost use Rattle.dep_outbox.specs.Wires.{told};
     ghost use Rattle.dep_hub.specs.Errands.{WorkedAhead, Runs};
     ghost use Rattle.dep_host.specs.Hosting.{Steps, Serves, Closed, GoesRound, Sheds, Stays, HasTime, MayGo, IsEmpty, IsVacant, IsWaiting, position, slot, unfinished_of, unfinished_in};
     ghost use Rattle.dep_host.specs.Coming.{origin, seated_from};
     ghost use Rattle.dep_host.specs.Courses.{is_overdue};
-    ghost use Rattle.dep_host.specs.Meeting.{Admits, IsAsked, IsOffer, Wakes};
+    ghost use Rattle.dep_host.specs.Meeting.{Admits, IsAsked, IsOffer, MayEnd, Stops, Wakes, refusal_of};
 
     /// A host without connections, which are bounded by the limits. Where memory is refused the hub is handed back.
     pub fn new(alloc: Global, hub: Hub<A>, limits: Limits) -> Result<Host<A, R, K, S>, Hub<A>>
         ensures hub { IfOk result (λ host. host.hub ≡ hub) }
         ensures limits { IfOk result (λ host. host.limits ≡ limits) }
-        ensures untold { IfOk result (λ host. IsNone host.shut_since) }
+        ensures untold { IfOk result (λ host. IsNone host.shut) }
         ensures empty { IfOk result (λ host. (at : ℕ) → slot at host.seats.items ≡ None) }
         ensures kept { IfErr result (λ handed_back. handed_back ≡ hub) }
     {
@@ -57,7 +58,7 @@ impl<A: Archive, R: Source + Drop, K: Sink + Drop, S: Spool + Drop> Host<A, R, K
             seats,
             end: 0,
             limits,
-            shut_since: None,
+            shut: None,
             unanswered: 0,
         })
     }
@@ -71,26 +72,29 @@ impl<A: Archive, R: Source + Drop, K: Sink + Drop, S: Spool + Drop> Host<A, R, K
             seats: _,
             end: _,
             limits: _,
-            shut_since: _,
+            shut: _,
             unanswered: _,
         } = self;
         hub
     }
 
-    /// Asks at a second whether the store is open, until it is told that it isn't. From then on no client is
-    /// let in, and no connection is read. It returns `false` once it was told so.
+    /// Asks at a second whether the store is open, unless it is shut. Where it is told that it isn't, it is
+    /// shut from then on: no client is let in, and no connection is read. It returns whether it isn't shut.
     pub fn is_open(&mut self, second: u64) -> bool
         ensures asks { IsAsked A.condition A.account R.unread K.taken S.held self.old self.new
             second }
-        ensures untold { result ≡ true → IsNone self.new.shut_since }
-        ensures shut { result ≡ false → IsSome self.new.shut_since }
+        ensures untold { result ≡ true → IsNone self.new.shut }
+        ensures shut { result ≡ false → IsSome self.new.shut }
     {
-        if self.shut_since.is_some() {
+        if self.shut.is_some() {
             return false;
         }
         match self.hub.is_open() {
             Ok(false) => {
-                self.shut_since = Some(second);
+                self.shut = Some(Shut {
+                    second,
+                    cause: Cause::Store,
+                });
                 false
             }
             Ok(true) => true,
@@ -98,6 +102,18 @@ impl<A: Archive, R: Source + Drop, K: Sink + Drop, S: Spool + Drop> Host<A, R, K
                 self.unanswered = self.unanswered.saturating_add(1);
                 true
             }
+        }
+    }
+
+    /// Is told at a second to stop: it is shut from then on, unless it was before.
+    pub fn stop(&mut self, second: u64)
+        ensures { Stops self.old self.new second }
+    {
+        if self.shut.is_none() {
+            self.shut = Some(Shut {
+                second,
+                cause: Cause::Stop,
+            });
         }
     }
 
@@ -113,22 +129,26 @@ impl<A: Archive, R: Source + Drop, K: Sink + Drop, S: Spool + Drop> Host<A, R, K
         self.hub.work_ahead()
     }
 
-    /// Whether an idle time has passed since it was told that the store is shut.
-    pub fn is_overdue(&self, second: u64) -> bool
-        ensures { result ≡ is_overdue self.now.shut_since second self.now.limits }
+    /// Why it ends at a second, if it does: it is shut, and all connections are closed, or an idle time has
+    /// passed since.
+    pub fn ending(&self, second: u64) -> Option<Cause>
+        ensures ends { IfSome result (λ cause. MayEnd self.now cause (second ∷ [])) }
+        ensures stays { IsNone result → is_overdue self.now.shut second self.now.limits ≡ false }
     {
-        match self.shut_since {
-            Some(since) => is_past(since, second, &self.limits),
-            None => false,
+        match self.shut {
+            Some(shut) if self.is_empty() || is_past(shut.second, second, &self.limits) => {
+                Some(shut.cause)
+            }
+            Some(_) | None => None,
         }
     }
 
     /// Returns the place at which a further connection can be seated, if there is one. There is none once it
-    /// was told that the store is shut.
+    /// is shut.
     pub fn vacancy(&self) -> Option<usize>
         ensures { IsOffer self.now result }
     {
-        if self.shut_since.is_some() {
+        if self.shut.is_some() {
             return None;
         }
         for at in 0..self.end {
@@ -145,10 +165,13 @@ impl<A: Archive, R: Source + Drop, K: Sink + Drop, S: Spool + Drop> Host<A, R, K
 
     /// Why a client is turned away that comes where there is no vacancy.
     pub fn refusal(&self) -> Refusal
-        ensures { result ≡ (if is_some self.now.shut_since then Refusal.Shut else Refusal.Full) }
+        ensures { result ≡ refusal_of self.now.shut }
     {
-        match self.shut_since {
-            Some(_) => Refusal::Shut,
+        match self.shut {
+            Some(shut) => match shut.cause {
+                Cause::Store => Refusal::Shut,
+                Cause::Stop => Refusal::Stopped,
+            },
             None => Refusal::Full,
         }
     }
@@ -229,7 +252,7 @@ impl<A: Archive, R: Source + Drop, K: Sink + Drop, S: Spool + Drop> Host<A, R, K
         let turn = Turn {
             time: *time,
             is_full: self.is_full(),
-            is_shut: self.shut_since.is_some(),
+            is_shut: self.shut.is_some(),
         };
         let mut is_busy = false;
         for at in 0..self.end {
@@ -252,7 +275,7 @@ impl<A: Archive, R: Source + Drop, K: Sink + Drop, S: Spool + Drop> Host<A, R, K
         log: &mut L,
     ) -> bool
         requires there { at < length self.old.seats.items }
-        requires shut { turn.now.is_shut ≡ is_some self.old.shut_since }
+        requires shut { turn.now.is_shut ≡ is_some self.old.shut }
         ensures goes { Serves A.condition R.unread K.taken S.held S.size (position self.old)
             (position self.new) at turn.now.time turn.now.is_full }
         ensures here { HasTime turn.now.time.second self.new.limits

@@ -43,8 +43,8 @@ pub fn hosts_keep_the_archive_promise<A: Archive, R: Source, K: Sink, S: Spool>(
     connections_make_a_run::<A>();
 }
 
-/// Once a host was told that its store is shut, it lets nobody in and reads nothing: it answers what was
-/// read, and closes.
+/// Once a host is shut, as its store is or as it was told to stop, it stays so: it lets nobody in and reads
+/// nothing, answers what was read, and closes.
 pub fn told_hosts_take_nothing<A: Archive, R: Source, K: Sink, S: Spool>()
     ensures { TakesNothing A.condition R.unread K.taken S.held }
 {}

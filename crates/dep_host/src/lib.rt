@@ -2,6 +2,7 @@
 #![tactic(auto)]
 
 mod course;
+mod ending;
 mod events;
 mod host;
 pub mod laws;
@@ -12,6 +13,7 @@ mod seat;
 mod serving;
 
 pub use course::{Course, Duty, Phase};
+pub use ending::{Cause, Shut};
 pub use events::{Client, Event, Events, origin};
 pub use host::{Host, MOST_SEATS};
 pub use limits::Limits;

@@ -16,6 +16,8 @@ pub enum Refusal {
     Memory,
     /// The store is shut.
     Shut,
+    /// The host was told to stop.
+    Stopped,
 }
 
 /// Why a connection was closed.

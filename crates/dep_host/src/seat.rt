@@ -34,7 +34,7 @@ pub(crate) struct Turn {
     /// Whether more bytes of unfinished requests are kept than may be, so that of none of these more
     /// is read.
     pub is_full: bool,
-    /// Whether the store is shut, so that nothing more is read.
+    /// Whether the host is shut, so that nothing more is read.
     pub is_shut: bool,
 }
 
@@ -96,7 +96,7 @@ impl<R: Source, K: Sink, S: Spool> Seat<R, K, S> {
         self.course.is_writable = self.course.is_writable || is_writable;
     }
 
-    /// Begins its turn. Once the store is shut it is read no more.
+    /// Begins its turn. Once the host is shut it is read no more.
     pub(crate) fn begin_turn(&mut self, second: u64, limits: &Limits, is_shut: bool)
         ensures same { self.new ≡ record self.old { course = self.new.course } }
         ensures phase { self.new.course.phase ≡ phase_begun self.old.course.phase is_shut }
@@ -148,7 +148,7 @@ impl<R: Source, K: Sink, S: Spool> Seat<R, K, S> {
         self.course.count(sent);
     }
 
-    /// Whether it is read: not once the store is shut, and where too many bytes of unfinished requests
+    /// Whether it is read: not once the host is shut, and where too many bytes of unfinished requests
     /// are kept, only if none of these is its.
     fn may_read(&self, turn: &Turn) -> bool
         ensures first { result ≡ true → turn.now.is_full ≡ true

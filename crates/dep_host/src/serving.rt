@@ -7,6 +7,7 @@ ghost use Rattle.dep_host.specs.Hosting.{Deed, GoesOn, position};
 ghost use Rattle.dep_host.specs.Meeting.{AsksOn, IsMet, IsOffer, MayEnd, Meets, Met, most_events};
 ghost use Rattle.dep_host.specs.Runs.{Promises};
 
+use crate::ending::Cause;
 use crate::events::{Client, Event, Events};
 use crate::host::Host;
 use crate::laws::hosts_keep_the_archive_promise;
@@ -20,8 +21,8 @@ use dep_outbox::{Sink, Source, Spool};
 pub enum Ended {
     /// No more comes.
     Events,
-    /// A fault has shut the store. All was sent, or an idle time has passed since.
-    Shut,
+    /// It was shut, for this cause. All was sent, or an idle time has passed since.
+    Shut(Cause),
     /// 2^64 - 1 events came.
     Spent,
 }
@@ -53,7 +54,7 @@ pub fn serve<
     ensures promise { Promises A.condition R.unread K.taken S.held (position host.old)
         (position host.new) }
     ensures end { result ≡ Ended.Events → IsTrue (E.is_over events.new) }
-    ensures shut { result ≡ Ended.Shut → IsNone host.old.shut_since
+    ensures shut { result ≡ Ended.Shut Cause.Store → IsNone host.old.shut
         → ¬ IsTrue (A.condition host.new.hub.store).is_open }
 {
     hosts_keep_the_archive_promise::<A, R, K, S>();
@@ -84,9 +85,10 @@ fn meet<A: Archive, R: Source + Drop, K: Sink + Drop, S: Spool + Drop, L: HostLo
     ensures met { IsMet A.condition A.account R.unread K.taken S.held S.size L.notes host.old host.new
         log.old log.new now.vacancy event result }
     ensures vacant { IfOk result (λ next. IsOffer host.new next.vacancy) }
-    ensures shut { result ≡ Err Ended.Shut → MayEnd host.new (seconds_of event) }
+    ensures shut { (cause : Cause) → result ≡ Err (Ended.Shut cause)
+        → MayEnd host.new cause (seconds_of event) }
     ensures time { IfOk result (λ _. AllByRecursion (λ second.
-        is_overdue host.new.shut_since second host.new.limits ≡ false) (seconds_of event)) }
+        is_overdue host.new.shut second host.new.limits ≡ false) (seconds_of event)) }
 {
     match event {
         Event::Ready {
@@ -110,12 +112,15 @@ fn meet<A: Archive, R: Source + Drop, K: Sink + Drop, S: Spool + Drop, L: HostLo
             let_rest(log, &next);
             next
         }
+        Event::Stop(second) => {
+            host.stop(second);
+            wind_up(host, true, second)
+        }
         Event::End => Err(Ended::Events),
     }
 }
 
-/// Goes on after a round, behind which an open store works ahead. Once the store is shut it goes on
-/// until all connections are closed, or an idle time has passed.
+/// Goes on after a round, behind which an open store works ahead.
 fn go_on<A: Archive, R: Source + Drop, K: Sink + Drop, S: Spool + Drop>(
     host: &mut Host<A, R, K, S>,
     is_busy: bool,
@@ -125,9 +130,9 @@ fn go_on<A: Archive, R: Source + Drop, K: Sink + Drop, S: Spool + Drop>(
     ensures vacant { IfOk result (λ next. IsOffer host.new next.vacancy) }
     ensures end { result ≢ Err Ended.Events }
     ensures unspent { result ≢ Err Ended.Spent }
-    ensures shut { result ≡ Err Ended.Shut → MayEnd host.new (second ∷ []) }
-    ensures time { IfOk result (λ _.
-        is_overdue host.new.shut_since second host.new.limits ≡ false) }
+    ensures shut { (cause : Cause) → result ≡ Err (Ended.Shut cause)
+        → MayEnd host.new cause (second ∷ []) }
+    ensures time { IfOk result (λ _. is_overdue host.new.shut second host.new.limits ≡ false) }
 {
     if host.is_open(second) {
         let is_left = host.work_ahead();
@@ -136,13 +141,29 @@ fn go_on<A: Archive, R: Source + Drop, K: Sink + Drop, S: Spool + Drop>(
             is_busy: is_busy | is_left,
         });
     }
-    if host.is_empty() || host.is_overdue(second) {
-        return Err(Ended::Shut);
+    wind_up(host, is_busy, second)
+}
+
+/// Goes on, unless it is shut and ends: until all connections are closed, or an idle time has passed.
+fn wind_up<A: Archive, R: Source + Drop, K: Sink + Drop, S: Spool + Drop>(
+    host: &Host<A, R, K, S>,
+    is_busy: bool,
+    second: u64,
+) -> Result<Now, Ended>
+    ensures vacant { IfOk result (λ next. IsOffer host.now next.vacancy) }
+    ensures end { result ≢ Err Ended.Events }
+    ensures unspent { result ≢ Err Ended.Spent }
+    ensures shut { (cause : Cause) → result ≡ Err (Ended.Shut cause)
+        → MayEnd host.now cause (second ∷ []) }
+    ensures time { IfOk result (λ _. is_overdue host.now.shut second host.now.limits ≡ false) }
+{
+    match host.ending(second) {
+        Some(cause) => Err(Ended::Shut(cause)),
+        None => Ok(Now {
+            vacancy: host.vacancy(),
+            is_busy,
+        }),
     }
-    Ok(Now {
-        vacancy: None,
-        is_busy,
-    })
 }
 
 /// Lets the log write what it was told, unless the host can go on at once.

@@ -7,6 +7,7 @@ use Rattle.dep_hub.specs.Records.{World, Record}
 use Rattle.dep_hub.specs.Standing.{StandsAt, StandsAfter, IsClean, IsHonest}
 use Rattle.dep_hub.specs.Holding.{StandsHolding, StandsHoldingAfter}
 use Rattle.dep_hub.specs.declared.hub.Hub.{Hub}
+use Rattle.dep_host.specs.declared.ending.Cause.TheVariants as cause
 use Rattle.dep_host.specs.declared.serving.Ended.{Ended}
 use Rattle.dep_host.specs.declared.serving.Ended.TheVariants as ended
 use Rattle.dep_host.specs.Hosting.{Position, position, Deed, Step, refused, asks, comes, rests, offers, refuses, answers, leaves, Steps, begins, goes_on}
@@ -20,7 +21,7 @@ use Rattle.dep_host.specs.Notes.{Note}
 use Rattle.dep_host.specs.declared.host.Host.{Host}
 use Rattle.dep_host.specs.declared.limits.Limits.{Limits}
 use Rattle.dep_hub.specs.Errands.{Account}
-use Rattle.dep_sockets.specs.Doors.{Doorway, ServesFrom, EndsHub, served, shut, broken_off, spent, not_begun, not_let_in, WentOn}
+use Rattle.dep_sockets.specs.Doors.{Doorway, ServesFrom, EndsHub, served, shut, stopped, broken_off, spent, not_begun, not_let_in, WentOn}
 
 module _ {A R K S : Type 0} (condition : A → Condition) (unread : R → Option (List ℕ)) (taken : K → Option (List ℕ)) (held : S → Option (List ℕ)) where
   same_honest : (old new : Hub A) → new.store ≡ old.store → IsHonest condition new → IsHonest condition old
@@ -108,6 +109,7 @@ module _ {A R K S : Type 0} (condition : A → Condition) (unread : R → Option
         → EndsHub condition account unread taken held size notes before after l m limits old store deeds outcome → MakesRuns → HoldsNothing → WentOn condition old store deeds
     went_on old store (served it over uncut) makes none = went_by old store it makes none
     went_on old store (shut it closed) makes none = went_by old store it makes none
+    went_on old store (stopped it) makes none = went_by old store it makes none
     went_on old store (broken_off it cut) makes none = went_by old store it makes none
     went_on old store (spent it) makes none = went_by old store it makes none
     went_on old store (not_begun same alone) makes none = went_nowhere old store same none
@@ -116,16 +118,17 @@ module _ {A R K S : Type 0} (condition : A → Condition) (unread : R → Option
     -- what serving comes to, by why it ended
     ends_by : {before after : Doorway R K S} {l m : L} {limits : Limits} (old : Hub A) (store : A) {deeds : List Deed} (why : Ended)
         (it : ServesFrom condition account unread taken held size notes before after l m limits old store deeds why)
-        → (why ≡ ended.Events → IsTrue after.is_over) → (why ≡ ended.Shut → ¬ IsTrue (condition it.last.hub.store).is_open)
+        → (why ≡ ended.Events → IsTrue after.is_over) → (why ≡ ended.Shut cause.Store → ¬ IsTrue (condition it.last.hub.store).is_open)
         → (is_cut : Bool) → is_cut ≡ after.is_cut → EndsHub condition account unread taken held size notes before after l m limits old store deeds (outcome_at why is_cut)
     ends_by old store ended.Events it over closed false same = served it (over refl) (sym same)
     ends_by old store ended.Events it over closed true same = broken_off it (sym same)
     ends_by old store ended.Spent it over closed is_cut same = spent it
-    ends_by old store ended.Shut it over closed is_cut same = shut it (λ is_open. closed refl (subst (λ (s : A). IsTrue (condition s).is_open) it.left is_open))
+    ends_by old store (ended.Shut cause.Stop) it over closed is_cut same = stopped it
+    ends_by old store (ended.Shut cause.Store) it over closed is_cut same = shut it (λ is_open. closed refl (subst (λ (s : A). IsTrue (condition s).is_open) it.left is_open))
 
     pub ends_at : {before after : Doorway R K S} {l m : L} {limits : Limits} (old : Hub A) (store : A) {deeds : List Deed} (why : Ended)
         (it : ServesFrom condition account unread taken held size notes before after l m limits old store deeds why)
-        → (why ≡ ended.Events → IsTrue after.is_over) → (why ≡ ended.Shut → ¬ IsTrue (condition it.last.hub.store).is_open)
+        → (why ≡ ended.Events → IsTrue after.is_over) → (why ≡ ended.Shut cause.Store → ¬ IsTrue (condition it.last.hub.store).is_open)
         → (is_cut : Bool) → is_cut ≡ after.is_cut → (outcome : Outcome) → outcome ≡ outcome_at why is_cut
         → EndsHub condition account unread taken held size notes before after l m limits old store deeds outcome
     ends_at {before = before} {after = after} {l = l} {m = m} {limits = limits} old store {deeds = deeds} why it over closed is_cut same outcome is =

@@ -11,6 +11,7 @@ use Rattle.dep_host.specs.Hosting.{Deed, IsEmpty, position}
 use Rattle.dep_host.specs.Meeting.{Met, most_events}
 use Rattle.dep_host.specs.Notes.{Note}
 use Rattle.dep_host.specs.Runs.{StandsBehind}
+use Rattle.dep_host.specs.declared.ending.Cause.TheVariants as cause
 use Rattle.dep_host.specs.declared.host.Host.{Host}
 use Rattle.dep_host.specs.declared.limits.Limits.{Limits}
 use Rattle.dep_host.specs.declared.serving.Ended.{Ended}
@@ -48,15 +49,17 @@ module _ {A R K S L : Type 0} (condition : A → Condition) (account : A → Acc
       (store : A) (deeds : List Deed) (end : Ended) : Type 0 where
     pub first : Host A R K S
     pub last : Host A R K S
-    -- the log, once it was told of the door
+    -- the log, once it was told of the door, and before it was told of the end
     pub log : L
+    pub last_log : L
     pub over : first.hub ≡ old
     pub within : first.limits ≡ limits
-    pub untold : IsNone first.shut_since
+    pub untold : IsNone first.shut
     pub empty : IsEmpty (position first)
     pub noted : notes log ≡ notes l
+    pub last_noted : notes m ≡ notes last_log
     pub met : Met condition account unread taken held size notes before.given after.given first last
-        log m deeds most_events end
+        log last_log deeds most_events end
     pub left : store ≡ last.hub.store
 
   -- what serving from a hub does, by a door
@@ -68,9 +71,14 @@ module _ {A R K S L : Type 0} (condition : A → Condition) (account : A → Acc
         → IsTrue after.is_over → after.is_cut ≡ false
         → EndsHub before after l m limits old store deeds Done
     -- a fault had shut the store
-    shut : {deeds : List Deed} → ServesFrom before after l m limits old store deeds ended.Shut
+    shut : {deeds : List Deed}
+        → ServesFrom before after l m limits old store deeds (ended.Shut cause.Store)
         → ¬ IsTrue (condition store).is_open
         → EndsHub before after l m limits old store deeds StoreFault
+    -- it was told to stop, and nobody was connected any more, or an idle time had passed
+    stopped : {deeds : List Deed}
+        → ServesFrom before after l m limits old store deeds (ended.Shut cause.Stop)
+        → EndsHub before after l m limits old store deeds Done
     -- the door was broken off
     broken_off : {deeds : List Deed}
         → ServesFrom before after l m limits old store deeds ended.Events

@@ -4,7 +4,7 @@ ghost use Rattle.std.specs.Option.{option_map_or};
 
 use crate::file_spool::FileSpool;
 use crate::socket::{SocketSink, SocketSource};
-use crate::sockets::Sockets;
+use crate::sockets::{SocketFault, Sockets};
 use crate::spools::Spools;
 use dep_host::{Event, Events};
 use dep_outbox::{Sink, Source, Spool};
@@ -33,35 +33,50 @@ pub trait Door<R: Source, K: Sink, S: Spool>: Events<R, K, S> {
         ensures { result ≡ is_cut self.now };
 }
 
-/// An address at which the program listens once the door is opened.
+/// Where clients come in, and until when.
+#[derive(Clone, Copy)]
+pub struct Entrance<'a> {
+    /// The address at which the program listens.
+    pub address: SocketAddr,
+    /// How many clients are let in at most.
+    pub clients: u64,
+    /// The file by which the server is told to stop: once it is there, looked for once a second.
+    pub stop_file: Option<&'a str>,
+}
+
+/// An entrance at which the program listens once the door is opened.
 #[derive(Drop)]
 pub struct SocketDoor<'a, R: Files> {
     alloc: Global,
     rt: &'a R,
     spools: &'a Spools<'a, R>,
-    address: SocketAddr,
-    /// How many clients are let in at most.
-    clients: u64,
+    entrance: Entrance<'a>,
     /// There are none before it is opened.
     sockets: Option<Sockets<'a, R>>,
 }
 
 impl<'a, R: Files + Net + Clock> SocketDoor<'a, R> {
-    /// A door at an address that lets in so many clients at most. It listens once it is opened.
+    /// A door at an entrance. It listens once it is opened.
     pub fn new(
         alloc: Global,
         rt: &'a R,
         spools: &'a Spools<'a, R>,
-        address: SocketAddr,
-        clients: u64,
+        entrance: Entrance<'a>,
     ) -> SocketDoor<'a, R> {
         SocketDoor {
             alloc,
             rt,
             spools,
-            address,
-            clients,
+            entrance,
             sockets: None,
+        }
+    }
+
+    /// Why it was broken off, if it was.
+    pub fn fault(&self) -> Option<SocketFault> {
+        match &self.sockets {
+            Some(sockets) => sockets.fault,
+            None => None,
         }
     }
 }
@@ -74,13 +89,7 @@ impl<'a, R: Files + Net + Clock> Door<SocketSource, SocketSink, FileSpool<'a, R>
 
     fn open(&mut self) -> bool {
         drop(self.sockets.take());
-        let listened = Sockets::listen(
-            self.alloc,
-            self.rt,
-            self.spools,
-            self.address,
-            self.clients,
-        );
+        let listened = Sockets::listen(self.alloc, self.rt, self.spools, self.entrance);
         drop(mem::replace(&mut self.sockets, listened.ok()));
         self.sockets.is_some()
     }

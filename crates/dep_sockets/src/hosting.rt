@@ -5,17 +5,21 @@ ghost use Rattle.dep_sockets.specs.Outcomes.{outcome_at};
 
 use crate::door::Door;
 use dep_host::laws::hosts_make_a_run;
-use dep_host::{Ended, Host, HostLog, Limits, MOST_READ, ReadBuffer, serve};
+use dep_host::{Cause, Ended, Host, HostLog, Limits, MOST_READ, ReadBuffer, serve};
 use dep_hub::laws::nothing_held;
 use dep_hub::{Archive, Hub};
 use dep_outbox::{Sink, Source, Spool};
 use dep_program::Outcome;
 use std::alloc::Global;
 
-/// A log of a host that is told of its door, too.
+/// A log of a host that is told of its door, too, and of its end.
 pub trait DoorLog: HostLog {
     /// The door was opened, or couldn't be.
     fn door(&mut self, is_open: bool)
+        ensures noted { Self.notes self.new ≡ Self.notes self.old };
+
+    /// No more is served: why, or that there was no memory to begin.
+    fn ended(&mut self, why: Option<Ended>)
         ensures noted { Self.notes self.new ≡ Self.notes self.old };
 }
 
@@ -37,9 +41,13 @@ pub fn serve_hub<
     hosts_make_a_run::<A, R, K, P>();
     let mut host = match Host::new(alloc, hub, limits) {
         Ok(host) => host,
-        Err(hub) => return (Outcome::StoreFault, hub.into_store()),
+        Err(hub) => {
+            log.ended(None);
+            return (Outcome::StoreFault, hub.into_store());
+        }
     };
     let Ok(mut buffer) = ReadBuffer::new(alloc, MOST_READ) else {
+        log.ended(None);
         return (Outcome::StoreFault, host.into_hub().into_store());
     };
     let is_open = door.open();
@@ -48,6 +56,7 @@ pub fn serve_hub<
         return (Outcome::TransferFault, host.into_hub().into_store());
     }
     let ended = serve(&mut host, door, &mut buffer, log);
+    log.ended(Some(ended));
     let outcome = outcome_at(ended, door.was_cut());
     (outcome, host.into_hub().into_store())
 }
@@ -59,6 +68,7 @@ fn outcome_at(ended: Ended, is_cut: bool) -> Outcome
     match ended {
         Ended::Events if !is_cut => Outcome::Done,
         Ended::Events | Ended::Spent => Outcome::TransferFault,
-        Ended::Shut => Outcome::StoreFault,
+        Ended::Shut(Cause::Store) => Outcome::StoreFault,
+        Ended::Shut(Cause::Stop) => Outcome::Done,
     }
 }

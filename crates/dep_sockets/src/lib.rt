@@ -10,8 +10,9 @@ mod round_moment;
 mod socket;
 mod sockets;
 mod spools;
+mod stop_file;
 
-pub use door::{Door, SocketDoor};
+pub use door::{Door, Entrance, SocketDoor};
 pub use file_spool::FileSpool;
 pub use hosting::{DoorLog, serve_hub};
 pub use socket::{SocketSink, SocketSource};

@@ -1,23 +1,26 @@
 //! What happens at the sockets of the system.
 
+use crate::door::Entrance;
 use crate::file_spool::FileSpool;
 use crate::last_look::LastLook;
 use crate::readiness::{Ready, note_all};
 use crate::round_moment::RoundMoment;
 use crate::socket::{SocketSink, SocketSource, halves};
 use crate::spools::Spools;
+use crate::stop_file::StopFile;
 use dep_host::{Client, Event, Events, MOST_SEATS, Time};
 use dep_outbox::Wire;
 use dep_program::moment_of;
 use mio::net::{TcpListener, TcpStream};
 use mio::{Interest, Poll, Token};
 use std::alloc::{AllocError, Global};
+use std::error::Error;
 use std::fs::Files;
-use std::io;
 use std::io::ErrorKind;
 use std::net::{Net, SocketAddr};
 use std::rc::Rc;
 use std::time::{Clock, Duration, Instant, SystemTime};
+use std::{fmt, io};
 
 /// The token of the listener; those of connections are their places, which are smaller.
 const LISTENER: Token = Token(MOST_SEATS);
@@ -33,7 +36,7 @@ const MOST_TRIES: u32 = 64;
 
 type SocketClient<'a, R> = Client<SocketSource, SocketSink, FileSpool<'a, R>>;
 
-/// Why no more events come.
+/// Why no more events come. It is displayed as one line.
 #[derive(Clone, Copy, Debug, PartialEq, Eq)]
 pub enum SocketFault {
     /// There was no memory.
@@ -41,6 +44,17 @@ pub enum SocketFault {
     /// The system doesn't say what is ready.
     Poll,
 }
+
+impl fmt::Display for SocketFault {
+    fn fmt<W: fmt::Write>(&self, f: &mut fmt::Formatter<W>) -> fmt::Result {
+        f.write_str(match self {
+            SocketFault::Memory => "there is no memory to wait for its sockets",
+            SocketFault::Poll => "waiting for its sockets failed",
+        })
+    }
+}
+
+impl Error for SocketFault {}
 
 impl From<AllocError> for SocketFault {
     ghost use Rattle.std.specs.Prelude.{◌≡◌};
@@ -71,12 +85,14 @@ pub struct Sockets<'a, R: Files> {
     poll: Poll,
     polled: mio::Events,
     ready: Vec<Ready>,
-    listener: TcpListener,
+    /// It is closed once it was told to stop, so that who comes then is turned away by the system.
+    listener: Option<TcpListener>,
     stage: Stage,
     /// Whether a client may wait to be let in.
     is_waited_for: bool,
     /// How many clients are let in yet at most.
     remaining: u64,
+    stop: StopFile<'a, R>,
     /// Each open connection owns it too.
     open: Rc<()>,
     start: Instant,
@@ -90,16 +106,15 @@ pub struct Sockets<'a, R: Files> {
 }
 
 impl<'a, R: Files + Net + Clock> Sockets<'a, R> {
-    /// Listens at the address, where so many clients are let in.
+    /// Listens at the address of the entrance.
     pub fn listen(
         alloc: Global,
         rt: &'a R,
         spools: &'a Spools<'a, R>,
-        address: SocketAddr,
-        clients: u64,
+        entrance: Entrance<'a>,
     ) -> io::Result<Sockets<'a, R>> {
         let start = Instant::now(rt)?;
-        let (poll, listener) = listener_at(rt, address)?;
+        let (poll, listener) = listener_at(rt, entrance.address)?;
         let (polled, ready, open) = room(alloc)?;
         Ok(Sockets {
             alloc,
@@ -108,10 +123,11 @@ impl<'a, R: Files + Net + Clock> Sockets<'a, R> {
             poll,
             polled,
             ready,
-            listener,
+            listener: Some(listener),
             stage: Stage::LettingIn(0),
             is_waited_for: true,
-            remaining: clients,
+            remaining: entrance.clients,
+            stop: StopFile::new(rt, entrance.stop_file),
             open,
             start,
             begun: Duration::from_secs(0),
@@ -197,8 +213,9 @@ impl<'a, R: Files + Net + Clock> Sockets<'a, R> {
     /// The next client that waits. Where the system gives none, as for want of descriptors, it is asked again in
     /// another round.
     fn accept(&mut self) -> Option<(TcpStream, SocketAddr)> {
+        let listener = self.listener.as_ref()?;
         for _ in 0..MOST_TRIES {
-            match self.listener.accept() {
+            match listener.accept() {
                 Ok(client) => return Some(client),
                 Err(error) => match error.kind() {
                     ErrorKind::Interrupted | ErrorKind::ConnectionAborted => {}
@@ -228,13 +245,19 @@ impl<'a, R: Files + Net + Clock> Events<SocketSource, SocketSink, FileSpool<'a, 
     for Sockets<'a, R> {
     ghost is_over = { λ s. s.has_ended };
 
-    // Which sockets are ready, by the system, then a round, then the clients that are let in, and so on.
+    // Which sockets are ready, by the system, then a round, then the clients that are let in, and so on. Before a client is
+    // let in it looks whether it is told to stop.
     fn next(
         &mut self,
         vacancy: Option<usize>,
         is_busy: bool,
     ) -> Event<SocketSource, SocketSink, FileSpool<'a, R>> {
         if let Stage::LettingIn(count) = self.stage {
+            let second = self.elapsed().as_secs();
+            if self.stop.tells(second) {
+                drop(self.listener.take());
+                return Event::Stop(second);
+            }
             if let Some(client) = self.let_in(vacancy, count) {
                 return Event::Client(client);
             }

@@ -7,6 +7,7 @@ use dep_host::{Client, Event, Events, Time};
 use dep_outbox::Wire;
 use example_text::Trouble;
 use std::alloc::Global;
+use std::mem;
 use std::net::IpAddr;
 
 /// A client that connects to a host of this player.
@@ -19,10 +20,21 @@ pub fn guest_of(alloc: Global, client: &Shared, address: IpAddr) -> Result<Guest
     Ok(Client::new(source, wire, address))
 }
 
-/// What comes to a host by one line: a client, or rounds, before which each socket that may be ready is told.
+/// What comes to a host first by one line.
+#[derive(Drop)]
+pub enum First {
+    Nothing,
+    /// A client connects.
+    Client(Guest),
+    /// It is told to stop.
+    Stop,
+}
+
+/// What comes to a host by one line: a client, or that it is to stop, or rounds, before which each socket that may be ready
+/// is told.
 #[derive(Drop)]
 pub struct Coming<'a> {
-    guest: Option<Guest>,
+    first: First,
     clients: &'a [Shared],
     /// So many of these were asked whether their sockets may be ready.
     asked: usize,
@@ -34,16 +46,16 @@ pub struct Coming<'a> {
 }
 
 impl<'a> Coming<'a> {
-    /// The client, where one comes, and then so many rounds at this time, up to the end where they settle.
+    /// What comes first, and then so many rounds at this time, up to the end where they settle.
     pub fn new(
-        guest: Option<Guest>,
+        first: First,
         clients: &'a [Shared],
         time: Time,
         rounds: u64,
         settles: bool,
     ) -> Coming<'a> {
         Coming {
-            guest,
+            first,
             clients,
             asked: 0,
             time,
@@ -75,8 +87,10 @@ impl Events<Shared, Shared, MemorySpool> for Coming<'_> {
         vacancy: Option<usize>,
         is_busy: bool,
     ) -> Event<Shared, Shared, MemorySpool> {
-        if let Some(guest) = self.guest.take() {
-            return Event::Client(guest);
+        match mem::replace(&mut self.first, First::Nothing) {
+            First::Nothing => {}
+            First::Client(guest) => return Event::Client(guest),
+            First::Stop => return Event::Stop(self.time.second),
         }
         if self.rounds == 0 || self.settles && self.had_round && !is_busy {
             return Event::End;

@@ -3,7 +3,7 @@
 use dep_host::{Closing, Refusal};
 
 /// The words for what becomes of a client that has come.
-pub const FATES: [&str; 9] = [
+pub const FATES: [&str; 10] = [
     "open",
     "over",
     "silent",
@@ -13,6 +13,7 @@ pub const FATES: [&str; 9] = [
     "full-refused",
     "memory-refused",
     "shut-refused",
+    "stop-refused",
 ];
 
 /// What became of a client.
@@ -38,6 +39,7 @@ impl Fate {
             Fate::Refused(Refusal::Full) => "full-refused",
             Fate::Refused(Refusal::Memory) => "memory-refused",
             Fate::Refused(Refusal::Shut) => "shut-refused",
+            Fate::Refused(Refusal::Stopped) => "stop-refused",
             Fate::Closed(Closing::Over) => "over",
             Fate::Closed(Closing::Silent) => "silent",
             Fate::Closed(Closing::Slow) => "slow",

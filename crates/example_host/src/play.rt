@@ -1,6 +1,6 @@
 //! An example is played by a host of its own.
 
-use crate::coming::{Coming, Guest};
+use crate::coming::{Coming, First};
 use crate::socket::Shared;
 use crate::spool::MemorySpool;
 use crate::stage::{Asked, Stage};
@@ -41,7 +41,8 @@ impl<T: ExampleTables> Player for HostPlay<T> {
                     self.enters(address)?;
                 }
             }
-            Asked::Rounds { count, settles } => self.comes(None, count, settles),
+            Asked::Rounds { count, settles } => self.comes(First::Nothing, count, settles),
+            Asked::Stop => self.comes(First::Stop, 0, false),
         }
         Ok(())
     }
@@ -57,7 +58,7 @@ impl<T: ExampleTables> HostPlay<T> {
     fn enters(&mut self, address: IpAddr) -> Result<(), Trouble> {
         let place = self.place()?;
         let guest = self.stage.enters(place, address)?;
-        self.comes(Some(guest), 0, false);
+        self.comes(First::Client(guest), 0, false);
         Ok(())
     }
 
@@ -81,12 +82,12 @@ impl<T: ExampleTables> HostPlay<T> {
         }
     }
 
-    // A client comes to the host, where there is one, and then so many rounds.
-    fn comes(&mut self, guest: Option<Guest>, rounds: u64, settles: bool) {
+    // This comes to the host, where there is one, and then so many rounds.
+    fn comes(&mut self, first: First, rounds: u64, settles: bool) {
         if let Some(host) = &mut self.host {
             let stage = &mut self.stage;
             let clients = stage.clients.as_slice();
-            let mut coming = Coming::new(guest, clients, stage.time, rounds, settles);
+            let mut coming = Coming::new(first, clients, stage.time, rounds, settles);
             let _ended = serve(host, &mut coming, &mut self.buffer, &mut stage.roll);
             drop(coming);
         }

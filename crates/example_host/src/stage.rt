@@ -29,6 +29,8 @@ pub enum Asked {
     Clients(u64, IpAddr),
     /// So many rounds, or fewer where they settle.
     Rounds { count: u64, settles: bool },
+    /// It is told to stop.
+    Stop,
 }
 
 /// What of an example needs no host: the configuration, the clients and what became of them, and the time.
@@ -100,6 +102,7 @@ impl Stage {
             "at" => self.time.moment = Moment::new(number),
             "second" => self.time.second = number,
             "crowd" => return Ok(Asked::Clients(number, LOCAL)),
+            "stop" => return Ok(Asked::Stop),
             "round" => return Ok(rounds(1)),
             "rounds" => return Ok(rounds(number)),
             "settles" => {

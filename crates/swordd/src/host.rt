@@ -5,7 +5,7 @@ use crate::hosting::serve_store;
 use dep_configuration::{Configuration, ConfigurationFault, EXAMPLE, explain, print_configuration};
 use dep_program::{HostCommand, Outcome, words};
 use std::fmt::Display;
-use std::fs;
+use std::{fs, io};
 
 const USAGE: &str = "usage: swordd_host CONFIGURATION | --example | --check CONFIGURATION";
 
@@ -31,12 +31,21 @@ fn usage(rt: &HostRuntime) -> Outcome {
 fn print_example(rt: &HostRuntime) -> Outcome {
     let mut lines = String::new(rt.alloc());
     if explain(&mut lines).is_err() {
+        let _ = eprintln!(rt; "swordd_host: out of memory");
         return Outcome::StoreFault;
     }
     let _ = eprint!(rt; "{lines}");
-    match print!(rt; "{EXAMPLE}") {
+    outcome_printed(rt, &print!(rt; "{EXAMPLE}"))
+}
+
+// How it ends once something was printed, or wasn't.
+fn outcome_printed(rt: &HostRuntime, printed: &io::Result<()>) -> Outcome {
+    match printed {
         Ok(()) => Outcome::Done,
-        Err(_) => Outcome::TransferFault,
+        Err(_) => {
+            let _ = eprintln!(rt; "swordd_host: standard output can't be written");
+            Outcome::TransferFault
+        }
     }
 }
 
@@ -53,18 +62,25 @@ fn check_file(rt: &HostRuntime, file: &str) -> Outcome {
 }
 
 fn print_checked(rt: &HostRuntime, configuration: &Configuration) -> Outcome {
-    match print_configuration(&mut rt.stdout(), configuration) {
-        Ok(()) => Outcome::Done,
-        Err(_) => Outcome::TransferFault,
-    }
+    outcome_printed(rt, &print_configuration(&mut rt.stdout(), configuration))
 }
 
 // Serves the store of the configuration, if it can be served.
 fn serve_file(rt: &HostRuntime, file: &str) -> Outcome {
     match configuration_in(rt, file) {
+        Ok(configuration) if is_stopped(rt, &configuration) => {
+            drop(configuration);
+            tell(rt, file, &"stop_file: the file is there, which tells the server to stop");
+            Outcome::Usage
+        }
         Ok(configuration) => serve_store(rt, configuration),
         Err(outcome) => outcome,
     }
+}
+
+// Whether the file by which the server is told to stop is there before it begins.
+fn is_stopped(rt: &HostRuntime, configuration: &Configuration) -> bool {
+    fs::exists(rt, configuration.stop_file.as_str()).unwrap_or(false)
 }
 
 // The configuration in a file, whose folders are there. A fault is printed, by the field that it is of.

@@ -6,7 +6,7 @@ use crate::start::write_start;
 use dep_configuration::{
     Closing as Closed, Exchange, GREATEST_PATH, Reason, closing_line, exchange_line,
 };
-use dep_host::{Bytes, Closing, HostLog, Refusal as TurnedAway};
+use dep_host::{Bytes, Cause, Closing, Ended, HostLog, Refusal as TurnedAway};
 use dep_hub::{AccessLog, ConnId, Next};
 use dep_program::{microseconds_since, moment_of};
 use dep_sockets::DoorLog;
@@ -135,6 +135,7 @@ impl HostLog for StandardErrorLog<'_> {
             TurnedAway::Full => Reason::Full,
             TurnedAway::Memory => Reason::Memory,
             TurnedAway::Shut => Reason::StoreShut,
+            TurnedAway::Stopped => Reason::Stopping,
         };
         self.write_closing(None, address, reason);
     }
@@ -187,5 +188,18 @@ impl DoorLog for StandardErrorLog<'_> {
         } else {
             let _ = eprintln!(self.rt; "swordd_host: it can't listen at {address}");
         }
+    }
+
+    // Where no more comes, no line: how that came the door tells.
+    fn ended(&mut self, why: Option<Ended>) {
+        let line = match why {
+            Some(Ended::Events) => return,
+            Some(Ended::Shut(Cause::Stop)) => "it was told to stop",
+            Some(Ended::Shut(Cause::Store)) => "a fault of the disk has shut the store",
+            Some(Ended::Spent) => "more came than it can count",
+            None => "there is no memory to begin",
+        };
+        self.lines.write();
+        let _ = eprintln!(self.rt; "swordd_host: {line}");
     }
 }

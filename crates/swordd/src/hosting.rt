@@ -9,10 +9,11 @@ use dep_configuration::{Configuration, Limits};
 use dep_host::HostLog;
 use dep_outbox::{Sink, Source, Spool};
 use dep_program::Outcome;
-use dep_sockets::{Door, SocketDoor, Spools, serve_hub};
+use dep_sockets::{Door, Entrance, SocketDoor, Spools, serve_hub};
 use dep_store::{Unwatched, Work, open_hub, work_on_file};
 use dep_types::{Config, Text};
 use sqlite::{Alter, Connection};
+use std::cell::Cell;
 use std::net::SocketAddr;
 use std::process;
 use std::time::Instant;
@@ -22,9 +23,26 @@ use std::time::Instant;
 pub struct Place {
     pub address: SocketAddr,
     pub spool_folder: Text,
+    pub stop_file: Text,
     pub limits: Limits,
     /// When the opening of the database began.
     pub begun: Option<Instant>,
+}
+
+impl Place {
+    // Where its clients come in, and until when.
+    fn entrance(&self) -> Entrance<'_> {
+        let stop_file = self.stop_file.as_str();
+        Entrance {
+            address: self.address,
+            clients: self.limits.connections.unwrap_or(u64::MAX),
+            stop_file: if stop_file.is_empty() {
+                None
+            } else {
+                Some(stop_file)
+            },
+        }
+    }
 }
 
 /// What serves the store in a database.
@@ -33,45 +51,69 @@ struct Service<'a> {
     rt: &'a HostRuntime,
     place: Place,
     config: Config,
+    /// Whether it was done, before the database is closed.
+    is_done: &'a Cell<bool>,
 }
 
 /// Opens the store of the configuration, which is made where it isn't there, and serves all its clients. Then the log
-/// of the store is copied into its file.
+/// of the store is copied into its file. Unless all was done, a line on standard error says why.
 pub fn serve_store(rt: &HostRuntime, configuration: Configuration) -> Outcome {
     let Configuration {
         address,
         port,
         database,
         spool_folder,
+        stop_file,
         config,
         limits,
     } = configuration;
     let place = Place {
         address: SocketAddr::new(address, port),
         spool_folder,
+        stop_file,
         limits,
         begun: Instant::now(rt).ok(),
     };
-    match work_on_file(rt, database.as_str(), Service { rt, place, config }) {
+    let is_done = Cell::new(false);
+    let service = Service {
+        rt,
+        place,
+        config,
+        is_done: &is_done,
+    };
+    match work_on_file(rt, database.as_str(), service) {
+        Some(Outcome::StoreFault) if is_done.get() => fails(rt, "closed"),
         Some(outcome) => outcome,
-        None => {
-            let _ = eprintln!(rt; "swordd_host: the database can't be opened");
-            Outcome::StoreFault
-        }
+        None => fails(rt, "opened"),
     }
+}
+
+// What can't be done with the database is printed.
+fn fails(rt: &HostRuntime, what: &str) -> Outcome {
+    let _ = eprintln!(rt; "swordd_host: the database can't be {what}");
+    Outcome::StoreFault
 }
 
 impl Work for Service<'_> {
     // Serves whoever connects at the place.
     fn work<S: Alter>(self, connection: Connection<S>) -> (Outcome, Connection<S>) {
-        let Service { rt, place, config } = self;
+        let Service {
+            rt,
+            place,
+            config,
+            is_done,
+        } = self;
         let alloc = rt.alloc();
         let process = process::id(rt.process());
         let most = place.limits.spool_bytes;
-        let clients = place.limits.connections.unwrap_or(u64::MAX);
         let spools = Spools::new(alloc, rt, place.spool_folder.as_str(), process, most);
-        let mut door = SocketDoor::new(alloc, rt, &spools, place.address, clients);
-        host_database(rt, &place, config, connection, &mut door)
+        let mut door = SocketDoor::new(alloc, rt, &spools, place.entrance());
+        let (outcome, connection) = host_database(rt, &place, config, connection, &mut door);
+        if let Some(fault) = door.fault() {
+            let _ = eprintln!(rt; "swordd_host: {fault}");
+        }
+        is_done.set(matches!(outcome, Outcome::Done));
+        (outcome, connection)
     }
 }
 

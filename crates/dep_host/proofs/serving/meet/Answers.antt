@@ -3,8 +3,8 @@ use Rattle.std.proofs.lemmas.Result.{IfOk-weaker}
 use Rattle.dep_host.specs.Courses.{is_overdue}
 use Rattle.dep_host.specs.Coming.{seconds_of}
 use Rattle.dep_host.specs.declared.events.Event.{Event}
-use Rattle.dep_host.specs.Meeting.{MayEnd, wakes, makes_round}
-use Rattle.dep_host.proofs.RoundLemmas.{all_round}
+use Rattle.dep_host.specs.Meeting.{MayEnd, wakes, makes_round, stops}
+use Rattle.dep_host.proofs.RoundLemmas.{all_round, all_stop}
 use Rattle.dep_host.proofs.MeetLemmas.{meets_as, round_met, offer_kept}
 use Rattle.dep_host.proofs.serving.meet.Goals as goal
 
@@ -35,7 +35,18 @@ returns-in-Ready-clause-vacant g c = offer_kept c.args.host.now c.awake.new.self
 
 pub returns-in-Round-clause-time : goal.returns-in-Round-clause-time
 returns-in-Round-clause-time g c =
-    IfOk-weaker c.go_on-next.result _ _ (λ next h. all_round (λ second. is_overdue c.go_on-next.new.host.shut_since second c.go_on-next.new.host.limits ≡ false) c.args.event c.in-Round.time c.in-Round.is h) c.go_on-next.ensures.time
+    IfOk-weaker c.go_on-next.result _ _ (λ next h. all_round (λ second. is_overdue c.go_on-next.new.host.shut second c.go_on-next.new.host.limits ≡ false) c.args.event c.in-Round.time c.in-Round.is h) c.go_on-next.ensures.time
 
 pub returns-in-Round-clause-shut : goal.returns-in-Round-clause-shut
-returns-in-Round-clause-shut g c = λ ends. subst (λ (event : Event _ _ _). MayEnd c.go_on-next.new.host (seconds_of event)) (sym c.in-Round.is) (c.go_on-next.ensures.shut ends)
+returns-in-Round-clause-shut g c = λ why ends. subst (λ (event : Event _ _ _). MayEnd c.go_on-next.new.host why (seconds_of event)) (sym c.in-Round.is) (c.go_on-next.ensures.shut why ends)
+
+pub returns-in-Stop-clause-met : goal.returns-in-Stop-clause-met
+returns-in-Stop-clause-met g c = round_met g.A.Archive.condition g.R.Source.unread g.K.Sink.taken g.S.Spool.held g.A.Archive.account g.S.Spool.size g.L.HostLog.notes _ _ _ _ c.args.now.vacancy c.args.event c.wind_up.result c.wind_up.ensures.end c.wind_up.ensures.unspent
+    (meets_as g.A.Archive.condition g.R.Source.unread g.K.Sink.taken g.S.Spool.held g.A.Archive.account g.S.Spool.size g.L.HostLog.notes _ _ _ _ c.args.now.vacancy c.args.event _ c.in-Stop.is ([], stops c.stop.ensures refl))
+
+pub returns-in-Stop-clause-time : goal.returns-in-Stop-clause-time
+returns-in-Stop-clause-time g c =
+    IfOk-weaker c.wind_up.result _ _ (λ next h. all_stop (λ second. is_overdue c.stop.new.self.shut second c.stop.new.self.limits ≡ false) c.args.event c.in-Stop.second c.in-Stop.is h) c.wind_up.ensures.time
+
+pub returns-in-Stop-clause-shut : goal.returns-in-Stop-clause-shut
+returns-in-Stop-clause-shut g c = λ why ends. subst (λ (event : Event _ _ _). MayEnd c.stop.new.self why (seconds_of event)) (sym c.in-Stop.is) (c.wind_up.ensures.shut why ends)

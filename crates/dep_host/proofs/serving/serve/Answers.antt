@@ -1,8 +1,9 @@
-use Rattle.std.proofs.Common.{◌≡◌, rules, [], true, false, Err, refl, ap, sym, ◌∙◌}
+use Rattle.std.proofs.Common.{◌≡◌, rules, [], Err, refl, ap, ◌∙◌}
 use Rattle.dep_host.proofs.CloseLemmas.{promised}
-use Rattle.dep_host.proofs.ShutLemmas.{steps_rightly}
+use Rattle.dep_host.proofs.ShutLemmas.{steps_rightly, told_by_store, untold_rightly}
 use Rattle.dep_host.proofs.MeetLemmas.{met_none, met_next, met_last, met_all, is_the_end}
 use Rattle.dep_host.specs.Meeting.{most_events}
+use Rattle.dep_host.specs.declared.ending.Cause.TheVariants.{Store}
 use Rattle.dep_host.specs.declared.serving.Ended.TheVariants.{Events, Shut, Spent}
 use Rattle.dep_host.proofs.serving.serve.Goals as goal
 
@@ -27,7 +28,9 @@ returns-in-Err g c =
       goes = (met.0, met.1.steps);
       promise = promised g.A.Archive.condition g.R.Source.unread g.K.Sink.taken g.S.Spool.held c.hosts_keep_the_archive_promise.ensures _ _ (met.0, met.1.steps);
       end = λ e. c.next-event.ensures.end (is_the_end g.A.Archive.condition g.R.Source.unread g.K.Sink.taken g.S.Spool.held g.A.Archive.account g.S.Spool.size g.L.HostLog.notes _ _ _ _ _ c.next-event.result c.meet.result (c.in-Err.is ∙ ap Err e) c.meet.ensures.met);
-      shut = λ ends none. steps_rightly g.A.Archive.condition g.R.Source.unread g.K.Sink.taken g.S.Spool.held met.1.steps (λ some clean. let bad : true ≡ false = sym some ∙ none in cc) ((c.meet.ensures.shut (c.in-Err.is ∙ ap Err ends)).0);
+      shut = λ ends none.
+          let may = c.meet.ensures.shut Store (c.in-Err.is ∙ ap Err ends) in
+          told_by_store _ _ may.0 (steps_rightly g.A.Archive.condition g.R.Source.unread g.K.Sink.taken g.S.Spool.held met.1.steps (untold_rightly _ _ none));
     }
 
 pub returns : goal.returns
@@ -39,5 +42,5 @@ returns g c =
       goes = (met.0, met.1.steps);
       promise = promised g.A.Archive.condition g.R.Source.unread g.K.Sink.taken g.S.Spool.held c.hosts_keep_the_archive_promise.ensures _ _ (met.0, met.1.steps);
       end = λ e. let bad : Spent ≡ Events = e in cc;
-      shut = λ e none. let bad : Spent ≡ Shut = e in cc;
+      shut = λ e none. let bad : Spent ≡ Shut Store = e in cc;
     }

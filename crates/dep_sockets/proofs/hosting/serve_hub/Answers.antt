@@ -27,11 +27,13 @@ returns g c =
       first = c.in-Ok.host;
       last = c.serve-ended.new.host;
       log = c.door.new.self;
+      last_log = c.serve-ended.new.log;
       over = c.in-Ok.ensures.hub;
       within = c.in-Ok.ensures.limits;
       untold = c.in-Ok.ensures.untold;
       empty = c.in-Ok.ensures.empty;
       noted = c.door.ensures.noted;
+      last_noted = c.ended-2.ensures.noted;
       met = met_since g.A.Archive.condition g.R.Source.unread g.K.Sink.taken g.P.Spool.held g.A.Archive.account g.P.Spool.size g.L.HostLog.notes c.open-is_open.ensures.given run.1;
       left = c.into_store-2.ensures.same ∙ ap (λ h. h.store) c.into_hub-2.ensures;
     })

@@ -18,7 +18,7 @@ returns-in-Ok-false-clause-asks g c = record {
     hub = record { next = c.is_open.ensures.rests.next; same_config = c.is_open.ensures.rests.config; clean = c.is_open.ensures.rests.store.was_open; honest = c.is_open.ensures.rests.store.honest };
     stands = c.is_open.ensures.rests.stands;
     same_limits = refl;
-    told = inr (sym c.is_some.ensures ∙ c.if-is_some.false, told_shut (g.A.Archive.condition c.is_open.new.self.store) c.in-Ok-false.field-0 (search rules) c.in-Ok-false.ensures.told);
+    told = inr (sym c.is_some.ensures ∙ c.if-is_some.false, λ is. told_shut (g.A.Archive.condition c.is_open.new.self.store) c.in-Ok-false.field-0 (search rules) c.in-Ok-false.ensures.told);
   });
   told = inr (sym c.is_some.ensures ∙ c.if-is_some.false, Contains-push [] c.args.second);
   limits = refl;

@@ -1,4 +1,5 @@
 use Rattle.std.proofs.Common.{◌≡◌, ℕ, Option, true, false, is_some, refl, sym, ap, subst, ◌∙◌, arith}
+use Rattle.dep_host.specs.declared.ending.Shut.{Shut}
 use Rattle.dep_host.specs.Hosting.{GoesRound, HasTime, IsWaiting, Position, position, slot}
 use Rattle.dep_host.proofs.HostLemmas.{each_goes_on, each_sheds, left_goes_on, left_ends, left_sheds, stays_same, stays_on}
 use Rattle.dep_host.proofs.ServeLemmas.{round_begins, round_goes_on, round_ends, round_sheds}
@@ -26,7 +27,7 @@ loop-at-preserved g c = record {
 }
 
 pub serve_at-requires-clause-shut : goal.serve_at-requires-clause-shut
-serve_at-requires-clause-shut g c = c.is_some.ensures ∙ ap (λ (o : Option ℕ). is_some o) (sym c.loop-at.invariant.stays.shut)
+serve_at-requires-clause-shut g c = c.is_some.ensures ∙ ap (λ (o : Option Shut). is_some o) (sym c.loop-at.invariant.stays.shut)
 
 pub returns-clause-goes : goal.returns-clause-goes
 returns-clause-goes g c = subst (λ (q : Position _ _ _ _). GoesRound g.A.Archive.condition g.R.Source.unread g.K.Sink.taken g.S.Spool.held g.S.Spool.size (position c.args.self.now) q c.args.time.now) (sym c.draw_in.ensures.0)
