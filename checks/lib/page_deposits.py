@@ -202,6 +202,7 @@ def browser_is_killed(kept, place):
     find("segments were received before", len(received) > 20)
     expect("received segments that were sent again", sorted(received & set(relay.segments(before))), [])
     nothing_is_left("a browser that was killed", site, [number])
+    expect("changes of the object without If-Match", relay.untagged, [])
     relay.close()
 
 
@@ -320,6 +321,7 @@ def change_before_the_end(kept, place):
     contents["first"] = b"2" * 1000
     put_back(paths[0], contents["first"])
     compare("a file that changes once it was deposited", site, browser.ends(), contents)
+    expect("changes without If-Match", relay.untagged, [])
     relay.close()
 
 

@@ -10,10 +10,10 @@ from relay import Relay, end
 
 class Watching(Relay):
     """Between nginx and a host. It notes each request as its method, its path and the number of its segment, and turns the first
-    byte of the contents that it is to spoil."""
+    byte of the contents that it is to spoil. Changes of objects without If-Match are `untagged`."""
 
     def __init__(self, port):
-        self.requests, self.spoils = [], lambda path: False
+        self.requests, self.untagged, self.spoils = [], [], lambda path: False
         super().__init__(port)
 
     def pass_on(self, client):
@@ -34,6 +34,8 @@ class Watching(Relay):
             method, path, _ = head.split(b" ", 2)
             length = re.search(rb"(?im)^content-length: *(\d+)", head)
             content = bytearray(stream.read(int(length[1]) if length else 0))
+            if method != b"GET" and path.startswith(b"/objects/") and b"\r\nif-match:" not in head.lower():
+                self.untagged.append((method, path))
             number = re.search(rb"segment_number=(\d+)", head)
             self.requests.append((method.decode(), path.decode(), number and int(number[1])))
             if content and self.spoils(path.decode()):

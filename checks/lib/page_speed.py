@@ -47,10 +47,12 @@ def tab_memory(browser):
 
 
 def descendants(pid):
+    """The folders of /proc of the processes that it started, of whichever of its threads."""
     found = []
     with contextlib.suppress(OSError):
-        for child in pathlib.Path(f"/proc/{pid}/task/{pid}/children").read_text().split():
-            found += [pathlib.Path(f"/proc/{child}"), *descendants(int(child))]
+        for children in pathlib.Path(f"/proc/{pid}/task").glob("*/children"):
+            for child in children.read_text().split():
+                found += [pathlib.Path(f"/proc/{child}"), *descendants(int(child))]
     return found
 
 

@@ -5,9 +5,11 @@
 import { digestOfBytes, digestOfFile } from "./hashing.js";
 import { Item } from "./item.js";
 import { dropUploads, keepDeposit, keepDone, keepUpload, uploadsOf } from "./journal.js";
+import { Keeper } from "./keeping.js";
 import { eachOf, Lanes } from "./lanes.js";
 import { makeObject, putMetadata } from "./making.js";
 import { asBytes, disposition, payloadOf, readManifest } from "./names.js";
+import { entryOf, fieldOf, isOver, lengthOf } from "./segments.js";
 import { ask, Changed, get, insist, pathOf, pauseBefore, Paused, Refused, serviceOf, Unreachable } from "./server.js";
 
 const AT_ONCE = 3;
@@ -16,7 +18,6 @@ const MANY = 100, MOST_IN_BATCH = 64 << 20;
 const SEGMENT = 8 << 20;
 const WITH_PROGRESS = 256 << 10;
 const MOST_ANEW = 5, MOST_TRIES = 20;
-const LONGEST_BETWEEN = 600_000;
 
 // What was sent of a file is of no use any more.
 class Anew extends Error {}
@@ -273,7 +274,7 @@ export class Deposit {
         const from = (number - 1) * upload.segment;
         const content = await item.bytes(from, from + lengthOf(number, upload));
         const sha256 = await digestOfBytes(content);
-        const fields = { "Content-Disposition": `segment; segment_number=${number}`, "Digest": `SHA-256=${sha256}` };
+        const fields = { "Content-Disposition": fieldOf(number), "Digest": `SHA-256=${sha256}` };
         const onSent = content.byteLength < WITH_PROGRESS ? null : (bytes) => {
             item.flying.set(number, bytes);
             this.onChange(item);
@@ -460,29 +461,14 @@ export class Deposit {
         }
     }
 
-    // Uploads that wait are kept alive: a segment that was received is sent once more.
+    // Uploads that wait are kept alive, also while the deposit is paused.
     beginKeeping() {
         this.endKeeping();
-        const between = Math.min((this.service.stagingMaxIdle * 1000) / 4, LONGEST_BETWEEN);
-        this.keeper = setInterval(() => this.keepAlive(between), between);
+        this.keeper = new Keeper(this, this.service.stagingMaxIdle);
     }
 
     endKeeping() {
-        clearInterval(this.keeper);
-        this.keeper = undefined;
-    }
-
-    async keepAlive(between) {
-        const items = this.items.filter((item) => item.file && item.state !== "there" && this.uploads.has(item.name));
-        const old = items.filter((item) => Date.now() - (this.uploads.get(item.name).touched ?? 0) >= between / 2);
-        await eachOf(old, 1, async (item) => {
-            const upload = this.uploads.get(item.name);
-            const number = upload.received ?? upload.count;
-            const from = (number - 1) * upload.segment;
-            const content = await item.bytes(from, from + lengthOf(number, upload));
-            await ask("POST", pathOf(upload.url), { content, fields: { "Content-Disposition": `segment; segment_number=${number}` } });
-            Object.assign(upload, { touched: Date.now(), received: number });
-        }).catch(() => {});
+        this.keeper?.end();
     }
 }
 
@@ -492,11 +478,3 @@ export async function finish(record, files) {
     Object.assign(record, { state: "ingested", count: files.length, bytes, files: [], ended: Date.now() });
     await keepDone(record);
 }
-
-// Whether an upload is gone, or has other bytes than those that are sent now.
-const isOver = (fault) => fault instanceof Refused && (fault.status === 404 || fault.status === 410 || fault.name === "UnexpectedSegment");
-
-const lengthOf = (number, upload) => Math.min(upload.segment, upload.size - (number - 1) * upload.segment);
-
-const entryOf = (item, upload) => ({ "@id": upload.url, contentDisposition: disposition(item.name), contentType: item.type,
-    contentLength: item.size, digest: `SHA-256=${item.sha256}` });

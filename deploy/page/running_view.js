@@ -137,12 +137,20 @@ function rowOf(item) {
     return row;
 }
 
+// The speed of a file since it began to be sent, and the time left.
+function paceOf(item, row) {
+    row.first ??= { now: performance.now(), done: item.done };
+    const seconds = (performance.now() - row.first.now) / 1000, speed = (item.done - row.first.done) / seconds;
+    return seconds > 1 && speed > 0 ? [text.speed(speed), text.left((item.size - item.done) / speed)] : [];
+}
+
 function showItem(item, row) {
     if (!row) {
         return;
     }
     row.bar.value = item.size ? item.done : Number(item.state === "there");
-    row.told.textContent = item.state === "sending" ? text.progress(item.done, item.size) : `${size(item.size)}, ${text.items[item.state]}`;
+    row.told.textContent = item.state === "sending" ? [text.progress(item.done, item.size), ...paceOf(item, row)].join(", ")
+        : `${size(item.size)}, ${text.items[item.state]}`;
     row.told.className = item.state === "changed" || item.state === "missing" ? "bad" : "soft";
     row.element.dataset.state = item.state;
 }
