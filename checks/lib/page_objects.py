@@ -20,8 +20,9 @@ def deposited(site, contents, names=()):
     expect("the making of an object", status, 201)
     path = headers["Location"].removeprefix(site.settings["base"])
     for name, content in contents.items():
-        site.ask("POST", path, content, {**as_file(name, "text/plain"), "In-Progress": "true"})
-    site.ask("POST", path)
+        status, _, _ = site.ask("POST", path, content, {**as_file(name, "text/plain"), "In-Progress": "true"})
+        expect(f"the deposit of {name}", status, 200)
+    expect("the ingestion", site.ask("POST", path)[0], 200)
     return int(path.split("/")[-1])
 
 
@@ -41,7 +42,7 @@ def object_is_shown(kept, place):
         browser.find("#object-view input").send_keys(words)
         browser.press("Show", "#object-view")
         browser.wait("document.querySelectorAll('#files li').length === 2")
-    told = browser.wait("/2.0 kB/.test(document.querySelector('#files').innerText) && document.querySelector('#object').innerText")
+    told = browser.wait("/3 bytes[^]*2.0 kB/.test(document.querySelector('#files').innerText) && document.querySelector('#object').innerText")
     for words in (f"http://deposit.example.org/objects/{number}", "ingested", "T⟨U+202E⟩urned", "Kim", "Lee", "a.txt", "3 bytes", "text/plain",
                   "depositor", "number 2"):
         find(f"the page shows {words!r}", words in told)
