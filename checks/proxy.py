@@ -7,7 +7,7 @@ deploy/shards.conf have stores of their own.
     checks/proxy.py
 
 The status is 0 where all came as it should. It needs nginx and openssl (apt-get install nginx openssl), and curl for its part;
-where something is missing, it says what it skips. It takes some five processor seconds.
+where something is missing, it says what it skips. It takes some ten processor seconds.
 """
 
 import sys
