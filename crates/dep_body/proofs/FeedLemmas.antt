@@ -5,10 +5,10 @@ use Rattle.std.proofs.lemmas.Bool.{cases_Bool}
 use Rattle.std.proofs.lemmas.List.{take-append-drop, take-append-le, length-take-le}
 use Rattle.std.proofs.Math.Seq.{take-append_seam, take-append-add, drop-length}
 use Rattle.dep_body.specs.Lines.{line_text}
-use Rattle.dep_body.specs.Body.{IsBodyText, IsBodyFault, IsChunkedPart, begun_line, begun_chunk, begun_trailers, lines_text}
+use Rattle.dep_body.specs.Body.{IsBodyFault, IsChunkedPart, begun_line, begun_chunk, begun_trailers, lines_text}
 use Rattle.dep_body.specs.Standing.{StandsAt, is_settled, IsInLine, IsInData, IsBehindData, IsInTrailers}
 use Rattle.dep_body.specs.ReaderValue.{ReaderValue}
-use Rattle.dep_body.specs.Feeding.{HasFed, TellsFed, EndsBody, ShowsFault, answer_of, used_by}
+use Rattle.dep_body.specs.Feeding.{HasFed, TellsFed, ShowsFault, answer_of, used_by}
 use Rattle.dep_body.specs.declared.frame.Framing.TheVariants.{Chunked}
 use Rattle.dep_body.specs.declared.frame.FrameFault.{FrameFault}
 use Rattle.dep_body.specs.declared.size.SizeLine.{SizeLine}

@@ -1,7 +1,7 @@
 -- What is known of octets that were hashed, once more of them come or some go.
 use Rattle.std.proofs.Common.{◌≡◌, ◌≤◌, ℕ, ◌-◌, ◌+◌, List, ◌++◌, length, take, drop, sym, ap, subst, ◌∙◌, arith, length-append, length-take, Result, Ok, Err, OnOk, OnErr}
 use Rattle.std.proofs.lemmas.List.{length-take-le, take-append-drop, take-append-le}
-use Rattle.std.proofs.Math.Seq.{take-append-add, take-take, take-length}
+use Rattle.std.proofs.Math.Seq.{take-append-add, take-take}
 use Rattle.dep_fixity.specs.Fixity.{Holds}
 use Rattle.dep_fixity.specs.Hashing.{IsHashed}
 use Rattle.dep_fixity.specs.declared.hashed.Hashed.{Hashed}

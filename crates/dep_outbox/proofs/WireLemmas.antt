@@ -1,5 +1,5 @@
 -- What becomes of the bytes of a wire.
-use Rattle.std.proofs.Common.{◌≡◌, ℕ, suc, ◌+◌, List, [], ◌∷◌, ◌++◌, Option, None, Some, refl, sym, ap, ◌∙◌, append_assoc, length, take, drop, subst, ◌≢◌, arith, Result, Ok, Err, OnErr}
+use Rattle.std.proofs.Common.{◌≡◌, ℕ, suc, ◌+◌, List, [], ◌∷◌, ◌++◌, Option, None, Some, refl, sym, ap, ◌∙◌, append_assoc, length, take, drop, ◌≢◌, arith, Result, Ok, Err, OnErr}
 use Rattle.std.proofs.lemmas.List.{append-nil, take-append-drop, drop-drop, drop_all}
 use Rattle.std.specs.Io.KnownBytes.{Appends, Consumes, Keeps, IsAtEnd, prepend_known}
 use Rattle.dep_types.specs.Writing.{TakesPart}

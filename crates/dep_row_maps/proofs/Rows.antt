@@ -28,7 +28,6 @@ above : (a b : ℕ) → is_gt (int_cmp (pos a) (pos b)) ≡ nat_lt b a
 above a b = grind (arith, nat_tests)
 
 module _ {X : Type 0} (row : ℕ → X → Row) (keyed : Keyed row) where
-
   compared : (a : ℕ) (x : X) (b : ℕ) (y : X) → value_cmp (rowid (row a x)) (rowid (row b y)) ≡ nat_cmp a b
   compared a x b y = rw (keyed a x, keyed b y) (value_cmp-Int (pos a) (pos b) ∙ as_numbers a b)
 

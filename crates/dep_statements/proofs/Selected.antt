@@ -12,14 +12,13 @@ use Rattle.sqlite.specs.Command.TheVariants.{Select}
 use Rattle.sqlite.specs.Query.{Query, output, output_cmp, Output, IsSureAnswer}
 use Rattle.sqlite.specs.Listing.{understood, reads_listing}
 use Rattle.sqlite.specs.Program.{overlay}
-use Rattle.sqlite.specs.State.{State, Shown, Begins, IsUnchanged}
+use Rattle.sqlite.specs.State.{State, Shown, Begins}
 use Rattle.sqlite.proofs.Callers.{IsPlain, command_of, begins_as}
 use Rattle.sqlite_value.specs.declared.keys.Key.{Key}
 use Rattle.sqlite_trees.specs.Tree.{has_rowid}
 use Rattle.dep_statements.specs.Query.{one_table, plainly, no_limit, passes}
 use Rattle.dep_statements.specs.Rows.{IsOrdered, InOrder, IsFirst}
 use Rattle.dep_statements.proofs.Asking.{Picks, answers}
-use Rattle.dep_statements.proofs.Asked.{shown_unchanged}
 use Rattle.dep_statements.proofs.Answered.{shown_of, by_rowid, in_any_order, in_order, drop-none}
 use Rattle.dep_statements.proofs.Looking.{by_key, by_next, by_order, same_filter}
 use Rattle.dep_statements.proofs.Statements.{selected}

@@ -1,13 +1,11 @@
 -- Why a value was not read.
-use Rattle.std.proofs.Common.{◌≡◌, ◌≢◌, ◌<◌, ℕ, List, ◌∷◌, get_or, Result, Ok, Err, IfErr, IsErr, IsErrAnd, length, inl, inr, refl, sym, ap, subst, ◌∙◌, arith}
+use Rattle.std.proofs.Common.{◌≡◌, ◌<◌, ℕ, List, ◌∷◌, get_or, Result, Ok, Err, IfErr, IsErr, IsErrAnd, length, inl, inr, sym, ap, subst, ◌∙◌, arith}
 use Rattle.std.specs.Prelude.{⊤}
 use Rattle.sqlite.specs.Order.{Row}
 use Rattle.sqlite.specs.declared.types.Value.{Value}
 use Rattle.sqlite.specs.declared.error.Error.{Error}
-use Rattle.sqlite.specs.declared.error.Error.TheVariants.{SqliteFailure}
-use Rattle.sqlite.specs.declared.error.ErrorCode.TheVariants.{OutOfMemory}
 use Rattle.dep_types.specs.declared.store_fault.StoreFault.{StoreFault}
-use Rattle.dep_types.specs.declared.store_fault.StoreFault.TheVariants.{Store, Memory}
+use Rattle.dep_types.specs.declared.store_fault.StoreFault.TheVariants.{Memory}
 use Rattle.dep_tables.specs.Faults.{fault_for, IsMemoryWhere}
 use Rattle.sqlite.specs.State.{State}
 use Rattle.dep_tables.specs.Clauses.{FailsToReadNumbers, AtMostOne, JustOne}

@@ -18,8 +18,7 @@ use Rattle.dep_bag.proofs.Numbered.{HasStorable, files_storable, found_by_number
 use Rattle.dep_decisions.specs.LookUps.{has_bag_path}
 use Rattle.dep_operations.specs.Views.{has_path, touched_object}
 use Rattle.dep_operations.specs.declared.view.Touched.{Touched}
-use Rattle.dep_views.specs.declared.touched.PathSeen.{PathSeen}
-use Rattle.dep_views.specs.Seen.{file_at_path, path_seen, touched_payload}
+use Rattle.dep_views.specs.Seen.{file_at_path, touched_payload}
 
 -- a path is among those of the files where a file is found there
 any_found : (path : List ℕ) (es : List (ℕ × File)) → list_any (bytes_eq path) (map (λ e. payload_path e.0 e.1.name) es) ≡ is_some (find (stands_at path) es)

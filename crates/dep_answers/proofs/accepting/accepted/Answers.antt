@@ -14,7 +14,7 @@ returns-clause-says c =
     let r = c.args.target.now.resource in
     let m = c.args.target.now.method in
     let other : (safe : Method) → is_safe safe ≡ true → m ≡ safe → ⊥ =
-        λ safe is same. let both : true ≡ false = sym is ∙ ap (λ (k : Method). is_safe k) (sym same) ∙ sym c.is_safe.ensures ∙ c.if-is_safe.false in cc in
+    λ safe is same. let both : true ≡ false = sym is ∙ ap (λ (k : Method). is_safe k) (sym same) ∙ sym c.is_safe.ensures ∙ c.if-is_safe.false in cc in
     IfOk-weaker c.say.result _ _
     (λ said says s sound e. says_as s _ (answer_to c.args.service.now s r m) c.args.delivery said
     (c.in_ok-changed.ensures

@@ -35,6 +35,8 @@ returns-after-is_last c =
     let read : c.if-is_last.self ≡ Behind (closes c.in-Message.message.head) = elim c.if-is_last.branch [
       | then-is_last w ↦ w.self-is ∙ (w.end.ensures ∙ (ap (λ (s : Standing). record (reading_of s new) { place = Shut; is_dead = false }) c.in-Live.is ∙ ap Behind (sym w.if-is_last.true ∙ c.closes-is_last.ensures)))
       | else-is_last w ↦ w.self-is ∙ (ap (λ (s : Standing). reading_of s new) c.in-Live.is ∙ ap Behind (sym w.if-is_last.false ∙ c.closes-is_last.ensures))
-    ] in
-    (takes_message work new c.args.self.now (ap (λ (s : Standing). reading_of s work) (sym c.in-Live.is) ∙ c.self.view_is)
-    _ c.in-Message.message read (rw c.in-Message.is at c.in_ok-next.ensures), c.closes-is_last.ensures)
+    ] in (
+      takes_message work new c.args.self.now (ap (λ (s : Standing). reading_of s work) (sym c.in-Live.is) ∙ c.self.view_is)
+          _ c.in-Message.message read (rw c.in-Message.is at c.in_ok-next.ensures),
+      c.closes-is_last.ensures,
+    )
