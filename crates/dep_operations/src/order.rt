@@ -16,8 +16,8 @@ use crate::rules::{behalf_rule, presence_rule, seen_tag, size_rule, tag_rule};
 use crate::ruling::Ruling;
 use crate::view::View;
 use dep_decisions::{
-    Operation, Purpose, ReadContent, content_purpose, decision_on, digest_rule,
-    digests_if_promised, fields_rule, numbers_for,
+    Operation, Purpose, ReadContent, decision_on, digest_rule, digests_if_promised, fields_rule,
+    numbers_for,
 };
 use dep_docs_in::{DocFault, read_metadata};
 use dep_types::{Config, Metadata, Method, Refusal, Resource, Target};
@@ -25,14 +25,16 @@ use std::alloc::{AllocError, Global};
 
 /// Returns the ruling on a request, where the archive is seen so at the numbers that it touches: the first
 /// rule that applies, from rule 5 of the order of refusals in docs/PROFILE.md on, or what the request asks
-/// for. An `Err` is want of memory, which is asked for only where the content is held and no rule before it
+/// for, whose content is for this purpose (`content_purpose`). An `Err` is want of memory, which is asked for only where the content is held and no rule before it
 /// refuses.
 pub fn decide(
     alloc: Global,
     config: &Config,
     view: &View,
     operation: &Operation<'_>,
+    purpose: Option<Purpose<'_>>,
 ) -> Result<Ruling, AllocError>
+    requires { option_map kind_for purpose ≡ kind_of operation.now }
     ensures ruling { IfOk result (RulesBy config.now view.now operation.now) }
     // What is let through can be given its numbers.
     ensures room { IfOk result (HasRoomFor view.now.next) }
@@ -40,7 +42,6 @@ pub fn decide(
     if let Some(refusal) = access_rule(config, view, operation) {
         return Ok(Ruling::Refuse(refusal));
     }
-    let purpose = content_purpose(operation);
     match check_content(alloc, config, view, operation, purpose)? {
         Checked::Refused(refusal) => Ok(Ruling::Refuse(refusal)),
         Checked::Passed(read) => rule_by_room(alloc, view, operation, purpose, read),

@@ -7,22 +7,23 @@ ghost use Rattle.dep_decisions.specs.Purposes.{kind_for};
 ghost use Rattle.dep_operations.specs.Views.{file_in, object_in, path_in, segment_in, touched_by, uploads_in, uploads_named};
 
 use crate::view::{Numbers, SegmentId, Touched};
-use dep_decisions::{Operation, Purpose, content_purpose};
+use dep_decisions::{Operation, Purpose};
 use dep_docs_in::{DocFault, Pointed, Reference, References, read_references};
 use dep_types::{Config, Octets, Resource};
 use std::alloc::{AllocError, Global};
 
-/// Returns the numbers at which a request looks at the archive. A document of references is read here, and
-/// only here. An `Err` is want of memory.
+/// Returns the numbers at which a request looks at the archive, whose content is for this purpose
+/// (`content_purpose`). A document of references is read here, and only here. An `Err` is want of memory.
 pub fn touches(
     alloc: Global,
     config: &Config,
     operation: &Operation<'_>,
+    purpose: Option<Purpose<'_>>,
 ) -> Result<Touched, AllocError>
+    requires { option_map kind_for purpose ≡ kind_of operation.now }
     ensures ok { IfOk result (λ touched. touched ≡ touched_by config.now operation.now) }
 {
     let resource = &operation.target.resource;
-    let purpose = content_purpose(operation);
     let path = path_in(alloc, resource)?;
     let references = references_for(alloc, config, operation, purpose)?;
     let uploads = uploads_in(alloc, resource, references.as_ref())?;

@@ -10,7 +10,7 @@ ghost use Rattle.dep_requests.specs.Remembering.{Recalls, ReadsService, service_
 use crate::performing::{Done, accept, delivery_at};
 use crate::remembering::Remembered;
 use dep_answers::{Performed, Service, Shown, StoredFile, refused};
-use dep_decisions::Operation;
+use dep_decisions::{Operation, content_purpose};
 use dep_fields::Field;
 use dep_operations::{Ruling, UploadViews, View, decide};
 use dep_staging::RunningHashes;
@@ -72,7 +72,8 @@ pub fn show_service(
         → IfOk result (IsShown service.now operation.now s) }
 {
     let view = view_service(alloc, remembered);
-    let decided = decide(alloc, service.config(), &view, operation);
+    let purpose = content_purpose(operation);
+    let decided = decide(alloc, service.config(), &view, operation, purpose);
     drop(view);
     let ruling = decided?;
     let performed = reply_service(alloc, service, operation, remembered, &ruling);

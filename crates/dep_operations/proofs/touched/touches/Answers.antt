@@ -7,7 +7,7 @@ returns c = record {
   ok = let resource = c.args.operation.now.target.resource in
       let references = c.in_ok-references.ensures in
       let uploads = c.in_ok-uploads.ensures ∙ ap (uploads_in resource) (c.as_ref.ensures.value ∙ references) in
-      let segment = c.segment_in.ensures ∙ ap (segment_in resource) c.content_purpose-purpose.ensures in
+      let segment = c.segment_in.ensures ∙ ap (segment_in resource) c.requires in
       (λ i. record {
         object = c.object_in.ensures i;
         file = c.file_in.ensures i;
