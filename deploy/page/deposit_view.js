@@ -153,6 +153,7 @@ export class DepositView {
         this.form.insertBefore(this.remark, this.form.lastElementChild);
         this.form.hidden = this.unfinished.hidden = false;
         this.running.hidden = true;
+        delete this.running.dataset.state;
         fill(this.running);
         this.open();
     }
