@@ -3,7 +3,7 @@
 import { choices } from "./choosing.js";
 import { Deposit, finish } from "./deposit.js";
 import { Description } from "./describing.js";
-import { button, faultBox, fill, labelled, make, moment, shown } from "./elements.js";
+import { button, fill, labelled, make, moment, shown } from "./elements.js";
 import { deposits, forget } from "./journal.js";
 import { isFit, linesOf, payloadOf } from "./names.js";
 import { RunningView } from "./running_view.js";
