@@ -232,7 +232,7 @@ def two_tabs(kept, place):
     """A deposit that is open in one tab can't be gone on with in another."""
     site = Site(kept, max_upload=SEGMENT)
     browser = kept.enter_context(Browser(site.front().port, place / "profile")).enter()
-    contents = {"large.bin": os.urandom(60 * SEGMENT)}
+    contents = {"large.bin": os.urandom(200 * SEGMENT)}
     paths = write(place / "files", contents)
     browser.choose(*paths)
     browser.begin()
@@ -284,14 +284,14 @@ def file_changes(kept, place):
     browser = kept.enter_context(Browser(site.front().port, place / "profile")).enter()
     for number, is_put_back in enumerate((True, False)):
         browser.open()
-        contents = {"large.bin": os.urandom(60 * SEGMENT), "small": b"small"}
+        contents = {"large.bin": os.urandom(200 * SEGMENT), "small": b"small"}
         paths = write(place / f"files-{number}", contents)
         browser.choose(*paths)
         browser.begin()
         browser.wait(f"document.querySelector('#all-progress').value > {5 * SEGMENT}")
         browser.press("Pause")
         browser.ends("paused")
-        contents["large.bin"] = os.urandom(60 * SEGMENT)
+        contents["large.bin"] = os.urandom(200 * SEGMENT)
         if is_put_back:
             put_back(paths[0], contents["large.bin"])
         else:
@@ -330,7 +330,7 @@ def uploads_are_kept_alive(kept, place):
     site = Site(kept, max_upload=SEGMENT, staging_max_idle=3)
     relay = Watching(site.host.port)
     browser = kept.enter_context(Browser(site.front(relay.port).port, place / "profile")).enter()
-    contents = {"large.bin": os.urandom(40 * SEGMENT)}
+    contents = {"large.bin": os.urandom(300 * SEGMENT)}
     paths = write(place / "files", contents)
     browser.choose(*paths)
     browser.begin()

@@ -87,8 +87,7 @@ def measure(kept, place, size, count):
     with Sampler(lambda: tab_memory(browser), 0.2) as memory, Sampler(lambda: wait_of(site), 0.005) as waits:
         began = time.monotonic()
         browser.begin()
-        browser.wait("!document.querySelector('#items li') || /deposited|is with the server/.test(document.querySelector('#items').innerText)"
-                     " || document.querySelector('#all-progress').value >= document.querySelector('#all-progress').max", 1200)
+        browser.wait("['sent', 'there'].includes(document.querySelector('#items li')?.dataset.state)", 1200)
         sent, longest_sent = time.monotonic() - began, waits.greatest
         number = browser.ends(seconds=1200)
         page = time.monotonic() - began

@@ -12,7 +12,6 @@ import tempfile
 
 import fronted
 from conformance import folder_in_memory
-from crates import ROOT
 from depositing import ADDRESS, exchange
 
 # Where Debian puts its Python's packages, for another python3.

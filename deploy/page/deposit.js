@@ -15,7 +15,8 @@ import { ask, Changed, get, insist, pathOf, pauseBefore, Paused, Refused, servic
 const AT_ONCE = 3;
 // Uploads are deposited so many at a time, or so many bytes: the server does nothing else meanwhile.
 const MANY = 100, MOST_IN_BATCH = 64 << 20;
-const SEGMENT = 8 << 20;
+// Three segments at once, with what the browser copies of them, are what the page takes of memory.
+const SEGMENT = 4 << 20;
 const WITH_PROGRESS = 256 << 10;
 const MOST_ANEW = 5, MOST_TRIES = 20;
 
@@ -194,6 +195,7 @@ export class Deposit {
         this.onChange(item);
         await this.sendAll(item);
         item.state = "sent";
+        this.onChange(item);
         this.batch.push(item);
         if (this.batch.length >= MANY || this.batch.reduce((sum, it) => sum + it.size, 0) >= MOST_IN_BATCH) {
             await this.flush();

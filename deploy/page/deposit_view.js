@@ -3,7 +3,7 @@
 import { choices } from "./choosing.js";
 import { Deposit, finish } from "./deposit.js";
 import { Description } from "./describing.js";
-import { button, faultBox, fill, labelled, make, moment, shown } from "./elements.js";
+import { button, fill, labelled, make, moment, shown } from "./elements.js";
 import { deposits, forget } from "./journal.js";
 import { isFit, linesOf, payloadOf } from "./names.js";
 import { RunningView } from "./running_view.js";
@@ -153,6 +153,7 @@ export class DepositView {
         this.form.insertBefore(this.remark, this.form.lastElementChild);
         this.form.hidden = this.unfinished.hidden = false;
         this.running.hidden = true;
+        delete this.running.dataset.state;
         fill(this.running);
         this.open();
     }

@@ -3,7 +3,7 @@
 import { choices } from "./choosing.js";
 import { button, faultBox, fill, make, shown } from "./elements.js";
 import { pathOf } from "./server.js";
-import { duration, size, text } from "./texts.js";
+import { size, text } from "./texts.js";
 
 const BETWEEN = 250;
 // The speed is that of the last seconds.
