@@ -70,7 +70,11 @@ fn serve_file(rt: &HostRuntime, file: &str) -> Outcome {
     match configuration_in(rt, file) {
         Ok(configuration) if is_stopped(rt, &configuration) => {
             drop(configuration);
-            tell(rt, file, &"stop_file: the file is there, which tells the server to stop");
+            tell(
+                rt,
+                file,
+                &"stop_file: the file is there, which tells the server to stop",
+            );
             Outcome::Usage
         }
         Ok(configuration) => serve_store(rt, configuration),
