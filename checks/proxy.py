@@ -43,9 +43,8 @@ NOT_COMPARED = {"date", "connection", "server", "keep-alive"}
 MOMENT = re.compile(rb"\d{4}-\d\d-\d\dT\d\d:\d\d:\d\dZ")
 SLOW, UNREAD = 30, 5
 # Who may do all.
-CURATOR = "curator"
 # What the roles of the site allow, by the methods in the order that they are tried.
-ALLOWED = {"reader": "GET HEAD", "robot": "GET HEAD POST", fronted.USER: "GET HEAD POST PUT", CURATOR: "GET HEAD POST PUT DELETE"}
+ALLOWED = {"reader": "GET HEAD", "robot": "GET HEAD POST", fronted.USER: "GET HEAD POST PUT", fronted.CURATOR: "GET HEAD POST PUT DELETE"}
 # An object of the story that is there in the end, which gets the greatest content.
 LARGE_OBJECT = "/objects/2"
 
@@ -107,7 +106,7 @@ def story(base):
     ]
 
 
-def authorized(fields, user=CURATOR, **how):
+def authorized(fields, user=fronted.CURATOR, **how):
     return {**fields, "Host": fronted.NAME, **fronted.password_of(user, **how)}
 
 
@@ -120,7 +119,7 @@ def by_http_client(connection, request, fields):
 def by_curl(proxy, folder, request):
     """The same by curl, with a connection of its own. A file name and a URL are sent as they stand."""
     (folder / "content").write_bytes(request.content)
-    words = ["curl", "--silent", "--show-error", "--cacert", proxy.certificate, "--user", f"{CURATOR}:{fronted.PASSWORD}",
+    words = ["curl", "--silent", "--show-error", "--cacert", proxy.certificate, "--user", f"{fronted.CURATOR}:{fronted.PASSWORD}",
              "--resolve", f"{fronted.NAME}:{proxy.port}:127.0.0.1", "--http1.1", "--path-as-is", "--dump-header", folder / "head",
              "--output", folder / "body", *[it for pair in request.fields.items() for it in ("-H", ": ".join(pair))]]
     words += ["--head"] if request.method == "HEAD" else ["-X", request.method]
@@ -139,7 +138,7 @@ def replies_alone():
     """The replies of the host without a proxy, to requests on behalf of the user that the proxy knows."""
     with tempfile.TemporaryDirectory(dir=folder_in_memory()) as name, fronted.host(name) as host:
         connection = http.client.HTTPConnection("127.0.0.1", host.port, timeout=60)
-        return [by_http_client(connection, it, {**it.fields, "On-Behalf-Of": CURATOR}) for it in story(host.base)]
+        return [by_http_client(connection, it, {**it.fields, "On-Behalf-Of": fronted.CURATOR}) for it in story(host.base)]
 
 
 def compare(what, requests, came, wanted):
@@ -169,7 +168,7 @@ def curl_story(wanted):
         compare("by curl", requests, [by_curl(proxy, pathlib.Path(name), it) for it in requests], wanted)
 
 
-def ask(proxy, method, path, content=None, fields=None, user=CURATOR, **how):
+def ask(proxy, method, path, content=None, fields=None, user=fronted.CURATOR, **how):
     connection = http.client.HTTPSConnection("127.0.0.1", proxy.port, timeout=120, context=proxy.context())
     connection.request(method, path, content, authorized(fields or {}, user, **how) if user else fields or {})
     reply = connection.getresponse()

@@ -16,7 +16,8 @@ from served import free_port, wait_for_listener
 SITE = ROOT / "deploy/nginx.conf"
 NAME, USER, PASSWORD = "deposit.example.org", "kim", "a-word"
 # Users whom the site's remarks give a role.
-ROLES = {"reader": "reads", "robot": "adds", "curator": "all"}
+CURATOR = "curator"
+ROLES = {"reader": "reads", "robot": "adds", CURATOR: "all"}
 MAIN = """daemon off;
 user {user};
 pid {folder}/nginx.pid;

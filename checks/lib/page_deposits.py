@@ -8,6 +8,7 @@ import time
 
 from crates import ROOT
 from expectations import expect, find
+from fronted import CURATOR
 from page_relays import Cutting, Watching
 from paged import Browser, Site
 
@@ -380,20 +381,19 @@ def server_is_away(kept, place):
 
 
 def behalf_is_told(kept, place):
-    """On whose behalf, where the server takes it."""
-    site = Site(kept, on_behalf_of=True)
+    """On whose behalf: the user whom nginx knows."""
+    site = Site(kept)
     browser = kept.enter_context(Browser(site.front().port, place / "profile")).enter()
     contents = {"a": b"abc", "empty": b""}
     browser.choose(*write(place / "files", contents))
-    browser.run("return [...document.querySelectorAll('label')].find((it) => it.textContent === 'On behalf of').control").send_keys("Zoë Łuczak")
     browser.begin()
     number = browser.ends()
     links = json.loads(site.ask("GET", f"/objects/{number}")[2])["links"]
-    expect("on whose behalf", [it.get("depositedOnBehalfOf") for it in links], ["Zoë Łuczak"] * 2)
+    expect("on whose behalf", [it.get("depositedOnBehalfOf") for it in links], [CURATOR] * 2)
     browser.open(f"#objects/{number}")
     browser.wait("document.querySelectorAll('#files li').length === 2")
     told = browser.run("return document.querySelector('#files').textContent")
-    expect("how often the page says so", told.count("on behalf of Zoë Łuczak"), 2)
+    expect("how often the page says so", told.count(f"on behalf of {CURATOR}"), 2)
 
 
 def many_files(kept, place, count):

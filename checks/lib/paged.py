@@ -45,7 +45,7 @@ class Site:
 
     def __init__(self, kept, **settings):
         self.folder = pathlib.Path(kept.enter_context(tempfile.TemporaryDirectory(dir=folder_in_memory())))
-        self.kept, self.settings = kept, {"base": f"http://{fronted.NAME}", **settings}
+        self.kept, self.settings = kept, {"base": f"http://{fronted.NAME}", "on_behalf_of": True, **settings}
         self.host, self.store = None, self.folder / "store"
         self.start()
 
@@ -110,7 +110,7 @@ class Browser:
         options.set_capability("goog:loggingPrefs", {"browser": "ALL"})
         options.set_capability("unhandledPromptBehavior", "ignore")
         self.url = f"https://{fronted.NAME}:{port}"
-        self.with_password = f"https://{fronted.USER}:{fronted.PASSWORD}@{fronted.NAME}:{port}"
+        self.with_password = f"https://{fronted.CURATOR}:{fronted.PASSWORD}@{fronted.NAME}:{port}"
         self.driver = webdriver.Chrome(service=Service(shutil.which("chromedriver")), options=options)
         self.driver.set_script_timeout(MOST_SECONDS)
         self.driver.set_window_size(width, 1000)

@@ -8,7 +8,7 @@ import { dropUploads, keepDeposit, keepDone, keepUpload, uploadsOf } from "./jou
 import { Keeper } from "./keeping.js";
 import { eachOf, Lanes } from "./lanes.js";
 import { makeObject, putMetadata } from "./making.js";
-import { asBytes, disposition, payloadOf, readManifest } from "./names.js";
+import { disposition, payloadOf, readManifest } from "./names.js";
 import { entryOf, fieldOf, isOver, lengthOf } from "./segments.js";
 import { ask, Changed, get, insist, pathOf, pauseBefore, Paused, Refused, serviceOf, Unreachable } from "./server.js";
 
@@ -398,8 +398,7 @@ export class Deposit {
 
     // One change of the object, which stays in progress unless it is told to end, if it is still as it was seen.
     async change(method, content, fields) {
-        const behalf = this.record.behalf ? { "On-Behalf-Of": asBytes(this.record.behalf) } : {};
-        const reply = await ask(method, this.path, { content, fields: { "In-Progress": "true", ...behalf, ...fields, "If-Match": this.tag } });
+        const reply = await ask(method, this.path, { content, fields: { "In-Progress": "true", ...fields, "If-Match": this.tag } });
         this.tag = reply.tag;
     }
 

@@ -3,7 +3,7 @@
 import { choices } from "./choosing.js";
 import { Deposit, finish } from "./deposit.js";
 import { Description } from "./describing.js";
-import { button, fill, labelled, make, moment, shown } from "./elements.js";
+import { button, fill, make, moment, shown } from "./elements.js";
 import { deposits, forget } from "./journal.js";
 import { isFit, linesOf, payloadOf } from "./names.js";
 import { RunningView } from "./running_view.js";
@@ -19,7 +19,6 @@ export class DepositView {
         this.list = make("ul", { className: "cards", id: "chosen" });
         this.summary = make("p", { role: "status", textContent: text.nothingChosen });
         this.remark = make("div", {});
-        this.behalf = make("input", {});
         this.form = make("form", { on: { submit: (event) => this.begin(event) } }, this.filesPart(), this.descriptionPart(), this.remark,
             make("button", { className: "main", textContent: text.begin }));
         this.running = make("section", { hidden: true, id: "running" });
@@ -37,9 +36,7 @@ export class DepositView {
     }
 
     descriptionPart() {
-        const behalf = this.service.onBehalfOf
-            ? make("div", {}, labelled(text.behalf, this.behalf), make("p", { className: "soft", textContent: text.behalfHint })) : null;
-        return make("fieldset", {}, make("legend", { textContent: text.describeLegend }), this.description.place, behalf);
+        return make("fieldset", {}, make("legend", { textContent: text.describeLegend }), this.description.place);
     }
 
     async open() {
@@ -125,7 +122,7 @@ export class DepositView {
         }
         const id = crypto.randomUUID();
         const record = { id, mark: text.mark(id), began: Date.now(), state: "begun", object: null, metadata: this.description.names,
-            behalf: this.behalf.value.trim(), files: this.chosen.map(({ name, path, size: bytes, modified }) => ({ name, path, size: bytes, modified })) };
+            files: this.chosen.map(({ name, path, size: bytes, modified }) => ({ name, path, size: bytes, modified })) };
         this.start(new Deposit(record, this.chosen, () => {}), true);
     }
 

@@ -2,7 +2,6 @@
 // its metadata are put, so that a double is found and deleted.
 
 import { keepDeposit } from "./journal.js";
-import { asBytes } from "./names.js";
 import { ask, get, insist, pathOf, Refused } from "./server.js";
 
 const MARK = "dcterms:provenance";
@@ -15,8 +14,7 @@ export async function makeObject(record, signal) {
     const isSecond = record.wasTried;
     record.wasTried = true;
     await keepDeposit(record);
-    const fields = { "Content-Disposition": "attachment; metadata=true", "Content-Type": "application/json", "In-Progress": "true",
-        ...(record.behalf ? { "On-Behalf-Of": asBytes(record.behalf) } : {}) };
+    const fields = { "Content-Disposition": "attachment; metadata=true", "Content-Type": "application/json", "In-Progress": "true" };
     let tries = 0;
     const reply = await insist(() => {
         tries += 1;

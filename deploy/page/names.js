@@ -22,9 +22,6 @@ export const spelled = (text) => encodeURIComponent(text).replace(/['()*]/g, esc
 // The field that names a deposited file.
 export const disposition = (name) => `attachment; filename*=UTF-8''${spelled(name)}`;
 
-// A field's value is sent byte by byte, so UTF-8 is spelled as one sign for each byte.
-export const asBytes = (text) => String.fromCharCode(...bytesOf(text));
-
 // Pieces of a name as it is shown: signs that aren't seen, or that turn the text round, stand as their number.
 export function shownPieces(name) {
     const hidden = /[\p{C}\p{Default_Ignorable_Code_Point}]|(?! )[\p{Z}]|^ | $| (?= )/gu;

@@ -56,7 +56,6 @@ export const text = {
     describeLegend: "Description",
     element: "Field", value: "Text", valueOf: (name) => `Text of ${name}`, addField: "Add a field", removeField: (name) => `Remove ${name}`,
     removeShort: "Remove",
-    behalf: "On behalf of", behalfHint: "Leave it empty if you deposit for yourself.",
     begin: "Deposit",
 
     unfinished: "Deposits that were broken off",
@@ -140,7 +139,7 @@ const HELP = {
     MethodNotAllowed: text.unknownHelp, SegmentedUploadTimedOut: "Go on: what timed out is sent anew.",
     DigestMismatch: "What came isn't what was sent. Try again; if it happens again, tell whoever runs the server.",
     ETagNotMatched: "Somebody else changed it meanwhile. Look at it, and try again.", ETagRequired: text.unknownHelp,
-    OnBehalfOfNotAllowed: "Leave \"On behalf of\" empty.", ByReferenceNotAllowed: text.unknownHelp,
+    OnBehalfOfNotAllowed: "Tell whoever runs the server: it has to take deposits on behalf of others.", ByReferenceNotAllowed: text.unknownHelp,
     MaxUploadSizeExceeded: "Tell whoever runs the server: its limits changed. Load the page again.",
     ContentTypeNotAcceptable: text.unknownHelp, MetadataFormatNotAcceptable: text.unknownHelp,
     PackagingFormatNotAcceptable: text.unknownHelp, StoreFull: "Tell whoever runs the server.",
