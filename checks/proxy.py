@@ -42,7 +42,6 @@ SEGMENT = 65_536
 NOT_COMPARED = {"date", "connection", "server", "keep-alive"}
 MOMENT = re.compile(rb"\d{4}-\d\d-\d\dT\d\d:\d\d:\d\dZ")
 SLOW, UNREAD = 30, 5
-# Who may do all.
 # What the roles of the site allow, by the methods in the order that they are tried.
 ALLOWED = {"reader": "GET HEAD", "robot": "GET HEAD POST", fronted.USER: "GET HEAD POST PUT", fronted.CURATOR: "GET HEAD POST PUT DELETE"}
 # An object of the story that is there in the end, which gets the greatest content.

@@ -15,8 +15,9 @@ from served import free_port, wait_for_listener
 
 SITE = ROOT / "deploy/nginx.conf"
 NAME, USER, PASSWORD = "deposit.example.org", "kim", "a-word"
-# Users whom the site's remarks give a role.
+# Who may do all.
 CURATOR = "curator"
+# Users whom the site's remarks give a role.
 ROLES = {"reader": "reads", "robot": "adds", CURATOR: "all"}
 MAIN = """daemon off;
 user {user};
