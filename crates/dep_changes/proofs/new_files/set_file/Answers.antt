@@ -20,8 +20,8 @@ returns g c = record {
   map = λ n.
       record {
         done = λ clean inside ours s are told.
-            let view = c.args.change.now.view.now in
             let content = c.args.change.now.content.now in
+            let view = c.args.change.now.view.now in
             let f = c.args.file in
             let as_new = c.args.new.now in
             let one = g.T.Statements.state c.write_row.new.tx in

@@ -18,9 +18,9 @@ returns g c = record {
   map = λ n.
       record {
         done = λ clean inside ours s are told.
+            let one = g.T.Statements.state c.delete_files.new.tx in
             let view = c.args.numbered.now.change.now.view.now in
             let content = c.args.numbered.now.change.now.content.now in
-            let one = g.T.Statements.state c.delete_files.new.tx in
             let two = g.T.Statements.state c.write_row.new.tx in
             let new = g.T.Statements.state c.put_new_files.new.tx in
             let clean_two = clean_before c.put_new_files.ensures.map.keeps.stays clean in

@@ -14,8 +14,8 @@ returns g c = record {
   map = λ n.
       record {
         done = λ clean inside ours s are told.
-            let view = c.args.change.now.view.now in
             let new = g.T.Statements.state c.write_row.new.tx in
+            let view = c.args.change.now.view.now in
             let numbers = told.0 in
             let o = told.1.0 in
             let object = told.1.1 in

@@ -17,8 +17,8 @@ returns g c = record {
   map = λ n.
       record {
         done = λ clean inside ours s are told.
-            let view = c.args.change.now.view.now in
             let mid = g.T.Statements.state c.write_row.new.tx in
+            let view = c.args.change.now.view.now in
             let new = g.T.Statements.state c.delete_file.new.tx in
             let before = clean_before c.delete_file.ensures.does.keeps.stays clean in
             let numbers = told.0 in

@@ -16,8 +16,8 @@ returns g c = record {
   map = λ n.
       record {
         done = λ clean inside ours s are told.
-            let view = c.args.change.now.view.now in
             let texts = c.args.metadata.now in
+            let view = c.args.change.now.view.now in
             let mid = g.T.Statements.state c.write_row.new.tx in
             let new = g.T.Statements.state c.set_metadata.new.tx in
             let before = clean_before c.set_metadata.ensures.does.keeps.stays clean in

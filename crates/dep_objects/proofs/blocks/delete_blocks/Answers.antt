@@ -32,9 +32,9 @@ pub returns-in_default : goal.returns-in_default
 returns-in_default g c = record {
   does = record {
     ok = λ clean inside ours.
-        let old = g.T.Statements.state c.args.tx.now in
-        let mid = g.T.Statements.state c.runs.tx in
         let seen = g.T.Statements.state c.first_block.new.tx in
+        let mid = g.T.Statements.state c.runs.tx in
+        let old = g.T.Statements.state c.args.tx.now in
         let was = c.runs.invariant.1 (clean_before c.first_block.ensures.does.keeps.stays clean) inside ours in
         let same = c.in_ok-start.ensures.does.keeps.same clean was.0 in
         let none = subst (IsFirstBlock c.args.owner (tables_of mid)) c.in_default.is (c.in_ok-start.ensures.does.ok clean was.0) in
