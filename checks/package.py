@@ -25,7 +25,7 @@ import tempfile
 from crates import ROOT, built_program
 from depositing import as_file
 from expectations import expect, find, status_of
-from served import Served
+from served import Served, free_port
 
 # What deploy/package reads of the tree, beside the program.
 READ = ("deploy", "docs", "README.md", "CHANGELOG.md", "LICENSE", "crates/swordd/src/start.rt")
@@ -154,6 +154,13 @@ class Debian:
     def installed(self):
         return self.run(0, "dpkg-query", "--show", "--showformat=${db:Status-Status} ${Version}", "swordd")
 
+    def configure(self):
+        """An operator edits the configuration: another port. Returns it."""
+        configuration = self.folder / CONFIGURATION
+        told = {**json.loads(configuration.read_text(encoding="utf-8")), "port": free_port()}
+        configuration.write_text(json.dumps(told), encoding="utf-8")
+        return told
+
     def store(self):
         """The digests of the database's files."""
         return {it.name: hashlib.sha256(it.read_bytes()).hexdigest() for it in (self.folder / "var/lib/swordd").iterdir()}
@@ -211,10 +218,8 @@ def first_installation(debian, package):
 
 
 def upgrade(debian, place, later):
-    """The server goes on through an upgrade; the next one, begun by hand, has what was deposited. Returns the configuration."""
-    configuration = debian.folder / CONFIGURATION
-    told = {**json.loads(configuration.read_text(encoding="utf-8")), "port": Served(place, None, 1).port}
-    configuration.write_text(json.dumps(told), encoding="utf-8")
+    """The server goes on through an upgrade; the next one, begun by hand, has what was deposited."""
+    told = debian.configure()
     with Host(debian, place, told["port"]) as host:
         deposit(host, 1, b"before the upgrade" * 1000)
         said, calls = debian.install(later)
@@ -223,7 +228,7 @@ def upgrade(debian, place, later):
         read(host, 1, b"before the upgrade" * 1000)
         host.stop()
     expect("what is installed behind the upgrade", debian.installed(), f"installed {version()}.1")
-    expect("the configuration behind the upgrade", json.loads(configuration.read_text(encoding="utf-8")), told)
+    expect("the configuration behind the upgrade", json.loads((debian.folder / CONFIGURATION).read_text(encoding="utf-8")), told)
     with Host(debian, place, told["port"]) as host:
         read(host, 1, b"before the upgrade" * 1000)
         deposit(host, 2, b"behind the upgrade")
@@ -247,6 +252,17 @@ def removal(debian):
         find(f"a purge says that /{path} stays", f"swordd: /{path} stays" in said and (debian.folder / path).is_dir())
 
 
+def installed_again(debian, place, package):
+    """Behind a purge, after which somebody else got the user's number: the deposits are there once they are owned anew, as the
+    purge said."""
+    debian.run(0, "useradd", "--system", "other")
+    debian.install(package)
+    debian.run(0, "chown", "-R", "swordd:swordd", "/var/lib/swordd")
+    with Host(debian, place, debian.configure()["port"]) as host:
+        read(host, 2, b"behind the upgrade")
+        host.stop()
+
+
 def operator(place, first, later):
     """Returns what was left out."""
     if not shutil.which("debootstrap"):
@@ -259,6 +275,7 @@ def operator(place, first, later):
         first_installation(debian, first)
         upgrade(debian, work, later)
         removal(debian)
+        installed_again(debian, work, later)
     return ""
 
 
