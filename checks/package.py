@@ -16,7 +16,6 @@ import hashlib
 import json
 import os
 import pathlib
-import platform
 import re
 import shutil
 import subprocess
@@ -124,7 +123,7 @@ class Debian:
 
     def __init__(self, folder):
         self.folder, self.calls = folder, folder / "var/log/calls"
-        suite = platform.freedesktop_os_release()["VERSION_CODENAME"]
+        suite = run(0, "sh", "-c", '. /etc/os-release; echo "$VERSION_CODENAME"').strip()
         run(0, "debootstrap", "--variant=minbase", "--include=python3", suite, folder)
         (folder / "run/systemd/system").mkdir(parents=True)
         (folder / "usr/bin/systemctl").write_text('#!/bin/sh\necho "$*" >>/var/log/calls\n', encoding="utf-8")
@@ -221,6 +220,7 @@ def upgrade(debian, place, later):
     """The server goes on through an upgrade; the next one, begun by hand, has what was deposited."""
     told = debian.configure()
     with Host(debian, place, told["port"]) as host:
+        expect("the version that the program tells", json.loads(host.said().splitlines()[0])["version"], version())
         deposit(host, 1, b"before the upgrade" * 1000)
         said, calls = debian.install(later)
         expect("what systemctl is called for by an upgrade", set(calls), {"daemon-reload"})
@@ -265,8 +265,8 @@ def installed_again(debian, place, package):
 
 def operator(place, first, later):
     """Returns what was left out."""
-    if not shutil.which("debootstrap"):
-        return ", debootstrap isn't there"
+    if not shutil.which("debootstrap") or os.geteuid():
+        return ", nothing installed: debootstrap isn't there, or no root"
     with contextlib.ExitStack() as ends:
         debian = Debian(place / "debian")
         ends.callback(debian.end)
