@@ -31,6 +31,7 @@ sys.path.insert(0, f"{sys.path[0]}/lib")
 import http.client
 import json
 import random
+import re
 import resource
 import socket
 import subprocess
@@ -146,7 +147,7 @@ def example(folder, settings):
     ends(["--check", file], 0, "")
 
 
-HOST_USAGE = "usage: swordd_host CONFIGURATION | --example | --check CONFIGURATION\n"
+HOST_USAGE = "usage: swordd_host CONFIGURATION | --example | --check CONFIGURATION | --version\n"
 # By which of its names the program is called, and whether it is the host's.
 CALLED = {"swordd_host": True, "/a/swordd_host": True, "./swordd_host": True, "swordd": False, "a/xswordd_host": False,
           "swordd_hosts": False, "swordd_host/swordd": False, "_host": False, "": False}
@@ -169,9 +170,18 @@ def checked():
     expect("what is printed of checked.json", (program.returncode, *printed), (0, (place / "checked.txt").read_bytes(), b""))
 
 
+def version():
+    """The version is printed with the kit that README names."""
+    kit = re.search(r"^Proved with `(.+?)`", (ROOT / "README.md").read_text(encoding="utf-8"), re.MULTILINE)[1]
+    with begin("--version", stdout=subprocess.PIPE, stderr=subprocess.PIPE, text=True) as program:
+        printed, said = program.communicate(timeout=PATIENCE)
+    told = re.fullmatch(r"swordd_host [0-9]+(\.[0-9]+)+, proved with (.+)\n", printed)
+    expect("the version", (program.returncode, told and told[2], said), (0, kit, ""))
+
+
 def unprinted(configuration):
     """What can't be printed on standard output is told, behind the fields that are explained."""
-    for words in (["--example"], ["--check", configuration]):
+    for words in (["--example"], ["--check", configuration], ["--version"]):
         with open("/dev/full", "wb") as full:
             ran = subprocess.run([built_program("swordd_host"), *words], stdout=full, stderr=subprocess.PIPE, check=False)
         said = ran.stderr.decode().splitlines()[-1:]
@@ -181,6 +191,7 @@ def unprinted(configuration):
 def statuses():
     names()
     checked()
+    version()
     with Host(connections=3) as host:
         settings, folder = host.settings, host.folder
         for _ in range(3):

@@ -3,11 +3,12 @@ use Rattle.std.specs.Prelude.{ℕ, ◌==◌, List, [], ◌∷◌, Option, Some, 
 use Rattle.dep_program.specs.declared.host_command.HostCommand.{HostCommand}
 use Rattle.dep_program.specs.declared.host_command.HostCommand.TheVariants as command
 
--- a configuration file is served or looked at, or an example of one is printed
+-- a configuration file is served or looked at, or an example of one or the version is printed
 pub data Asked : Type 0 where
   serve : (file : List ℕ) → Asked
   check : (file : List ℕ) → Asked
   example : Asked
+  version : Asked
 
 -- a word that begins with a hyphen names no file
 abbrev pub is_option : List ℕ → Bool
@@ -18,6 +19,7 @@ is_option (c ∷ word) = c == 45
 abbrev pub asked_of_one : List ℕ → Option Asked
 asked_of_one word =
     if bytes_eq word (codes "--example") then Some example
+    else if bytes_eq word (codes "--version") then Some version
     else if is_option word then None
     else Some (serve word)
 
@@ -33,3 +35,4 @@ abbrev pub asked_in : HostCommand → Asked
 asked_in (command.Serve file) = serve file.now
 asked_in (command.Check file) = check file.now
 asked_in command.Example = example
+asked_in command.Version = version

@@ -11,6 +11,8 @@ pub enum HostCommand<'a> {
     Check(&'a str),
     /// A configuration file is printed in which each field is explained.
     Example,
+    /// The version of the program is printed.
+    Version,
 }
 
 impl<'a> HostCommand<'a> {
@@ -37,6 +39,9 @@ fn of_one<'a>(word: &'a str) -> Option<HostCommand<'a>>
 {
     if word == "--example" {
         return Some(HostCommand::Example);
+    }
+    if word == "--version" {
+        return Some(HostCommand::Version);
     }
     // An option is no name of a file.
     match word.as_bytes().first() {

@@ -2,12 +2,14 @@
 
 use crate::folders::check_folders;
 use crate::hosting::serve_store;
+use crate::start::{KIT, VERSION};
 use dep_configuration::{Configuration, ConfigurationFault, EXAMPLE, explain, print_configuration};
 use dep_program::{HostCommand, Outcome, words};
 use std::fmt::Display;
 use std::{fs, io};
 
-const USAGE: &str = "usage: swordd_host CONFIGURATION | --example | --check CONFIGURATION";
+const USAGE: &str =
+    "usage: swordd_host CONFIGURATION | --example | --check CONFIGURATION | --version";
 
 /// Does what the words ask for, and prints on standard error why it wasn't done.
 pub fn run_host(rt: &HostRuntime) -> Outcome {
@@ -17,6 +19,7 @@ pub fn run_host(rt: &HostRuntime) -> Outcome {
     match HostCommand::read(&words) {
         None => usage(rt),
         Some(HostCommand::Example) => print_example(rt),
+        Some(HostCommand::Version) => print_version(rt),
         Some(HostCommand::Check(file)) => check_file(rt, file),
         Some(HostCommand::Serve(file)) => serve_file(rt, file),
     }
@@ -36,6 +39,11 @@ fn print_example(rt: &HostRuntime) -> Outcome {
     }
     let _ = eprint!(rt; "{lines}");
     outcome_printed(rt, &print!(rt; "{EXAMPLE}"))
+}
+
+fn print_version(rt: &HostRuntime) -> Outcome {
+    let printed = println!(rt; "swordd_host {VERSION}, proved with {KIT}");
+    outcome_printed(rt, &printed)
 }
 
 // How it ends once something was printed, or wasn't.
