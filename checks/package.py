@@ -28,7 +28,7 @@ from served import Served, free_port
 
 # What deploy/package reads of the tree, beside the program.
 READ = ("deploy", "docs", "README.md", "CHANGELOG.md", "LICENSE", "crates/swordd/src/start.rt")
-VERSION = re.compile(r'(?m)^const VERSION: &str = "(.*)";$')
+VERSION = re.compile(r'(?m)(?<=const VERSION: &str = ").*(?=";$)')
 FOLDERS = {"var/lib/swordd": (0o750, "swordd"), "var/spool/swordd": (0o750, "swordd"), "var/backups/swordd": (0o700, "root")}
 CONFIGURATION = "etc/swordd/configuration.json"
 PATH = "/usr/sbin:/usr/bin:/sbin:/bin"
@@ -46,7 +46,7 @@ def run(status, *words, **how):
 
 
 def version():
-    return VERSION.search((ROOT / "crates/swordd/src/start.rt").read_text(encoding="utf-8"))[1]
+    return VERSION.search((ROOT / "crates/swordd/src/start.rt").read_text(encoding="utf-8"))[0]
 
 
 def copy_tree(folder, told):
@@ -55,7 +55,7 @@ def copy_tree(folder, told):
         (folder / name).parent.mkdir(parents=True, exist_ok=True)
         (shutil.copytree if (ROOT / name).is_dir() else shutil.copy)(ROOT / name, folder / name)
     source, changes = folder / READ[-1], folder / "CHANGELOG.md"
-    source.write_text(VERSION.sub(f'const VERSION: &str = "{told}";', source.read_text(encoding="utf-8")), encoding="utf-8")
+    source.write_text(VERSION.sub(told, source.read_text(encoding="utf-8")), encoding="utf-8")
     changes.write_text(changes.read_text(encoding="utf-8").replace(f"[{version()}]", f"[{told}]"), encoding="utf-8")
     return folder
 
@@ -73,8 +73,8 @@ def packages(place):
     """One of this version, which is made again elsewhere, on one processor and under another mask; and one of the next version."""
     moment = run(0, "git", "-C", ROOT, "log", "-1", "--format=%ct").strip()
     first = make(ROOT, place / "first")
-    again = make(copy_tree(place / "tree", version()), place / "again", "taskset", "-c", "0", "sh", "-c", 'umask 077; exec "$@"', "sh",
-                 SOURCE_DATE_EPOCH=moment, TZ="Asia/Tokyo", LC_ALL="C.UTF-8")
+    otherwise = ("taskset", "-c", "0", "sh", "-c", 'umask 077; exec "$@"', "sh")
+    again = make(copy_tree(place / "tree", version()), place / "again", *otherwise, SOURCE_DATE_EPOCH=moment, TZ="Asia/Tokyo")
     expect("the name of the package", first.name, f"swordd_{version()}_{run(0, 'dpkg', '--print-architecture').strip()}.deb")
     find("two runs make the same bytes", first.read_bytes() == again.read_bytes())
     later = make(copy_tree(place / "next", f"{version()}.1"), place / "later", SOURCE_DATE_EPOCH=moment)
@@ -114,7 +114,8 @@ def contents(package, place):
     find("the program is the one that was built", (unpacked / "usr/bin/swordd").read_bytes() == built_program("swordd").read_bytes())
     expect("where swordd_host leads", os.readlink(unpacked / "usr/bin/swordd_host"), "swordd")
     expect("the conffiles", run(0, "dpkg-deb", "--info", package, "conffiles"), f"/{CONFIGURATION}\n")
-    for name in ("README.md", "CHANGELOG.md", "copyright", "changelog.gz", "docs/DEPLOYING.md", "examples/nginx.conf", "examples/shards.conf"):
+    for name in ("README.md", "CHANGELOG.md", "copyright", "changelog.gz", "docs/DEPLOYING.md", "examples/nginx.conf",
+                 "examples/shards.conf"):
         find(f"the document {name}", (unpacked / "usr/share/doc/swordd" / name).is_file())
 
 
