@@ -28,11 +28,12 @@ abbrev pub tag_subject : ℕ → (metadata : Bool) → Subject
 tag_subject n true = subject.Object n
 tag_subject n false = subject.Files n
 
--- what is read of an object's bag: the one file that can stand at the path, or else a tag file's subject
+-- the same: the one file that can stand at the path, or else what its tag file shows
 abbrev pub subject_by : ℕ → (file : Option ℕ) → (metadata : Bool) → Subject
 subject_by n (Some f) metadata = subject.File (record { object = n; file = f })
 subject_by n None metadata = tag_subject n metadata
 
+-- what is read to show what stands at a path of a bag
 abbrev pub subject_in_bag : ℕ → (path : List ℕ) → Subject
 subject_in_bag n path = subject_by n (file_number path) (shows_metadata path)
 
