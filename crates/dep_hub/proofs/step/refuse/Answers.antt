@@ -1,3 +1,4 @@
+use Rattle.std.proofs.Common.{◌∙◌}
 use Rattle.std.proofs.lemmas.Result.{IfOk-weaker}
 use Rattle.std.specs.Option.{option_copied}
 use Rattle.dep_hub.proofs.StepLemmas.{refusal_ready}
@@ -5,8 +6,8 @@ use Rattle.dep_hub.proofs.step.refuse.Goals as goal
 
 pub returns : goal.returns
 returns c =
-    let delivery = c.new.result in
+    let delivery = c.new-delivery.result in
     IfOk-weaker c.refused.result _ _
     (λ p says s clock. refusal_ready s delivery p c.args.why.refusal (option_copied c.args.allow) c.args.why.is_bare c.args.closes
-    (c.new.ensures.clock ∙ clock) c.new.ensures.bare c.new.ensures.closes says)
+    (c.new-delivery.ensures.clock ∙ clock) c.new-delivery.ensures.bare c.new-delivery.ensures.closes says)
     c.refused.ensures.says
