@@ -1,13 +1,12 @@
 //! The digests of the uploads that references name.
 
-ghost use Rattle.std.specs.Prelude.{◌≡◌, ℕ, List, true, IfOk, IsTrue, map};
+ghost use Rattle.std.specs.Prelude.{◌≡◌, true, IfOk, IsTrue};
 ghost use Rattle.dep_types.specs.Sound.{IsSound};
-ghost use Rattle.dep_operations.specs.Views.{upload_state, upload_view};
-ghost use Rattle.dep_operations.specs.declared.view.Touched.{Touched};
+ghost use Rattle.dep_operations.specs.Views.{upload_state};
 ghost use Rattle.dep_row_maps.specs.Clauses.{Finds, MayFind};
 ghost use Rattle.dep_staging.specs.HashedAhead.{AreRunning};
 ghost use Rattle.dep_views.specs.Referred.{TellsDigests};
-ghost use Rattle.dep_views.specs.Seen.{loaded_view, loaded_with_digests};
+ghost use Rattle.dep_views.specs.Seen.{GetsDigests, hashed_views};
 
 use crate::segments::is_complete;
 use crate::view::LoadedView;
@@ -68,7 +67,7 @@ fn hash_uploads<T: Statements>(
 ) -> Result<UploadViews, StoreFault>
     ensures map { MayFind T.lenders T.state tx.old tx.new result
         (λ s. IsTrue (T.state tx.old).is_open → IsSound s → AreRunning s running.now
-        → IfOk result (λ hashed. hashed ≡ map (λ view. upload_view true s view.upload) views.now)) }
+        → IfOk result (λ hashed. hashed ≡ hashed_views s views.now)) }
 {
     let mut hashed = Vec::new(alloc);
     'views: for view in views {
@@ -93,8 +92,7 @@ pub fn load_digests<T: Statements>(
 ) -> Result<LoadedView, StoreFault>
     ensures map { MayFind T.lenders T.state tx.old tx.new result
         (λ s. IsTrue (T.state tx.old).is_open → IsSound s → AreRunning s running.now
-        → (content : List ℕ) (t : Touched) → loaded ≡ loaded_view s content t
-        → IfOk result (λ whole. whole ≡ loaded_with_digests s content t)) }
+        → IfOk result (GetsDigests s loaded)) }
 {
     let LoadedView { view, payload } = loaded;
     if view.references.is_none() {

@@ -27,7 +27,7 @@ returns g c = record {
 pub returns-in_err-uploads : goal.returns-in_err-uploads
 returns-in_err-uploads g c = record {
   map = record {
-    found = λ clean inside ours s are is_open sound running content t same. IfOk-from_err c.from_residual.result _ c.from_residual.ensures.0;
+    found = λ clean inside ours s are is_open sound running. IfOk-from_err c.from_residual.result _ c.from_residual.ensures.0;
     keeps = may_err c.from_residual.ensures.0 c.in_err-uploads.ensures.map.keeps;
   };
 }
