@@ -169,6 +169,9 @@ def as_units_have_it(root, work, folder):
         copies = list((root / "var/backups/swordd").iterdir())
         expect("the copy of the unit", [it.name for it in copies[0].iterdir()][:1], ["deposits.db"])
         shutil.rmtree(copies[0])
+        another = subprocess.Popen(["sleep", "1"])
+        run(1, *words_of(root, "host", "ExecStartPost=+", {**told, "MAINPID": str(another.pid)}), env=told)
+        another.wait()
         host.kill()
         run(1, *words_of(root, "host", "ExecStartPost=+", told), env=told)
 
