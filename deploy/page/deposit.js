@@ -2,14 +2,14 @@
 // end. Browsers send a request twice where a kept connection breaks, so each change of the object sends If-Match, and what was
 // done is asked of the server before a refusal is told.
 
-import { digestOfBytes, digestOfFile } from "./hashing.js";
+import { digestOfFile } from "./hashing.js";
 import { Item } from "./item.js";
 import { dropUploads, keepDeposit, keepDone, keepUpload, uploadsOf } from "./journal.js";
 import { Keeper } from "./keeping.js";
 import { eachOf, Lanes } from "./lanes.js";
 import { makeObject, putMetadata } from "./making.js";
 import { disposition, payloadOf, readManifest } from "./names.js";
-import { entryOf, fieldOf, isOver, lengthOf } from "./segments.js";
+import { Anew, entryOf, lengthOf, sendSegment } from "./segments.js";
 import { ask, Changed, get, insist, pathOf, pauseBefore, Paused, Refused, serviceOf, Unreachable } from "./server.js";
 
 const AT_ONCE = 3;
@@ -19,9 +19,6 @@ const MANY = 100, MOST_IN_BATCH = 64 << 20;
 const SEGMENT = 4 << 20;
 const WITH_PROGRESS = 256 << 10;
 const MOST_ANEW = 5, MOST_TRIES = 20;
-
-// What was sent of a file is of no use any more.
-class Anew extends Error {}
 
 const textOf = (document) => new TextEncoder().encode(JSON.stringify(document));
 
@@ -273,33 +270,16 @@ export class Deposit {
 
     async sendSegment(item, upload, number) {
         const { signal } = this;
-        const from = (number - 1) * upload.segment;
-        const content = await item.bytes(from, from + lengthOf(number, upload));
-        const sha256 = await digestOfBytes(content);
-        const fields = { "Content-Disposition": fieldOf(number), "Digest": `SHA-256=${sha256}` };
-        const onSent = content.byteLength < WITH_PROGRESS ? null : (bytes) => {
+        const length = lengthOf(number, upload);
+        const onSent = length < WITH_PROGRESS ? null : (bytes) => {
             item.flying.set(number, bytes);
             this.onChange(item);
         };
-        const path = pathOf(upload.url);
-        const send = () => insist(async (tries) => {
-            if (tries === 1 || !(await this.hasSegment(path, number))) {
-                await ask("POST", path, { content, fields, signal, onSent });
-            }
-        }, { signal });
-        await send().catch((fault) => (fault.name === "DigestMismatch" ? send() : Promise.reject(fault))).catch((fault) => {
-            throw isOver(fault) ? new Anew() : fault;
-        }).finally(() => item.flying.delete(number));
+        const sha256 = await sendSegment(item, upload, number, { signal, onSent }).finally(() => item.flying.delete(number));
         Object.assign(upload, { touched: Date.now(), received: number });
-        item.sent += content.byteLength;
+        item.sent += length;
         item.sha256 = upload.count === 1 ? sha256 : item.sha256;
         this.onChange(item);
-    }
-
-    // Whether the upload has a segment whose reply was lost.
-    async hasSegment(path, number) {
-        const reply = await ask("GET", path, { signal: this.signal });
-        return JSON.parse(reply.text).segments.received.includes(number);
     }
 
     // The upload of a file, and the segments that it expects: the one that is known, where it is of this very file.
