@@ -82,7 +82,7 @@ def names_are_kept(kept, place):
     number = browser.ends()
     compare("names", site, number, contents)
     browser.open(f"#objects/{number}")
-    check(browser, f"{len(NAMES)} files and 5 of the bag's own were checked, ", "none differs")
+    check(browser, f"{len(NAMES)} files and 5 records about them were checked, ", "none differs")
 
 
 def check(browser, *words):
@@ -362,7 +362,7 @@ def password_in_the_url(kept, place):
     number = browser.ends()
     compare("a password in the URL", site, number, contents)
     browser.find("#running a").click()
-    check(browser, "1 file and 5 of the bag's own were checked, ", "none differs")
+    check(browser, "1 file and 5 records about them were checked, ", "none differs")
 
 
 def server_is_away(kept, place):

@@ -106,7 +106,7 @@ def damage_is_seen(kept, place):
     site = Site(kept)
     number = deposited(site, {"sound": b"sound", "changed": b"changed", "cut": os.urandom(200_000), "gone": b"gone"})
     browser = kept.enter_context(Browser(site.front().port, place / "profile")).enter()
-    check(shown(browser, number), "4 files and 5 of the bag's own were checked, ", "none differs, and all could be read")
+    check(shown(browser, number), "4 files and 5 records about them were checked, ", "none differs, and all could be read")
     site.host.process.terminate()
     site.host.process.wait()
     with sqlite3.connect(site.host.store) as database:
@@ -116,7 +116,7 @@ def damage_is_seen(kept, place):
     database.close()
     expect("the blocks that were damaged", changed, [1, 1, 1])
     site.again()
-    check(shown(browser, number), "4 files and 5 of the bag's own were checked: 1 differs, 2 couldn't be read")
+    check(shown(browser, number), "4 files and 5 records about them were checked: 1 differs, 2 couldn't be read")
     marks = browser.run("return [...document.querySelectorAll('#files li')].map((it) => it.querySelector('a').innerText + ' ' +"
                         "it.querySelector('.mark').innerText)")
     expect("the marks", marks, ["sound ✓ as deposited", "changed ✗ differs", "cut ✗ couldn't be read", "gone ✗ couldn't be read"])
@@ -161,4 +161,4 @@ def large_file_is_checked(kept, place, size):
     browser.choose(*write(place / "files", {"large.bin": os.urandom(size)}))
     browser.begin()
     number = browser.ends(seconds=600)
-    check(shown(browser, number), "1 file and 5 of the bag's own were checked, ", "none differs")
+    check(shown(browser, number), "1 file and 5 records about them were checked, ", "none differs")

@@ -31,8 +31,8 @@ export class DepositView {
     }
 
     filesPart() {
-        return make("fieldset", {}, make("legend", { textContent: text.filesLegend }), make("p", { textContent: text.rule }),
-            choices((chosen) => this.choose(chosen)), this.summary, this.list);
+        return make("fieldset", {}, make("legend", { textContent: text.filesLegend }), choices((chosen) => this.choose(chosen)),
+            make("p", { className: "soft", textContent: text.rule }), this.summary, this.list);
     }
 
     descriptionPart() {
