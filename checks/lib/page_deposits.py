@@ -10,7 +10,7 @@ from crates import ROOT
 from expectations import expect, find
 from fronted import CURATOR
 from page_relays import Cutting, Watching
-from paged import Browser, Site
+from paged import MOST_SECONDS, Browser, Site
 
 SEGMENT = 65_536
 # Names that need care, as deposited names.
@@ -85,12 +85,12 @@ def names_are_kept(kept, place):
     check(browser, f"{len(NAMES)} files and 5 records about them were checked, ", "none differs")
 
 
-def check(browser, *words):
+def check(browser, *words, seconds=MOST_SECONDS):
     """A check of the object that is shown, which has to say these words."""
     browser.wait("document.querySelector('#check button')")
     browser.press("Check", "#check")
     line = browser.wait("/were checked|Stopped|changed during/.test(document.querySelector('#check-line').textContent)"
-                        " && document.querySelector('#check-line').textContent")
+                        " && document.querySelector('#check-line').textContent", seconds)
     for it in words:
         find(f"the check says {it!r}, not {line!r}", it in line)
 

@@ -8,9 +8,12 @@ from depositing import as_file
 from expectations import expect, find
 from hosted import until
 from page_deposits import check, write
+from page_speed import memory_of
 from paged import Browser, Site
 
 JSON = {"Content-Type": "application/json"}
+# What a tab may take above its rest, in MiB: a third of the large file.
+MOST_MEMORY = 100
 
 
 def deposited(site, contents, names=()):
@@ -155,10 +158,15 @@ def confirm(browser, label, number):
 
 
 def large_file_is_checked(kept, place, size):
-    """A large file is read back in one stream."""
+    """A large file is sent, and read back in one stream, by a tab that never has much of it in memory."""
     site = Site(kept)
     browser = kept.enter_context(Browser(site.front().port, place / "profile")).enter()
     browser.choose(*write(place / "files", {"large.bin": os.urandom(size)}))
-    browser.begin()
-    number = browser.ends(seconds=600)
-    check(shown(browser, number), "1 file and 5 records about them were checked, ", "none differs")
+    with memory_of(browser) as sent:
+        browser.begin()
+        number = browser.ends(seconds=600)
+    shown(browser, number)
+    with memory_of(browser) as checked:
+        check(browser, "1 file and 5 records about them were checked, ", "none differs", seconds=600)
+    for what, (above, _) in (("deposit", sent), ("check", checked)):
+        find(f"the {what} of {size} bytes takes {above:.0f} MiB in the tab, more than {MOST_MEMORY}", above <= MOST_MEMORY)

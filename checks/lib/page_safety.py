@@ -179,6 +179,7 @@ def everybody_can_use_it(kept, place):
             browser.choose(*write(place / "files", {"a" * 100: b"abc", "b": b"b"}))
             look_at(browser, f"the deposit, {scheme}")
             keyboard_reaches(browser, f"the deposit, {scheme}")
+            keyboard_chooses(browser, f"the deposit, {scheme}")
             browser.begin()
             browser.ends()
             look_at(browser, f"what was deposited, {scheme}")
@@ -195,6 +196,21 @@ def look_at(browser, what):
     expect(f"{what}: what is wider than 320 pixels", browser.run("return document.documentElement.scrollWidth > innerWidth"), False)
     expect(f"{what}: what has no name", browser.run(NAMELESS), [])
     expect(f"{what}: what doesn't stand out", browser.run(CONTRAST), [])
+
+
+def keyboard_chooses(browser, what):
+    """Enter and the space bar ask for files and for a folder."""
+    from selenium.webdriver import ActionChains, Keys  # pylint: disable=import-outside-toplevel
+    browser.driver.execute_cdp_cmd("Page.setInterceptFileChooserDialog", {"enabled": True})
+    browser.run("""window.asked = [];
+        document.querySelectorAll('#deposit-view input[type=file]').forEach((it) => it.addEventListener('click', () => asked.push(it.labels[0].innerText)))""")
+    fields = browser.finds("#deposit-view input[type=file]")
+    for field in fields:
+        for key in (Keys.ENTER, Keys.SPACE):
+            browser.run("arguments[0].focus()", field)
+            ActionChains(browser.driver).send_keys(key).perform()
+    expect(f"{what}: what the keyboard asks for", browser.run("return asked"), ["Choose files"] * 2 + ["Choose a folder"] * 2)
+    browser.driver.execute_cdp_cmd("Page.setInterceptFileChooserDialog", {"enabled": False})
 
 
 def keyboard_reaches(browser, what):
