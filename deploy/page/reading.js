@@ -3,6 +3,8 @@
 
 const PIECE = 256 << 10;
 const spare = [];
+// The readers that wait: Chromium collects a stream of a file that nothing else holds, and then its reader waits forever.
+const waiting = new Set();
 
 // A reader that fills the buffers that it is given, where the browser has one.
 function readerOf(stream) {
@@ -17,6 +19,7 @@ function readerOf(stream) {
 export async function eachPiece(stream, take) {
     const reader = readerOf(stream);
     let buffer = spare.pop() ?? new ArrayBuffer(PIECE);
+    waiting.add(reader);
     try {
         for (;;) {
             const { done, value } = await reader.read(new Uint8Array(buffer));
@@ -27,6 +30,7 @@ export async function eachPiece(stream, take) {
             take(value);
         }
     } finally {
+        waiting.delete(reader);
         reader.cancel().catch(() => {});
         if (buffer.byteLength === PIECE) {
             spare.push(buffer);
