@@ -166,6 +166,22 @@ def words_and_digests(kept, place):
     expect("the lengths whose digest is wrong", wrong, [])
 
 
+def contents_are_read_whole(kept, place):
+    """Contents are read to their end, however often the browser collects what nothing holds."""
+    browser = Browser(Site(kept).front().port, place / "profile", flags=["--js-flags=--expose-gc"])
+    kept.enter_context(browser).enter()
+    size = 30 << 20
+    came = browser.driver.execute_async_script("""const [size, done] = arguments;
+        import("/page/reading.js").then(async ({ eachPiece }) => {
+            const timer = setInterval(gc, 5);
+            let came = 0;
+            const read = eachPiece(new Blob([new Uint8Array(size)]).stream(), (piece) => (came += piece.length));
+            await Promise.race([read, new Promise((resolve) => setTimeout(resolve, 20_000))]);
+            clearInterval(timer);
+            done(came); })""", size)
+    expect("the bytes that came", came, size)
+
+
 def everybody_can_use_it(kept, place):
     """Each field and button has a name, the keyboard reaches all of them in the order of the page, texts stand out enough, and
     nothing is wider than 320 pixels."""
