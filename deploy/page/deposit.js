@@ -79,8 +79,9 @@ export class Deposit {
         return this.state;
     }
 
-    become(state) {
-        this.state = state;
+    // Whether it is ending: all that can be sent is with the server, and is read once more.
+    become(state, isEnding = false) {
+        Object.assign(this, { state, isEnding });
         this.onChange(null);
     }
 
@@ -147,7 +148,9 @@ export class Deposit {
 
     // Brings each file once, and reads each once more beside the last deposit by reference.
     async bringAll() {
+        this.become("running");
         await eachOf(this.waiting, AT_ONCE, (item) => this.bring(item));
+        this.become("running", true);
         await Promise.all([this.flush(), this.readAgain()]);
         for (const item of this.items.filter((it) => it.isChanged && it.file)) {
             await this.changed(item);

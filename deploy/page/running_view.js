@@ -87,12 +87,18 @@ export class RunningView {
 
     showState() {
         const { deposit } = this;
+        const isAsBefore = this.place.dataset.state === deposit.state;
         this.place.dataset.state = deposit.state;
-        this.state.textContent = text.states[deposit.state];
+        this.state.textContent = deposit.isEnding ? text.ending : text.states[deposit.state];
         this.bar.hidden = this.figures.hidden = deposit.state === "needs files";
         fill(this.fault, deposit.state === "stopped" ? faultBox(deposit.fault) : null);
-        fill(this.missing, ...(deposit.state === "needs files" ? this.missingPart() : []));
-        fill(this.buttons, ...this.actions());
+        // What has the focus stays.
+        if (!isAsBefore) {
+            fill(this.missing, ...(deposit.state === "needs files" ? this.missingPart() : []));
+        }
+        if (!isAsBefore || deposit.state === "needs files") {
+            fill(this.buttons, ...this.actions());
+        }
         if (deposit.state !== "running") {
             deposit.items.forEach((item) => this.showItem(item));
         }
@@ -114,9 +120,13 @@ export class RunningView {
     }
 
     missingPart() {
-        const { deposit } = this;
-        this.found = make("p", { role: "status", textContent: text.found(deposit.items.length - deposit.missing.length, deposit.items.length) });
+        this.found = make("p", { role: "status", textContent: this.foundSoFar() });
         return [choices((chosen) => this.choose(chosen)), this.found];
+    }
+
+    foundSoFar() {
+        const { items, missing } = this.deposit;
+        return text.found(items.length - missing.length, items.length);
     }
 
     choose(chosen) {
@@ -124,7 +134,7 @@ export class RunningView {
         const others = chosen.filter((it) => !names.has(it.name)).length;
         this.deposit.give(chosen);
         this.showState();
-        this.found.append(others > 0 ? ` ${text.notOfIt(others)}` : "");
+        this.found.textContent = this.foundSoFar() + (others > 0 ? ` ${text.notOfIt(others)}` : "");
         this.showProgress();
     }
 

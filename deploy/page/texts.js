@@ -72,6 +72,7 @@ export const text = {
         "needs files": "Choose the files that are marked below again, and go on. Only what the server lacks is sent.",
         "stopped": "Stopped.", "done": "Deposited. The server has every file as it is here.",
     },
+    ending: "The server puts together what was sent. Each file is read here once more, to see that it didn't change.",
     pause: "Pause", tryNow: "Try now", again: "Try again", newDeposit: "Another deposit", later: "Leave it for later",
     waits: (seconds) => `The server can't be reached. The next try is in ${duration(seconds)}; nothing that it has is lost.`,
     all: "All files", progress: (done, total) => `${size(done)} of ${size(total)}`,
