@@ -2,7 +2,7 @@
 // end. Browsers send a request twice where a kept connection breaks, so each change of the object sends If-Match, and what was
 // done is asked of the server before a refusal is told.
 
-import { digestOfFile } from "./hashing.js";
+import { digestOfFile, PART } from "./hashing.js";
 import { Item } from "./item.js";
 import { dropUploads, keepDeposit, keepDone, keepUpload, uploadsOf } from "./journal.js";
 import { Keeper } from "./keeping.js";
@@ -15,8 +15,6 @@ import { ask, Changed, get, insist, pathOf, pauseBefore, Paused, Refused, servic
 const AT_ONCE = 3;
 // Uploads are deposited so many at a time, or so many bytes: the server does nothing else meanwhile.
 const MANY = 100, MOST_IN_BATCH = 64 << 20;
-// Three segments at once, with what the browser copies of them, are what the page takes of memory.
-const SEGMENT = 4 << 20;
 const WITH_PROGRESS = 256 << 10;
 const MOST_ANEW = 5, MOST_TRIES = 20;
 
@@ -305,7 +303,7 @@ export class Deposit {
 
     async openUpload(item) {
         const { signal, service } = this;
-        const segment = Math.max(Math.min(SEGMENT, service.maxUploadSize), Math.ceil(item.size / service.maxSegments));
+        const segment = Math.max(Math.min(PART, service.maxUploadSize), Math.ceil(item.size / service.maxSegments));
         const count = Math.ceil(item.size / segment);
         const fields = { "Content-Disposition": `segment-init; size=${item.size}; segment_count=${count}; segment_size=${segment}` };
         const reply = await insist(() => ask("POST", pathOf(service.staging), { fields, signal }), { signal });

@@ -3,7 +3,7 @@
 import { readInto } from "./reading.js";
 import { Changed, insist, refusalOf, Unreachable } from "./server.js";
 
-// What is hashed as a whole, at most, but for larger segments.
+// So much is read and hashed as a whole: a segment, but for those of files that would have too many.
 export const PART = 4 << 20;
 // How often a worker is begun that doesn't come.
 const WORKERS = 8;
