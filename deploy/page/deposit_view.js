@@ -3,7 +3,7 @@
 import { choices } from "./choosing.js";
 import { Deposit, finish } from "./deposit.js";
 import { Description } from "./describing.js";
-import { button, fill, make, moment, shown } from "./elements.js";
+import { button, faultBox, fill, make, moment, shown } from "./elements.js";
 import { deposits, forget } from "./journal.js";
 import { isFit, linesOf, payloadOf } from "./names.js";
 import { RunningView } from "./running_view.js";
@@ -53,7 +53,7 @@ export class DepositView {
             }
             this.showUnfinished(left);
         } catch (fault) {
-            fill(this.unfinished, make("p", { className: "bad", role: "alert", textContent: `${text.noJournal} ${fault.message}` }));
+            fill(this.unfinished, faultBox(fault));
         }
     }
 

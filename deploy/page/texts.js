@@ -36,7 +36,8 @@ export const ELEMENTS = {
 export const text = {
     deposit: "Deposit", objects: "Objects", views: "Views", skip: "To the content",
     loading: "Asking the server.",
-    noJournal: "This browser lets the page keep nothing, so no deposit can be gone on with. Leave private browsing, or allow the page to store data.",
+    noJournal: "This browser lets the page keep nothing, so no deposit could be gone on with.",
+    noJournalHelp: "Leave private browsing, or allow the page to store data. If that doesn't help, close all windows of the browser, and open it again.",
     mark: (id) => `Deposit ${id} is in progress`,
 
     filesLegend: "Files",
@@ -154,6 +155,9 @@ export function told(fault) {
     const name = fault.constructor.name;
     if (name === "Unreachable") {
         return fault.status === 500 ? { words: text.fault, help: text.faultHelp } : { words: text.noAnswer, help: text.noAnswerHelp };
+    }
+    if (name === "Unkept") {
+        return { words: `${text.noJournal} ${fault.message}`.trim(), help: text.noJournalHelp };
     }
     if (name === "Changed") {
         return { words: text.keepsChanging(fault.message), help: text.keepsChangingHelp };
