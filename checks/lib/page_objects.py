@@ -36,10 +36,13 @@ def shown(browser, number):
 
 
 def object_is_shown(kept, place):
-    """An object by its number, its path and its URL; what isn't there, in the server's words; nothing of another server."""
+    """An object by its number, its path and its URL; what isn't there, in the server's words; nothing of another server. A visit
+    keeps nothing in the browser: where it was left meanwhile, Chromium would keep nothing at all."""
     site = Site(kept)
     number = deposited(site, {"a.txt": b"abc", "b.txt": b"b" * 2000}, {"dc:title": "T\u202eurned", "dc:creator": ["Kim", "Lee"]})
     browser = kept.enter_context(Browser(site.front().port, place / "profile")).enter()
+    made = browser.driver.execute_async_script("const done = arguments[0]; setTimeout(() => indexedDB.databases().then(done), 500)")
+    expect("the databases that a visit makes", made, [])
     for words in (str(number), f"/objects/{number}", f"http://deposit.example.org/objects/{number}", f"{browser.url}/objects/{number}/files/1"):
         browser.open("#objects")
         browser.find("#object-view input").send_keys(words)
