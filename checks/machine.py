@@ -27,14 +27,17 @@ PACKAGES = "systemd-sysv,dbus,python3,curl,nginx,openssl,apache2-utils,sqlite3"
 CONFIGURATION = "/etc/swordd/configuration.json"
 # Seconds of the load, of which the upgrade takes a part.
 LOAD_SECONDS = 25
-# In place of what asks a person, or the world.
+# Bytes of a file that no socket holds.
+LARGE = 12_000_000
+# In place of what asks a person, or the world. A reload of nginx returns before it listens.
 FITTED = {
     "apt-get install nginx openssl apache2-utils\n": "",
     "htpasswd -B -c /etc/nginx/deposit.users kim": "htpasswd -bB -c /etc/nginx/deposit.users kim sesame",
-    "curl --user kim ": "curl --silent --user kim:sesame --cacert /etc/nginx/deposit.crt"
+    "curl --user kim ": "curl --silent --retry 9 --retry-connrefused --user kim:sesame --cacert /etc/nginx/deposit.crt"
                         " --resolve deposit.example.org:443:127.0.0.1 ",
 }
-# Clients, each over a connection that it keeps. A reply that began and isn't whole is cut; what was answered 201 has to be there.
+# Clients, each over a connection that it keeps, who read slowly. A reply that began and isn't whole is cut; what was answered 201
+# has to be there.
 LOAD = '''
 import http.client, sys, threading, time
 ends, told, seen, lock = time.time() + float(sys.argv[1]), [], set(), threading.Lock()
@@ -47,8 +50,11 @@ def client(method, path):
             content = b"x" * 100000 if method == "POST" else None
             connection.request(method, path, content, {"Content-Disposition": "attachment; filename=f"})
             reply = connection.getresponse()
-            began = True
-            if len(reply.read()) != int(reply.getheader("Content-Length")):
+            began, left = True, int(reply.getheader("Content-Length"))
+            while block := reply.read(min(left, 65536)):
+                left -= len(block)
+                time.sleep(0.02)
+            if left:
                 raise OSError
             with lock:
                 seen.add(reply.status)
@@ -57,7 +63,7 @@ def client(method, path):
             connection = None
             seen.update(["cut"] if began else [])
             time.sleep(0.05)
-threads = [threading.Thread(target=client, args=it) for it in [("GET", "/objects/1/files/1"), ("POST", "/service")] * 3]
+threads = [threading.Thread(target=client, args=it) for it in [("GET", "/objects/2/files/2"), ("POST", "/service")] * 3]
 [it.start() for it in threads]; [it.join() for it in threads]
 for url in told:
     connection = http.client.HTTPConnection("127.0.0.1", 8080, timeout=60)
@@ -136,12 +142,16 @@ def starts_that_fail(machine):
 def upgrade(machine, later):
     """Under load no reply is cut, and nothing lost that was answered."""
     (machine.folder / "root/load.py").write_text(LOAD, encoding="utf-8")
+    (machine.folder / "root/large").write_bytes(bytes(LARGE))
+    machine.run("curl --silent --data-binary @large -H 'Content-Disposition: attachment; filename=large' "
+                "http://127.0.0.1:8080/service")
     machine.run(f"python3 load.py {LOAD_SECONDS} >load.out 2>&1 &")
     time.sleep(LOAD_SECONDS / 5)
     machine.install(later)
     machine.run("systemctl restart swordd-host")
     until(lambda: (machine.folder / "root/load.out").stat().st_size)
-    expect("what clients saw of the upgrade", (machine.folder / "root/load.out").read_text(encoding="utf-8"), "True ['200', '201']\n")
+    said = (machine.folder / "root/load.out").read_text(encoding="utf-8")
+    expect("whether there were deposits, and what clients saw of the upgrade", said, "True ['200', '201']\n")
     expect("what is installed", machine.run("dpkg-query --show --showformat='${Version}' swordd"), f"{version()}.1")
 
 
