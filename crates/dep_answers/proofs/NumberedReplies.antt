@@ -21,7 +21,6 @@ use Rattle.dep_answers.specs.Telling.{tag_view}
 use Rattle.dep_answers.specs.Told.{bag_answer}
 use Rattle.dep_answers.specs.declared.subject.Shown.{Shown}
 use Rattle.dep_answers.specs.declared.subject.Shown.TheVariants as shown
-use Rattle.dep_answers.specs.declared.subject.Subject.TheVariants as subject
 use Rattle.dep_answers.proofs.BagLemmas.{found_through}
 use Rattle.dep_answers.proofs.ShownReplies.{file_in, files_in, no_bag_answer, no_file, no_object, object_in}
 

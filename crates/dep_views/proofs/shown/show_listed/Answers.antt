@@ -1,6 +1,5 @@
 use Rattle.std.proofs.Common.{◌∙◌, ap}
 use Rattle.dep_types.specs.State.{Texts}
-use Rattle.dep_types.specs.declared.rows.ObjectView.{ObjectView}
 use Rattle.dep_answers.specs.declared.subject.Shown.TheVariants as shown
 use Rattle.dep_tables.proofs.Chains.{reads_ok, reads_err}
 use Rattle.dep_views.proofs.Shows.{listed_shown, shown_failed}
