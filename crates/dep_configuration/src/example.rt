@@ -60,9 +60,7 @@ impl Field {
             Field::LeastRate => {
                 "the bytes that a busy connection has to move in each idle time, 0 for none; 4096 by default"
             }
-            Field::Connections => {
-                "the number of connections after which the server ends; it goes on by default"
-            }
+            Field::Connections => "the connections after which the server ends; none by default",
             Field::AddressConnections => {
                 "the connections that one address may have at once; 1024 by default, which behind a proxy is needed"
             }
@@ -72,9 +70,8 @@ impl Field {
             Field::UnfinishedBytes => {
                 "the bytes that unfinished requests may hold in all; 1073741824 by default"
             }
-            Field::ReserveBytes => {
-                "the bytes of a file beside the database that is given up where the disk is full, 0 for none; 16777216 by default"
-            }
+            Field::ReserveBytes =>
+                "the bytes kept for a full disk, 0 for none; 16777216 by default",
         }
     }
 }

@@ -17,6 +17,7 @@ use Rattle.dep_hub.specs.Errands.{Account}
 use Rattle.swordd.specs.declared.logged_reserve.LoggedReserve.{LoggedReserve}
 use Rattle.dep_store.specs.Starting.{OpeningLeaves}
 use Rattle.dep_hub.specs.Records.{World, Record, Run, first_world, stopped}
+use Rattle.dep_hub.specs.Standing.{StandsAfter, IsHonest}
 use Rattle.dep_hub.specs.declared.hub.Hub.{Hub}
 use Rattle.dep_host.specs.Hosting.{Deed}
 use Rattle.dep_host.specs.Runs.{Follows}
@@ -58,6 +59,14 @@ account_of g its = store.account_of g its.archive
 -- a store with the reserve of a host
 abbrev pub HostStore : Type 0 → Type 0
 HostStore S = ReservedArchive (HashingStore S) LoggedReserve
+
+-- over what a store left in this database for some state, the hub goes on from the records that led there
+abbrev pub GoesOnFromLeft : {S R : Type 0} → (g : Ghosts S) → Config → (old : db.State)
+    → Hub (ReservedArchive (HashingStore S) R) → Type 0
+GoesOnFromLeft g config old hub = IsHonest (condition_of g) hub
+    → (found : State) → IsLeftAs old.now.trees found
+    → (first : State) (records : List Record) → Run config first records (first_world found)
+    → StandsAfter (condition_of g) hub first records
 
 -- the log of a host on standard error shows nothing of what it was told
 abbrev pub unshown : StandardErrorLog → Option (List Note)

@@ -1,15 +1,13 @@
 //! A hub over a database with a reserve.
-ghost use Rattle.std.specs.Prelude.{◌≡◌, List, [], false, IfOk, IfErr, IsTrue};
+ghost use Rattle.std.specs.Prelude.{◌≡◌, [], false, IfOk, IfErr, IsTrue};
 ghost use Rattle.sqlite.specs.Held.{state};
-ghost use Rattle.dep_types.specs.State.{State, empty_state};
+ghost use Rattle.dep_types.specs.State.{empty_state};
 ghost use Rattle.dep_types.specs.Config.{IsChecked};
 ghost use Rattle.dep_schema.specs.Standing.{HoldsNone};
-ghost use Rattle.dep_schema.specs.States.{IsLeftAs};
 ghost use Rattle.dep_store.specs.Migrating.{Keeps};
 ghost use Rattle.dep_store.specs.Starting.{IsStore, OpeningLeaves};
-ghost use Rattle.dep_hub.specs.Records.{Record, Run, first_world};
 ghost use Rattle.dep_hub.specs.Standing.{StandsAfter, IsHonest};
-ghost use Rattle.swordd.specs.Hosted.{condition_of};
+ghost use Rattle.swordd.specs.Hosted.{condition_of, GoesOnFromLeft};
 
 use dep_hub::{Hub, HubFault};
 use dep_reserve::{Reserve, ReservedArchive};
@@ -31,10 +29,7 @@ pub fn open_reserved_hub<S: Alter, R: Reserve + Drop>(
     ensures fresh { IfOk result (λ hub. IsHonest (condition_of S.Store) hub
         → HoldsNone (state S.Store connection).now.trees
         → StandsAfter (condition_of S.Store) hub empty_state []) }
-    ensures again { IfOk result (λ hub. IsHonest (condition_of S.Store) hub
-        → (found : State) → IsLeftAs (state S.Store connection).now.trees found
-        → (first : State) (records : List Record) → Run config first records (first_world found)
-        → StandsAfter (condition_of S.Store) hub first records) }
+    ensures again { IfOk result (GoesOnFromLeft S.Store config (state S.Store connection)) }
     ensures config { IfOk result (λ hub. hub.config ≡ config) }
     ensures left { IfErr result (λ e. (fault : OpenFault) → e.0 ≡ StartFault.Open fault
         → IsTrue (state S.Store e.1).is_open
