@@ -103,7 +103,7 @@ WRONG_VALUES = {
     "max_upload": (0, 16 * MIB + 1, "1"), "max_assembled": (0, 2**34 + 1), "max_segments": (0, 10_001),
     "staging_max_idle": (0, 31_536_001), "idle_seconds": (0, 86_401, "60"), "least_rate": (-1, "1", 1_000_000_001),
     "connections": (0, 1.5, None), "address_connections": (0, 1_025, True), "spool_bytes": (MIB - 1, "x"),
-    "unfinished_bytes": (32 * MIB - 1, [])}
+    "unfinished_bytes": (32 * MIB - 1, []), "reserve_bytes": (-1, "1", 1024 * MIB + 1)}
 
 
 def ends(words, status, text):

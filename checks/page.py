@@ -44,7 +44,7 @@ def stories(large, count):
         functools.partial(page_deposits.many_files, count=count), page_objects.object_is_shown, page_objects.metadata_in_two_tabs,
         page_objects.damage_is_seen, page_objects.things_are_deleted, functools.partial(page_objects.large_file_is_checked, size=large),
         page_safety.deposits_do_nothing, page_safety.foreign_forms_do_nothing, page_safety.fields_of_replies,
-        page_safety.words_and_digests, page_safety.everybody_can_use_it,
+        page_safety.words_and_digests, page_safety.contents_are_read_whole, page_safety.everybody_can_use_it,
     ]
     return {getattr(it, "func", it).__name__: it for it in told}
 

@@ -3,24 +3,28 @@
 import re
 from typing import NamedTuple
 
-from crates import ROOT
+from crates import ROOT, listed_crates
 
 # What begins a function, a type or a trait with its functions, and a clause; and what a definition begins with.
 FUNCTION = re.compile(r"^( *)((?:pub(?:\(crate\))? )?)(?:unsafe |const )*fn (\w+)", re.M)
 OWNER = re.compile(r"^(?:pub(?:\(crate\))? )?(?:impl|trait)\b(?:<[^{]*?>)? ?(?:[^{]*? for )?&?(?:mut )?(\w+)[^{;]*\{", re.M)
 CLAUSE = re.compile(r"\b(requires|ensures)\b(?: (\w+))? \{")
 DEFINITION = re.compile(r"^(?:abbrev |unfoldable )*pub (?:data |record )?(\S+)", re.M)
+USE = re.compile(r"^(?:pub )?use Rattle\.(\w+)\.specs\.(\w+)(?:\.\{| as |$)", re.M)
 IMPORT = re.compile(r"\bghost use Rattle\.(\w+)\.specs\.(\w+)\.\{(.*?)\};", re.S)
 OPENED, CLOSED = "([{", ")]}"
 
 
 class Clause(NamedTuple):
+    """A clause, by its kind: requires or ensures."""
+
     name: str
     text: str
+    kind: str
 
 
 class Function(NamedTuple):
-    """A function of a crate: the type or the trait that it belongs to, if any, and whether other crates can call it."""
+    """A function of a crate: the type or the trait that it belongs to, if any, whether other crates can call it, and its line."""
 
     crate: str
     file: str
@@ -28,6 +32,7 @@ class Function(NamedTuple):
     name: str
     is_public: bool
     clauses: tuple
+    line: int
 
 
 class Definition(NamedTuple):
@@ -62,7 +67,7 @@ def clauses_from(text, place):
         clause = CLAUSE.match(text, place)
         if clause:
             end = behind_braces(text, clause.end() - 1)
-            found.append(Clause(clause[2] or "", text[clause.end():end - 1]))
+            found.append(Clause(clause[2] or "", text[clause.end():end - 1], clause[1]))
             place = end
         elif text[place] in "{;":
             break
@@ -99,7 +104,8 @@ def functions_of(crate):
             is_trait = bool(owner) and re.match(r"pub trait\b", inside[0][0])
             is_shown = file.stem in modules or (owner or head[3]) in names
             is_public = bool(head[2]) if is_program else is_shown and (head[2] == "pub " or bool(is_trait))
-            found.append(Function(crate, file.name, owner, head[3], is_public, clauses_from(text, head.end())))
+            line = text.count("\n", 0, head.start()) + 1
+            found.append(Function(crate, file.name, owner, head[3], is_public, clauses_from(text, head.end()), line))
     return found
 
 
@@ -132,3 +138,20 @@ def imports_of(file):
             name, _, other = item.strip().partition(" as ")
             found[other.strip() or name.strip()] = (crate, module, name.strip())
     return found
+
+
+def specifications_below(file):
+    """Returns this file of specifications and all that it stands on, at any depth, of this repository, in the order of crates.txt."""
+    found, left = set(), [file]
+    while left:
+        file = left.pop()
+        if file not in found:
+            found.add(file)
+            uses = [ROOT / "crates" / crate / "specs" / f"{module}.antt" for crate, module in USE.findall(file.read_text(encoding="utf-8"))]
+            left += [it for it in uses if it.exists()]
+    order = list(listed_crates())
+    return sorted(found, key=lambda it: (order.index(it.parent.parent.name), it.name))
+
+
+def lines_of(files):
+    return sum(it.read_text(encoding="utf-8").count("\n") for it in files)

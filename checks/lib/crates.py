@@ -47,7 +47,7 @@ def libraries_below(name, lines):
 
 
 def built_program(name):
-    """Returns the whole path of a program: the one that the gate or `rt run` built, or the one that the environment names under
+    """Returns the whole path of a program: the one that the gate or deploy/build built, or the one that the environment names under
     the name in capitals (SWORDD, SWORDD_HOST, EXAMPLES). Where there is none, this program ends."""
     crate = SECOND_NAMES.get(name, name)
     built = ROOT / "crates" / crate / "out" / name
@@ -55,7 +55,7 @@ def built_program(name):
         name_second(built.with_name(crate), built)
     path = Path(os.environ.get(name.upper()) or built).absolute()
     if not os.access(path, os.X_OK):
-        print(f"{path} isn't there: build it by rt ci, or in crates/{crate} by rt run", file=sys.stderr)
+        print(f"{path} isn't there: build it by {'deploy/build' if crate == 'swordd' else 'rt ci'}", file=sys.stderr)
         sys.exit(2)
     return path
 

@@ -10,7 +10,7 @@ from crates import ROOT
 from expectations import expect, find
 from fronted import CURATOR
 from page_relays import Cutting, Watching
-from paged import Browser, Site
+from paged import MOST_SECONDS, Browser, Site
 
 SEGMENT = 65_536
 # Names that need care, as deposited names.
@@ -82,15 +82,15 @@ def names_are_kept(kept, place):
     number = browser.ends()
     compare("names", site, number, contents)
     browser.open(f"#objects/{number}")
-    check(browser, f"{len(NAMES)} files and 5 of the bag's own were checked, ", "none differs")
+    check(browser, f"{len(NAMES)} files and 5 records about them were checked, ", "none differs")
 
 
-def check(browser, *words):
+def check(browser, *words, seconds=MOST_SECONDS):
     """A check of the object that is shown, which has to say these words."""
     browser.wait("document.querySelector('#check button')")
     browser.press("Check", "#check")
     line = browser.wait("/were checked|Stopped|changed during/.test(document.querySelector('#check-line').textContent)"
-                        " && document.querySelector('#check-line').textContent")
+                        " && document.querySelector('#check-line').textContent", seconds)
     for it in words:
         find(f"the check says {it!r}, not {line!r}", it in line)
 
@@ -362,7 +362,7 @@ def password_in_the_url(kept, place):
     number = browser.ends()
     compare("a password in the URL", site, number, contents)
     browser.find("#running a").click()
-    check(browser, "1 file and 5 of the bag's own were checked, ", "none differs")
+    check(browser, "1 file and 5 records about them were checked, ", "none differs")
 
 
 def server_is_away(kept, place):

@@ -8,9 +8,12 @@ from depositing import as_file
 from expectations import expect, find
 from hosted import until
 from page_deposits import check, write
+from page_speed import memory_of
 from paged import Browser, Site
 
 JSON = {"Content-Type": "application/json"}
+# What a tab may take above its rest, in MiB: a third of the large file.
+MOST_MEMORY = 100
 
 
 def deposited(site, contents, names=()):
@@ -33,10 +36,13 @@ def shown(browser, number):
 
 
 def object_is_shown(kept, place):
-    """An object by its number, its path and its URL; what isn't there, in the server's words; nothing of another server."""
+    """An object by its number, its path and its URL; what isn't there, in the server's words; nothing of another server. A visit
+    keeps nothing in the browser: where it was left meanwhile, Chromium would keep nothing at all."""
     site = Site(kept)
     number = deposited(site, {"a.txt": b"abc", "b.txt": b"b" * 2000}, {"dc:title": "T\u202eurned", "dc:creator": ["Kim", "Lee"]})
     browser = kept.enter_context(Browser(site.front().port, place / "profile")).enter()
+    made = browser.driver.execute_async_script("const done = arguments[0]; setTimeout(() => indexedDB.databases().then(done), 500)")
+    expect("the databases that a visit makes", made, [])
     for words in (str(number), f"/objects/{number}", f"http://deposit.example.org/objects/{number}", f"{browser.url}/objects/{number}/files/1"):
         browser.open("#objects")
         browser.find("#object-view input").send_keys(words)
@@ -106,7 +112,7 @@ def damage_is_seen(kept, place):
     site = Site(kept)
     number = deposited(site, {"sound": b"sound", "changed": b"changed", "cut": os.urandom(200_000), "gone": b"gone"})
     browser = kept.enter_context(Browser(site.front().port, place / "profile")).enter()
-    check(shown(browser, number), "4 files and 5 of the bag's own were checked, ", "none differs, and all could be read")
+    check(shown(browser, number), "4 files and 5 records about them were checked, ", "none differs, and all could be read")
     site.host.process.terminate()
     site.host.process.wait()
     with sqlite3.connect(site.host.store) as database:
@@ -116,7 +122,7 @@ def damage_is_seen(kept, place):
     database.close()
     expect("the blocks that were damaged", changed, [1, 1, 1])
     site.again()
-    check(shown(browser, number), "4 files and 5 of the bag's own were checked: 1 differs, 2 couldn't be read")
+    check(shown(browser, number), "4 files and 5 records about them were checked: 1 differs, 2 couldn't be read")
     marks = browser.run("return [...document.querySelectorAll('#files li')].map((it) => it.querySelector('a').innerText + ' ' +"
                         "it.querySelector('.mark').innerText)")
     expect("the marks", marks, ["sound ✓ as deposited", "changed ✗ differs", "cut ✗ couldn't be read", "gone ✗ couldn't be read"])
@@ -155,10 +161,15 @@ def confirm(browser, label, number):
 
 
 def large_file_is_checked(kept, place, size):
-    """A large file is read back in one stream."""
+    """A large file is sent, and read back in one stream, by a tab that never has much of it in memory."""
     site = Site(kept)
     browser = kept.enter_context(Browser(site.front().port, place / "profile")).enter()
     browser.choose(*write(place / "files", {"large.bin": os.urandom(size)}))
-    browser.begin()
-    number = browser.ends(seconds=600)
-    check(shown(browser, number), "1 file and 5 of the bag's own were checked, ", "none differs")
+    with memory_of(browser) as sent:
+        browser.begin()
+        number = browser.ends(seconds=600)
+    shown(browser, number)
+    with memory_of(browser) as checked:
+        check(browser, "1 file and 5 records about them were checked, ", "none differs", seconds=600)
+    for what, (above, _) in (("deposit", sent), ("check", checked)):
+        find(f"the {what} of {size} bytes takes {above:.0f} MiB in the tab, more than {MOST_MEMORY}", above <= MOST_MEMORY)

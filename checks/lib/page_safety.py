@@ -166,6 +166,22 @@ def words_and_digests(kept, place):
     expect("the lengths whose digest is wrong", wrong, [])
 
 
+def contents_are_read_whole(kept, place):
+    """Contents are read to their end, however often the browser collects what nothing holds."""
+    browser = Browser(Site(kept).front().port, place / "profile", flags=["--js-flags=--expose-gc"])
+    kept.enter_context(browser).enter()
+    size = 30 << 20
+    came = browser.driver.execute_async_script("""const [size, done] = arguments;
+        import("/page/reading.js").then(async ({ eachPiece }) => {
+            const timer = setInterval(gc, 5);
+            let came = 0;
+            const read = eachPiece(new Blob([new Uint8Array(size)]).stream(), (piece) => (came += piece.length));
+            await Promise.race([read, new Promise((resolve) => setTimeout(resolve, 20_000))]);
+            clearInterval(timer);
+            done(came); })""", size)
+    expect("the bytes that came", came, size)
+
+
 def everybody_can_use_it(kept, place):
     """Each field and button has a name, the keyboard reaches all of them in the order of the page, texts stand out enough, and
     nothing is wider than 320 pixels."""
@@ -179,6 +195,7 @@ def everybody_can_use_it(kept, place):
             browser.choose(*write(place / "files", {"a" * 100: b"abc", "b": b"b"}))
             look_at(browser, f"the deposit, {scheme}")
             keyboard_reaches(browser, f"the deposit, {scheme}")
+            keyboard_chooses(browser, f"the deposit, {scheme}")
             browser.begin()
             browser.ends()
             look_at(browser, f"what was deposited, {scheme}")
@@ -195,6 +212,21 @@ def look_at(browser, what):
     expect(f"{what}: what is wider than 320 pixels", browser.run("return document.documentElement.scrollWidth > innerWidth"), False)
     expect(f"{what}: what has no name", browser.run(NAMELESS), [])
     expect(f"{what}: what doesn't stand out", browser.run(CONTRAST), [])
+
+
+def keyboard_chooses(browser, what):
+    """Enter and the space bar ask for files and for a folder."""
+    from selenium.webdriver import ActionChains, Keys  # pylint: disable=import-outside-toplevel
+    browser.driver.execute_cdp_cmd("Page.setInterceptFileChooserDialog", {"enabled": True})
+    browser.run("""window.asked = [];
+        document.querySelectorAll('#deposit-view input[type=file]').forEach((it) => it.addEventListener('click', () => asked.push(it.labels[0].innerText)))""")
+    fields = browser.finds("#deposit-view input[type=file]")
+    for field in fields:
+        for key in (Keys.ENTER, Keys.SPACE):
+            browser.run("arguments[0].focus()", field)
+            ActionChains(browser.driver).send_keys(key).perform()
+    expect(f"{what}: what the keyboard asks for", browser.run("return asked"), ["Choose files"] * 2 + ["Choose a folder"] * 2)
+    browser.driver.execute_cdp_cmd("Page.setInterceptFileChooserDialog", {"enabled": False})
 
 
 def keyboard_reaches(browser, what):

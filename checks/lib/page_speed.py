@@ -11,7 +11,7 @@ import time
 
 import fronted
 from crates import ROOT
-from page_deposits import compare, many_files, write
+from page_deposits import check, compare, many_files, write
 from paged import Browser, Site
 
 
@@ -56,6 +56,16 @@ def descendants(pid):
     return found
 
 
+@contextlib.contextmanager
+def memory_of(browser):
+    """Beside what is done in it: the most that the tab takes above its rest, and this rest, in MiB, as a list that it fills."""
+    time.sleep(2)
+    rest, told = tab_memory(browser), []
+    with Sampler(lambda: tab_memory(browser), 0.2) as memory:
+        yield told
+    told += [memory.greatest - rest, rest]
+
+
 def wait_of(site):
     """How long another client waits for the service document, in seconds."""
     connection = http.client.HTTPConnection("127.0.0.1", site.host.port, timeout=600)
@@ -82,9 +92,7 @@ def measure(kept, place, size, count):
     paths = write(place / "folder", contents)
     browser = kept.enter_context(Browser(proxy.port, place / "profile")).enter()
     browser.choose(*paths)
-    time.sleep(2)
-    rest = tab_memory(browser)
-    with Sampler(lambda: tab_memory(browser), 0.2) as memory, Sampler(lambda: wait_of(site), 0.005) as waits:
+    with memory_of(browser) as memory, Sampler(lambda: wait_of(site), 0.005) as waits:
         began = time.monotonic()
         browser.begin()
         browser.wait("['sent', 'there'].includes(document.querySelector('#items li')?.dataset.state)", 1200)
@@ -94,7 +102,14 @@ def measure(kept, place, size, count):
     compare("the measured deposit", site, number, contents)
     tool = by_tool(proxy, place / "folder")
     print(f"{size >> 20} MiB: by the page {page:.1f} s ({sent:.1f} s until all is sent), by deposit.py {tool:.1f} s, {page / tool:.2f} times")
-    print(f"the tab: {memory.greatest - rest:.0f} MiB above its rest of {rest:.0f} MiB")
+    print(f"the tab: {memory[0]:.0f} MiB above its rest of {memory[1]:.0f} MiB")
     print(f"another client waits at most {longest_sent * 1000:.0f} ms while segments come, {waits.greatest * 1000:.0f} ms in all")
+    browser.open(f"#objects/{number}")
+    browser.wait("document.querySelector('#check button')")
+    with memory_of(browser) as memory:
+        began = time.monotonic()
+        check(browser, "none differs", seconds=1200)
+        seconds = time.monotonic() - began
+    print(f"its check: {seconds:.1f} s, the tab {memory[0]:.0f} MiB above its rest of {memory[1]:.0f} MiB")
     seconds = many_files(kept, place / "many", count)
     print(f"{count} files: by the page {seconds:.1f} s, by deposit.py {by_tool(proxy, place / 'many' / 'folder'):.1f} s")

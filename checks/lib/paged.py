@@ -97,7 +97,7 @@ class Site:
 class Browser:
     """Chromium, at a page whose password it was told. A profile that is given is kept, also where it was killed."""
 
-    def __init__(self, port, profile, width=1000, folder=None, scheme="light"):
+    def __init__(self, port, profile, width=1000, flags=(), scheme="light"):
         from selenium import webdriver  # pylint: disable=import-outside-toplevel
         from selenium.webdriver.chrome.service import Service  # pylint: disable=import-outside-toplevel
         options = webdriver.ChromeOptions()
@@ -105,7 +105,7 @@ class Browser:
         for word in ("--headless=new", "--no-sandbox", "--ignore-certificate-errors", f"--user-data-dir={profile}",
                      f"--window-size={width},1000", "--host-resolver-rules=MAP * 127.0.0.1", "--disable-background-networking",
                      "--disable-component-update", "--no-first-run", "--force-device-scale-factor=1",
-                     *(["--force-dark-mode"] if scheme == "dark" else [])):
+                     *(["--force-dark-mode"] if scheme == "dark" else []), *flags):
             options.add_argument(word)
         options.set_capability("goog:loggingPrefs", {"browser": "ALL"})
         options.set_capability("unhandledPromptBehavior", "ignore")

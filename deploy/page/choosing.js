@@ -1,6 +1,6 @@
 // Files and folders that a person drops or chooses, each with its path below the chosen folder and the name that it gets.
 
-import { make, labelled } from "./elements.js";
+import { make } from "./elements.js";
 import { nameOf } from "./names.js";
 import { text } from "./texts.js";
 
@@ -52,8 +52,8 @@ export function choices(onChosen) {
     };
     const files = make("input", { type: "file", multiple: true, on: { change: () => take(files) } });
     const folder = make("input", { type: "file", webkitdirectory: true, on: { change: () => take(folder) } });
-    const place = make("div", { className: "drop" }, make("p", { textContent: text.drop }), labelled(text.chooseFiles, files),
-        labelled(text.chooseFolder, folder));
+    const place = make("div", { className: "drop" }, make("p", { textContent: text.drop }), make("div", { className: "buttons" },
+        make("label", { className: "file" }, text.chooseFiles, files), make("label", { className: "file" }, text.chooseFolder, folder)));
     const mark = (isOver) => (event) => {
         event.preventDefault();
         place.classList.toggle("over", isOver);

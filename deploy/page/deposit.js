@@ -2,26 +2,21 @@
 // end. Browsers send a request twice where a kept connection breaks, so each change of the object sends If-Match, and what was
 // done is asked of the server before a refusal is told.
 
-import { digestOfBytes, digestOfFile } from "./hashing.js";
+import { digestOfFile, PART } from "./hashing.js";
 import { Item } from "./item.js";
 import { dropUploads, keepDeposit, keepDone, keepUpload, uploadsOf } from "./journal.js";
 import { Keeper } from "./keeping.js";
 import { eachOf, Lanes } from "./lanes.js";
 import { makeObject, putMetadata } from "./making.js";
 import { disposition, payloadOf, readManifest } from "./names.js";
-import { entryOf, fieldOf, isOver, lengthOf } from "./segments.js";
+import { Anew, entryOf, lengthOf, sendSegment } from "./segments.js";
 import { ask, Changed, get, insist, pathOf, pauseBefore, Paused, Refused, serviceOf, Unreachable } from "./server.js";
 
 const AT_ONCE = 3;
 // Uploads are deposited so many at a time, or so many bytes: the server does nothing else meanwhile.
 const MANY = 100, MOST_IN_BATCH = 64 << 20;
-// Three segments at once, with what the browser copies of them, are what the page takes of memory.
-const SEGMENT = 4 << 20;
 const WITH_PROGRESS = 256 << 10;
 const MOST_ANEW = 5, MOST_TRIES = 20;
-
-// What was sent of a file is of no use any more.
-class Anew extends Error {}
 
 const textOf = (document) => new TextEncoder().encode(JSON.stringify(document));
 
@@ -82,8 +77,9 @@ export class Deposit {
         return this.state;
     }
 
-    become(state) {
-        this.state = state;
+    // Whether it is ending: all that can be sent is with the server, and is read once more.
+    become(state, isEnding = false) {
+        Object.assign(this, { state, isEnding });
         this.onChange(null);
     }
 
@@ -150,7 +146,9 @@ export class Deposit {
 
     // Brings each file once, and reads each once more beside the last deposit by reference.
     async bringAll() {
+        this.become("running");
         await eachOf(this.waiting, AT_ONCE, (item) => this.bring(item));
+        this.become("running", true);
         await Promise.all([this.flush(), this.readAgain()]);
         for (const item of this.items.filter((it) => it.isChanged && it.file)) {
             await this.changed(item);
@@ -273,33 +271,16 @@ export class Deposit {
 
     async sendSegment(item, upload, number) {
         const { signal } = this;
-        const from = (number - 1) * upload.segment;
-        const content = await item.bytes(from, from + lengthOf(number, upload));
-        const sha256 = await digestOfBytes(content);
-        const fields = { "Content-Disposition": fieldOf(number), "Digest": `SHA-256=${sha256}` };
-        const onSent = content.byteLength < WITH_PROGRESS ? null : (bytes) => {
+        const length = lengthOf(number, upload);
+        const onSent = length < WITH_PROGRESS ? null : (bytes) => {
             item.flying.set(number, bytes);
             this.onChange(item);
         };
-        const path = pathOf(upload.url);
-        const send = () => insist(async (tries) => {
-            if (tries === 1 || !(await this.hasSegment(path, number))) {
-                await ask("POST", path, { content, fields, signal, onSent });
-            }
-        }, { signal });
-        await send().catch((fault) => (fault.name === "DigestMismatch" ? send() : Promise.reject(fault))).catch((fault) => {
-            throw isOver(fault) ? new Anew() : fault;
-        }).finally(() => item.flying.delete(number));
+        const sha256 = await sendSegment(item, upload, number, { signal, onSent }).finally(() => item.flying.delete(number));
         Object.assign(upload, { touched: Date.now(), received: number });
-        item.sent += content.byteLength;
+        item.sent += length;
         item.sha256 = upload.count === 1 ? sha256 : item.sha256;
         this.onChange(item);
-    }
-
-    // Whether the upload has a segment whose reply was lost.
-    async hasSegment(path, number) {
-        const reply = await ask("GET", path, { signal: this.signal });
-        return JSON.parse(reply.text).segments.received.includes(number);
     }
 
     // The upload of a file, and the segments that it expects: the one that is known, where it is of this very file.
@@ -322,7 +303,7 @@ export class Deposit {
 
     async openUpload(item) {
         const { signal, service } = this;
-        const segment = Math.max(Math.min(SEGMENT, service.maxUploadSize), Math.ceil(item.size / service.maxSegments));
+        const segment = Math.max(Math.min(PART, service.maxUploadSize), Math.ceil(item.size / service.maxSegments));
         const count = Math.ceil(item.size / segment);
         const fields = { "Content-Disposition": `segment-init; size=${item.size}; segment_count=${count}; segment_size=${segment}` };
         const reply = await insist(() => ask("POST", pathOf(service.staging), { fields, signal }), { signal });

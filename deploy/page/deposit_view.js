@@ -3,7 +3,7 @@
 import { choices } from "./choosing.js";
 import { Deposit, finish } from "./deposit.js";
 import { Description } from "./describing.js";
-import { button, fill, make, moment, shown } from "./elements.js";
+import { button, faultBox, fill, make, moment, shown } from "./elements.js";
 import { deposits, forget } from "./journal.js";
 import { isFit, linesOf, payloadOf } from "./names.js";
 import { RunningView } from "./running_view.js";
@@ -31,8 +31,8 @@ export class DepositView {
     }
 
     filesPart() {
-        return make("fieldset", {}, make("legend", { textContent: text.filesLegend }), make("p", { textContent: text.rule }),
-            choices((chosen) => this.choose(chosen)), this.summary, this.list);
+        return make("fieldset", {}, make("legend", { textContent: text.filesLegend }), choices((chosen) => this.choose(chosen)),
+            make("p", { className: "soft", textContent: text.rule }), this.summary, this.list);
     }
 
     descriptionPart() {
@@ -53,7 +53,7 @@ export class DepositView {
             }
             this.showUnfinished(left);
         } catch (fault) {
-            fill(this.unfinished, make("p", { className: "bad", role: "alert", textContent: `${text.noJournal} ${fault.message}` }));
+            fill(this.unfinished, faultBox(fault));
         }
     }
 

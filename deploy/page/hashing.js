@@ -1,7 +1,10 @@
 // The page's side of the worker: the SHA-256 of a file, or of what stands at a path.
 
+import { readInto } from "./reading.js";
 import { Changed, insist, refusalOf, Unreachable } from "./server.js";
 
+// So much is read and hashed as a whole: a segment, but for those of files that would have too many.
+export const PART = 4 << 20;
 // How often a worker is begun that doesn't come.
 const WORKERS = 8;
 const waiting = new Map();
@@ -66,7 +69,27 @@ export async function digestOfPath(path, onDone, signal) {
     return told;
 }
 
-export async function digestOfBytes(bytes) {
-    const digest = new Uint8Array(await crypto.subtle.digest("SHA-256", bytes));
-    return Array.from(digest, (byte) => byte.toString(16).padStart(2, "0")).join("");
+// What was read into before, and is free.
+const spare = [];
+
+function take(length) {
+    const bytes = spare.pop();
+    return bytes?.length >= length ? bytes : new Uint8Array(Math.max(length, PART));
+}
+
+// The SHA-256 of a part of a file, as it stands on the disk now.
+export async function digestOfPart(part) {
+    const bytes = take(part.size);
+    try {
+        const length = await readInto(bytes, part).catch((fault) => {
+            throw new Changed(fault.message);
+        });
+        if (length !== part.size) {
+            throw new Changed("");
+        }
+        const digest = new Uint8Array(await crypto.subtle.digest("SHA-256", bytes.subarray(0, length)));
+        return Array.from(digest, (byte) => byte.toString(16).padStart(2, "0")).join("");
+    } finally {
+        spare.push(bytes);
+    }
 }

@@ -1,9 +1,7 @@
 // A file of a deposit: what was chosen, how far it is, and its content read from the disk.
 
-import { digestOfBytes, digestOfFile } from "./hashing.js";
+import { digestOfFile, digestOfPart, PART } from "./hashing.js";
 import { Changed } from "./server.js";
-
-const SMALL = 8 << 20;
 
 export class Item {
     // `file` is null where the person has to choose it once more.
@@ -55,18 +53,21 @@ export class Item {
         }
     }
 
-    async bytes(from, until) {
-        const bytes = await this.file.slice(from, until).arrayBuffer().catch((fault) => {
+    // The content of a segment of its upload, which is read from the disk whenever it is asked for.
+    part(number, upload) {
+        const from = (number - 1) * upload.segment;
+        return this.file.slice(from, Math.min(from + upload.segment, upload.size));
+    }
+
+    // Throws where it can't be read any more as it was chosen.
+    async check() {
+        await this.file.slice(0, 1).arrayBuffer().catch((fault) => {
             throw new Changed(fault.message);
         });
-        if (bytes.byteLength !== until - from) {
-            throw new Changed("");
-        }
-        return bytes;
     }
 
     // The SHA-256 of the whole file, as it stands on the disk now.
     async digest(signal) {
-        return this.size <= SMALL ? digestOfBytes(await this.bytes(0, this.size)) : digestOfFile(this.file, null, signal);
+        return this.size <= PART ? digestOfPart(this.file) : digestOfFile(this.file, null, signal);
     }
 }

@@ -1,10 +1,27 @@
 // What only this browser knows, in IndexedDB: the deposits that it began, their objects, and the uploads of their files.
 
 const NAME = "swordd", VERSION = 1;
+const LONGEST_SILENCE = 10_000;
 let opening;
 
-function open() {
-    opening ??= new Promise((resolve, reject) => {
+// The browser keeps nothing, or doesn't say that it does.
+export class Unkept extends Error {}
+
+const answer = (promise) => Promise.race([promise, new Promise((_, reject) => setTimeout(reject, LONGEST_SILENCE, new Error("")))])
+    .catch((fault) => Promise.reject(new Unkept(fault.message)));
+
+async function open() {
+    opening ??= answer(opened());
+    try {
+        return await opening;
+    } catch (fault) {
+        opening = undefined;
+        throw fault;
+    }
+}
+
+function opened() {
+    return new Promise((resolve, reject) => {
         const request = indexedDB.open(NAME, VERSION);
         request.onupgradeneeded = () => {
             request.result.createObjectStore("deposits", { keyPath: "id" });
@@ -17,7 +34,12 @@ function open() {
             resolve(request.result);
         };
     });
-    return opening;
+}
+
+// Whether anything was kept. It is made by the first deposit alone: where a page is left while Chromium makes it, each later
+// opening waits until the browser ends.
+async function isMade() {
+    return opening || !indexedDB.databases || (await answer(indexedDB.databases())).some((it) => it.name === NAME);
 }
 
 // One transaction, which is on the disk once it is over.
@@ -31,7 +53,11 @@ async function change(work) {
     });
 }
 
+// What a store has of these.
 async function read(store, ask) {
+    if (!(await isMade())) {
+        return [];
+    }
     const base = await open();
     return new Promise((resolve, reject) => {
         const request = ask(base.transaction(store).objectStore(store));

@@ -1,7 +1,7 @@
 // Uploads that wait are kept alive: a segment that was received is sent once more, within the time after which they time out.
 
 import { eachOf } from "./lanes.js";
-import { fieldOf, lengthOf } from "./segments.js";
+import { fieldOf } from "./segments.js";
 import { ask, pathOf } from "./server.js";
 
 const LONGEST_BETWEEN = 600_000;
@@ -28,8 +28,6 @@ export class Keeper {
 
 async function keep(item, upload) {
     const number = upload.received ?? upload.count;
-    const from = (number - 1) * upload.segment;
-    const content = await item.bytes(from, from + lengthOf(number, upload));
-    await ask("POST", pathOf(upload.url), { content, fields: { "Content-Disposition": fieldOf(number) } });
+    await ask("POST", pathOf(upload.url), { content: item.part(number, upload), fields: { "Content-Disposition": fieldOf(number) } });
     Object.assign(upload, { touched: Date.now(), received: number });
 }

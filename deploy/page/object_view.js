@@ -49,7 +49,7 @@ export class ObjectView {
         this.check?.stop();
         fill(this.object);
         this.number = number;
-        await this.showOwn();
+        this.showOwn();
         if (number) {
             this.field.value = number;
             await this.load();

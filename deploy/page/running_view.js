@@ -32,6 +32,7 @@ export class RunningView {
 
     run() {
         this.marks = [];
+        this.rows.forEach((row) => delete row.first);
         this.deposit.run();
         this.state.focus();
     }
@@ -49,19 +50,30 @@ export class RunningView {
     showItems() {
         this.rows = new Map(this.deposit.items.map((item) => [item, rowOf(item)]));
         fill(this.list, ...[...this.rows.values()].map((row) => row.element));
+        this.deposit.items.forEach((item) => this.showItem(item));
         this.showProgress();
     }
 
     showProgress() {
         clearTimeout(this.timer);
         this.timer = undefined;
-        this.dirty.forEach((item) => showItem(item, this.rows.get(item)));
+        this.dirty.forEach((item) => this.showItem(item));
         this.dirty.clear();
         const { items, total } = this.deposit;
         const done = items.reduce((sum, item) => sum + item.done, 0);
         this.bar.max = total || 1;
         this.bar.value = total ? done : Number(this.deposit.state === "done");
         this.figures.textContent = [text.progress(done, total), ...this.pace(done, total)].join(", ");
+    }
+
+    showItem(item) {
+        const row = this.rows.get(item);
+        if (row) {
+            row.bar.value = item.size ? item.done : Number(item.state === "there");
+            row.told.textContent = wordsOf(item, row, this.deposit.state === "running");
+            row.told.className = item.state === "changed" || item.state === "missing" ? "bad" : "soft";
+            row.element.dataset.state = item.state;
+        }
     }
 
     // The speed, and the time left.
@@ -75,19 +87,26 @@ export class RunningView {
 
     showState() {
         const { deposit } = this;
+        const isAsBefore = this.place.dataset.state === deposit.state;
         this.place.dataset.state = deposit.state;
-        this.state.textContent = text.states[deposit.state];
+        this.state.textContent = deposit.isEnding ? text.ending : text.states[deposit.state];
+        this.bar.hidden = this.figures.hidden = deposit.state === "needs files";
         fill(this.fault, deposit.state === "stopped" ? faultBox(deposit.fault) : null);
-        fill(this.missing, ...(deposit.state === "needs files" ? this.missingPart() : []));
-        fill(this.buttons, ...this.actions());
+        // What has the focus stays.
+        if (!isAsBefore) {
+            fill(this.missing, ...(deposit.state === "needs files" ? this.missingPart() : []));
+        }
+        if (!isAsBefore || deposit.state === "needs files") {
+            fill(this.buttons, ...this.actions());
+        }
         if (deposit.state !== "running") {
-            deposit.items.forEach((item) => showItem(item, this.rows.get(item)));
+            deposit.items.forEach((item) => this.showItem(item));
         }
     }
 
     actions() {
         const { deposit } = this;
-        const end = button(text.back, () => this.end());
+        const end = button(text.later, () => this.end());
         const object = deposit.record.object && pathOf(deposit.record.object).split("/").at(-1);
         return {
             "running": () => [button(text.pause, () => deposit.pause(), { className: "main" })],
@@ -101,9 +120,13 @@ export class RunningView {
     }
 
     missingPart() {
-        const { deposit } = this;
-        this.found = make("p", { role: "status", textContent: text.found(deposit.items.length - deposit.missing.length, deposit.items.length) });
+        this.found = make("p", { role: "status", textContent: this.foundSoFar() });
         return [choices((chosen) => this.choose(chosen)), this.found];
+    }
+
+    foundSoFar() {
+        const { items, missing } = this.deposit;
+        return text.found(items.length - missing.length, items.length);
     }
 
     choose(chosen) {
@@ -111,7 +134,7 @@ export class RunningView {
         const others = chosen.filter((it) => !names.has(it.name)).length;
         this.deposit.give(chosen);
         this.showState();
-        this.found.append(others > 0 ? ` ${text.notOfIt(others)}` : "");
+        this.found.textContent = this.foundSoFar() + (others > 0 ? ` ${text.notOfIt(others)}` : "");
         this.showProgress();
     }
 
@@ -132,9 +155,7 @@ export class RunningView {
 function rowOf(item) {
     const bar = make("progress", { className: "wide", max: item.size || 1, value: 0, "aria-label": item.name });
     const told = make("span", { className: "soft" });
-    const row = { bar, told, element: make("li", {}, shown(item.name), told, bar) };
-    showItem(item, row);
-    return row;
+    return { bar, told, element: make("li", {}, shown(item.name), told, bar) };
 }
 
 // The speed of a file since it began to be sent, and the time left.
@@ -144,13 +165,10 @@ function paceOf(item, row) {
     return seconds > 1 && speed > 0 ? [text.speed(speed), text.left((item.size - item.done) / speed)] : [];
 }
 
-function showItem(item, row) {
-    if (!row) {
-        return;
+// How far an item is; how fast it goes, where it goes.
+function wordsOf(item, row, isRunning) {
+    if (item.state !== "sending") {
+        return `${size(item.size)}, ${text.items[item.state]}`;
     }
-    row.bar.value = item.size ? item.done : Number(item.state === "there");
-    row.told.textContent = item.state === "sending" ? [text.progress(item.done, item.size), ...paceOf(item, row)].join(", ")
-        : `${size(item.size)}, ${text.items[item.state]}`;
-    row.told.className = item.state === "changed" || item.state === "missing" ? "bad" : "soft";
-    row.element.dataset.state = item.state;
+    return [text.progress(item.done, item.size), ...(isRunning ? paceOf(item, row) : [])].join(", ");
 }

@@ -36,7 +36,8 @@ export const ELEMENTS = {
 export const text = {
     deposit: "Deposit", objects: "Objects", views: "Views", skip: "To the content",
     loading: "Asking the server.",
-    noJournal: "This browser lets the page keep nothing, so no deposit can be gone on with. Leave private browsing, or allow the page to store data.",
+    noJournal: "This browser lets the page keep nothing, so no deposit could be gone on with.",
+    noJournalHelp: "Leave private browsing, or allow the page to store data. If that doesn't help, close all windows of the browser, and open it again.",
     mark: (id) => `Deposit ${id} is in progress`,
 
     filesLegend: "Files",
@@ -69,10 +70,11 @@ export const text = {
 
     states: {
         "new": "", "running": "Depositing.", "paused": "Paused. What was sent stays with the server.",
-        "needs files": "Files are missing: choose them, and go on.",
+        "needs files": "Choose the files that are marked below again, and go on. Only what the server lacks is sent.",
         "stopped": "Stopped.", "done": "Deposited. The server has every file as it is here.",
     },
-    pause: "Pause", tryNow: "Try now", again: "Try again", newDeposit: "Another deposit", back: "Back",
+    ending: "The server puts together what was sent. Each file is read here once more, to see that it didn't change.",
+    pause: "Pause", tryNow: "Try now", again: "Try again", newDeposit: "Another deposit", later: "Leave it for later",
     waits: (seconds) => `The server can't be reached. The next try is in ${duration(seconds)}; nothing that it has is lost.`,
     all: "All files", progress: (done, total) => `${size(done)} of ${size(total)}`,
     speed: (bytes) => `${size(Math.round(bytes))} a second`, left: (seconds) => `${duration(seconds)} left`,
@@ -83,7 +85,7 @@ export const text = {
     found: (found, number) => `${found} of ${files(number)} chosen again.`,
     notOfIt: (number) => `${files(number)} of those chosen are no part of this deposit, and are left out.`,
     leaveMissing: (number) => `Go on without ${files(number)}`,
-    show: (number) => `Show object ${number}`,
+    show: (number) => `Look at object ${number}, and check it`,
 
     ask: "Address or number of an object", showIt: "Show",
     noList: "The server has no list of its objects. These are the ones that this browser deposited:",
@@ -92,7 +94,7 @@ export const text = {
     otherServer: (host) => `That address is of another server, ${host}.`,
     object: (number) => `Object ${number}`,
     address: "Address", state: "State", changed: "Last change", tag: "Version",
-    ingested: "ingested", inProgress: "in progress: it was not deposited to its end",
+    ingested: "ingested: it was deposited to its end", inProgress: "in progress: it was not deposited to its end",
     metadata: "Description", noMetadata: "Nothing is written here.", edit: "Edit the description", save: "Save", cancel: "Cancel",
     saved: "Saved.",
     conflict: "Somebody else changed the description meanwhile, so yours was not saved. Both stand below.",
@@ -108,12 +110,12 @@ export const text = {
     bag: "The list of its bag", reload: "Show it anew",
     changedMeanwhile: "The object was changed meanwhile: what stands here now was read anew. Look at it, and try again.",
 
-    check: "Check", checkHint: "Reads each file back, and compares it with the digests that the server keeps.",
+    check: "Check", checkHint: "Reads each file back from the server, and says whether it still is what was deposited, by its SHA-256.",
     checking: (done, number, bytes) => `Checking: ${done} of ${files(number)}, ${size(bytes)} read.`,
     stopCheck: "Stop",
     checkStopped: (done, number) => `Stopped: only ${done} of ${files(number)} were checked.`,
-    allWell: (number, own, bytes) => `${files(number)} and ${own} of the bag's own were checked, ${size(bytes)}: none differs, and all could be read.`,
-    damage: (number, own, differ, unread) => `${files(number)} and ${own} of the bag's own were checked: ${differ} ${differ === 1 ? "differs" : "differ"}, ${unread} couldn't be read. Tell whoever runs the server.`,
+    allWell: (number, own, bytes) => `${files(number)} and ${own} records about them were checked, ${size(bytes)}: none differs, and all could be read.`,
+    damage: (number, own, differ, unread) => `${files(number)} and ${own} records about them were checked: ${differ} ${differ === 1 ? "differs" : "differ"}, ${unread} couldn't be read. Tell whoever runs the server.`,
     checkChanged: "The object was changed during the check: check it again.",
     marks: { same: "✓ as deposited", differs: "✗ differs", unread: "✗ couldn't be read" },
     unlisted: "no manifest names it", lacking: "the manifest lacks it",
@@ -153,6 +155,9 @@ export function told(fault) {
     const name = fault.constructor.name;
     if (name === "Unreachable") {
         return fault.status === 500 ? { words: text.fault, help: text.faultHelp } : { words: text.noAnswer, help: text.noAnswerHelp };
+    }
+    if (name === "Unkept") {
+        return { words: `${text.noJournal} ${fault.message}`.trim(), help: text.noJournalHelp };
     }
     if (name === "Changed") {
         return { words: text.keepsChanging(fault.message), help: text.keepsChangingHelp };

@@ -1,9 +1,9 @@
 // Digests of files and of what is read back, of any size, in one stream each, beside the page. It is told { id, file },
 // { id, path } or { id, stop }, and tells { id, done } as it goes and { id, sha256, done } or { id, fault, message } in the end.
 
+import { eachPiece } from "/page/reading.js";
 import { Sha256 } from "/page/sha256.js";
 
-const PIECE = 4 << 20;
 const BETWEEN_TELLING = 100;
 const stops = new Map();
 
@@ -24,9 +24,7 @@ class Task {
 }
 
 async function readFile(task, file) {
-    for (let from = 0; from < file.size; from += PIECE) {
-        task.take(new Uint8Array(await file.slice(from, from + PIECE).arrayBuffer()));
-    }
+    await eachPiece(file.stream(), (bytes) => task.take(bytes));
     return { wanted: file.size };
 }
 
@@ -35,10 +33,7 @@ async function readPath(task, path) {
     if (reply.status !== 200) {
         throw Object.assign(new Error(await reply.text()), { name: "Status", status: reply.status });
     }
-    const reader = reply.body.getReader();
-    for (let piece = await reader.read(); !piece.done; piece = await reader.read()) {
-        task.take(piece.value);
-    }
+    await eachPiece(reply.body, (bytes) => task.take(bytes));
     const length = reply.headers.get("Content-Length");
     return { wanted: length === null ? task.done : Number(length) };
 }

@@ -1,5 +1,5 @@
 -- What stands at the paths of a bag.
-use Rattle.std.proofs.Common.{◌≡◌, ℕ, Bool, true, false, cond, List, [], ◌∷◌, ◌++◌, Option, Some, None, refl, sym, ap, ◌∙◌, map as each, All}
+use Rattle.std.proofs.Common.{◌≡◌, ℕ, Bool, true, false, ◌||◌, if◌then◌else◌, codes, cond, List, [], ◌∷◌, ◌++◌, Option, Some, None, refl, sym, ap, ◌∙◌, map as each, All}
 use Rattle.std.specs.Prelude.{find, bytes_eq, option_map}
 use Rattle.std.specs.Cmp.{nat_cmp_total}
 use Rattle.std.specs.FinMap as finmap
@@ -9,7 +9,11 @@ use Rattle.dep_types.specs.State.{Object, File}
 use Rattle.dep_types.specs.Rows.{file_row, object_view}
 use Rattle.dep_types.specs.declared.rows.ObjectView.{ObjectView}
 use Rattle.dep_types.specs.Sinks.{Entry}
-use Rattle.dep_bag.specs.Parts.{told_parts, told_part, text_part, stored_part}
+use Rattle.dep_docs_out.specs.Documents.{bag_metadata_document}
+use Rattle.dep_manifest.specs.TagFiles.{bagit_text, manifest_path}
+use Rattle.dep_manifest.specs.Told.{told_info, told_manifest}
+use Rattle.dep_manifest.specs.declared.algorithm.Algorithm.TheVariants.{Sha256, Sha512}
+use Rattle.dep_bag.specs.Parts.{told_parts, told_part, told_tag_manifests, text_part, stored_part}
 use Rattle.dep_bag.specs.declared.part.BagPart.{BagPart}
 use Rattle.dep_bag.specs.declared.part.BagPart.TheVariants.{Bytes, Stored}
 use Rattle.dep_bag.proofs.Keys.{entries-held}
@@ -18,6 +22,8 @@ use Rattle.dep_bag.proofs.Files.{payload_entry}
 use Rattle.dep_bag.proofs.ToldBag.{same_tag_files}
 use Rattle.dep_answers.specs.Answers.{ReplyContent, StoredContent, bytes_of}
 use Rattle.dep_answers.specs.Bags.{BagEntry, bag_entries, tags_shown, payload_shown, shown_in_bag}
+use Rattle.dep_answers.specs.Subjects.{files_view, shows_metadata}
+use Rattle.dep_answers.specs.Telling.{tag_view}
 use Rattle.dep_answers.specs.Told.{content_of, form_at}
 
 -- a path, and what is shown there, if it is known
@@ -57,6 +63,49 @@ shown_files o = ap (λ (l : List Entry). tag_files o ++ l) (same_payload (finmap
     same_payload : (es : List (ℕ × File)) → each (λ (p : BagEntry). (p.0, bytes_of p.1)) (each payload_shown es) ≡ each payload_entry es
     same_payload [] = refl
     same_payload (e ∷ es) = ap (λ (l : List Entry). payload_entry e ∷ l) (same_payload es)
+
+-- ---- what is read of an object shows what all of it does
+
+abbrev Part : Type 0
+Part = List ℕ × BagPart
+
+found_behind : (test : Part → Bool) (front xs ys : List Part) → find test xs ≡ find test ys → find test (front ++ xs) ≡ find test (front ++ ys)
+found_behind test [] xs ys e = e
+found_behind test (p ∷ front) xs ys e = ap (cond (test p) (Some p)) (found_behind test front xs ys e)
+
+-- three parts that aren't looked for
+past_three : (a b c : Bool) (x y z u v w : Part) (rest : Option Part) → (a || b || c) ≡ false
+    → cond a (Some x) (cond b (Some y) (cond c (Some z) rest)) ≡ cond a (Some u) (cond b (Some v) (cond c (Some w) rest))
+past_three true b c x y z u v w rest e = absurd (cc)
+past_three false true c x y z u v w rest e = absurd (cc)
+past_three false false true x y z u v w rest e = absurd (cc)
+past_three false false false x y z u v w rest e = refl
+
+module _ (n : ℕ) (o : Object) (path : List ℕ) where
+  -- the tag files that are made without the metadata
+  abbrev front : List Part
+  front =
+      (codes "bagit.txt", Bytes bagit_text)
+      ∷ (codes "bag-info.txt", Bytes (told_info (object_view n o)))
+      ∷ (manifest_path Sha256, Bytes (told_manifest Sha256 (object_view n o)))
+      ∷ (manifest_path Sha512, Bytes (told_manifest Sha512 (object_view n o)))
+      ∷ []
+
+  abbrev behind : ObjectView → List Part
+  behind view = each text_part ((codes "metadata/sword.json", bag_metadata_document view.metadata) ∷ told_tag_manifests view) ++ each stored_part view.files
+
+  pub same_part : told_part (tag_view path n o) path ≡ told_part (object_view n o) path
+  same_part = go (shows_metadata path) refl
+    where
+      test : Part → Bool
+      test = λ p. bytes_eq path p.0
+
+      go : (b : Bool) → shows_metadata path ≡ b → told_part (if b then object_view n o else files_view n o) path ≡ told_part (object_view n o) path
+      go true is = refl
+      go false is =
+          ap (option_map (λ (p : Part). p.1))
+          (found_behind test front (behind (files_view n o)) (behind (object_view n o))
+          (past_three (bytes_eq path (codes "metadata/sword.json")) (bytes_eq path (codes "tagmanifest-sha256.txt")) (bytes_eq path (codes "tagmanifest-sha512.txt")) _ _ _ _ _ _ _ is))
 
 -- ---- what is found
 
@@ -152,21 +201,25 @@ by_none o None None e is = refl
 by_none o None (Some place) e is = absurd (cc)
 by_none o (Some x) q e is = absurd (cc)
 
+-- what is read shows what all of the object does
+part_of : (n : ℕ) (o : Object) (path : List ℕ) (view : ObjectView) → view ≡ tag_view path n o → told_part view path ≡ told_part (object_view n o) path
+part_of n o path view e = ap (λ (v : ObjectView). told_part v path) e ∙ same_part n o path
+
 -- a text of the bag
-pub text_shown : (n : ℕ) (o : Object) (view : ObjectView) (path text : List ℕ) → view ≡ object_view n o
+pub text_shown : (n : ℕ) (o : Object) (view : ObjectView) (path text : List ℕ) → view ≡ tag_view path n o
     → Some (Bytes text) ≡ told_part view path → shown_in_bag o path ≡ Some (content_of (form_at path) text)
 text_shown n o view path text e is =
     by_bytes o path (part n o path) (place n o path) (both_found n o path) (right_path n o path) text
-    (is ∙ ap (λ (v : ObjectView). told_part v path) e)
+    (is ∙ part_of n o path view e)
 
 -- the content of a file of the object
-pub file_shown : (n : ℕ) (o : Object) (view : ObjectView) (path : List ℕ) (f : ℕ) → view ≡ object_view n o
+pub file_shown : (n : ℕ) (o : Object) (view : ObjectView) (path : List ℕ) (f : ℕ) → view ≡ tag_view path n o
     → Some (Stored f) ≡ told_part view path
     → (it : File) × ((finmap.get o.files f ≡ Some it) × (shown_in_bag o path ≡ Some (StoredContent it.media it.content)))
 file_shown n o view path f e is =
-    by_stored o (part n o path) (place n o path) (both_found n o path) f (is ∙ ap (λ (v : ObjectView). told_part v path) e)
+    by_stored o (part n o path) (place n o path) (both_found n o path) f (is ∙ part_of n o path view e)
 
-pub nothing_shown : (n : ℕ) (o : Object) (view : ObjectView) (path : List ℕ) → view ≡ object_view n o
+pub nothing_shown : (n : ℕ) (o : Object) (view : ObjectView) (path : List ℕ) → view ≡ tag_view path n o
     → None ≡ told_part view path → shown_in_bag o path ≡ None
 nothing_shown n o view path e is =
-    by_none o (part n o path) (place n o path) (both_found n o path) (is ∙ ap (λ (v : ObjectView). told_part v path) e)
+    by_none o (part n o path) (place n o path) (both_found n o path) (is ∙ part_of n o path view e)

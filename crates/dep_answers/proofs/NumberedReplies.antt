@@ -1,5 +1,5 @@
 -- What stands at a path of a bag where one file alone can stand, and the reply that shows it.
-use Rattle.std.proofs.Common.{◌≡◌, ℕ, Bool, true, false, cond, List, [], ◌∷◌, ◌++◌, Option, Some, None, All, bytes_eq, refl, sym, ap, ◌∙◌, map as each}
+use Rattle.std.proofs.Common.{◌≡◌, ◌⊎◌, inl, inr, ℕ, Bool, true, false, cond, List, [], ◌∷◌, ◌++◌, Option, Some, None, All, bytes_eq, refl, sym, ap, ◌∙◌, map as each}
 use Rattle.std.specs.Prelude.{find, is_some, if◌then◌else◌}
 use Rattle.std.specs.Option.{option_map, option_map_or, option_and_then}
 use Rattle.std.specs.FinMap as finmap
@@ -16,13 +16,13 @@ use Rattle.dep_bag.proofs.Lines.{All-none}
 use Rattle.dep_bag.proofs.Numbered.{HasStorable, files_storable, found_by_number, none_by_number, numbered}
 use Rattle.dep_answers.specs.Answers.{ReplyContent, StoredContent, answer}
 use Rattle.dep_answers.specs.Bags.{BagEntry, bag_entries, payload_shown, shown_in_bag, tags_shown}
-use Rattle.dep_answers.specs.Subjects.{shown_at, subject_in_bag}
+use Rattle.dep_answers.specs.Subjects.{files_view, shown_at, shows_metadata, subject_by, subject_in_bag}
+use Rattle.dep_answers.specs.Telling.{tag_view}
 use Rattle.dep_answers.specs.Told.{bag_answer}
 use Rattle.dep_answers.specs.declared.subject.Shown.{Shown}
 use Rattle.dep_answers.specs.declared.subject.Shown.TheVariants as shown
-use Rattle.dep_answers.specs.declared.subject.Subject.TheVariants as subject
 use Rattle.dep_answers.proofs.BagLemmas.{found_through}
-use Rattle.dep_answers.proofs.ShownReplies.{file_in, no_bag_answer, no_file}
+use Rattle.dep_answers.proofs.ShownReplies.{file_in, files_in, no_bag_answer, no_file, no_object, object_in}
 
 abbrev has_number : BagEntry → Bool
 has_number e = is_some (file_number e.0)
@@ -140,31 +140,80 @@ no_payload s sound n o is path none media content shows = go (find at (bag_entri
 
 -- ---- which subject was read
 
-module _ (s : State) (n : ℕ) (sh : Shown) where
-  -- where an object was shown, all that is told of it was read
-  pub object_read : (view : ObjectView) → sh ≡ shown.Object view → (k : Option ℕ) → sh ≡ shown_at s (subject_in_bag n k) → (k ≡ None) × (sh ≡ shown_at s (subject.Object n))
-  object_read view is None e = (refl, e)
-  object_read view is (Some f) e = absurd (go (file_at s n f) (sym is ∙ e))
+no_object_shown : (n : ℕ) (view : ObjectView) (x : Option Object) → shown.Object view ≡ option_map_or (λ (o : Object). shown.Files (files_view n o)) x shown.Nothing → ⊥
+no_object_shown n view None e = cc
+no_object_shown n view (Some o) e = cc
+
+no_files_shown : (n : ℕ) (view : ObjectView) (x : Option Object) → shown.Files view ≡ option_map_or (λ (o : Object). shown.Object (object_view n o)) x shown.Nothing → ⊥
+no_files_shown n view None e = cc
+no_files_shown n view (Some o) e = cc
+
+no_row_shown : (n f : ℕ) (sh : Shown) → ((row : FileRow) → sh ≡ shown.File row → ⊥) → (sh ≡ shown.Nothing → ⊥) → (x : Option File)
+    → sh ≡ option_map_or (λ (it : File). shown.File (file_row n f it)) x shown.Nothing → ⊥
+no_row_shown n f sh no_row something None e = something e
+no_row_shown n f sh no_row something (Some it) e = no_row (file_row n f it) e
+
+module _ (s : State) (n : ℕ) (path : List ℕ) (sh : Shown) where
+  -- this is what the tag file at the path is shown by
+  abbrev pub IsTagView : ObjectView → Type 0
+  IsTagView view = (file_number path ≡ None) × ((o : Object) × ((finmap.get s.objects n ≡ Some o) × (view ≡ tag_view path n o)))
+
+  abbrev IsRead : Type 0
+  IsRead = sh ≡ shown_at s (subject_in_bag n path)
+
+  abbrev IsReadBy : Option ℕ → Bool → Type 0
+  IsReadBy k b = sh ≡ shown_at s (subject_by n k b)
+
+  tag_view_is : (view : ObjectView) (b : Bool) → file_number path ≡ None → shows_metadata path ≡ b
+      → (o : Object) × ((finmap.get s.objects n ≡ Some o) × (view ≡ (if b then object_view n o else files_view n o))) → IsTagView view
+  tag_view_is view b none of found =
+      (none, (found.0, (found.1.0, found.1.1 ∙ sym (ap (λ (x : Bool). if x then object_view n found.0 else files_view n found.0) of))))
+
+  whole_read : (view : ObjectView) → sh ≡ shown.Object view → IsRead → IsTagView view
+  whole_read view is read = go (file_number path) (shows_metadata path) refl refl read
     where
-      go : (x : Option File) → shown.Object view ≡ option_map_or (λ (it : File). shown.File (file_row n f it)) x shown.Nothing → ⊥
-      go None e = cc
-      go (Some it) e = cc
+      go : (k : Option ℕ) (b : Bool) → file_number path ≡ k → shows_metadata path ≡ b → IsReadBy k b → IsTagView view
+      go None true none of e = tag_view_is view true none of (object_in n view (finmap.get s.objects n) (sym is ∙ e))
+      go None false none of e = absurd (no_object_shown n view (finmap.get s.objects n) (sym is ∙ e))
+      go (Some f) b some of e = absurd (no_row_shown n f (shown.Object view) (λ row e. cc) (λ e. cc) (file_at s n f) (sym is ∙ e))
+
+  files_read : (view : ObjectView) → sh ≡ shown.Files view → IsRead → IsTagView view
+  files_read view is read = go (file_number path) (shows_metadata path) refl refl read
+    where
+      go : (k : Option ℕ) (b : Bool) → file_number path ≡ k → shows_metadata path ≡ b → IsReadBy k b → IsTagView view
+      go None true none of e = absurd (no_files_shown n view (finmap.get s.objects n) (sym is ∙ e))
+      go None false none of e = tag_view_is view false none of (files_in n view (finmap.get s.objects n) (sym is ∙ e))
+      go (Some f) b some of e = absurd (no_row_shown n f (shown.Files view) (λ row e. cc) (λ e. cc) (file_at s n f) (sym is ∙ e))
+
+  -- where an object was shown, with its metadata or without, it is the one whose tag file that is
+  pub object_read : (view : ObjectView) → (sh ≡ shown.Object view) ⊎ (sh ≡ shown.Files view) → IsRead → IsTagView view
+  object_read view (inl is) read = whole_read view is read
+  object_read view (inr is) read = files_read view is read
 
   -- where a file was shown, it is the one that was read
-  pub file_read : (row : FileRow) → sh ≡ shown.File row → (k : Option ℕ) → sh ≡ shown_at s (subject_in_bag n k)
-      → (f : ℕ) × (k ≡ Some f) × (it : File) × (file_at s n f ≡ Some it) × (row ≡ file_row n f it)
-  file_read row is None e = absurd (go (finmap.get s.objects n) (sym is ∙ e))
+  pub file_read : (row : FileRow) → sh ≡ shown.File row → IsRead
+      → (f : ℕ) × (file_number path ≡ Some f) × (it : File) × (file_at s n f ≡ Some it) × (row ≡ file_row n f it)
+  file_read row is read = go (file_number path) (shows_metadata path) refl read
     where
-      go : (x : Option Object) → shown.File row ≡ option_map_or (λ (o : Object). shown.Object (object_view n o)) x shown.Nothing → ⊥
-      go None e = cc
-      go (Some o) e = cc
-  file_read row is (Some f) e = let found = file_in n f row (file_at s n f) (sym is ∙ e) in (f, refl, found.0, found.1.0, found.1.1)
+      go : (k : Option ℕ) (b : Bool) → file_number path ≡ k → IsReadBy k b → (f : ℕ) × (file_number path ≡ Some f) × (it : File) × (file_at s n f ≡ Some it) × (row ≡ file_row n f it)
+      go None true of e = absurd (none (finmap.get s.objects n) (sym is ∙ e))
+        where
+          none : (x : Option Object) → shown.File row ≡ option_map_or (λ (o : Object). shown.Object (object_view n o)) x shown.Nothing → ⊥
+          none None e = cc
+          none (Some o) e = cc
+      go None false of e = absurd (none (finmap.get s.objects n) (sym is ∙ e))
+        where
+          none : (x : Option Object) → shown.File row ≡ option_map_or (λ (o : Object). shown.Files (files_view n o)) x shown.Nothing → ⊥
+          none None e = cc
+          none (Some o) e = cc
+      go (Some f) b of e = let found = file_in n f row (file_at s n f) (sym is ∙ e) in (f, of, found.0, found.1.0, found.1.1)
 
-  -- where neither was shown, nothing stands at the path
-  pub nothing_read : IsSound s → (path : List ℕ) → ((view : ObjectView) → sh ≡ shown.Object view → ⊥) → ((row : FileRow) → sh ≡ shown.File row → ⊥)
-      → sh ≡ shown_at s (subject_in_bag n (file_number path)) → answer 200 None None None ≡ bag_answer s n path
-  nothing_read sound path no_object no_row e = go (file_number path) refl e
+  -- where none of them was shown, nothing stands at the path
+  pub nothing_read : IsSound s → ((view : ObjectView) → sh ≡ shown.Object view → ⊥) → ((view : ObjectView) → sh ≡ shown.Files view → ⊥)
+      → ((row : FileRow) → sh ≡ shown.File row → ⊥) → IsRead → answer 200 None None None ≡ bag_answer s n path
+  nothing_read sound no_view no_files no_row read = go (file_number path) (shows_metadata path) refl read
     where
-      go : (k : Option ℕ) → file_number path ≡ k → sh ≡ shown_at s (subject_in_bag n k) → answer 200 None None None ≡ bag_answer s n path
-      go None of e = no_bag_answer s n path sh no_object e
-      go (Some f) of e = absent_answer path f of s sound n (no_file n f sh (file_at s n f) no_row e)
+      go : (k : Option ℕ) (b : Bool) → file_number path ≡ k → IsReadBy k b → answer 200 None None None ≡ bag_answer s n path
+      go None true of e = no_bag_answer s n path (no_object (λ (v : ObjectView). shown.Object v) (object_view n) sh (finmap.get s.objects n) no_view e)
+      go None false of e = no_bag_answer s n path (no_object (λ (v : ObjectView). shown.Files v) (files_view n) sh (finmap.get s.objects n) no_files e)
+      go (Some f) b of e = absent_answer path f of s sound n (no_file n f sh (file_at s n f) no_row e)

@@ -12,7 +12,7 @@ use Rattle.dep_answers.specs.Answers.{Answer, StoredContent, answer, is_silent}
 use Rattle.dep_answers.specs.Bags.{shown_in_bag}
 use Rattle.dep_answers.specs.Performing.{IsReply, Says}
 use Rattle.dep_answers.specs.Replies.{shown_answer}
-use Rattle.dep_answers.specs.Subjects.{shown_at, subject_at}
+use Rattle.dep_answers.specs.Subjects.{files_view, shown_at, subject_at}
 use Rattle.dep_answers.specs.Told.{file_answer, bag_answer}
 use Rattle.dep_answers.specs.declared.performed.Delivery.{Delivery}
 use Rattle.dep_answers.specs.declared.performed.FileId.{FileId}
@@ -84,33 +84,40 @@ no_file_answer s id sh not e =
 same_view : (x y : ObjectView) → shown.Object x ≡ shown.Object y → x ≡ y
 same_view x y e = cc
 
-object_in : (n : ℕ) (view : ObjectView) (o : Option Object)
+same_files : (x y : ObjectView) → shown.Files x ≡ shown.Files y → x ≡ y
+same_files x y e = cc
+
+pub object_in : (n : ℕ) (view : ObjectView) (o : Option Object)
     → shown.Object view ≡ option_map_or (λ (x : Object). shown.Object (object_view n x)) o shown.Nothing
     → (it : Object) × ((o ≡ Some it) × (view ≡ object_view n it))
 object_in n view None e = absurd (cc)
 object_in n view (Some it) e = (it, (refl, same_view view (object_view n it) e))
 
-pub bag_reply_is : (s : State) (n : ℕ) (path : List ℕ) (view : ObjectView) (sh : Shown) (delivery : Delivery) (said : Option Performed)
-    → sh ≡ shown.Object view → sh ≡ shown_at s (subject.Object n)
-    → ((o : Object) → finmap.get s.objects n ≡ Some o → view ≡ object_view n o
-    → Says s (answer 200 (shown_in_bag o path) None None) delivery said)
+pub files_in : (n : ℕ) (view : ObjectView) (o : Option Object)
+    → shown.Files view ≡ option_map_or (λ (x : Object). shown.Files (files_view n x)) o shown.Nothing
+    → (it : Object) × ((o ≡ Some it) × (view ≡ files_view n it))
+files_in n view None e = absurd (cc)
+files_in n view (Some it) e = (it, (refl, same_files view (files_view n it) e))
+
+-- what was read of the object is what its tag file at the path is shown by
+pub tag_reply_is : (s : State) (n : ℕ) (path : List ℕ) (delivery : Delivery) (said : Option Performed)
+    → (o : Object) → finmap.get s.objects n ≡ Some o
+    → Says s (answer 200 (shown_in_bag o path) None None) delivery said
     → Says s (bag_answer s n path) delivery said
-bag_reply_is s n path view sh delivery said is e says =
-    let found = object_in n view (finmap.get s.objects n) (sym is ∙ e) in
-    says_as s (answer 200 (shown_in_bag found.0 path) None None) (bag_answer s n path) delivery said
-    (ap (λ (o : Option Object). answer 200 (option_and_then (λ (x : Object). shown_in_bag x path) o) None None) (sym found.1.0))
-    (says found.0 found.1.0 found.1.1)
+tag_reply_is s n path delivery said o there says =
+    says_as s (answer 200 (shown_in_bag o path) None None) (bag_answer s n path) delivery said
+    (ap (λ (x : Option Object). answer 200 (option_and_then (λ (y : Object). shown_in_bag y path) x) None None) (sym there))
+    says
 
-no_object : (n : ℕ) (sh : Shown) (o : Option Object) → ((view : ObjectView) → sh ≡ shown.Object view → ⊥)
-    → sh ≡ option_map_or (λ (x : Object). shown.Object (object_view n x)) o shown.Nothing → o ≡ None
-no_object n sh None not e = refl
-no_object n sh (Some it) not e = absurd (not (object_view n it) e)
+-- nothing was shown of an object, so there is none
+pub no_object : (show : ObjectView → Shown) (view_of : Object → ObjectView) (sh : Shown) (o : Option Object) → ((view : ObjectView) → sh ≡ show view → ⊥)
+    → sh ≡ option_map_or (λ (x : Object). show (view_of x)) o shown.Nothing → o ≡ None
+no_object show view_of sh None not e = refl
+no_object show view_of sh (Some it) not e = absurd (not (view_of it) e)
 
-pub no_bag_answer : (s : State) (n : ℕ) (path : List ℕ) (sh : Shown) → ((view : ObjectView) → sh ≡ shown.Object view → ⊥)
-    → sh ≡ shown_at s (subject.Object n) → answer 200 None None None ≡ bag_answer s n path
-no_bag_answer s n path sh not e =
-    ap (λ (o : Option Object). answer 200 (option_and_then (λ (x : Object). shown_in_bag x path) o) None None)
-    (sym (no_object n sh (finmap.get s.objects n) not e))
+pub no_bag_answer : (s : State) (n : ℕ) (path : List ℕ) → finmap.get s.objects n ≡ None → answer 200 None None None ≡ bag_answer s n path
+no_bag_answer s n path none =
+    ap (λ (o : Option Object). answer 200 (option_and_then (λ (x : Object). shown_in_bag x path) o) None None) (sym none)
 
 -- ---- by the resource
 

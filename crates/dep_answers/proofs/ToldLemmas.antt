@@ -14,13 +14,13 @@ use Rattle.dep_types.specs.declared.target.Method.TheVariants as method
 use Rattle.dep_types.specs.declared.target.Resource.{Resource}
 use Rattle.dep_types.specs.declared.target.Resource.TheVariants as resource
 use Rattle.dep_docs_out.specs.Segments.{are_segments}
-use Rattle.dep_docs_out.specs.Documents.{status_document, metadata_document, upload_document, object_url, upload_url}
+use Rattle.dep_docs_out.specs.Documents.{links_data, status_data, status_document, metadata_document, upload_document, object_url, upload_url}
 use Rattle.dep_bag.specs.Bag.{list_text}
 use Rattle.dep_manifest.specs.Told.{row_path}
 use Rattle.dep_decisions.specs.LookUps.{tag_at}
 use Rattle.dep_answers.specs.Answers.{Answer, Document, PlainText, answer}
 use Rattle.dep_answers.specs.Replies.{answer_to, last_object, last_upload, status_answer, created_answer, opened_answer, shown_answer}
-use Rattle.dep_answers.specs.Subjects.{shown_at, subject_at, subject_of}
+use Rattle.dep_answers.specs.Subjects.{files_view, shown_at, subject_at, subject_of}
 use Rattle.dep_answers.specs.Told.{told_change, told_text, told_status, told_created, told_metadata, told_list, told_tag, told_upload, told_opened}
 use Rattle.dep_answers.specs.declared.subject.Shown.{Shown}
 use Rattle.dep_answers.specs.declared.subject.Shown.TheVariants as shown
@@ -29,23 +29,28 @@ use Rattle.dep_answers.proofs.Rising.{segments_rise}
 
 -- ---- objects
 
+-- a status document has nothing of the metadata
+same_document : (config : Config) (n : ℕ) (o : Object) → status_document config (files_view n o) ≡ status_document config (object_view n o)
+unfolding status_data links_data
+same_document config n o = refl
+
 status_by : (config : Config) (n : ℕ) (o : Option Object)
-    → told_status config (option_map_or (λ (x : Object). shown.Object (object_view n x)) o shown.Nothing)
+    → told_status config (option_map_or (λ (x : Object). shown.Files (files_view n x)) o shown.Nothing)
     ≡ answer 200 (option_map (λ (x : Object). Document (status_document config (object_view n x))) o) (option_map (λ (x : Object). x.tag) o) None
 status_by config n None = refl
-status_by config n (Some o) = refl
+status_by config n (Some o) = ap (λ (text : List ℕ). answer 200 (Some (Document text)) (Some o.tag) None) (same_document config n o)
 
-pub status_is : (config : Config) (s : State) (n : ℕ) (sh : Shown) → sh ≡ shown_at s (subject.Object n)
+pub status_is : (config : Config) (s : State) (n : ℕ) (sh : Shown) → sh ≡ shown_at s (subject.Files n)
     → told_status config sh ≡ status_answer config s n
 status_is config s n sh e = ap (told_status config) e ∙ status_by config n (finmap.get s.objects n)
 
 created_by : (config : Config) (n : ℕ) (o : Option Object)
-    → told_created config (option_map_or (λ (x : Object). shown.Object (object_view n x)) o shown.Nothing)
+    → told_created config (option_map_or (λ (x : Object). shown.Files (files_view n x)) o shown.Nothing)
     ≡ answer 201 (option_map (λ (x : Object). Document (status_document config (object_view n x))) o) (option_map (λ (x : Object). x.tag) o) (option_map (λ (x : Object). object_url config n) o)
 created_by config n None = refl
-created_by config n (Some o) = refl
+created_by config n (Some o) = ap (λ (text : List ℕ). answer 201 (Some (Document text)) (Some o.tag) (Some (object_url config n))) (same_document config n o)
 
-pub created_is : (config : Config) (s : State) (n : ℕ) (sh : Shown) → sh ≡ shown_at s (subject.Object n)
+pub created_is : (config : Config) (s : State) (n : ℕ) (sh : Shown) → sh ≡ shown_at s (subject.Files n)
     → told_created config sh ≡ created_answer config s n
 created_is config s n sh e = ap (told_created config) e ∙ created_by config n (finmap.get s.objects n)
 
@@ -134,12 +139,12 @@ lines_more paths i p h is =
     ∙ sym (append_assoc (list_text (take i paths)) p (codes "\n"))
 
 list_by : (n : ℕ) (o : Option Object)
-    → told_list (option_map_or (λ (x : Object). shown.Object (object_view n x)) o shown.Nothing)
+    → told_list (option_map_or (λ (x : Object). shown.Files (files_view n x)) o shown.Nothing)
     ≡ answer 200 (option_map (λ (x : Object). PlainText (list_text (bag_paths x))) o) None None
 list_by n None = refl
 list_by n (Some o) = ap (λ (l : List (List ℕ)). answer 200 (Some (PlainText (list_text (tag_paths ++ l)))) None None) (same_paths n (finmap.entries o.files))
 
-pub list_is : (config : Config) (s : State) (n : ℕ) (sh : Shown) → sh ≡ shown_at s (subject.Object n)
+pub list_is : (config : Config) (s : State) (n : ℕ) (sh : Shown) → sh ≡ shown_at s (subject.Files n)
     → told_list sh ≡ shown_answer config s (resource.BagList n)
 list_is config s n sh e = ap told_list e ∙ list_by n (finmap.get s.objects n)
 

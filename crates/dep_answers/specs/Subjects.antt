@@ -1,10 +1,11 @@
 -- What has to be read of the archive for a reply, and what is read.
-use Rattle.std.specs.Prelude.{ℕ, ◌-◌, Option, Some, None}
+use Rattle.std.specs.Prelude.{ℕ, ◌-◌, Bool, true, false, List, codes, bytes_eq, ◌||◌, Option, Some, None}
 use Rattle.std.specs.Option.{option_map_or}
 use Rattle.std.specs.FinMap as finmap
-use Rattle.dep_types.specs.State.{State, file_at}
+use Rattle.dep_types.specs.State.{State, Object as Kept, file_at}
 use Rattle.dep_types.specs.Rows.{object_row, object_view, file_row, upload_row}
 use Rattle.dep_types.specs.declared.counters.Counters.{Counters}
+use Rattle.dep_types.specs.declared.rows.ObjectView.{ObjectView}
 use Rattle.dep_types.specs.declared.target.Resource.{Resource}
 use Rattle.dep_types.specs.declared.target.Resource.TheVariants.{Service, Object, Metadata, FileSet, File, Staging, Upload, BagList, BagFile}
 use Rattle.dep_types.specs.declared.target.Method.{Method}
@@ -15,40 +16,61 @@ use Rattle.dep_answers.specs.declared.subject.Subject.TheVariants as subject
 use Rattle.dep_answers.specs.declared.subject.Shown.{Shown}
 use Rattle.dep_answers.specs.declared.subject.Shown.TheVariants as shown
 
--- what is read to show what stands at a path of a bag: the one file that can stand there, or else all of the
--- object
-abbrev pub subject_in_bag : ℕ → (file : Option ℕ) → Subject
-subject_in_bag n None = subject.Object n
-subject_in_bag n (Some f) = subject.File (record { object = n; file = f })
+-- the tag file at a path is made of the metadata
+abbrev pub shows_metadata : (path : List ℕ) → Bool
+shows_metadata path =
+    bytes_eq path (codes "metadata/sword.json")
+    || bytes_eq path (codes "tagmanifest-sha256.txt")
+    || bytes_eq path (codes "tagmanifest-sha512.txt")
+
+-- what is read to show a tag file
+abbrev pub tag_subject : ℕ → (metadata : Bool) → Subject
+tag_subject n true = subject.Object n
+tag_subject n false = subject.Files n
+
+-- the same: the one file that can stand at the path, or else what its tag file shows
+abbrev pub subject_by : ℕ → (file : Option ℕ) → (metadata : Bool) → Subject
+subject_by n (Some f) metadata = subject.File (record { object = n; file = f })
+subject_by n None metadata = tag_subject n metadata
+
+-- what is read to show what stands at a path of a bag
+abbrev pub subject_in_bag : ℕ → (path : List ℕ) → Subject
+subject_in_bag n path = subject_by n (file_number path) (shows_metadata path)
 
 -- what is read to show a resource
 abbrev pub subject_at : Resource → Subject
-subject_at (Object n) = subject.Object n
+subject_at (Object n) = subject.Files n
 subject_at (Metadata n) = subject.Metadata n
 subject_at (File n f) = subject.File (record { object = n; file = f })
 subject_at (Upload u) = subject.Upload u
-subject_at (BagList n) = subject.Object n
-subject_at (BagFile n path) = subject_in_bag n (file_number path)
+subject_at (BagList n) = subject.Files n
+subject_at (BagFile n path) = subject_in_bag n path
 subject_at resource = subject.Nothing
 
 -- what is read for the reply to a request that was accepted, by the counters that it left
 abbrev pub subject_of : (next : Counters) → Resource → Method → Subject
 subject_of next resource Get = subject_at resource
 subject_of next resource Head = subject_at resource
-subject_of next Service Post = subject.Object (next.object - 1)
-subject_of next (Object n) Post = subject.Object n
-subject_of next (Object n) Put = subject.Object n
+subject_of next Service Post = subject.Files (next.object - 1)
+subject_of next (Object n) Post = subject.Files n
+subject_of next (Object n) Put = subject.Files n
 subject_of next (Metadata n) Put = subject.ObjectRow n
 subject_of next (FileSet n) Put = subject.ObjectRow n
 subject_of next (File n f) Put = subject.File (record { object = n; file = f })
 subject_of next Staging Post = subject.Upload (next.upload - 1)
 subject_of next resource method = subject.Nothing
 
+-- an object with its files, as it is shown where no metadata is read
+abbrev pub files_view : ℕ → Kept → ObjectView
+files_view n o = record (object_view n o) { metadata = finmap.empty }
+
 -- what a state shows there
 abbrev pub shown_at : State → Subject → Shown
 shown_at s subject.Nothing = shown.Nothing
 shown_at s (subject.Object n) =
     option_map_or (λ o. shown.Object (object_view n o)) (finmap.get s.objects n) shown.Nothing
+shown_at s (subject.Files n) =
+    option_map_or (λ o. shown.Files (files_view n o)) (finmap.get s.objects n) shown.Nothing
 shown_at s (subject.ObjectRow n) =
     option_map_or (λ o. shown.ObjectRow (object_row n o)) (finmap.get s.objects n) shown.Nothing
 shown_at s (subject.Metadata n) =

@@ -28,12 +28,12 @@ content_of form.PlainText bytes = PlainText bytes
 -- ---- objects
 
 abbrev pub told_status : Config → Shown → Answer
-told_status config (shown.Object view) =
+told_status config (shown.Files view) =
     answer 200 (Some (Document (status_document config view))) (Some view.object.object_tag) None
 told_status config sh = answer 200 None None None
 
 abbrev pub told_created : Config → Shown → Answer
-told_created config (shown.Object view) =
+told_created config (shown.Files view) =
     answer 201 (Some (Document (status_document config view))) (Some view.object.object_tag)
     (Some (object_url config view.object.object))
 told_created config sh = answer 201 None None None
@@ -45,7 +45,7 @@ told_metadata config (shown.Metadata row texts) =
 told_metadata config sh = answer 200 None None None
 
 abbrev pub told_list : Shown → Answer
-told_list (shown.Object view) = answer 200 (Some (PlainText (list_text (told_paths view)))) None None
+told_list (shown.Files view) = answer 200 (Some (PlainText (list_text (told_paths view)))) None None
 told_list sh = answer 200 None None None
 
 -- the tag of a part that was put in its place

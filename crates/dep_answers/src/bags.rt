@@ -4,7 +4,6 @@ ghost use Rattle.std.specs.FinMap as map;
 ghost use Rattle.dep_types.specs.State.{State};
 ghost use Rattle.dep_types.specs.Sound.{IsSound};
 ghost use Rattle.dep_bag.specs.Bag.{list_text};
-ghost use Rattle.dep_bag.specs.Numbered.{file_number};
 ghost use Rattle.dep_answers.specs.Answers.{answer};
 ghost use Rattle.dep_answers.specs.Performing.{HasEnd, Says};
 ghost use Rattle.dep_answers.specs.Subjects.{shown_at, subject_in_bag};
@@ -16,17 +15,16 @@ use crate::performed::{Delivery, Performed};
 use crate::stored::stored_reply;
 use crate::subject::Shown;
 use dep_bag::{BagPart, bag_file, bag_paths, is_payload_path};
+use dep_manifest::METADATA;
 use dep_reply::Status;
 use dep_types::{FileRow, ObjectView, Octets, Text};
 use std::alloc::{AllocError, Global};
-
-const METADATA_PATH: &str = "metadata/sword.json";
 
 /// The list of a bag: the path of each of its files, with a line feed.
 pub(crate) fn bag_list(alloc: Global, shown: &Shown) -> Result<Answer, AllocError>
     ensures { IfOk result (λ a. a ≡ told_list shown.now) }
 {
-    let Shown::Object(view) = shown else {
+    let Shown::Files(view) = shown else {
         return Ok(Answer::without_content(Status::Ok));
     };
     let paths = bag_paths(alloc, view)?;
@@ -50,7 +48,7 @@ fn list_text(alloc: Global, paths: &[Text]) -> Result<Vec<u8>, AllocError>
 }
 
 /// Returns the reply that shows what stands at a path of an object's bag, where something stands there: by
-/// the row of the one file that can, or else by the whole object.
+/// the row of the one file that can, or else by the object, with its metadata where the path needs that.
 pub(crate) fn bag_reply(
     alloc: Global,
     shown: &Shown,
@@ -58,12 +56,12 @@ pub(crate) fn bag_reply(
     delivery: Delivery,
 ) -> Result<Option<Performed>, AllocError>
     ensures says { IfOk result (λ said. (s : State) (n : ℕ) → IsSound s
-        → shown.now ≡ shown_at s (subject_in_bag n (file_number path.now))
+        → shown.now ≡ shown_at s (subject_in_bag n path.now)
         → Says s (bag_answer s n path.now) delivery said) }
     ensures ends { IfOk result (λ said. IfSome said HasEnd) }
 {
     match shown {
-        Shown::Object(view) => tag_file_reply(alloc, view, path, delivery),
+        Shown::Object(view) | Shown::Files(view) => tag_file_reply(alloc, view, path, delivery),
         Shown::File(row) => file_reply_at(alloc, row, path, delivery),
         _ => Ok(None),
     }
@@ -109,7 +107,7 @@ fn tag_file_reply(
 fn form_at(path: &[u8]) -> Form
     ensures { result ≡ form_at path.now }
 {
-    if path == METADATA_PATH.as_bytes() {
+    if path == METADATA.as_bytes() {
         Form::Document
     } else {
         Form::PlainText

@@ -14,7 +14,7 @@ use std::alloc::{AllocError, Global};
 pub(crate) fn status(alloc: Global, config: &Config, shown: &Shown) -> Result<Answer, AllocError>
     ensures { IfOk result (λ a. a ≡ told_status config.now shown.now) }
 {
-    let Shown::Object(view) = shown else {
+    let Shown::Files(view) = shown else {
         return Ok(Answer::without_content(Status::Ok));
     };
     Ok(Answer {
@@ -30,7 +30,7 @@ pub(crate) fn status(alloc: Global, config: &Config, shown: &Shown) -> Result<An
 pub(crate) fn created(alloc: Global, config: &Config, shown: &Shown) -> Result<Answer, AllocError>
     ensures { IfOk result (λ a. a ≡ told_created config.now shown.now) }
 {
-    let Shown::Object(view) = shown else {
+    let Shown::Files(view) = shown else {
         return Ok(Answer::without_content(Status::Created));
     };
     let location = Text::new(object_url(alloc, config, view.object.object)?);

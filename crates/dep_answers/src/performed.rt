@@ -1,4 +1,5 @@
 //! Replies that are ready to be sent.
+ghost use Rattle.std.specs.Prelude.{◌≡◌};
 
 use dep_moment::Moment;
 use dep_reply::Status;
@@ -46,4 +47,19 @@ pub struct Delivery {
     pub is_bare: bool,
     /// The connection is closed after it.
     pub closes: bool,
+}
+
+impl Delivery {
+    /// Returns how a reply goes out at this clock. Each is made here.
+    pub fn new(clock: Moment, is_bare: bool, closes: bool) -> Delivery
+        ensures clock { result.clock ≡ clock }
+        ensures bare { result.is_bare ≡ is_bare }
+        ensures closes { result.closes ≡ closes }
+    {
+        Delivery {
+            clock,
+            is_bare,
+            closes,
+        }
+    }
 }

@@ -2,10 +2,11 @@
 ghost use Rattle.std.specs.Prelude.{◌≡◌};
 ghost use Rattle.dep_types.specs.declared.counters.Counters.{Counters as ACounters};
 ghost use Rattle.dep_types.specs.declared.target.Method.TheVariants.{Post, Put};
-ghost use Rattle.dep_answers.specs.Subjects.{subject_at, subject_in_bag, subject_of};
+ghost use Rattle.dep_answers.specs.Subjects.{shows_metadata, subject_at, subject_in_bag, subject_of, tag_subject};
 
 use crate::performed::FileId;
 use dep_bag::file_number;
+use dep_manifest::{METADATA, TAG_MANIFEST_SHA256, TAG_MANIFEST_SHA512};
 use dep_operations::Numbers;
 use dep_types::{
     Counters, FileRow, Metadata, Method, ObjectRow, ObjectView, Resource, Target, UploadRow,
@@ -18,6 +19,8 @@ pub enum Subject {
     Nothing,
     /// The object with this number: its row, its metadata and its files.
     Object(u64),
+    /// An object without its metadata.
+    Files(u64),
     /// An object without its metadata and files.
     ObjectRow(u64),
     /// An object without its files.
@@ -35,6 +38,8 @@ pub enum Shown {
     Nothing,
     /// An object with its metadata and files.
     Object(ObjectView),
+    /// An object with its files. Its metadata isn't read, and is empty here.
+    Files(ObjectView),
     /// An object without its metadata and files.
     ObjectRow(ObjectRow),
     /// An object without its files.
@@ -79,8 +84,8 @@ fn shown_by(resource: &Resource) -> Subject
     ensures { result ≡ subject_at resource.now }
 {
     match resource {
-        Resource::Object(object) | Resource::BagList(object) => Subject::Object(*object),
-        Resource::BagFile(object, path) => in_bag(*object, file_number(path.as_slice())),
+        Resource::Object(object) | Resource::BagList(object) => Subject::Files(*object),
+        Resource::BagFile(object, path) => in_bag(*object, path.as_slice()),
         Resource::Metadata(object) => Subject::Metadata(*object),
         Resource::File(object, file) => Subject::File(FileId {
             object: *object,
@@ -91,14 +96,34 @@ fn shown_by(resource: &Resource) -> Subject
     }
 }
 
-// What is read to show a path of a bag where this file alone can stand, or no file.
-fn in_bag(object: u64, file: Option<u64>) -> Subject
-    ensures { result ≡ subject_in_bag object file }
+// What is read to show a path of a bag.
+fn in_bag(object: u64, path: &[u8]) -> Subject
+    ensures { result ≡ subject_in_bag object path.now }
 {
-    match file {
+    match file_number(path) {
         Some(file) => Subject::File(FileId { object, file }),
-        None => Subject::Object(object),
+        None => in_tag_file(object, path),
     }
+}
+
+// What is read to show a tag file.
+fn in_tag_file(object: u64, path: &[u8]) -> Subject
+    ensures { result ≡ tag_subject object (shows_metadata path.now) }
+{
+    if shows_metadata(path) {
+        Subject::Object(object)
+    } else {
+        Subject::Files(object)
+    }
+}
+
+// Whether a tag file is made of the metadata.
+fn shows_metadata(path: &[u8]) -> bool
+    ensures { result ≡ shows_metadata path.now }
+{
+    path == METADATA.as_bytes()
+        || path == TAG_MANIFEST_SHA256.as_bytes()
+        || path == TAG_MANIFEST_SHA512.as_bytes()
 }
 
 // What is read once something was posted.
@@ -106,8 +131,8 @@ fn posted(resource: &Resource, next: &Counters) -> Subject
     ensures { result ≡ subject_of next.now resource.now Post }
 {
     match *resource {
-        Resource::Service => Subject::Object(next.object.saturating_sub(1)),
-        Resource::Object(object) => Subject::Object(object),
+        Resource::Service => Subject::Files(next.object.saturating_sub(1)),
+        Resource::Object(object) => Subject::Files(object),
         Resource::Staging => Subject::Upload(next.upload.saturating_sub(1)),
         _ => Subject::Nothing,
     }
@@ -118,7 +143,7 @@ fn put(resource: &Resource) -> Subject
     ensures { (next : ACounters) → result ≡ subject_of next resource.now Put }
 {
     match *resource {
-        Resource::Object(object) => Subject::Object(object),
+        Resource::Object(object) => Subject::Files(object),
         Resource::Metadata(object) | Resource::FileSet(object) => Subject::ObjectRow(object),
         Resource::File(object, file) => Subject::File(FileId { object, file }),
         _ => Subject::Nothing,

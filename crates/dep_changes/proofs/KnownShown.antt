@@ -2,7 +2,7 @@
 use Rattle.std.proofs.Common.{◌≡◌, ℕ, Bool, true, ◌||◌, List, Option, Some, None, IfSome, option_and_then, refl, ap, subst, sym, ◌∙◌}
 use Rattle.std.specs.Prelude.{option_map}
 use Rattle.std.specs.Option.{option_map_or}
-use Rattle.dep_types.specs.Rows.{file_row, object_row, object_view}
+use Rattle.dep_types.specs.Rows.{file_row, object_row}
 use Rattle.dep_types.specs.State.{State, File as Content, Object as Kept, Texts}
 use Rattle.std.specs.FinMap as finmap
 use Rattle.dep_types.specs.Maps.{Numbered, ◌>>=◌}
@@ -15,6 +15,7 @@ use Rattle.dep_decisions.specs.declared.decision.Decision.{Decision}
 use Rattle.dep_decisions.specs.declared.decision.Deposit.{Deposit}
 use Rattle.dep_decisions.specs.declared.decision.NewFile.{NewFile}
 use Rattle.dep_decisions.specs.declared.decision.Decision.TheVariants.{Show, Create, Append, Replace, Complete, SetMetadata, SetFiles, SetFile, DropFile, DropObject, Open, Receive, DropUpload}
+use Rattle.dep_answers.specs.Subjects.{files_view}
 use Rattle.dep_answers.specs.declared.subject.Shown.TheVariants as shown
 use Rattle.dep_operations.specs.declared.view.View.{View}
 use Rattle.dep_objects.specs.Objects.{HasRow}
@@ -24,11 +25,11 @@ use Rattle.dep_changes.specs.Known.{known_row, known_shown, row_in, row_left}
 use Rattle.dep_changes.specs.Told.{TellsObject}
 
 -- a new object
-pub created_known : (s : State) (content : List ℕ) (d : Deposit) (ingests : Bool) (told : ObjectView) → told ≡ object_view s.next.object (filled s content d ingests)
-    → Some (shown.Object told) ≡ known_shown s content (Create d ingests)
+pub created_known : (s : State) (content : List ℕ) (d : Deposit) (ingests : Bool) (told : ObjectView) → told ≡ files_view s.next.object (filled s content d ingests)
+    → Some (shown.Files told) ≡ known_shown s content (Create d ingests)
 created_known s content d ingests told is =
-    ap (λ (v : ObjectView). Some (shown.Object v)) is
-    ∙ sym (ap (λ (x : Option Kept). Some (option_map_or (λ (o : Kept). shown.Object (object_view s.next.object o)) x shown.Nothing)) (get_here s.objects s.next.object (filled s content d ingests)))
+    ap (λ (v : ObjectView). Some (shown.Files v)) is
+    ∙ sym (ap (λ (x : Option Kept). Some (option_map_or (λ (o : Kept). shown.Files (files_view s.next.object o)) x shown.Nothing)) (get_here s.objects s.next.object (filled s content d ingests)))
 
 -- what is changed at a number stands there
 at_here : {X : Type 0} (m : Numbered X) (n : ℕ) (x : X) (f : X → X) → finmap.get m n ≡ Some x → finmap.get (at m n f) n ≡ Some (f x)
@@ -49,11 +50,11 @@ module _ (s : State) (content : List ℕ) (n : ℕ) (o : Kept) (there : finmap.g
   pub files_known : (new : List NewFile) (row : ObjectRow) → row ≡ object_row n (with_files s (added s content new finmap.empty) o) → Some (shown.ObjectRow row) ≡ known_shown s content (SetFiles n new)
   files_known new row is = row_after (with_files s (added s content new finmap.empty)) row is
 
-  pub replaced_known : (d : Deposit) (ingests : Bool) (told : ObjectView) → told ≡ object_view n (filled s content d (o.ingested || ingests))
-      → Some (shown.Object told) ≡ known_shown s content (Replace n d ingests)
+  pub replaced_known : (d : Deposit) (ingests : Bool) (told : ObjectView) → told ≡ files_view n (filled s content d (o.ingested || ingests))
+      → Some (shown.Files told) ≡ known_shown s content (Replace n d ingests)
   replaced_known d ingests told is =
-      ap (λ (v : ObjectView). Some (shown.Object v)) is
-      ∙ sym (ap (λ (x : Option Kept). Some (option_map_or (λ (y : Kept). shown.Object (object_view n y)) x shown.Nothing)) (at_here s.objects n o (λ (y : Kept). filled s content d (y.ingested || ingests)) there))
+      ap (λ (v : ObjectView). Some (shown.Files v)) is
+      ∙ sym (ap (λ (x : Option Kept). Some (option_map_or (λ (y : Kept). shown.Files (files_view n y)) x shown.Nothing)) (at_here s.objects n o (λ (y : Kept). filled s content d (y.ingested || ingests)) there))
 
   pub file_known : (f : ℕ) (new : NewFile) (row : FileRow) → row ≡ file_row n f (file_from s content new) → Some (shown.File row) ≡ known_shown s content (SetFile n f new)
   file_known f new row is =

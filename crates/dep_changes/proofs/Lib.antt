@@ -8,5 +8,4 @@ pub mod Accepted
 pub mod Carried
 pub mod Appended
 pub mod NewObject
-pub mod CopiedNames
 pub mod KnownShown

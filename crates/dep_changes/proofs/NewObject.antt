@@ -7,7 +7,7 @@ use Rattle.std.specs.Cmp.{nat_cmp_total}
 use Rattle.std.proofs.lemmas.Bool.Decides.{nat_tests}
 use Rattle.std.proofs.lemmas.List.{append_assoc, map-append}
 use Rattle.dep_types.specs.Maps.{Numbered}
-use Rattle.dep_types.specs.Rows.{file_row, object_row, object_view, upload_row}
+use Rattle.dep_types.specs.Rows.{file_row, object_row, upload_row}
 use Rattle.dep_types.specs.State.{State, File, Texts, Upload}
 use Rattle.dep_types.specs.Uploads.{assembled}
 use Rattle.dep_types.specs.declared.rows.FileRow.{FileRow}
@@ -23,6 +23,7 @@ use Rattle.dep_decisions.specs.declared.decision.Source.TheVariants.{Posted, Ass
 use Rattle.dep_decisions.specs.declared.decision.Deposit.{Deposit}
 use Rattle.dep_decisions.specs.declared.decision.Deposit.TheVariants.{Files, Metadata}
 use Rattle.dep_decisions.specs.declared.decision.NewFile.{NewFile}
+use Rattle.dep_answers.specs.Subjects.{files_view}
 use Rattle.dep_operations.specs.declared.view.UploadView.{UploadView}
 use Rattle.dep_changes.specs.Told.{IsSource, whole_view}
 use Rattle.dep_changes.specs.Changed.{IsExtent, new_rows}
@@ -137,15 +138,15 @@ module _ (s : State) (content : List ℕ) where
 -- what is told of an object of this row that has a deposit alone
 module _ (s : State) (content : List ℕ) (n : ℕ) (ingested : Bool) (row : ObjectRow) (is : row ≡ object_row n (blank s ingested)) (d : Deposit) where
   pub view_of_files : (new : List NewFile) → d ≡ Files new → (texts : Texts) → texts ≡ finmap.empty → (rows : List FileRow) → rows ≡ new_rows s content row.object new
-      → ◌≡◌ {A = ObjectView} (record { object = row; metadata = texts; files = rows }) (object_view n (filled s content d ingested))
+      → ◌≡◌ {A = ObjectView} (record { object = row; metadata = texts; files = rows }) (files_view n (filled s content d ingested))
   view_of_files new same texts none rows are =
       let rows_are : rows ≡ new_rows s content n new = are ∙ ap (λ (r : ObjectRow). new_rows s content r.object new) is in
-      let told : ◌≡◌ {A = ObjectView} (record { object = row; metadata = texts; files = rows }) (object_view n (filled s content (Files new) ingested)) = λ i. record { object = is i; metadata = none i; files = rows_are i } in
-      told ∙ ap (λ (x : Deposit). object_view n (filled s content x ingested)) (sym same)
+      let told : ◌≡◌ {A = ObjectView} (record { object = row; metadata = texts; files = rows }) (files_view n (filled s content (Files new) ingested)) = λ i. record { object = is i; metadata = none i; files = rows_are i } in
+      told ∙ ap (λ (x : Deposit). files_view n (filled s content x ingested)) (sym same)
 
-  pub view_of_texts : (texts : Texts) → d ≡ Metadata texts → (copied : Texts) → copied ≡ texts → (rows : List FileRow) → rows ≡ []
-      → ◌≡◌ {A = ObjectView} (record { object = row; metadata = copied; files = rows }) (object_view n (filled s content d ingested))
-  view_of_texts texts same copied copy rows none =
-      let rows_are : rows ≡ map (λ (e : Entry). file_row n e.0 e.1) (finmap.entries finmap.empty) = none ∙ sym (ap (map (λ (e : Entry). file_row n e.0 e.1)) (entries-empty nat_cmp File)) in
-      let told : ◌≡◌ {A = ObjectView} (record { object = row; metadata = copied; files = rows }) (object_view n (filled s content (Metadata texts) ingested)) = λ i. record { object = is i; metadata = copy i; files = rows_are i } in
-      told ∙ ap (λ (x : Deposit). object_view n (filled s content x ingested)) (sym same)
+  pub view_of_texts : (given : Texts) → d ≡ Metadata given → (texts : Texts) → texts ≡ finmap.empty → (rows : List FileRow) → rows ≡ []
+      → ◌≡◌ {A = ObjectView} (record { object = row; metadata = texts; files = rows }) (files_view n (filled s content d ingested))
+  view_of_texts given same texts none rows no_rows =
+      let rows_are : rows ≡ map (λ (e : Entry). file_row n e.0 e.1) (finmap.entries finmap.empty) = no_rows ∙ sym (ap (map (λ (e : Entry). file_row n e.0 e.1)) (entries-empty nat_cmp File)) in
+      let told : ◌≡◌ {A = ObjectView} (record { object = row; metadata = texts; files = rows }) (files_view n (filled s content (Metadata given) ingested)) = λ i. record { object = is i; metadata = none i; files = rows_are i } in
+      told ∙ ap (λ (x : Deposit). files_view n (filled s content x ingested)) (sym same)

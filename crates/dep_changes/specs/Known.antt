@@ -3,7 +3,7 @@ use Rattle.std.specs.Prelude.{◌≡◌, ℕ, Bool, List, Option, Some, None, op
 use Rattle.dep_types.specs.Maps.{◌>>=◌}
 use Rattle.dep_types.specs.State.{State}
 use Rattle.std.specs.FinMap as map
-use Rattle.dep_types.specs.Rows.{file_row, object_row, object_view}
+use Rattle.dep_types.specs.Rows.{file_row, object_row}
 use Rattle.dep_types.specs.declared.counters.Counters.{Counters}
 use Rattle.dep_types.specs.declared.rows.FileRow.{FileRow}
 use Rattle.dep_types.specs.declared.rows.ObjectRow.{ObjectRow as Row}
@@ -13,9 +13,9 @@ use Rattle.dep_decisions.specs.declared.decision.Decision.{Decision}
 use Rattle.dep_decisions.specs.declared.decision.Deposit.{Deposit}
 use Rattle.dep_decisions.specs.declared.decision.NewFile.{NewFile}
 use Rattle.dep_decisions.specs.declared.decision.Decision.TheVariants.{Show, Create, Append, Replace, Complete, SetMetadata, SetFiles, SetFile}
-use Rattle.dep_answers.specs.Subjects.{shown_at}
+use Rattle.dep_answers.specs.Subjects.{files_view, shown_at}
 use Rattle.dep_answers.specs.declared.subject.Subject.{Subject}
-use Rattle.dep_answers.specs.declared.subject.Subject.TheVariants.{File, Object, ObjectRow}
+use Rattle.dep_answers.specs.declared.subject.Subject.TheVariants.{File, Files, ObjectRow}
 use Rattle.dep_answers.specs.declared.subject.Shown.{Shown}
 use Rattle.dep_operations.specs.declared.view.View.{View}
 use Rattle.dep_changes.specs.Told.{TellsDeposit}
@@ -25,8 +25,8 @@ use Rattle.dep_changes.specs.declared.change.NumberedDeposit.{NumberedDeposit}
 -- What is known of a decision once it is carried out: an object that it makes, under the next number, or puts in the place
 -- of another, the row of one that gets other metadata or files alone, and a file.
 abbrev pub known_subject : (next : Counters) → Decision → Option Subject
-known_subject next (Create d ingests) = Some (Object next.object)
-known_subject next (Replace n d ingests) = Some (Object n)
+known_subject next (Create d ingests) = Some (Files next.object)
+known_subject next (Replace n d ingests) = Some (Files n)
 known_subject next (SetMetadata n texts) = Some (ObjectRow n)
 known_subject next (SetFiles n new) = Some (ObjectRow n)
 known_subject next (SetFile n f new) = Some (File (record { object = n; file = f }))
@@ -57,9 +57,9 @@ known_row s content view d = view.object >>= row_left s content d
 abbrev pub TellsNumbered : NumberedDeposit → State → Type 0
 TellsNumbered d s = TellsDeposit d.change.now s d.deposit.now
 
--- an object that has this deposit alone, as it is shown
+-- an object that has this deposit alone, as it is shown without its metadata
 abbrev pub IsFilledView : State → Change → Deposit → (n : ℕ) → (ingested : Bool) → ObjectView → Type 0
-IsFilledView s change d n ingested view = view ≡ object_view n (filled s change.content.now d ingested)
+IsFilledView s change d n ingested view = view ≡ files_view n (filled s change.content.now d ingested)
 
 -- the row of a file that is the content of this change
 abbrev pub IsRowFrom : State → Change → NewFile → (n f : ℕ) → FileRow → Type 0

@@ -11,7 +11,6 @@ ghost use Rattle.dep_changes.specs.Known.{IsFilledView, IsRowFrom, TellsNumbered
 ghost use Rattle.dep_changes.specs.Told.{TellsDeposit, TellsNewFile, TellsObject, TellsSource};
 
 use crate::change::{Change, NumberedDeposit, NumberedFiles, touched_object};
-use crate::copies::copied_metadata;
 use crate::new_files::{Extent, FileNumbers, new_row, whole_upload};
 use dep_decisions::{Deposit, NewFile, Source};
 use dep_types::{FileRow, FileRows, Metadata, ObjectRow, ObjectView, StoreFault};
@@ -71,7 +70,7 @@ fn new_rows(numbered: &NumberedFiles<'_>, object: u64) -> Result<FileRows, Store
     Ok(FileRows::new(rows))
 }
 
-/// Returns the object of this row, as it is shown once it has this deposit alone.
+/// Returns the object of this row and its files, as they are shown once it has this deposit alone.
 pub(crate) fn filled_view(
     numbered: &NumberedDeposit<'_>,
     row: ObjectRow,
@@ -91,14 +90,11 @@ pub(crate) fn filled_view(
                 files: rows,
             })
         }
-        Deposit::Metadata(texts) => {
-            let metadata = copied_metadata(change.alloc, texts)?;
-            Ok(ObjectView {
-                object: row,
-                metadata,
-                files: FileRows::new(Vec::new(change.alloc)),
-            })
-        }
+        Deposit::Metadata(_) => Ok(ObjectView {
+            object: row,
+            metadata: Metadata::new(change.alloc),
+            files: FileRows::new(Vec::new(change.alloc)),
+        }),
     }
 }
 

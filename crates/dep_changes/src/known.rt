@@ -40,7 +40,7 @@ pub fn known_after(
         Decision::Create { deposit, ingests } => {
             let row = blank_row(view, view.next.object, *ingests);
             let created = filled_view(&NumberedDeposit { change, deposit }, row)?;
-            Ok(Some(Shown::Object(created)))
+            Ok(Some(Shown::Files(created)))
         }
         Decision::Replace {
             deposit,
@@ -50,7 +50,7 @@ pub fn known_after(
             let was = ingested_by(touched_object(view)?, *ingests);
             let row = blank_row(view, was.object, was.ingested);
             let replaced = filled_view(&NumberedDeposit { change, deposit }, row)?;
-            Ok(Some(Shown::Object(replaced)))
+            Ok(Some(Shown::Files(replaced)))
         }
         Decision::SetMetadata { .. } => {
             let row = touched_object(view)?;

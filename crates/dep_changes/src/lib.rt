@@ -4,7 +4,6 @@
 
 mod carrying;
 mod change;
-mod copies;
 mod created;
 mod deposits;
 mod known;

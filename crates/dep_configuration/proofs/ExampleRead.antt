@@ -98,6 +98,10 @@ example_lexemes =
     ∷ (token (Token.string (codes "unfinished_bytes")))
     ∷ colon
     ∷ (token (Token.number (codes "1073741824")))
+    ∷ comma
+    ∷ (token (Token.string (codes "reserve_bytes")))
+    ∷ colon
+    ∷ (token (Token.number (codes "16777216")))
     ∷ (token Token.end_object) ∷ []
 
 unfoldable pub example_tokens : List Token
@@ -143,6 +147,8 @@ example_tokens =
     ∷ (Token.number (codes "68719476736"))
     ∷ (Token.key (codes "unfinished_bytes"))
     ∷ (Token.number (codes "1073741824"))
+    ∷ (Token.key (codes "reserve_bytes"))
+    ∷ (Token.number (codes "16777216"))
     ∷ Token.end_object ∷ []
 
 unfoldable pub example_members : Members
@@ -166,7 +172,8 @@ example_members = member (codes "address") (Json.string (codes "127.0.0.1")) (
     member (codes "address_connections") (Json.number (codes "1024")) (
     member (codes "spool_bytes") (Json.number (codes "68719476736")) (
     member (codes "unfinished_bytes") (Json.number (codes "1073741824")) (
-    no_members))))))))))))))))))))
+    member (codes "reserve_bytes") (Json.number (codes "16777216")) (
+    no_members)))))))))))))))))))))
 
 punctuated : punctuate fresh example_lexemes ≡ example_tokens
 unfolding punctuate example_lexemes example_tokens
@@ -232,4 +239,5 @@ example-given = record {
   stop_file = refl;
   config = example-config;
   limits = example-limits;
+  reserve = refl;
 }

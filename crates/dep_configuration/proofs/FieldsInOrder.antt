@@ -5,7 +5,7 @@ use Rattle.json.specs.Json.{Json}
 use Rattle.dep_configuration.specs.Faults.{AreReadable, IsFaultOf, IsFirstOfFields, IsReadable}
 use Rattle.dep_configuration.specs.declared.field.TheConstants.{FIELDS}
 use Rattle.dep_configuration.specs.declared.field.Field.{Field}
-use Rattle.dep_configuration.specs.declared.field.Field.TheVariants.{Address, Port, Database, SpoolFolder, StopFile, Base, Title, Abstract, Depositor, OnBehalfOf, RequireIfMatch, MaxUpload, MaxAssembled, MaxSegments, StagingMaxIdle, IdleSeconds, LeastRate, Connections, AddressConnections, SpoolBytes, UnfinishedBytes}
+use Rattle.dep_configuration.specs.declared.field.Field.TheVariants.{Address, Port, Database, SpoolFolder, StopFile, Base, Title, Abstract, Depositor, OnBehalfOf, RequireIfMatch, MaxUpload, MaxAssembled, MaxSegments, StagingMaxIdle, IdleSeconds, LeastRate, Connections, AddressConnections, SpoolBytes, UnfinishedBytes, ReserveBytes}
 use Rattle.dep_configuration.specs.declared.fault.ConfigurationFault.{ConfigurationFault}
 
 -- what holds of all of `FIELDS` holds of each field
@@ -31,6 +31,7 @@ each-field P all Connections = all 17 Connections (omega arith)
 each-field P all AddressConnections = all 18 AddressConnections (omega arith)
 each-field P all SpoolBytes = all 19 SpoolBytes (omega arith)
 each-field P all UnfinishedBytes = all 20 UnfinishedBytes (omega arith)
+each-field P all ReserveBytes = all 21 ReserveBytes (omega arith)
 
 pub all-readable : (j : Json) (i : ℕ) → length FIELDS ≤ i → All (λ f. IsReadable f j) (take i FIELDS) → AreReadable j
 all-readable j i past all = each-field (λ f. IsReadable f j) (subst (All (λ f. IsReadable f j)) (take_all i FIELDS past) all)

@@ -7,7 +7,7 @@ use Rattle.dep_configuration.specs.Names.{GivesFields}
 use Rattle.dep_configuration.specs.Readings.{filled_text_of, flag_of, given_text, number_of, optional_number_of, text_of, IsAddressOf}
 use Rattle.dep_configuration.specs.declared.configuration.Configuration.{Configuration}
 use Rattle.dep_configuration.specs.declared.configuration.Limits.{Limits}
-use Rattle.dep_configuration.specs.declared.field.Field.TheVariants.{Port, Database, SpoolFolder, StopFile, Base, Title, Abstract, Depositor, OnBehalfOf, RequireIfMatch, MaxUpload, MaxAssembled, MaxSegments, StagingMaxIdle, IdleSeconds, LeastRate, Connections, AddressConnections, SpoolBytes, UnfinishedBytes}
+use Rattle.dep_configuration.specs.declared.field.Field.TheVariants.{Port, Database, SpoolFolder, StopFile, Base, Title, Abstract, Depositor, OnBehalfOf, RequireIfMatch, MaxUpload, MaxAssembled, MaxSegments, StagingMaxIdle, IdleSeconds, LeastRate, Connections, AddressConnections, SpoolBytes, UnfinishedBytes, ReserveBytes}
 
 -- a value gives these limits
 pub record HasLimits (limits : Limits) (j : Json) : Type 0 where
@@ -40,6 +40,7 @@ pub record HasConfiguration (c : Configuration) (j : Json) : Type 0 where
   pub stop_file : text_of StopFile [] j ≡ Some c.stop_file
   pub config : HasConfig c.config j
   pub limits : HasLimits c.limits j
+  pub reserve : number_of ReserveBytes 16777216 j ≡ Some c.reserve_bytes
 
 -- a value gives fields alone, each once, which are the configuration, and a server can be set up with it
 pub record IsRead (c : Configuration) (j : Json) : Type 0 where

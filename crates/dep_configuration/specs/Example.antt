@@ -39,4 +39,5 @@ example_configuration = record {
   stop_file = [];
   config = example_config;
   limits = example_limits;
+  reserve_bytes = 16777216;
 }

@@ -1,7 +1,7 @@
 -- The fields of a configuration: what each is called, and what it has to be.
 use Rattle.std.specs.Prelude.{ℕ, List, codes}
 use Rattle.dep_configuration.specs.declared.field.Field.{Field}
-use Rattle.dep_configuration.specs.declared.field.Field.TheVariants.{Address, Port, Database, SpoolFolder, StopFile, Base, Title, Abstract, Depositor, OnBehalfOf, RequireIfMatch, MaxUpload, MaxAssembled, MaxSegments, StagingMaxIdle, IdleSeconds, LeastRate, Connections, AddressConnections, SpoolBytes, UnfinishedBytes}
+use Rattle.dep_configuration.specs.declared.field.Field.TheVariants.{Address, Port, Database, SpoolFolder, StopFile, Base, Title, Abstract, Depositor, OnBehalfOf, RequireIfMatch, MaxUpload, MaxAssembled, MaxSegments, StagingMaxIdle, IdleSeconds, LeastRate, Connections, AddressConnections, SpoolBytes, UnfinishedBytes, ReserveBytes}
 use Rattle.dep_configuration.specs.declared.field.Bounds.{Bounds}
 use Rattle.dep_configuration.specs.declared.field.Wanted.{Wanted}
 use Rattle.dep_configuration.specs.declared.field.Wanted.TheVariants as Kind
@@ -29,6 +29,7 @@ name_of Connections = codes "connections"
 name_of AddressConnections = codes "address_connections"
 name_of SpoolBytes = codes "spool_bytes"
 name_of UnfinishedBytes = codes "unfinished_bytes"
+name_of ReserveBytes = codes "reserve_bytes"
 
 abbrev pub bounds : (least most : ℕ) → Bounds
 bounds least most = record { least = least; most = most }
@@ -56,6 +57,7 @@ bounds_of Connections = bounds 1 1000000000
 bounds_of AddressConnections = bounds 1 1024
 bounds_of SpoolBytes = bounds 1048576 1125899906842624
 bounds_of UnfinishedBytes = bounds 33554432 1099511627776
+bounds_of ReserveBytes = bounds 0 1073741824
 
 -- what a field takes; numbers are bytes, seconds, bytes per second or counts
 unfoldable pub wanted_of : Field → Wanted
@@ -80,3 +82,4 @@ wanted_of Connections = Kind.WholeNumber (bounds 1 1000000000)
 wanted_of AddressConnections = Kind.WholeNumber (bounds 1 1024)
 wanted_of SpoolBytes = Kind.WholeNumber (bounds 1048576 1125899906842624)
 wanted_of UnfinishedBytes = Kind.WholeNumber (bounds 33554432 1099511627776)
+wanted_of ReserveBytes = Kind.WholeNumber (bounds 0 1073741824)

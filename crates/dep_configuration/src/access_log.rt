@@ -1,6 +1,6 @@
 //! The lines of the access log: each is an object of JSON (RFC 8259) and a newline.
 ghost use Rattle.std.specs.Prelude.{◌≡◌};
-ghost use Rattle.dep_configuration.specs.AccessLog.{reason_name};
+ghost use Rattle.dep_configuration.specs.AccessLog.{reason_name, reserve_state_name};
 
 use crate::configuration::Limits;
 use dep_types::Refusal;
@@ -89,6 +89,30 @@ pub struct Closing<'a> {
     pub reason: Reason,
 }
 
+/// What became of the file that is kept beside the database for a full disk.
+#[derive(Clone, Copy)]
+pub enum ReserveState {
+    /// It was given up, since something could not be written: until it stands again, what has a content is answered by 500.
+    GivenUp,
+    /// It stands again.
+    Standing,
+    /// It could not be written at the start of the server, which goes on as if it was given up.
+    NotWritten,
+}
+
+impl ReserveState {
+    /// The state as it stands in the log.
+    pub fn name(self) -> &'static str
+        ensures { result.now ≡ reserve_state_name self }
+    {
+        match self {
+            ReserveState::GivenUp => "given_up",
+            ReserveState::Standing => "standing",
+            ReserveState::NotWritten => "not_written",
+        }
+    }
+}
+
 /// The start of a server.
 #[derive(Clone, Copy)]
 pub struct Start<'a> {
@@ -144,6 +168,23 @@ pub fn closing_line(alloc: Global, closing: &Closing<'_>) -> Result<Vec<u8>, All
             connection,
             Member::Text("peer", closing.peer),
             Member::Text("reason", closing.reason.name()),
+        ],
+    )
+}
+
+/// Returns the line of a reserve that came into this state, at a moment in whole seconds since 1970. An `Err` is want of
+/// memory.
+pub fn reserve_line(
+    alloc: Global,
+    moment: u64,
+    state: ReserveState,
+) -> Result<Vec<u8>, AllocError> {
+    line(
+        alloc,
+        &[
+            Member::Text("event", "reserve"),
+            Member::Number("moment", moment),
+            Member::Text("state", state.name()),
         ],
     )
 }

@@ -37,6 +37,8 @@ pub struct Configuration {
     pub config: Config,
     /// What bounds its connections.
     pub limits: Limits,
+    /// The bytes of the file that is kept beside the database, and given up where its disk is full; 0 for none.
+    pub reserve_bytes: u64,
 }
 
 /// What bounds the connections of a server.
@@ -121,6 +123,7 @@ fn configuration_in(alloc: Global, value: &Value<'_>) -> Result<Configuration, A
         stop_file,
         config,
         limits: limits_in(value),
+        reserve_bytes: number(value, Field::ReserveBytes, 16_777_216),
     })
 }
 

@@ -25,7 +25,8 @@ pub const EXAMPLE: &str = "{
   \"least_rate\": 4096,
   \"address_connections\": 1024,
   \"spool_bytes\": 68719476736,
-  \"unfinished_bytes\": 1073741824
+  \"unfinished_bytes\": 1073741824,
+  \"reserve_bytes\": 16777216
 }
 ";
 
@@ -70,6 +71,9 @@ impl Field {
             }
             Field::UnfinishedBytes => {
                 "the bytes that unfinished requests may hold in all; 1073741824 by default"
+            }
+            Field::ReserveBytes => {
+                "the bytes of a file beside the database that is given up where the disk is full, 0 for none; 16777216 by default"
             }
         }
     }

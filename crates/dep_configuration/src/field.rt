@@ -52,10 +52,12 @@ pub enum Field {
     SpoolBytes,
     /// The greatest number of bytes of requests that aren't whole yet.
     UnfinishedBytes,
+    /// The bytes of the reserve beside the database.
+    ReserveBytes,
 }
 
 /// All fields, in the order in which the example has them.
-pub const FIELDS: [Field; 21] = [
+pub const FIELDS: [Field; 22] = [
     Field::Address,
     Field::Port,
     Field::Database,
@@ -77,6 +79,7 @@ pub const FIELDS: [Field; 21] = [
     Field::AddressConnections,
     Field::SpoolBytes,
     Field::UnfinishedBytes,
+    Field::ReserveBytes,
 ];
 
 /// What a whole number may be.
@@ -149,6 +152,7 @@ impl Field {
             Field::AddressConnections => "address_connections",
             Field::SpoolBytes => "spool_bytes",
             Field::UnfinishedBytes => "unfinished_bytes",
+            Field::ReserveBytes => "reserve_bytes",
         }
     }
 
@@ -184,6 +188,7 @@ impl Field {
             Field::AddressConnections => within(1, 1_024),
             Field::SpoolBytes => within(1_048_576, 1_125_899_906_842_624),
             Field::UnfinishedBytes => within(33_554_432, 1_099_511_627_776),
+            Field::ReserveBytes => within(0, 1_073_741_824),
             _ => within(0, 0),
         }
     }

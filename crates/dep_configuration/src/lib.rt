@@ -13,7 +13,8 @@ mod report;
 mod values;
 
 pub use access_log::{
-    Closing, Exchange, GREATEST_PATH, Reason, Start, closing_line, exchange_line, start_line,
+    Closing, Exchange, GREATEST_PATH, Reason, ReserveState, Start, closing_line, exchange_line,
+    reserve_line, start_line,
 };
 pub use configuration::{Configuration, Limits};
 pub use example::{EXAMPLE, explain};

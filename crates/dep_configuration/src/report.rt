@@ -62,5 +62,6 @@ fn value_of<'a>(configuration: &'a Configuration, field: Field) -> Given<'a> {
         Field::AddressConnections => Given::Number(limits.address_connections),
         Field::SpoolBytes => Given::Number(limits.spool_bytes),
         Field::UnfinishedBytes => Given::Number(limits.unfinished_bytes),
+        Field::ReserveBytes => Given::Number(configuration.reserve_bytes),
     }
 }

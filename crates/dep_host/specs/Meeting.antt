@@ -94,6 +94,7 @@ abbrev pub refusal_for : Cause → Refusal
 refusal_for cause.Store = refusal.Shut
 refusal_for cause.Stop = refusal.Stopped
 
+-- the same, of a host that isn't shut for want of a place
 abbrev pub refusal_of : Option Shut → Refusal
 refusal_of None = refusal.Full
 refusal_of (Some shut) = refusal_for shut.cause

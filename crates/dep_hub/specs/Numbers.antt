@@ -1,6 +1,6 @@
 -- Where a connection stands in the list, how the numbers follow one another, and how far
 -- connections go.
-use Rattle.std.specs.Prelude.{◌==◌, ◌+◌, ◌≤◌, ℕ, suc, List, [], ◌∷◌, Option, None, Some, if◌then◌else◌}
+use Rattle.std.specs.Prelude.{◌==◌, ◌+◌, ◌≤◌, ◌<◌, ℕ, suc, List, [], ◌∷◌, Option, None, Some, if◌then◌else◌}
 use Rattle.std.specs.Option.{option_map}
 use Rattle.std.specs.Coded.{×_prop, le_prop}
 use Rattle.dep_hub.specs.declared.connections.Connection.{Connection}
@@ -29,3 +29,7 @@ most_connections = 1024
 -- the number that no connection gets, nor one above it
 abbrev pub last_number : ℕ
 last_number = 4000000000000000000
+
+-- one more of so many may be there, and gets this number
+abbrev pub HasPlace : (count next : ℕ) → Type 0
+HasPlace count next = (count < most_connections) × (next < last_number)

@@ -1,10 +1,10 @@
 //! All connections, and the one store that they share.
-ghost use Rattle.std.specs.Prelude.{◌+◌, ◌≡◌, ◌<◌, ◌≤◌, [], ◌∷◌, ◌++◌, List, length, MatchResult, IfOk, IfErr, OnErr, IfSome, None, IsErrOf, IsSome, ◌⊎◌, ◌≢◌};
+ghost use Rattle.std.specs.Prelude.{◌+◌, ◌≡◌, ◌≤◌, [], ◌∷◌, ◌++◌, List, length, MatchResult, IfOk, IfErr, OnErr, IfSome, None, IsErrOf, IsSome, ◌⊎◌, ◌≢◌};
 ghost use Rattle.dep_types.specs.State.{State};
 ghost use Rattle.dep_types.specs.Config.{IsChecked};
 ghost use Rattle.dep_types.specs.Conditions.{StandsFor, Leaves};
 ghost use Rattle.dep_hub.specs.Records.{Connect, Close, Record, World, Run, Absent, Live, stopped, first_world};
-ghost use Rattle.dep_hub.specs.Numbers.{Ascends, Ascends-prop, most_connections, last_number};
+ghost use Rattle.dep_hub.specs.Numbers.{Ascends, Ascends-prop, HasPlace, most_connections, last_number};
 
 use crate::access_log::{AccessLog, NoLog};
 use crate::archive::Archive;
@@ -98,8 +98,10 @@ impl<A: Archive> Hub<A> {
             ⊎ (last_number ≤ self.old.next) }
         // It takes no connection more than there may be, and a refusal takes no number.
         ensures room { IfOk result (λ _.
-            (length self.old.connections.items < most_connections)
-            × (self.old.next < last_number)) }
+            HasPlace (length self.old.connections.items) self.old.next) }
+        // Nor is memory what it lacks where there is no place.
+        ensures memory { IsErrOf result ConnectFault.Memory
+            → HasPlace (length self.old.connections.items) self.old.next }
         ensures kept { OnErr result (self.new.next ≡ self.old.next) }
         ensures fresh { IfOk result (λ number. intake_of self.old.connections.items number ≡ None) }
         ensures there { IfOk result

@@ -163,11 +163,7 @@ fn refuse(
     ensures { IfOk result (λ p. (s : State) → clock ≡ s.clock → IsReady
         (refused_step s why.refusal (option_copied allow.entry) why.is_bare closes) p) }
 {
-    let delivery = Delivery {
-        clock,
-        is_bare: why.is_bare,
-        closes,
-    };
+    let delivery = Delivery::new(clock, why.is_bare, closes);
     refused(alloc, why.refusal, allow, delivery)
 }
 

@@ -9,7 +9,6 @@ use Rattle.dep_types.specs.Numbers.{room_for}
 use Rattle.dep_types.specs.Rows.{object_row, file_row}
 use Rattle.dep_types.specs.State as state
 use Rattle.dep_types.specs.State.{State, file_at}
-use Rattle.dep_types.specs.Uploads.{assembled, is_complete}
 use Rattle.dep_types.specs.declared.config.Config.{Config}
 use Rattle.dep_types.specs.declared.counters.Counters.{Counters}
 use Rattle.dep_types.specs.declared.rows.ObjectRow.{ObjectRow}
@@ -18,8 +17,6 @@ use Rattle.dep_types.specs.declared.refusal.Refusal.{Refusal}
 use Rattle.dep_types.specs.declared.refusal.Refusal.TheVariants.{BadRequest, DigestMismatch, NotFound, StoreFull}
 use Rattle.dep_types.specs.declared.target.Resource.{Resource}
 use Rattle.dep_types.specs.declared.target.Resource.TheVariants.{Service, Object, Metadata, FileSet, File, Staging, Upload, BagList, BagFile}
-use Rattle.dep_fixity.specs.Fixity.{digests_of}
-use Rattle.dep_fixity.specs.declared.hasher.Digests.{Digests}
 use Rattle.dep_fields.specs.declared.kind.Kind.{Kind}
 use Rattle.dep_fields.specs.declared.kind.Kind.TheVariants as of
 use Rattle.dep_docs_in.specs.declared.reference.Reference.{Reference}
@@ -27,46 +24,64 @@ use Rattle.dep_docs_in.specs.declared.reference.Pointed.{Pointed}
 use Rattle.dep_docs_in.specs.declared.reference.Pointed.TheVariants.{Upload as AnUpload, Elsewhere}
 use Rattle.dep_decisions.specs.Decisions.{decision_with, numbers_for, references_in, upload_number}
 use Rattle.dep_decisions.specs.Kinds.{kind_of}
-use Rattle.dep_decisions.specs.LookUps.{Entry, assembled_digests, entry_at, has_bag_path, in_state, known_of, repeats, tag_at}
+use Rattle.dep_decisions.specs.Laws.{refusal_before_room}
+use Rattle.dep_decisions.specs.LookUps.{Entry, Known, LookUps, assembled_digests, entry_at, has_bag_path, in_state, known_of, repeats, tag_at, without_digests}
 use Rattle.dep_decisions.specs.Rules.{access_refusal, behalf_rule, content_by, content_refusal, digest_rule, digests_refusal, document_refusal, document_rule, each, entries_refusal, fields_refusal, has_content, has_digests, has_length, length_refusal, missing_refusal, presence_refusal, presence_rule, reads_alone, received_refusal, references_refusal, refusal, refusal_by, room_rule, segment_by, segment_refusal, size_refusal, size_rule, tag_refusal, tag_rule, there_refusal, unless, whole_refusal}
 use Rattle.dep_decisions.specs.declared.operation.Operation.{Operation}
 use Rattle.dep_decisions.specs.declared.decision.Decision.{Decision}
 use Rattle.dep_operations.specs.Checks.{IsRoomRuling}
 use Rattle.dep_operations.specs.Rules.{IsSeen}
-use Rattle.dep_operations.specs.Rulings.{HasRoomFor, IsRuling, RulesBy}
+use Rattle.dep_operations.specs.Rulings.{HasRoomFor, IsRuling, RefusesUndigested, RulesBy}
 use Rattle.dep_operations.specs.Seen.{entries_seen, entry_before, entry_seen, in_view, is_timed_out, known_live, live_in, promised_in, row_length, tag_seen, upload_in}
-use Rattle.dep_operations.specs.Views.{file_in, live_upload, object_in, path_in, segment_in, true_view, upload_state, upload_view, uploads_in, uploads_named}
+use Rattle.dep_operations.specs.Views.{file_in, live_upload, object_in, path_in, segment_in, state_undigested, touched_by, true_view, undigested_view, upload_state, uploads_in, uploads_named}
 use Rattle.dep_operations.specs.declared.ruling.Ruling.{Ruling}
 use Rattle.dep_operations.specs.declared.ruling.Ruling.TheVariants.{Do, Refuse}
 use Rattle.dep_operations.specs.declared.view.LiveUpload.{LiveUpload}
 use Rattle.dep_operations.specs.declared.view.UploadState.{UploadState}
 use Rattle.dep_operations.specs.declared.view.UploadState.TheVariants.{Unknown, TimedOut, Live}
+use Rattle.dep_operations.specs.declared.view.UploadView.{UploadView}
 use Rattle.dep_operations.specs.declared.view.View.{View}
 use Rattle.dep_operations.proofs.Staged.{by_reference_elsewhere}
 
 -- ---- an upload
 
--- what a view has of it
-abbrev shown : (by_reference : Bool) → ℕ → Option state.Upload → (timed_out : Bool) → UploadState
-shown by u o b = option_map_or (λ upload. Live (live_upload by u upload)) o (if b then TimedOut else Unknown)
+-- what a view has of it, once its digests are taken or before
+abbrev with_digests : (hashed : Bool) → UploadState → UploadState
+with_digests true state = state
+with_digests false state = state_undigested state
 
-missing_is : (by : Bool) (u : ℕ) (o : Option state.Upload) (b : Bool) → missing_refusal (live_in (shown by u o b)) (is_timed_out (shown by u o b)) ≡ missing_refusal o b
-missing_is by u (Some x) b = refl
-missing_is by u None true = refl
-missing_is by u None false = refl
+abbrev live_with : (hashed by_reference : Bool) → ℕ → state.Upload → LiveUpload
+live_with hashed by u upload = record (live_upload by u upload) { digests = if hashed then (live_upload by u upload).digests else None }
 
-passes_is : (test : LiveUpload → Bool) (by : Bool) (u : ℕ) (o : Option state.Upload) (b : Bool)
-    → option_map_or test (live_in (shown by u o b)) true ≡ option_map_or (λ x. test (live_upload by u x)) o true
-passes_is test by u (Some x) b = refl
-passes_is test by u None true = refl
-passes_is test by u None false = refl
+abbrev shown : (hashed by_reference : Bool) → ℕ → Option state.Upload → (timed_out : Bool) → UploadState
+shown hashed by u o b = with_digests hashed (option_map_or (λ upload. Live (live_upload by u upload)) o (if b then TimedOut else Unknown))
 
-segment_is : (by : Bool) (u : ℕ) (o : Option state.Upload) (b : Bool) (k : ℕ) (bytes : List ℕ)
-    → option_and_then (λ (l : LiveUpload). segment_by l.row.count (row_length l.row k) (o >>= (λ x. repeats x k bytes)) k bytes) (live_in (shown by u o b))
+missing_is : (hashed by : Bool) (u : ℕ) (o : Option state.Upload) (b : Bool) → missing_refusal (live_in (shown hashed by u o b)) (is_timed_out (shown hashed by u o b)) ≡ missing_refusal o b
+missing_is true by u (Some x) b = refl
+missing_is true by u None true = refl
+missing_is true by u None false = refl
+missing_is false by u (Some x) b = refl
+missing_is false by u None true = refl
+missing_is false by u None false = refl
+
+passes_is : (test : LiveUpload → Bool) (hashed by : Bool) (u : ℕ) (o : Option state.Upload) (b : Bool)
+    → option_map_or test (live_in (shown hashed by u o b)) true ≡ option_map_or (λ x. test (live_with hashed by u x)) o true
+passes_is test true by u (Some x) b = refl
+passes_is test true by u None true = refl
+passes_is test true by u None false = refl
+passes_is test false by u (Some x) b = refl
+passes_is test false by u None true = refl
+passes_is test false by u None false = refl
+
+segment_is : (hashed by : Bool) (u : ℕ) (o : Option state.Upload) (b : Bool) (k : ℕ) (bytes : List ℕ)
+    → option_and_then (λ (l : LiveUpload). segment_by l.row.count (row_length l.row k) (o >>= (λ x. repeats x k bytes)) k bytes) (live_in (shown hashed by u o b))
     ≡ option_and_then (λ x. segment_refusal x k bytes) o
-segment_is by u (Some x) b k bytes = refl
-segment_is by u None true k bytes = refl
-segment_is by u None false k bytes = refl
+segment_is true by u (Some x) b k bytes = refl
+segment_is true by u None true k bytes = refl
+segment_is true by u None false k bytes = refl
+segment_is false by u (Some x) b k bytes = refl
+segment_is false by u None true k bytes = refl
+segment_is false by u None false k bytes = refl
 
 has_row : {X Y : Type 0} (row : X → Y) (o : Option X) → is_some (option_map row o) ≡ is_some o
 has_row row None = refl
@@ -85,69 +100,73 @@ first_same a b xs ys e f = ap (λ x. first_of (x ∷ xs)) e ∙ under b
     under None = f
     under (Some r) = refl
 
-module _ (s : State) where
+-- what is known of the uploads of a state, with their digests or without
+abbrev known_with : (hashed : Bool) → Known state.Upload
+known_with hashed = record known_of { digests = λ u. if hashed then assembled_digests u else None }
+
+abbrev looked_up : (hashed : Bool) → State → LookUps state.Upload
+looked_up hashed s = record (in_state s) { known = known_with hashed }
+
+module _ (hashed : Bool) (s : State) where
+  abbrev seen : (by_reference : Bool) → ℕ → UploadView
+  seen by u = record { upload = u; state = with_digests hashed (upload_state by s u) }
+
   abbrev told_by : (Entry LiveUpload → Option Refusal) → (Entry state.Upload → Option Refusal) → Type 0
-  told_by rule told = (r : Reference) (u : ℕ) → rule (entry_seen r (upload_state true s u)) ≡ told (entry_at s r u)
+  told_by rule told = (r : Reference) (u : ℕ) → rule (entry_seen r (with_digests hashed (upload_state true s u))) ≡ told (entry_at s r u)
 
   module _ (rule : Entry LiveUpload → Option Refusal) (told : Entry state.Upload → Option Refusal) (same : told_by rule told) where
-    entries_are : (refs : List Reference) → each rule (entries_seen refs (map (upload_view true s) (uploads_named refs))) ≡ each told ((in_state s).entries refs)
+    entries_are : (refs : List Reference) → each rule (entries_seen refs (map (seen true) (uploads_named refs))) ≡ each told ((in_state s).entries refs)
     unfolding entries_seen
     entries_are [] = refl
     entries_are (r ∷ refs) = one_more r.target (entries_are refs)
       where
-        one_more : (t : Pointed) → each rule (entries_seen refs (map (upload_view true s) (uploads_named refs))) ≡ each told ((in_state s).entries refs)
-            → each rule (entry_before (entries_seen refs) r t (map (upload_view true s) (cons_option (upload_number t) (uploads_named refs))))
+        one_more : (t : Pointed) → each rule (entries_seen refs (map (seen true) (uploads_named refs))) ≡ each told ((in_state s).entries refs)
+            → each rule (entry_before (entries_seen refs) r t (map (seen true) (cons_option (upload_number t) (uploads_named refs))))
             ≡ each told (cons_option (option_map (entry_at s r) (upload_number t)) ((in_state s).entries refs))
         one_more Elsewhere later = later
         one_more (AnUpload u) later = first_same _ _ _ _ (same r u) later
 
   there_is : told_by there_refusal there_refusal
-  there_is r u = missing_is true u (finmap.get s.uploads u) (set.contains s.timed_out u)
+  there_is r u = missing_is hashed true u (finmap.get s.uploads u) (set.contains s.timed_out u)
 
-  told_where : (b : Bool) (d : Digests) → is_some (if b then Some d else None) ≡ b
-  told_where true d = refl
-  told_where false d = refl
+  whole_is : told_by (whole_refusal known_live) (whole_refusal (known_with hashed))
+  whole_is r u = ap (λ b. unless b BadRequest) (passes_is (λ l. l.is_whole) hashed true u (finmap.get s.uploads u) (set.contains s.timed_out u))
 
-  whole_at : (o : Option state.Upload) → option_map_or (λ (x : state.Upload). is_some (assembled_digests x)) o true ≡ option_map_or is_complete o true
-  whole_at None = refl
-  whole_at (Some x) = told_where (is_complete x) (digests_of (assembled x))
+  length_is : told_by (length_refusal known_live) (length_refusal (known_with hashed))
+  length_is r u = ap (λ b. unless b BadRequest) (passes_is (λ l. has_length r.length l.row.size) hashed true u (finmap.get s.uploads u) (set.contains s.timed_out u))
 
-  whole_is : told_by (whole_refusal known_live) (whole_refusal known_of)
-  whole_is r u =
-      ap (λ b. unless b BadRequest)
-      (passes_is (λ l. is_some l.digests) true u (finmap.get s.uploads u) (set.contains s.timed_out u) ∙ whole_at (finmap.get s.uploads u))
+  digests_is : told_by (digests_refusal known_live) (digests_refusal (known_with hashed))
+  digests_is r u = ap (λ b. unless b DigestMismatch) (passes_is (λ l. has_digests (promised_in l.row) r.digest l.digests) hashed true u (finmap.get s.uploads u) (set.contains s.timed_out u))
 
-  length_is : told_by (length_refusal known_live) (length_refusal known_of)
-  length_is r u = ap (λ b. unless b BadRequest) (passes_is (λ l. has_length r.length l.row.size) true u (finmap.get s.uploads u) (set.contains s.timed_out u))
-
-  digests_is : told_by (digests_refusal known_live) (digests_refusal known_of)
-  digests_is r u = ap (λ b. unless b DigestMismatch) (passes_is (λ l. has_digests (promised_in l.row) r.digest l.digests) true u (finmap.get s.uploads u) (set.contains s.timed_out u))
-
-  entries_told : (view : View) (refs : List Reference) → view.uploads ≡ map (upload_view true s) (uploads_named refs)
-      → entries_refusal (in_view view) refs ≡ entries_refusal (in_state s) refs
+  entries_told : (view : View) (refs : List Reference) → view.uploads ≡ map (seen true) (uploads_named refs)
+      → entries_refusal (in_view view) refs ≡ entries_refusal (looked_up hashed s) refs
   unfolding entries_refusal
   entries_told view refs are =
       let there = ap (λ us. each there_refusal (entries_seen refs us)) are ∙ entries_are there_refusal there_refusal there_is refs in
-      let whole = ap (λ us. each (whole_refusal known_live) (entries_seen refs us)) are ∙ entries_are (whole_refusal known_live) (whole_refusal known_of) whole_is refs in
-      let long = ap (λ us. each (length_refusal known_live) (entries_seen refs us)) are ∙ entries_are (length_refusal known_live) (length_refusal known_of) length_is refs in
-      let same = ap (λ us. each (digests_refusal known_live) (entries_seen refs us)) are ∙ entries_are (digests_refusal known_live) (digests_refusal known_of) digests_is refs in
+      let whole = ap (λ us. each (whole_refusal known_live) (entries_seen refs us)) are ∙ entries_are (whole_refusal known_live) (whole_refusal (known_with hashed)) whole_is refs in
+      let long = ap (λ us. each (length_refusal known_live) (entries_seen refs us)) are ∙ entries_are (length_refusal known_live) (length_refusal (known_with hashed)) length_is refs in
+      let same = ap (λ us. each (digests_refusal known_live) (entries_seen refs us)) are ∙ entries_are (digests_refusal known_live) (digests_refusal (known_with hashed)) digests_is refs in
       rw (there, whole, long, same) refl
 
-  references_told : (view : View) (o : Option (List Reference)) → view.uploads ≡ map (upload_view (is_some o) s) (uploads_in Service o)
-      → references_refusal (in_view view) o ≡ references_refusal (in_state s) o
+  references_told : (view : View) (o : Option (List Reference)) → view.uploads ≡ map (seen (is_some o)) (uploads_in Service o)
+      → references_refusal (in_view view) o ≡ references_refusal (looked_up hashed s) o
   references_told view None are = refl
   references_told view (Some refs) are = entries_told view refs are
 
 -- ---- the rules
 
-module _ (config : Config) (s : State) (op : Operation) where
+module _ (hashed : Bool) (config : Config) (s : State) (op : Operation) where
+  -- the view, with the digests of uploads or without
+  abbrev view_seen : View
+  view_seen = record (true_view config s op) { uploads = map (seen hashed s (is_some (references_in config op))) (touched_by config op).uploads }
+
   object_is : (n : ℕ) → object_in op.target.resource ≡ Some n
       → unless (is_some (object_in op.target.resource >>= (λ n. option_map (object_row n) (finmap.get s.objects n)))) NotFound ≡ unless (is_some (finmap.get s.objects n)) NotFound
   object_is n at =
       ap (λ o. unless (is_some (o >>= (λ n. option_map (object_row n) (finmap.get s.objects n)))) NotFound) at
       ∙ ap (λ b. unless b NotFound) (has_row (object_row n) (finmap.get s.objects n))
 
-  presence_is : (resource : Resource) → op.target.resource ≡ resource → presence_refusal (in_view (true_view config s op)) resource ≡ presence_refusal (in_state s) resource
+  presence_is : (resource : Resource) → op.target.resource ≡ resource → presence_refusal (in_view view_seen) resource ≡ presence_refusal (looked_up hashed s) resource
   presence_is Service at = refl
   presence_is (Object n) at = object_is n (ap object_in at)
   presence_is (Metadata n) at = object_is n (ap object_in at)
@@ -158,12 +177,12 @@ module _ (config : Config) (s : State) (op : Operation) where
       ∙ ap (λ b. unless b NotFound) (has_row (file_row n f) (file_at s n f))
   presence_is Staging at = refl
   presence_is (Upload u) at =
-      ap (λ r. let state = upload_in (map (upload_view (is_some (references_in config op)) s) (uploads_in r (references_in config op))) in missing_refusal (live_in state) (is_timed_out state)) at
-      ∙ missing_is (is_some (references_in config op)) u (finmap.get s.uploads u) (set.contains s.timed_out u)
+      ap (λ r. let state = upload_in (map (seen hashed s (is_some (references_in config op))) (uploads_in r (references_in config op))) in missing_refusal (live_in state) (is_timed_out state)) at
+      ∙ missing_is hashed (is_some (references_in config op)) u (finmap.get s.uploads u) (set.contains s.timed_out u)
   presence_is (BagFile n path) at =
       ap (λ r. unless (option_map_or (λ n. option_map_or (has_bag_path s n) (path_in r) false) (object_in r) false) NotFound) at
 
-  tag_is : (resource : Resource) → op.target.resource ≡ resource → tag_seen (true_view config s op) resource ≡ tag_at s resource
+  tag_is : (resource : Resource) → op.target.resource ≡ resource → tag_seen view_seen resource ≡ tag_at s resource
   tag_is Service at = refl
   tag_is (Object n) at =
       ap (λ r. option_map (λ (row : ObjectRow). row.object_tag) (object_in r >>= (λ n. option_map (object_row n) (finmap.get s.objects n)))) at
@@ -186,11 +205,11 @@ module _ (config : Config) (s : State) (op : Operation) where
   repeat_in resource kind = segment_in resource kind >>= (λ id. finmap.get s.uploads id.upload >>= (λ x. repeats x id.number op.content))
 
   received_is : (resource : Resource) (k : ℕ) → op.target.resource ≡ resource → kind_of op ≡ Some (of.Segment k)
-      → received_refusal (in_view (true_view config s op)) resource k op.content ≡ received_refusal (in_state s) resource k op.content
+      → received_refusal (in_view view_seen) resource k op.content ≡ received_refusal (looked_up hashed s) resource k op.content
   received_is (Upload u) k at for =
       (λ i. option_and_then (λ (l : LiveUpload). segment_by l.row.count (row_length l.row k) (repeat_in (at i) (for i)) k op.content)
-      (live_in (upload_in (map (upload_view (is_some (references_in config op)) s) (uploads_in (at i) (references_in config op))))))
-      ∙ segment_is (is_some (references_in config op)) u (finmap.get s.uploads u) (set.contains s.timed_out u) k op.content
+      (live_in (upload_in (map (seen hashed s (is_some (references_in config op))) (uploads_in (at i) (references_in config op))))))
+      ∙ segment_is hashed (is_some (references_in config op)) u (finmap.get s.uploads u) (set.contains s.timed_out u) k op.content
   received_is Service k at for = refl
   received_is (Object n) k at for = refl
   received_is (Metadata n) k at for = refl
@@ -200,17 +219,17 @@ module _ (config : Config) (s : State) (op : Operation) where
   received_is (BagList n) k at for = refl
   received_is (BagFile n path) k at for = refl
 
-  document_for : (o : Option Kind) → kind_of op ≡ o → option_and_then (document_refusal config (in_view (true_view config s op)) op) o ≡ option_and_then (document_refusal config (in_state s) op) o
+  document_for : (o : Option Kind) → kind_of op ≡ o → option_and_then (document_refusal config (in_view view_seen) op) o ≡ option_and_then (document_refusal config (looked_up hashed s) op) o
   document_for None is = refl
   document_for (Some (of.File name)) is = refl
   document_for (Some of.Metadata) is = refl
   document_for (Some of.References) is =
-      references_told s (true_view config s op) (references_in config op)
-      (ap (map (upload_view (is_some (references_in config op)) s)) (by_reference_elsewhere config op is))
+      references_told hashed s view_seen (references_in config op)
+      (ap (map (seen hashed s (is_some (references_in config op)))) (by_reference_elsewhere config op is))
   document_for (Some (of.Opening o)) is = refl
   document_for (Some (of.Segment k)) is = refl
 
-  size_for : (o : Option Kind) → kind_of op ≡ o → option_and_then (size_refusal config (in_view (true_view config s op)) op) o ≡ option_and_then (size_refusal config (in_state s) op) o
+  size_for : (o : Option Kind) → kind_of op ≡ o → option_and_then (size_refusal config (in_view view_seen) op) o ≡ option_and_then (size_refusal config (looked_up hashed s) op) o
   size_for None is = refl
   size_for (Some (of.File name)) is = refl
   size_for (Some of.Metadata) is = refl
@@ -218,7 +237,7 @@ module _ (config : Config) (s : State) (op : Operation) where
   size_for (Some (of.Opening o)) is = refl
   size_for (Some (of.Segment k)) is = received_is op.target.resource k refl is
 
-  access_is : access_refusal config (in_view (true_view config s op)) op ≡ access_refusal config (in_state s) op
+  access_is : access_refusal config (in_view view_seen) op ≡ access_refusal config (looked_up hashed s) op
   unfolding access_refusal presence_rule tag_rule
   access_is =
       let presence = presence_is op.target.resource refl in
@@ -226,20 +245,28 @@ module _ (config : Config) (s : State) (op : Operation) where
       (λ i. first_of (behalf_rule config op ∷ presence i
       ∷ (if reads_alone op.target.resource op.target.method then None else tag_refusal config.require_if_match op.if_match (tag i)) ∷ []))
 
-  content_is : content_refusal config (in_view (true_view config s op)) op ≡ content_refusal config (in_state s) op
+  content_is : content_refusal config (in_view view_seen) op ≡ content_refusal config (looked_up hashed s) op
   unfolding content_refusal content_by document_rule size_rule
   content_is =
       let document = document_for (kind_of op) refl in
       let size = size_for (kind_of op) refl in
       (λ i. if has_content op.target.method then first_of (fields_refusal op ∷ digest_rule op ∷ document i ∷ size i ∷ []) else None)
 
-  room_is : room_rule config (in_view (true_view config s op)) op ≡ room_rule config (in_state s) op
+  room_is : room_rule config (in_view view_seen) op ≡ room_rule config (looked_up hashed s) op
   unfolding room_rule
   room_is = refl
 
+  seen_by_parts : refusal_before_room config (in_view view_seen) op ≡ refusal_before_room config (looked_up hashed s) op
+  seen_by_parts = (λ i. first_of (access_is i ∷ content_is i ∷ []))
+
+module _ (config : Config) (s : State) (op : Operation) where
   seen_truly : refusal_by config (in_view (true_view config s op)) op ≡ refusal config s op
   unfolding refusal_by
-  seen_truly = (λ i. first_of (access_is i ∷ content_is i ∷ room_is i ∷ []))
+  seen_truly = (λ i. first_of (access_is true config s op i ∷ content_is true config s op i ∷ room_is true config s op i ∷ []))
+
+  -- what is refused by a view without digests is so in the state
+  pub seen_undigested_truly : refusal_before_room config (in_view (undigested_view config s op)) op ≡ refusal_before_room config (without_digests (in_state s)) op
+  seen_undigested_truly = seen_by_parts false config s op
 
   told : (ruling : Ruling) → IsSeen config (true_view config s op) op ruling → IsRuling config s op ruling
   told (Refuse r) is = sym seen_truly ∙ is
@@ -248,6 +275,14 @@ module _ (config : Config) (s : State) (op : Operation) where
 -- a ruling by what is seen is right in each state that the view tells truly
 pub rules_by : (config : Config) (view : View) (op : Operation) (ruling : Ruling) → IsSeen config view op ruling → RulesBy config view op ruling
 rules_by config view op ruling is s truly = told config s op ruling (subst (λ v. IsSeen config v op ruling) truly is)
+
+-- so is a refusal by what is seen before any digest is taken, whatever the rules on a content come to
+pub refuses_undigested : (config : Config) (view : View) (op : Operation) (access content : Option Refusal) → access ≡ access_refusal config (in_view view) op
+    → content ≡ content_refusal config (in_view view) op → RefusesUndigested config view op (first_of (access ∷ content ∷ []))
+refuses_undigested config view op access content a b s truly =
+    (λ i. first_of (a i ∷ b i ∷ []))
+    ∙ ap (λ v. refusal_before_room config (in_view v) op) truly
+    ∙ seen_undigested_truly config s op
 
 -- ---- rulings by what is seen
 

@@ -67,7 +67,7 @@ known_live = record {
   count = λ l. l.row.count;
   segment_length = λ l k. row_length l.row k;
   promised = λ l. promised_in l.row;
-  is_whole = λ l. is_some l.digests;
+  is_whole = λ l. l.is_whole;
   digests = λ l. l.digests;
 }
 

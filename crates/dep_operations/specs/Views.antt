@@ -1,6 +1,6 @@
 -- What a view shows of a state: the clock, the counters, and what is there at the numbers that a request
 -- touches.
-use Rattle.std.specs.Prelude.{ℕ, Bool, false, List, [], ◌∷◌, map, is_some, Option, Some, None, option_map, if◌then◌else◌}
+use Rattle.std.specs.Prelude.{ℕ, ◌&&◌, Bool, false, List, [], ◌∷◌, map, is_some, Option, Some, None, option_map, if◌then◌else◌}
 use Rattle.std.specs.List.{filter_map}
 use Rattle.std.specs.Option.{option_map_or}
 use Rattle.std.specs.FinMap as finmap
@@ -9,6 +9,7 @@ use Rattle.dep_types.specs.Maps.{◌>>=◌}
 use Rattle.dep_types.specs.State as state
 use Rattle.dep_types.specs.State.{State, file_at}
 use Rattle.dep_types.specs.Rows.{object_row, file_row, upload_row}
+use Rattle.dep_types.specs.Uploads.{is_complete}
 use Rattle.dep_types.specs.declared.rows.ObjectRow.{ObjectRow}
 use Rattle.dep_types.specs.declared.rows.FileRow.{FileRow}
 use Rattle.dep_types.specs.declared.config.Config.{Config}
@@ -83,10 +84,12 @@ touched_by config op = touched_with op.target.resource (kind_of op) (references_
 
 -- ---- the view
 
--- for a deposit by reference an upload is shown with its digests, and else by its row alone
+-- for a deposit by reference an upload is shown with whether it is whole, and its digests, and else by its row
+-- alone
 abbrev pub live_upload : (by_reference : Bool) → ℕ → state.Upload → LiveUpload
 live_upload by_reference n u = record {
   row = upload_row n u;
+  is_whole = by_reference && is_complete u;
   digests = if by_reference then assembled_digests u else None;
 }
 
@@ -130,3 +133,24 @@ seen_at s content t = record {
 -- the view that shows the state truly where the request touches it
 abbrev pub true_view : Config → State → Operation → View
 true_view config s op = seen_at s op.content (touched_by config op)
+
+-- ---- the same before any digest of an upload is taken
+
+abbrev pub state_undigested : UploadState → UploadState
+state_undigested (Live l) = Live (record l { digests = None })
+state_undigested TimedOut = TimedOut
+state_undigested Unknown = Unknown
+
+abbrev pub upload_undigested : (by_reference : Bool) → State → ℕ → UploadView
+upload_undigested by_reference s u = record {
+  upload = u;
+  state = state_undigested (upload_state by_reference s u);
+}
+
+abbrev pub seen_undigested : State → (content : List ℕ) → Touched → View
+seen_undigested s content t = record (seen_at s content t) {
+  uploads = map (upload_undigested (is_some t.references) s) t.uploads;
+}
+
+abbrev pub undigested_view : Config → State → Operation → View
+undigested_view config s op = seen_undigested s op.content (touched_by config op)

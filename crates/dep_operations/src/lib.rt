@@ -10,7 +10,7 @@ mod touched;
 mod view;
 
 pub use dep_decisions::{Decision, Operation};
-pub use order::decide;
+pub use order::{decide, refusal_before_digests};
 pub use ruling::Ruling;
 pub use touched::touches;
 pub use view::{

@@ -170,7 +170,7 @@ fn whole_rule(_reference: &Reference, state: &UploadState) -> Option<Refusal>
     ensures { result ≡ whole_refusal known_live (entry_seen _reference.now state.now) }
 {
     match state {
-        UploadState::Live(upload) if upload.digests.is_none() => Some(Refusal::BadRequest),
+        UploadState::Live(upload) if !upload.is_whole => Some(Refusal::BadRequest),
         _ => None,
     }
 }

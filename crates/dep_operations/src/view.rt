@@ -60,12 +60,14 @@ pub struct Touched {
     pub references: Option<References>,
 }
 
-/// An upload that is there: its row, and its digests where they are needed.
+/// An upload that is there: its row, and for a deposit by reference whether it is whole, and its digests.
 #[derive(Drop)]
 pub struct LiveUpload {
     /// What was said of it at its opening, and the moment of its last segment.
     pub row: UploadRow,
-    /// The digests of all segments joined: there for a deposit by reference, where none is missing.
+    /// Whether references name it, and none of its segments is missing.
+    pub is_whole: bool,
+    /// The digests of all segments joined: there where it is whole, once they were taken.
     pub digests: Option<Digests>,
 }
 

@@ -30,8 +30,8 @@ use Rattle.dep_requests.specs.Performing.{known_at, known_by}
 module _ (config : Config) (op : Operation) where
   -- of an object that it makes, it is the last one
   abbrev MakesShown : Method → Subject → (next : Counters) → Decision → Type 0
-  MakesShown m shows next (Create d ingests) = shows ≡ subject.Object (next.object - 1)
-  MakesShown m shows next (Replace n d ingests) = shows ≡ subject.Object n
+  MakesShown m shows next (Create d ingests) = shows ≡ subject.Files (next.object - 1)
+  MakesShown m shows next (Replace n d ingests) = shows ≡ subject.Files n
   MakesShown m shows next (SetMetadata n texts) = m ≢ Delete → shows ≡ subject.ObjectRow n
   MakesShown m shows next (SetFiles n new) = m ≢ Delete → shows ≡ subject.ObjectRow n
   MakesShown m shows next (SetFile n f new) = shows ≡ subject.File (record { object = n; file = f })
@@ -85,7 +85,7 @@ module _ (config : Config) (op : Operation) where
     asked Service Put = tt
     asked Service Delete = tt
     asked (Object n) Post = appended n (is_completion op) (deposit_of (references_in config op) op)
-    asked (Object n) Put = mapped Put (subject.Object n) (λ d. Replace n d (ingests op)) (λ d. refl) (deposit_of (references_in config op) op)
+    asked (Object n) Put = mapped Put (subject.Files n) (λ d. Replace n d (ingests op)) (λ d. refl) (deposit_of (references_in config op) op)
     asked (Object n) Delete = tt
     asked (Object n) Get = tt
     asked (Object n) Head = tt
@@ -136,8 +136,8 @@ module _ (config : Config) (s : State) (op : Operation) (kept : op.target.method
   IsLookedAt d = (sub : Subject) → known_subject s.next d ≡ Some sub → shows (effect_of s op.content d).next ≡ sub
 
   looked_at : (d : Decision) → MakesShown config op op.target.method (shows (effect_of s op.content d).next) (effect_of s op.content d).next d → IsLookedAt d
-  looked_at (Create d ingests) makes sub is = let same : subject.Object s.next.object ≡ sub = cc in makes ∙ ap (λ (n : ℕ). subject.Object n) (last s.next.object) ∙ same
-  looked_at (Replace n d ingests) makes sub is = let same : subject.Object n ≡ sub = cc in makes ∙ same
+  looked_at (Create d ingests) makes sub is = let same : subject.Files s.next.object ≡ sub = cc in makes ∙ ap (λ (n : ℕ). subject.Files n) (last s.next.object) ∙ same
+  looked_at (Replace n d ingests) makes sub is = let same : subject.Files n ≡ sub = cc in makes ∙ same
   looked_at (SetMetadata n texts) makes sub is = let same : subject.ObjectRow n ≡ sub = cc in makes kept ∙ same
   looked_at (SetFiles n new) makes sub is = let same : subject.ObjectRow n ≡ sub = cc in makes kept ∙ same
   looked_at (SetFile n f new) makes sub is = let same : subject.File (record { object = n; file = f }) ≡ sub = cc in makes ∙ same

@@ -27,7 +27,7 @@ use Rattle.dep_decisions.specs.Rules.{refusal}
 use Rattle.dep_decisions.specs.declared.decision.Decision.{Decision}
 use Rattle.dep_decisions.specs.declared.operation.Operation.{Operation}
 use Rattle.dep_operations.specs.Rulings.{IsRuling}
-use Rattle.dep_operations.specs.Views.{file_in, object_in, path_in, true_view}
+use Rattle.dep_operations.specs.Views.{file_in, object_in, path_in, touched_by, true_view, undigested_view}
 use Rattle.dep_operations.specs.declared.ruling.Ruling.{Ruling}
 use Rattle.dep_operations.specs.declared.ruling.Ruling.TheVariants.{Do, Refuse}
 use Rattle.dep_operations.specs.declared.view.View.{View}
@@ -37,7 +37,7 @@ use Rattle.dep_decisions.proofs.ReadAlone.{reads_keep}
 use Rattle.dep_answers.specs.Performing.{IsReady, IsReply}
 use Rattle.dep_answers.specs.Replies.{answer_to, refused_answer}
 use Rattle.dep_answers.specs.Steps.{operation_step, step_by, answered_step, accepted_answer, refused_step, accepted_step, is_head}
-use Rattle.dep_answers.specs.Subjects.{shown_at, subject_in_bag, subject_of}
+use Rattle.dep_answers.specs.Subjects.{shown_at, subject_by, subject_of}
 use Rattle.dep_answers.specs.declared.performed.Delivery.{Delivery}
 use Rattle.dep_answers.specs.declared.performed.Performed.{Performed}
 use Rattle.dep_answers.specs.declared.subject.Shown.{Shown}
@@ -48,9 +48,10 @@ use Rattle.dep_tables.specs.Tables.{HasOurTables, IsOurs, tables_in}
 use Rattle.dep_tables.proofs.Results.{ok_then}
 use Rattle.dep_row_maps.specs.TablesAre.{TablesAre}
 use Rattle.dep_row_maps.specs.Clauses.{ChangesWithin, SeesState}
-use Rattle.dep_views.specs.Seen.{file_at_path}
+use Rattle.dep_views.specs.Seen.{file_at_path, loaded_view}
+use Rattle.dep_views.specs.declared.view.LoadedView.{LoadedView}
 use Rattle.dep_requests.specs.declared.performing.Ruled.{Ruled}
-use Rattle.dep_requests.specs.Performing.{ChangesNothing, OnlyReads, Rules, row_for}
+use Rattle.dep_requests.specs.Performing.{ChangesNothing, IsLoadedFor, OnlyReads, Rules, Sees, SeesFor, row_for}
 
 -- a step leaves a sound state
 pub step_sound : (config : Config) (s : State) (op : Operation) → AreFit op.fields → IsSound s → IsSound (operation_step config s op).state
@@ -89,6 +90,26 @@ changes_still {r = r} stays still = record { stays = stays; ours = λ clean insi
 -- what was left alone is unchanged
 pub left_alone : {T : Type 0} (state : T → db.State) (old new : T) → new ≡ old → IsTrue (state old).is_open → db.IsUnchanged (state old) (state new)
 left_alone {T} state old new same is_open = subst (λ (tx : T). db.IsUnchanged (state old) (state tx)) (sym same) (unchanged (state old) is_open)
+
+-- ---- what was ruled by what was loaded
+
+-- with the digests of uploads
+pub rules_seen : (config : Config) (s : State) (op : Operation) (loaded : LoadedView) (ruling : Ruling) → IsLoadedFor config s op loaded
+    → (loaded.view ≡ true_view config s op → IsRuling config s op ruling) → Rules config s op (record { view = loaded.view; payload = loaded.payload; ruling = ruling })
+rules_seen config s op loaded ruling is rules =
+    let view : loaded.view ≡ true_view config s op = ap (λ (l : LoadedView). l.view) is in
+    record { clock = ap (λ (v : View). v.clock) view; ruling = rules view; seen = for ruling view }
+  where
+    for : (r : Ruling) → loaded.view ≡ true_view config s op → SeesFor config s op (record { view = loaded.view; payload = loaded.payload; ruling = ruling }) r
+    for (Refuse r) view = tt
+    for (Do d) view = record { view = view; payload = ap (λ (l : LoadedView). l.payload) is }
+
+-- refused before any digest was taken
+pub refused_early : (config : Config) (s : State) (op : Operation) (loaded : LoadedView) (r : Refusal) → loaded ≡ loaded_view s op.content (touched_by config op)
+    → (loaded.view ≡ undigested_view config s op → refusal config s op ≡ Some r) → Rules config s op (record { view = loaded.view; payload = loaded.payload; ruling = Refuse r })
+refused_early config s op loaded r is refused =
+    let view : loaded.view ≡ undigested_view config s op = ap (λ (l : LoadedView). l.view) is in
+    record { clock = ap (λ (v : View). v.clock) view; ruling = refused view; seen = tt }
 
 -- how the reply to a request goes out
 abbrev pub delivery_for : State → Operation → Delivery
@@ -176,17 +197,17 @@ row_seen s next (resource.BagFile n path) m row h e = absurd (cc)
 
 -- ---- a payload file of a bag, whose row was looked at
 
-in_bag : (s : State) (n : ℕ) (row : FileRow) (k : Option ℕ) → Some row ≡ option_and_then (λ f. option_map (file_row n f) (file_at s n f)) k → shown.File row ≡ shown_at s (subject_in_bag n k)
-in_bag s n row None e = absurd (cc)
-in_bag s n row (Some f) e = by_row n f row (file_at s n f) e
+in_bag : (s : State) (n : ℕ) (row : FileRow) (k : Option ℕ) (metadata : Bool) → Some row ≡ option_and_then (λ f. option_map (file_row n f) (file_at s n f)) k → shown.File row ≡ shown_at s (subject_by n k metadata)
+in_bag s n row None metadata e = absurd (cc)
+in_bag s n row (Some f) metadata e = by_row n f row (file_at s n f) e
 
 abbrev payload_looked_at : State → Resource → Option FileRow
 payload_looked_at s r = object_in r >>= (λ n. path_in r >>= file_at_path s n)
 
 payload_seen : (s : State) (next : Counters) (r : Resource) (m : Method) (row : FileRow) → IsTrue (is_safe m) → Some row ≡ payload_looked_at s r
     → shown.File row ≡ shown_at s (subject_of next r m)
-payload_seen s next (resource.BagFile n path) Get row h e = in_bag s n row _ e
-payload_seen s next (resource.BagFile n path) Head row h e = in_bag s n row _ e
+payload_seen s next (resource.BagFile n path) Get row h e = in_bag s n row _ _ e
+payload_seen s next (resource.BagFile n path) Head row h e = in_bag s n row _ _ e
 payload_seen s next (resource.BagFile n path) Post row h e = cc h
 payload_seen s next (resource.BagFile n path) Put row h e = cc h
 payload_seen s next (resource.BagFile n path) Delete row h e = cc h
@@ -204,7 +225,7 @@ payload_seen s next (resource.BagList n) m row h e = absurd (cc)
 abbrev ShowsRow : Config → State → Operation → FileRow → Type 0
 ShowsRow config s op row = (effect config s op ≡ s) × (shown.File row ≡ shown_at (effect config s op) (subject_of (effect config s op).next op.target.resource op.target.method))
 
-module _ (config : Config) (s : State) (op : Operation) (ruled : Ruled) (row : FileRow) (read : IsTrue (is_safe op.target.method)) (rules : Rules config s op ruled) where
+module _ (config : Config) (s : State) (op : Operation) (ruled : Ruled) (row : FileRow) (read : IsTrue (is_safe op.target.method)) (rules : Sees config s op ruled) where
   shown_still : shown.File row ≡ shown_at s (subject_of s.next op.target.resource op.target.method) → ShowsRow config s op row
   shown_still told =
       let kept : effect config s op ≡ s = reads_keep config s op read in
@@ -222,7 +243,7 @@ module _ (config : Config) (s : State) (op : Operation) (ruled : Ruled) (row : F
 
 -- ---- so it is of the row that is known of the one or the other
 
-module _ (config : Config) (s : State) (op : Operation) (ruled : Ruled) (rules : Rules config s op ruled) (told : Shown) where
+module _ (config : Config) (s : State) (op : Operation) (ruled : Ruled) (rules : Sees config s op ruled) (told : Shown) where
   abbrev ShowsTold : Type 0
   ShowsTold = (effect config s op ≡ s) × (told ≡ shown_at (effect config s op) (subject_of (effect config s op).next op.target.resource op.target.method))
 

@@ -5,6 +5,7 @@ use Rattle.std.specs.Option.{option_or}
 use Rattle.dep_types.specs.State.{State}
 use Rattle.dep_types.specs.Sound.{IsSound}
 use Rattle.dep_types.specs.declared.config.Config.{Config}
+use Rattle.dep_types.specs.declared.refusal.Refusal.{Refusal}
 use Rattle.dep_types.specs.declared.rows.FileRow.{FileRow}
 use Rattle.dep_types.specs.declared.store_fault.StoreFault.{StoreFault}
 use Rattle.dep_types.specs.declared.target.Method.{Method}
@@ -30,19 +31,40 @@ use Rattle.dep_decisions.specs.Rules.{refusal}
 use Rattle.dep_decisions.specs.declared.decision.Decision.TheVariants.{Show}
 use Rattle.dep_decisions.specs.declared.operation.Operation.{Operation}
 use Rattle.dep_operations.specs.Rulings.{IsRuling}
-use Rattle.dep_operations.specs.Views.{touched_by, true_view}
+use Rattle.dep_operations.specs.Views.{touched_by, true_view, undigested_view}
 use Rattle.dep_operations.specs.declared.ruling.Ruling.{Ruling}
 use Rattle.dep_operations.specs.declared.ruling.Ruling.TheVariants.{Do, Refuse}
-use Rattle.dep_views.specs.Seen.{touched_payload}
+use Rattle.dep_operations.specs.declared.view.View.{View}
+use Rattle.dep_views.specs.Seen.{loaded_with_digests, touched_payload}
+use Rattle.dep_views.specs.declared.view.LoadedView.{LoadedView}
 use Rattle.dep_changes.specs.Known.{known_shown}
 use Rattle.dep_requests.specs.declared.performing.Done.{Done}
 use Rattle.dep_requests.specs.declared.performing.Ruled.{Ruled}
 
--- the view shows the state truly, and so does the row of a payload file, and the ruling is right there
-pub record Rules (config : Config) (s : State) (op : Operation) (ruled : Ruled) : Type 0 where
+-- the view shows the state truly, and so does the row of a payload file
+pub record Sees (config : Config) (s : State) (op : Operation) (ruled : Ruled) : Type 0 where
   pub view : ruled.view ≡ true_view config s op
   pub payload : ruled.payload ≡ touched_payload s (touched_by config op)
+
+-- so it is of what is let through; what is refused may have been ruled before any digest was taken
+abbrev pub SeesFor : Config → State → Operation → Ruled → Ruling → Type 0
+SeesFor config s op ruled (Refuse r) = Unit {0}
+SeesFor config s op ruled (Do d) = Sees config s op ruled
+
+-- the clock is the state's, the ruling is right there, and what it lets through was seen truly
+pub record Rules (config : Config) (s : State) (op : Operation) (ruled : Ruled) : Type 0 where
+  pub clock : ruled.view.clock ≡ s.clock
   pub ruling : IsRuling config s op ruled.ruling
+  pub seen : SeesFor config s op ruled ruled.ruling
+
+-- a refusal by a view that shows the state truly but for digests is right there
+abbrev pub IsRefusedEarly : Config → View → Operation → Option Refusal → Type 0
+IsRefusedEarly config view op refused = (s : State) → view ≡ undigested_view config s op
+    → (r : Refusal) → refused ≡ Some r → refusal config s op ≡ Some r
+
+-- what was loaded with the digests of uploads
+abbrev pub IsLoadedFor : Config → State → Operation → LoadedView → Type 0
+IsLoadedFor config s op loaded = loaded ≡ loaded_with_digests s op.content (touched_by config op)
 
 -- nothing is changed where it is refused, or only asks to be shown
 abbrev pub OnlyReads : Ruling → Type 0
@@ -83,7 +105,7 @@ ShowsEffect config s op new shown =
 abbrev pub IsCarriedOut : (old new : db.State) → Operation → Ruled → Decision
     → Result Shown StoreFault → Type 0
 IsCarriedOut old new op ruled decision result = FromMaps old new (λ s. (config : Config)
-    → IsSound s → AreFit op.fields → Rules config s op ruled → IsRuling config s op (Do decision)
+    → IsSound s → AreFit op.fields → Sees config s op ruled → IsRuling config s op (Do decision)
     → IfOk result (ShowsEffect config s op new))
 
 -- this is ready as the reply of the step, and the tables are those of the state that it leaves

@@ -5,3 +5,4 @@ pub mod Found
 pub mod Paths
 pub mod Shows
 pub mod Sent
+pub mod Hashed

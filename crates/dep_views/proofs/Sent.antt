@@ -11,7 +11,7 @@ use Rattle.dep_types.specs.Sound.{IsSound}
 use Rattle.dep_types.specs.Uploads.{segment_length, sizes_agree}
 use Rattle.dep_decisions.specs.LookUps.{repeats}
 use Rattle.dep_row_maps.specs.TablesAre.{segments_at}
-use Rattle.dep_operations.specs.Views.{live_upload, upload_state, upload_view}
+use Rattle.dep_operations.specs.Views.{live_upload, state_undigested, upload_state, upload_undigested}
 use Rattle.dep_operations.specs.declared.view.LiveUpload.{LiveUpload}
 use Rattle.dep_operations.specs.declared.view.UploadState.{UploadState}
 use Rattle.dep_operations.specs.declared.view.UploadState.TheVariants.{Live, TimedOut, Unknown}
@@ -68,27 +68,30 @@ no_empty_segment s u k sound = go (finmap.get s.uploads u) refl
 
 module _ (s : State) (by_reference : Bool) (u : ℕ) where
   abbrev state_by : Option Staged → Bool → UploadState
-  state_by o timed_out = option_map_or (λ it. Live (live_upload by_reference u it)) o (if timed_out then TimedOut else Unknown)
+  state_by o timed_out = state_undigested (option_map_or (λ it. Live (live_upload by_reference u it)) o (if timed_out then TimedOut else Unknown))
+
+  abbrev live_by : Staged → LiveUpload
+  live_by it = record (live_upload by_reference u it) { digests = None }
 
   -- of an upload that isn't there
-  pub lacks_all : (state : UploadState) → ((live : LiveUpload) → Live live ≡ state → ⊥) → state ≡ upload_state by_reference s u → (k : ℕ) → finmap.get (segments_at s.uploads u) k ≡ None
+  pub lacks_all : (state : UploadState) → ((live : LiveUpload) → Live live ≡ state → ⊥) → state ≡ state_undigested (upload_state by_reference s u) → (k : ℕ) → finmap.get (segments_at s.uploads u) k ≡ None
   lacks_all state gone is k = go (finmap.get s.uploads u) is
     where
       go : (o : Option Staged) → state ≡ state_by o (set.contains s.timed_out u) → finmap.get (option_map_or (λ (it : Staged). it.segments) o finmap.empty) k ≡ None
       go None e = finmap.get-empty {X = List ℕ} nat_cmp k
-      go (Some it) e = absurd (gone (live_upload by_reference u it) (sym e))
+      go (Some it) e = absurd (gone (live_by it) (sym e))
 
   -- an upload that is there is told with its count
-  pub told_there : (live : LiveUpload) → Live live ≡ upload_state by_reference s u → (it : Staged) × (finmap.get s.uploads u ≡ Some it) × (live.row.count ≡ it.count)
+  pub told_there : (live : LiveUpload) → Live live ≡ state_undigested (upload_state by_reference s u) → (it : Staged) × (finmap.get s.uploads u ≡ Some it) × (live.row.count ≡ it.count)
   told_there live is = go (finmap.get s.uploads u) (set.contains s.timed_out u) refl is
     where
       go : (o : Option Staged) (b : Bool) → finmap.get s.uploads u ≡ o → Live live ≡ state_by o b → (it : Staged) × (finmap.get s.uploads u ≡ Some it) × (live.row.count ≡ it.count)
       go None true at e = absurd (cc)
       go None false at e = absurd (cc)
-      go (Some it) b at e = let same : live ≡ live_upload by_reference u it = cc in (it, at, ap (λ (l : LiveUpload). l.row.count) same)
+      go (Some it) b at e = let same : live ≡ live_by it = cc in (it, at, ap (λ (l : LiveUpload). l.row.count) same)
 
   -- of one that comes in fewer
-  pub lacks_beyond : (live : LiveUpload) → IsSound s → Live live ≡ upload_state by_reference s u → (k : ℕ) → live.row.count < k → finmap.get (segments_at s.uploads u) k ≡ None
+  pub lacks_beyond : (live : LiveUpload) → IsSound s → Live live ≡ state_undigested (upload_state by_reference s u) → (k : ℕ) → live.row.count < k → finmap.get (segments_at s.uploads u) k ≡ None
   lacks_beyond live sound is k beyond = ap (λ o. finmap.get (option_map_or (λ (x : Staged). x.segments) o finmap.empty) k) it.1 ∙ go (finmap.get (it.0).segments k) refl
     where
       it : (it : Staged) × (finmap.get s.uploads u ≡ Some it) × (live.row.count ≡ it.count)
@@ -102,15 +105,15 @@ module _ (s : State) (by_reference : Bool) (u : ℕ) where
           absurd (omega (arith, within, counted, beyond))
 
 -- the first upload that was looked at, by its view
-pub first_view : (s : State) (by_reference : Bool) (views : List UploadView) (uploads : List ℕ) (none : UploadView) (u : ℕ) → views ≡ map (upload_view by_reference s) uploads → 1 ≤ length views
-    → (get_or views 0 none).upload ≡ u → (get_or views 0 none).state ≡ upload_state by_reference s u
+pub first_view : (s : State) (by_reference : Bool) (views : List UploadView) (uploads : List ℕ) (none : UploadView) (u : ℕ) → views ≡ map (upload_undigested by_reference s) uploads → 1 ≤ length views
+    → (get_or views 0 none).upload ≡ u → (get_or views 0 none).state ≡ state_undigested (upload_state by_reference s u)
 first_view s by_reference views uploads none u told some same =
-    subst (λ (vs : List UploadView). (get_or vs 0 none).state ≡ upload_state by_reference s u) (sym told)
+    subst (λ (vs : List UploadView). (get_or vs 0 none).state ≡ state_undigested (upload_state by_reference s u)) (sym told)
     (go uploads (subst (λ (vs : List UploadView). 1 ≤ length vs) told some) (subst (λ (vs : List UploadView). (get_or vs 0 none).upload ≡ u) told same))
   where
-    go : (us : List ℕ) → 1 ≤ length (map (upload_view by_reference s) us) → (get_or (map (upload_view by_reference s) us) 0 none).upload ≡ u → (get_or (map (upload_view by_reference s) us) 0 none).state ≡ upload_state by_reference s u
+    go : (us : List ℕ) → 1 ≤ length (map (upload_undigested by_reference s) us) → (get_or (map (upload_undigested by_reference s) us) 0 none).upload ≡ u → (get_or (map (upload_undigested by_reference s) us) 0 none).state ≡ state_undigested (upload_state by_reference s u)
     go [] some same = absurd (omega (arith, some))
-    go (w ∷ more) some same = ap (upload_state by_reference s) same
+    go (w ∷ more) some same = ap (λ n. state_undigested (upload_state by_reference s n)) same
 
 -- it is no repeat where its upload lacks it
 pub no_repeat : (s : State) (u k : ℕ) (bytes : List ℕ) → finmap.get (segments_at s.uploads u) k ≡ None → None ≡ (finmap.get s.uploads u >>= (λ it. repeats it k bytes))

@@ -5,11 +5,13 @@ use Rattle.std.specs.Option.{option_map_or}
 use Rattle.std.proofs.lemmas.Result.{IfOk-from_err}
 use Rattle.std.specs.FinMap as finmap
 use Rattle.sqlite.specs.State as db
-use Rattle.dep_types.specs.State.{State, Upload as Staged}
-use Rattle.dep_types.specs.Rows.{upload_row}
+use Rattle.dep_types.specs.State.{State, File, Object, Upload as Staged}
+use Rattle.dep_types.specs.Rows.{file_row, object_row, upload_row}
+use Rattle.dep_types.specs.declared.rows.FileRow.{FileRow}
+use Rattle.dep_types.specs.declared.rows.ObjectRow.{ObjectRow}
 use Rattle.dep_types.specs.declared.rows.UploadRow.{UploadRow}
 use Rattle.dep_types.specs.declared.store_fault.StoreFault.{StoreFault}
-use Rattle.dep_answers.specs.Subjects.{shown_at}
+use Rattle.dep_answers.specs.Subjects.{files_view, shown_at}
 use Rattle.dep_answers.specs.declared.subject.Shown.{Shown}
 use Rattle.dep_answers.specs.declared.subject.Subject.{Subject}
 use Rattle.dep_answers.specs.declared.subject.Subject.TheVariants as subject
@@ -19,6 +21,8 @@ use Rattle.dep_staging.specs.declared.loading.FoundRow.{FoundRow}
 use Rattle.dep_staging.specs.declared.loading.FoundRow.TheVariants as by_row
 use Rattle.dep_staging.specs.declared.loading.FoundUpload.TheVariants as found
 use Rattle.dep_staging.specs.declared.loading.StagedUpload.{StagedUpload}
+use Rattle.dep_row_maps.specs.TablesAre.{files_at}
+use Rattle.dep_objects.specs.Objects.{HasRow}
 use Rattle.dep_tables.specs.Clauses.{ReadsWithin}
 use Rattle.dep_tables.proofs.Chains.{may_read}
 use Rattle.dep_tables.proofs.Results.{ok_then}
@@ -52,6 +56,26 @@ module _ (s : State) (u : ℕ) where
       let row = h.1.row in
       let keys = are ∙ ap (map (λ segment. segment.number)) h.1.received ∙ numbers_are u (finmap.entries (h.0).segments) in
       (λ i. shown.Upload (row i) (keys i)) ∙ sym (at (Some h.0) h.1.there)
+
+-- ---- an object with its files
+
+-- what is read of it is what is shown
+pub listed_shown : (s : State) (row : ObjectRow) (files : List FileRow) → HasRow s row → files ≡ map (λ e. file_row row.object e.0 e.1) (finmap.entries (files_at s.objects row.object))
+    → shown.Files (record { object = row; metadata = finmap.empty; files = files }) ≡ shown_at s (subject.Files row.object)
+listed_shown s row files has are = go (finmap.get s.objects row.object) refl
+  where
+    row_by : Option Object → Option ObjectRow
+    row_by x = option_map (object_row row.object) x
+
+    go : (o : Option Object) → finmap.get s.objects row.object ≡ o → shown.Files (record { object = row; metadata = finmap.empty; files = files }) ≡ shown_at s (subject.Files row.object)
+    go None is = let none : Some row ≡ None = has ∙ ap row_by is in absurd (cc)
+    go (Some o) is =
+        let some : Some row ≡ Some (object_row row.object o) = has ∙ ap row_by is in
+        let its : row ≡ object_row row.object o = cc in
+        let rows : files ≡ map (λ e. file_row row.object e.0 e.1) (finmap.entries o.files) =
+        are ∙ ap (λ x. map (λ (e : ℕ × File). file_row row.object e.0 e.1) (finmap.entries (option_map_or (λ (y : Object). y.files) x finmap.empty))) is in
+        (λ i. shown.Files (record { object = its i; metadata = finmap.empty; files = rows i }))
+        ∙ sym (ap (λ x. option_map_or (λ (y : Object). shown.Files (files_view row.object y)) x shown.Nothing) is)
 
 -- ---- what a reply shows of a subject
 

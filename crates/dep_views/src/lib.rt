@@ -2,6 +2,7 @@
 //! Nothing here changes a table; after an `Err` the owner of the transaction gives it back.
 #![tactic(auto)]
 
+mod digests;
 mod objects;
 mod referred;
 mod repeats;
@@ -11,6 +12,7 @@ mod touched;
 mod uploads;
 mod view;
 
+pub use digests::load_digests;
 pub use objects::load_object_view;
 pub use shown::load_shown;
 pub use view::{LoadedView, load_view};

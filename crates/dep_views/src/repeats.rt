@@ -4,10 +4,10 @@ ghost use Rattle.std.specs.Prelude.{◌≡◌, ℕ, Bool, false, List, map, None
 ghost use Rattle.std.specs.FinMap as finmap;
 ghost use Rattle.dep_types.specs.State.{State};
 ghost use Rattle.dep_types.specs.Sound.{IsSound};
-ghost use Rattle.dep_operations.specs.Views.{touched_repeat, upload_state, upload_view};
+ghost use Rattle.dep_operations.specs.Views.{touched_repeat, upload_undigested};
 ghost use Rattle.dep_row_maps.specs.TablesAre.{segments_at};
 ghost use Rattle.dep_row_maps.specs.Clauses.{MayFind};
-ghost use Rattle.dep_views.specs.Seen.{AreViewsOf};
+ghost use Rattle.dep_views.specs.Seen.{AreViewsOf, state_seen};
 
 use dep_fixity::HashedOctets;
 use dep_operations::{SegmentId, Touched, UploadState, UploadView};
@@ -18,7 +18,7 @@ use dep_types::StoreFault;
 // Whether the upload isn't there, or comes in fewer segments.
 fn comes_in_fewer(state: &UploadState, number: u64) -> bool
     ensures lacks { IsTrue result → (s : State) (by_reference : Bool) (u : ℕ) → IsSound s
-        → state.now ≡ upload_state by_reference s u
+        → state.now ≡ state_seen by_reference s u
         → finmap.get (segments_at s.uploads u) number ≡ None }
 {
     match state {
@@ -30,8 +30,8 @@ fn comes_in_fewer(state: &UploadState, number: u64) -> bool
 
 // Whether the one upload that was looked at is the segment's, and can't have it.
 fn lacks_segment(views: &[UploadView], id: SegmentId) -> bool
-    ensures lacks { IsTrue result → (s : State) (by_reference : Bool) (uploads : List ℕ) → IsSound s
-        → views.now ≡ map (upload_view by_reference s) uploads
+    ensures lacks { IsTrue result → (s : State) (refers : Bool) (uploads : List ℕ) → IsSound s
+        → views.now ≡ map (upload_undigested refers s) uploads
         → finmap.get (segments_at s.uploads id.upload) id.number ≡ None }
 {
     match views {

@@ -8,10 +8,10 @@ ghost use Rattle.dep_views.specs.Shown.{MayReadShown, ReadsShown};
 use crate::objects::{load_object_view, view_of};
 use crate::segments::numbers_of;
 use dep_answers::{FileId, Shown, Subject};
-use dep_objects::{describe, find_file, find_object, load_object};
+use dep_objects::{describe, find_file, find_object, load_files, load_object};
 use dep_staging::{FoundUpload, load_upload};
 use dep_tables::Statements;
-use dep_types::{ObjectRow, StoreFault};
+use dep_types::{Metadata, ObjectRow, ObjectView, StoreFault};
 use std::alloc::Global;
 
 fn show_object<T: Statements>(tx: &mut T, alloc: Global, object: u64) -> Result<Shown, StoreFault>
@@ -20,6 +20,33 @@ fn show_object<T: Statements>(tx: &mut T, alloc: Global, object: u64) -> Result<
 {
     match load_object_view(tx, alloc, object)? {
         Some(view) => Ok(Shown::Object(view)),
+        None => Ok(Shown::Nothing),
+    }
+}
+
+// The object of this row, with its files.
+fn show_listed<T: Statements>(
+    tx: &mut T,
+    alloc: Global,
+    row: ObjectRow,
+) -> Result<Shown, StoreFault>
+    ensures does { ReadsShown T.lenders T.state tx.old tx.new result
+        (subject.Files row.object) (λ s. HasRow s row) }
+{
+    let files = load_files(tx, alloc, row.object)?;
+    Ok(Shown::Files(ObjectView {
+        object: row,
+        metadata: Metadata::new(alloc),
+        files,
+    }))
+}
+
+fn show_files<T: Statements>(tx: &mut T, alloc: Global, object: u64) -> Result<Shown, StoreFault>
+    ensures does { ReadsShown T.lenders T.state tx.old tx.new result
+        (subject.Files object) (λ _. ⊤) }
+{
+    match find_object(tx, object)? {
+        Some(row) => show_listed(tx, alloc, row),
         None => Ok(Shown::Nothing),
     }
 }
@@ -81,6 +108,7 @@ fn read_shown<T: Statements>(
     match *subject {
         Subject::Nothing => Ok(Shown::Nothing),
         Subject::Object(object) => show_object(tx, alloc, object),
+        Subject::Files(object) => show_files(tx, alloc, object),
         Subject::ObjectRow(object) => show_row(tx, object),
         Subject::Metadata(object) => show_metadata(tx, alloc, object),
         Subject::File(id) => show_file(tx, id),
@@ -123,6 +151,9 @@ pub fn load_shown<T: Statements>(
     match (*subject, known) {
         (Subject::Object(object), Some(row)) if row.object == object => {
             show_rest(tx, alloc, row)
+        }
+        (Subject::Files(object), Some(row)) if row.object == object => {
+            show_listed(tx, alloc, row)
         }
         (Subject::ObjectRow(object), Some(row)) if row.object == object => {
             Ok(Shown::ObjectRow(row))

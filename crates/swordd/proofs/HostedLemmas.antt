@@ -13,8 +13,6 @@ use Rattle.dep_schema.specs.States.{StandsFor, IsLeftAs}
 use Rattle.dep_schema.specs.declared.opening.OpenFault.{OpenFault}
 use Rattle.dep_schema.proofs.Transacting.{IsSettled, leaves_as_was}
 use Rattle.dep_store.specs.Migrating.{Keeps}
-use Rattle.dep_store.specs.HashingStores.{account_of, condition_of}
-use Rattle.dep_store.specs.declared.archive.HashingStore.{HashingStore}
 use Rattle.dep_store.specs.Starting.{OpeningLeaves, outcome_of_start}
 use Rattle.dep_store.specs.declared.starting.StartFault.{StartFault}
 use Rattle.dep_store.specs.declared.starting.StartFault.TheVariants as fault
@@ -32,17 +30,17 @@ use Rattle.dep_host.specs.declared.limits.Limits.{Limits as Bounds}
 use Rattle.dep_sockets.specs.Doors.{Doorway, EndsHub, WentOn}
 use Rattle.swordd.specs.declared.host_log.StandardErrorLog.{StandardErrorLog}
 use Rattle.dep_configuration.specs.declared.configuration.Limits.{Limits}
-use Rattle.swordd.specs.Hosted.{LedBy, IsHosted, HostsDatabase, hosts, host_limits, not_checked, not_made, not_opened, unshown}
+use Rattle.swordd.specs.Hosted.{account_of, condition_of, HostStore, LedBy, IsHosted, HostsDatabase, hosts, host_limits, not_checked, not_made, not_opened, unshown}
 
 module _ {S : Type 0} (g : Ghosts S) (clean : (h : Held S) → IsTrue (state g h).is_open → HasCleanDisk (state g h))
-    (settled : (h : Held S) → IsTrue (state g h).is_open → IsSettled (state g h)) (given : Held S) (config : Config) (opened : Hub (HashingStore S))
+    (settled : (h : Held S) → IsTrue (state g h).is_open → IsSettled (state g h)) (given : Held S) (config : Config) (opened : Hub (HostStore S))
     (given_config : opened.config ≡ config)
     (fresh : IsHonest (condition_of g) opened → HoldsNone (state g given).now.trees → StandsAfter (condition_of g) opened empty_state [])
     (again : IsHonest (condition_of g) opened → (found : State) → IsLeftAs (state g given).now.trees found
     → (first : State) (records : List Record) → Run config first records (first_world found)
     → StandsAfter (condition_of g) opened first records) where
-  led : (hub : Hub (HashingStore S)) → hub.config ≡ config → (first : State) (records : List Record) (deeds : List Deed)
-      → StandsBehind (condition_of g) hub first records (λ n. []) deeds → LedBy config (state g hub.store.store) first records deeds
+  led : (hub : Hub (HostStore S)) → hub.config ≡ config → (first : State) (records : List Record) (deeds : List Deed)
+      → StandsBehind (condition_of g) hub first records (λ n. []) deeds → LedBy config (state g hub.store.archive.store) first records deeds
   led hub same first records deeds it =
       let run : Run config first (records ++ it.more) it.stands.world = subst (λ (c : Config). Run c first (records ++ it.more) it.stands.world) same it.stands.run in
       record {
@@ -53,22 +51,22 @@ module _ {S : Type 0} (g : Ghosts S) (clean : (h : Held S) → IsTrue (state g h
         run = run;
         stands = it.stands.at.state.stands;
         stop = λ trees h.
-            let l = leaves_as_was (state g hub.store.store) it.stands.world.state (settled hub.store.store it.stands.at.state.stands.stands.is_open) it.stands.at.state.stands trees h in
+            let l = leaves_as_was (state g hub.store.archive.store) it.stands.world.state (settled hub.store.archive.store it.stands.at.state.stands.stands.is_open) it.stands.at.state.stands trees h in
             (l.0, l.1, subst (λ (s : State). Run config first ((records ++ it.more) ++ stopped ∷ []) (first_world s)) (sym l.2) (stops run));
       }
 
-  hosted_by : (store : HashingStore S) (deeds : List Deed) → WentOn (condition_of g) opened store deeds → IsHosted config (state g given) (state g store.store) deeds
+  hosted_by : (store : HostStore S) (deeds : List Deed) → WentOn (condition_of g) opened store deeds → IsHosted config (state g given) (state g store.archive.store) deeds
   hosted_by store deeds it =
-      subst (λ (a : HashingStore S). IsHosted config (state g given) (state g a.store) deeds) (sym it.over) (record {
+      subst (λ (a : HostStore S). IsHosted config (state g given) (state g a.archive.store) deeds) (sym it.over) (record {
         fresh = λ is_open none. led it.new (it.same_config ∙ given_config) empty_state [] deeds
-            (it.behind is_open empty_state [] (fresh (it.honest (clean it.new.store.store is_open)) none));
+            (it.behind is_open empty_state [] (fresh (it.honest (clean it.new.store.archive.store is_open)) none));
         again = λ is_open found left first records run. led it.new (it.same_config ∙ given_config) first records deeds
-            (it.behind is_open first records (again (it.honest (clean it.new.store.store is_open)) found left first records run));
+            (it.behind is_open first records (again (it.honest (clean it.new.store.archive.store is_open)) found left first records run));
       })
 
   module _ {R K P : Type 0} (unread : R → Option (List ℕ)) (taken : K → Option (List ℕ)) (held : P → Option (List ℕ)) (size : P → ℕ) where
     -- what was done over the hub is done over its database
-    pub over_hub : {before after : Doorway R K P} {limits : Limits} {bounds : Bounds} {log_before log_after : StandardErrorLog} (store : HashingStore S) (back : Held S) (deeds : List Deed) (outcome : Outcome) → back ≡ store.store
+    pub over_hub : {before after : Doorway R K P} {limits : Limits} {bounds : Bounds} {log_before log_after : StandardErrorLog} (store : HostStore S) (back : Held S) (deeds : List Deed) (outcome : Outcome) → back ≡ store.archive.store
         → bounds ≡ host_limits limits → EndsHub (condition_of g) (account_of g) unread taken held size unshown before after log_before log_after bounds opened store deeds outcome → WentOn (condition_of g) opened store deeds
         → HostsDatabase g unread taken held size before after limits config given back outcome
     over_hub {before = before} {after = after} {limits = limits} {log_before = log_before} {log_after = log_after} store back deeds outcome same bounded it went =

@@ -9,8 +9,12 @@ use Rattle.dep_types.specs.declared.config.Config.{Config}
 use Rattle.dep_schema.specs.Standing.{HoldsNone}
 use Rattle.dep_schema.specs.States.{StandsFor, IsLeftAs, Leaves}
 use Rattle.dep_store.specs.Migrating.{Keeps}
-use Rattle.dep_store.specs.HashingStores.{account_of, condition_of}
+use Rattle.dep_types.specs.Conditions.{Condition}
+use Rattle.dep_store.specs.HashingStores as store
 use Rattle.dep_store.specs.declared.archive.HashingStore.{HashingStore}
+use Rattle.dep_reserve.specs.declared.reserved_archive.ReservedArchive.{ReservedArchive}
+use Rattle.dep_hub.specs.Errands.{Account}
+use Rattle.swordd.specs.declared.logged_reserve.LoggedReserve.{LoggedReserve}
 use Rattle.dep_store.specs.Starting.{OpeningLeaves}
 use Rattle.dep_hub.specs.Records.{World, Record, Run, first_world, stopped}
 use Rattle.dep_hub.specs.declared.hub.Hub.{Hub}
@@ -44,6 +48,17 @@ pub record IsHosted (config : Config) (old new : db.State) (deeds : List Deed) :
       → (first : State) (records : List Record) → Run config first records (first_world found)
       → LedBy config new first records deeds
 
+-- how a store with a reserve stands: as without one
+abbrev pub condition_of : {S R : Type 0} → (g : Ghosts S) → ReservedArchive (HashingStore S) R → Condition
+condition_of g its = store.condition_of g its.archive
+
+abbrev pub account_of : {S R : Type 0} → (g : Ghosts S) → ReservedArchive (HashingStore S) R → Account
+account_of g its = store.account_of g its.archive
+
+-- a store with the reserve of a host
+abbrev pub HostStore : Type 0 → Type 0
+HostStore S = ReservedArchive (HashingStore S) LoggedReserve
+
 -- the log of a host on standard error shows nothing of what it was told
 abbrev pub unshown : StandardErrorLog → Option (List Note)
 unshown log = None
@@ -63,11 +78,11 @@ module _ {S R K P : Type 0} (g : Ghosts S) (unread : R → Option (List ℕ)) (t
   pub data HostsDatabase (before after : Doorway R K P) (limits : Limits) (config : Config)
       (given back : Held S) : Outcome → Type 0 where
     -- it was served from a hub over the store, and the machine went on with what was done
-    hosts : {outcome : Outcome} (hub : Hub (HashingStore S)) (left : HashingStore S) (deeds : List Deed)
+    hosts : {outcome : Outcome} (hub : Hub (HostStore S)) (left : HostStore S) (deeds : List Deed)
         (log_before log_after : StandardErrorLog)
         → EndsHub (condition_of g) (account_of g) unread taken held size unshown before after
         log_before log_after (host_limits limits) hub left deeds outcome
-        → back ≡ left.store
+        → back ≡ left.archive.store
         → IsHosted config (state g given) (state g back) deeds
         → HostsDatabase before after limits config given back outcome
     -- the configuration is refused, and the door left alone

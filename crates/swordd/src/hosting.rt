@@ -5,14 +5,17 @@ ghost use Rattle.dep_sockets.specs.Doors.{doorway};
 ghost use Rattle.swordd.specs.Hosted.{HostsDatabase, host_limits};
 
 use crate::host_log::StandardErrorLog;
+use crate::logged_reserve::LoggedReserve;
+use crate::reserved_hub::open_reserved_hub;
 use dep_configuration::{Configuration, Limits};
 use dep_host::HostLog;
 use dep_outbox::{Sink, Source, Spool};
 use dep_program::Outcome;
 use dep_sockets::{Door, Entrance, SocketDoor, Spools, serve_hub};
-use dep_store::{Unwatched, Work, open_hub, work_on_file};
+use dep_store::{Work, work_on_file};
 use dep_types::{Config, Text};
 use sqlite::{Alter, Connection};
+use std::alloc::{AllocError, Global};
 use std::cell::Cell;
 use std::net::SocketAddr;
 use std::process;
@@ -24,6 +27,9 @@ pub struct Place {
     pub address: SocketAddr,
     pub spool_folder: Text,
     pub stop_file: Text,
+    /// The file of the reserve, and how many bytes it has; 0 for none.
+    pub reserve_file: Text,
+    pub reserve_bytes: u64,
     pub limits: Limits,
     /// When the opening of the database began.
     pub begun: Option<Instant>,
@@ -66,11 +72,17 @@ pub fn serve_store(rt: &HostRuntime, configuration: Configuration) -> Outcome {
         stop_file,
         config,
         limits,
+        reserve_bytes,
     } = configuration;
+    let Ok(reserve_file) = reserve_beside(rt.alloc(), database.as_str()) else {
+        return fails(rt, "opened");
+    };
     let place = Place {
         address: SocketAddr::new(address, port),
         spool_folder,
         stop_file,
+        reserve_file,
+        reserve_bytes,
         limits,
         begun: Instant::now(rt).ok(),
     };
@@ -86,6 +98,12 @@ pub fn serve_store(rt: &HostRuntime, configuration: Configuration) -> Outcome {
         Some(outcome) => outcome,
         None => fails(rt, "opened"),
     }
+}
+
+// The path of the reserve of the database in this file.
+fn reserve_beside(alloc: Global, database: &str) -> Result<Text, AllocError> {
+    let path = format!(in alloc; "{database}-reserve")?;
+    Ok(Text::new(path))
 }
 
 // What can't be done with the database is printed.
@@ -130,7 +148,8 @@ fn host_database<S: Alter, R: Source + Drop, K: Sink + Drop, P: Spool + Drop, E:
         HostsDatabase S.Store R.unread K.taken P.held P.size
         (at door.old) (at door.new) place.now.limits config connection result.1 result.0 }
 {
-    match open_hub(rt.alloc(), config, connection, &mut Unwatched) {
+    let reserve = LoggedReserve::of(rt, place);
+    match open_reserved_hub(rt.alloc(), config, connection, reserve) {
         Ok(hub) => {
             let mut log = StandardErrorLog::new(rt, place);
             let (outcome, archive) = serve_hub(
@@ -141,7 +160,7 @@ fn host_database<S: Alter, R: Source + Drop, K: Sink + Drop, P: Spool + Drop, E:
                 &mut log,
             );
             log.rest();
-            (outcome, archive.into_store().close())
+            (outcome, archive.into_archive().into_store().close())
         }
         Err((fault, connection)) => {
             let _ = eprintln!(rt; "swordd_host: {fault}");

@@ -1,26 +1,26 @@
 use Rattle.std.proofs.lemmas.Result.{IfOk-weaker}
-use Rattle.dep_bag.specs.Numbered.{file_number}
 use Rattle.dep_answers.specs.Told.{bag_answer}
 use Rattle.dep_answers.proofs.NumberedReplies.{file_read, nothing_read, object_read}
-use Rattle.dep_answers.proofs.ShownReplies.{nothing_said, bag_reply_is}
+use Rattle.dep_answers.proofs.ShownReplies.{nothing_said, tag_reply_is}
 use Rattle.dep_answers.proofs.bags.bag_reply.Goals as goal
 
 pub returns-in-Object-clause-says : goal.returns-in-Object-clause-says
 returns-in-Object-clause-says c =
     IfOk-weaker c.tag_file_reply.result _ _
     (λ said says s n sound e.
-    let read = object_read s n c.args.shown.now c.in-Object.view c.in-Object.is (file_number c.args.path.now) e in
-    bag_reply_is s n c.args.path.now c.in-Object.view c.args.shown.now c.args.delivery said c.in-Object.is read.1 (λ o there is. says s n o sound read.0 there is))
+    let read = object_read s n c.args.path.now c.args.shown.now c.in-Object.view c.in-Object.is e in
+    tag_reply_is s n c.args.path.now c.args.delivery said read.1.0 read.1.1.0 (says s n read.1.0 sound read.0 read.1.1.0 read.1.1.1))
     c.tag_file_reply.ensures.says
 
 pub returns-in-File-clause-says : goal.returns-in-File-clause-says
 returns-in-File-clause-says c =
     IfOk-weaker c.file_reply_at.result _ _
     (λ said says s n sound e.
-    let read = file_read s n c.args.shown.now c.in-File.row c.in-File.is (file_number c.args.path.now) e in
+    let read = file_read s n c.args.path.now c.args.shown.now c.in-File.row c.in-File.is e in
     says s n read.0 read.2 sound read.1 read.3 read.4)
     c.file_reply_at.ensures.says
 
 pub returns-in_default-clause-says : goal.returns-in_default-clause-says
 returns-in_default-clause-says c = λ s n sound e.
-    nothing_said (bag_answer s n c.args.path.now) (nothing_read s n c.args.shown.now sound c.args.path.now c.in_default.not-Object c.in_default.not-File e)
+    nothing_said (bag_answer s n c.args.path.now)
+    (nothing_read s n c.args.path.now c.args.shown.now sound c.in_default.not-Object c.in_default.not-Files c.in_default.not-File e)

@@ -14,8 +14,8 @@ returns-in_ok-rows-in-Files c = record {
       (c.in_ok-rows-in-Files.ensures.told s (subst (TellsDeposit c.args.numbered.now.change.now s) same told));
 }
 
-pub returns-in_ok-metadata-in-Metadata : goal.returns-in_ok-metadata-in-Metadata
-returns-in_ok-metadata-in-Metadata c = record {
+pub returns-in-Metadata : goal.returns-in-Metadata
+returns-in-Metadata c = record {
   told = λ s n ingested told is.
-      view_of_texts s c.args.numbered.now.change.now.content.now n ingested c.args.row is c.args.numbered.now.deposit.now c.in-Metadata.texts c.in-Metadata.is c.in_ok-metadata-in-Metadata.metadata c.in_ok-metadata-in-Metadata.ensures.ok c.new-in-Metadata-2.result (c.new-in-Metadata-2.ensures ∙ c.new-in-Metadata.ensures.items);
+      view_of_texts s c.args.numbered.now.change.now.content.now n ingested c.args.row is c.args.numbered.now.deposit.now c.in-Metadata.field-0 c.in-Metadata.is c.new-in-Metadata.result c.new-in-Metadata.ensures c.new-in-Metadata-3.result (c.new-in-Metadata-3.ensures ∙ c.new-in-Metadata-2.ensures.items);
 }

@@ -31,7 +31,7 @@ returns-in_ok-created-in-Create c = record {
       let number = ap (λ (next : Counters). next.object) numbers.1 in
       let is = blank_row_is s view.clock view.next numbers.0 numbers.1 c.blank_row-row.result view.next.object c.in-Create.ingests c.blank_row-row.ensures in
       let are = c.in_ok-created-in-Create.ensures.told s s.next.object c.in-Create.ingests (numbers, has.1) (is ∙ ap (λ (n : ℕ). object_row n (blank s c.in-Create.ingests)) number) in
-      subst (λ (d : Decision). Some (shown.Object c.in_ok-created-in-Create.created) ≡ known_shown s content d) (sym c.in-Create.is)
+      subst (λ (d : Decision). Some (shown.Files c.in_ok-created-in-Create.created) ≡ known_shown s content d) (sym c.in-Create.is)
       (created_known s content c.in-Create.deposit c.in-Create.ingests c.in_ok-created-in-Create.created are);
 }
 
@@ -48,7 +48,7 @@ returns-in_ok-replaced-in-Replace c = record {
       let was = ingested_row n o c.in-Replace.ingests found c.ingested_by-was.result (row_is s n o view.object has.1.0 found c.in_ok-touched_object-in-Replace.ensures.told) c.ingested_by-was.ensures in
       let row = blank_again s view.clock view.next numbers.0 numbers.1 c.blank_row-row-in-Replace.result n (ingested_by c.in-Replace.ingests o) c.ingested_by-was.result was c.blank_row-row-in-Replace.ensures in
       let are = c.in_ok-replaced-in-Replace.ensures.told s n (o.ingested || c.in-Replace.ingests) (numbers, has.2) row in
-      subst (λ (d : Decision). Some (shown.Object c.in_ok-replaced-in-Replace.replaced) ≡ known_shown s content d) (sym c.in-Replace.is)
+      subst (λ (d : Decision). Some (shown.Files c.in_ok-replaced-in-Replace.replaced) ≡ known_shown s content d) (sym c.in-Replace.is)
       (replaced_known s content n has.0 has.1.1 c.in-Replace.deposit c.in-Replace.ingests c.in_ok-replaced-in-Replace.replaced are);
 }
 

@@ -1,14 +1,13 @@
 use Rattle.std.proofs.lemmas.Result.{IfOk-from_err}
-use Rattle.std.proofs.Common.{ap, subst}
+use Rattle.std.proofs.Common.{subst}
 use Rattle.dep_operations.specs.Rulings.{IsRuling}
 use Rattle.dep_operations.specs.declared.ruling.Ruling.{Ruling}
-use Rattle.dep_operations.specs.declared.view.View.{View}
 use Rattle.dep_tables.proofs.Results.{if_ok}
 use Rattle.dep_row_maps.specs.Clauses.{SeesState}
 use Rattle.dep_row_maps.proofs.Changing.{changes_err, changes_ok, changes_put}
 use Rattle.dep_requests.proofs.Stepping.{delivered, refused_then, accepted_then}
 use Rattle.sqlite.proofs.StateLemmas.{unchanged}
-use Rattle.dep_requests.specs.Performing.{OnlyReads}
+use Rattle.dep_requests.specs.Performing.{OnlyReads, SeesFor}
 use Rattle.dep_requests.proofs.performing.follow.Goals as goal
 
 pub returns-in-Refuse-clause-map : goal.returns-in-Refuse-clause-map
@@ -16,7 +15,7 @@ returns-in-Refuse-clause-map g c = record {
   done = λ clean within ours s are sound fit rules.
       let op = c.args.operation.now in
       let config = c.args.service.now in
-      let way = delivered s op c.args.ruled.now.view.clock c.delivery_at-delivery.result sound (ap (λ (v : View). v.clock) rules.view)
+      let way = delivered s op c.args.ruled.now.view.clock c.delivery_at-delivery.result sound rules.clock
       c.delivery_at-delivery.ensures.clock c.delivery_at-delivery.ensures.bare c.delivery_at-delivery.ensures.closes in
       refused_then config s op (SeesState (g.T.Statements.state c.args.tx.now)) _ c.delivery_at-delivery.result c.refused.result
       (subst (λ (r : Ruling). IsRuling config s op r) c.in-Refuse.is rules.ruling) way are c.refused.ensures.says;
@@ -28,10 +27,11 @@ returns-in_ok-shown-in-Do-clause-map g c = record {
   done = λ clean within ours s are sound fit rules.
       let op = c.args.operation.now in
       let config = c.args.service.now in
-      let way = delivered s op c.args.ruled.now.view.clock c.delivery_at-delivery.result sound (ap (λ (v : View). v.clock) rules.view)
+      let way = delivered s op c.args.ruled.now.view.clock c.delivery_at-delivery.result sound rules.clock
       c.delivery_at-delivery.ensures.clock c.delivery_at-delivery.ensures.bare c.delivery_at-delivery.ensures.closes in
       let ruling = subst (λ (r : Ruling). IsRuling config s op r) c.in-Do.is rules.ruling in
-      let carried = c.in_ok-shown-in-Do.ensures.map.done clean within ours s are config sound fit rules ruling in
+      let seen = subst (λ (r : Ruling). SeesFor config s op c.args.ruled.now r) c.in-Do.is rules.seen in
+      let carried = c.in_ok-shown-in-Do.ensures.map.done clean within ours s are config sound fit seen ruling in
       accepted_then config s op (SeesState (g.T.Statements.state c.carry.new.tx)) c.delivery_at-delivery.result _ c.accept.result fit sound ruling.0 way carried c.accept.ensures;
   keeps = changes_ok c.in_ok-shown-in-Do.ensures.map.keeps;
 }

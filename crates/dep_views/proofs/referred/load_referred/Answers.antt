@@ -1,33 +1,28 @@
 use Rattle.std.proofs.lemmas.Result.{IfOk-from_err}
-use Rattle.dep_tables.proofs.Chains.{clean_before, reads_ok, reads_err, reads_may_then, still_ours}
+use Rattle.dep_tables.proofs.Chains.{reads_ok, reads_err}
 use Rattle.std.proofs.Common.{subst}
 use Rattle.dep_staging.specs.Found.{IsFound}
-use Rattle.dep_views.proofs.Chains.{still_seen}
-use Rattle.dep_views.proofs.Found.{told_referred, told_timed_out, told_unknown}
+use Rattle.dep_views.proofs.Found.{segments_within, told_referred, told_timed_out, told_unknown}
 use Rattle.dep_views.specs.Referred.{live_referred}
 use Rattle.dep_views.specs.declared.referred.Referred.TheVariants.{Unknown, TimedOut, Live}
 use Rattle.dep_views.proofs.referred.load_referred.Goals as goal
 
-pub returns-in_ok-digests-in-Live : goal.returns-in_ok-digests-in-Live
-returns-in_ok-digests-in-Live g c = record {
+pub returns-in-Live : goal.returns-in-Live
+returns-in-Live g c = record {
   map = record {
-    found = λ clean inside ours s are sound running.
-        let old = g.T.Statements.state c.args.tx.now in
-        let mid = g.T.Statements.state c.load_upload.new.tx in
+    found = λ clean inside ours s are sound.
         let u = c.args.upload in
-        let before = clean_before c.load_digests.ensures.map.keeps.stays clean in
-        let same = c.in_ok-staged.ensures.does.keeps.same before ours in
-        let it = subst (IsFound s u) c.in-Live.is (c.in_ok-staged.ensures.does.map before ours s are) in
-        told_referred s u c.in-Live.staged it.0 it.1 c.in_ok-digests-in-Live.digests
-        (c.in_ok-digests-in-Live.ensures.map.found clean (c.in_ok-staged.ensures.does.keeps.stays.inside before inside) (still_ours old mid same ours) s (still_seen old mid s same are) same.0.is_open sound running u it.0 it.1);
-    keeps = reads_ok (reads_may_then c.in_ok-staged.ensures.does.keeps c.in_ok-digests-in-Live.ensures.map.keeps);
+        let it = subst (IsFound s u) c.in-Live.is (c.in_ok-staged.ensures.does.map clean ours s are) in
+        told_referred s u c.in-Live.staged it.0 it.1 c.is_complete.result
+        (c.is_complete.ensures.whole s u it.0 it.1 (segments_within s u it.0 sound it.1.there));
+    keeps = reads_ok c.in_ok-staged.ensures.does.keeps;
   };
 }
 
 pub returns-in-TimedOut : goal.returns-in-TimedOut
 returns-in-TimedOut g c = record {
   map = record {
-    found = λ clean inside ours s are sound running.
+    found = λ clean inside ours s are sound.
         told_timed_out s c.args.upload (λ it. Live (live_referred c.args.upload it)) TimedOut Unknown (subst (IsFound s c.args.upload) c.in-TimedOut.is (c.in_ok-staged.ensures.does.map clean ours s are));
     keeps = reads_ok c.in_ok-staged.ensures.does.keeps;
   };
@@ -36,24 +31,16 @@ returns-in-TimedOut g c = record {
 pub returns-in-Unknown : goal.returns-in-Unknown
 returns-in-Unknown g c = record {
   map = record {
-    found = λ clean inside ours s are sound running.
+    found = λ clean inside ours s are sound.
         told_unknown s c.args.upload (λ it. Live (live_referred c.args.upload it)) TimedOut Unknown (subst (IsFound s c.args.upload) c.in-Unknown.is (c.in_ok-staged.ensures.does.map clean ours s are));
     keeps = reads_ok c.in_ok-staged.ensures.does.keeps;
-  };
-}
-
-pub returns-in_err-digests-in-Live : goal.returns-in_err-digests-in-Live
-returns-in_err-digests-in-Live g c = record {
-  map = record {
-    found = λ clean inside ours s are sound running. IfOk-from_err c.from_residual-in_err-digests-in-Live.result _ c.from_residual-in_err-digests-in-Live.ensures.0;
-    keeps = reads_err c.from_residual-in_err-digests-in-Live.ensures.0 (reads_may_then c.in_ok-staged.ensures.does.keeps c.load_digests.ensures.map.keeps);
   };
 }
 
 pub returns-in_err-staged : goal.returns-in_err-staged
 returns-in_err-staged g c = record {
   map = record {
-    found = λ clean inside ours s are sound running. IfOk-from_err c.from_residual.result _ c.from_residual.ensures.0;
+    found = λ clean inside ours s are sound. IfOk-from_err c.from_residual.result _ c.from_residual.ensures.0;
     keeps = reads_err c.from_residual.ensures.0 c.in_err-staged.ensures.does.keeps;
   };
 }

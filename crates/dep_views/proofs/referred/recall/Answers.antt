@@ -7,8 +7,8 @@ pub returns : goal.returns
 returns g c = record {
   map = record {
     found = λ clean inside ours s are sound known.
-        let it = c.in_ok-found.ensures.map.found clean inside ours s are sound known.running in
-        (it, record { referred = known_more s c.args.known.now.referred c.insert.new.self c.args.upload c.in_ok-found.found it known.referred (λ q. c.in_ok-insert.ensures.updates.0 q); running = known.running });
+        let it = c.in_ok-found.ensures.map.found clean inside ours s are sound in
+        (it, known_more s c.args.known.now c.insert.new.self c.args.upload c.in_ok-found.found it known (λ q. c.in_ok-insert.ensures.updates.0 q));
     keeps = may_ok (may_read c.in_ok-found.ensures.map.keeps);
   };
 }

@@ -2,7 +2,7 @@ use Rattle.std.proofs.lemmas.Result.{IfOk-from_err}
 use Rattle.std.proofs.Common.{Ok, ◌≡◌, ◌∙◌, ◌++◌, [], ◌∷◌, map, take, get_or, is_err, sym, ap}
 use Rattle.std.proofs.lemmas.List.{map_more, take_all}
 use Rattle.dep_objects.proofs.Named.{pushed}
-use Rattle.dep_operations.specs.Views.{upload_view}
+use Rattle.dep_operations.specs.Views.{upload_undigested}
 use Rattle.dep_operations.specs.declared.view.UploadView.{UploadView}
 use Rattle.dep_tables.proofs.Chains.{clean_before, may_ok, may_then, may_err, still_ours}
 use Rattle.dep_views.proofs.Chains.{still_seen}
@@ -15,11 +15,11 @@ uploads-preserved g c =
     let inv = c.uploads.invariant in
     let earlier = clean_before c.load_state.ensures.map.keeps.stays in (
       may_ok (may_then {r = Ok c.in_ok-state.state} inv.0 c.in_ok-state.ensures.map.keeps),
-      λ is_open clean inside ours s are sound running.
+      λ is_open clean inside ours s are sound.
           let same = inv.0.same is_open (earlier clean) ours in
-          let so_far = inv.1 is_open (earlier clean) inside ours s are sound running in
+          let so_far = inv.1 is_open (earlier clean) inside ours s are sound in
           let it = c.in_ok-state.ensures.map.found clean (inv.0.stays.inside (earlier clean) inside) (still_ours old mid same ours) s (still_seen old mid s same are) sound so_far.0 in
-          let f = upload_view c.args.by_reference s in
+          let f = upload_undigested c.args.by_reference s in
           let xs = c.args.uploads.now in
           let n = get_or xs c.uploads.upload-index 0 in
           let view : UploadView = record { upload = n; state = c.in_ok-state.state } in
@@ -31,9 +31,9 @@ uploads-preserved g c =
 pub returns : goal.returns
 returns g c = record {
   map = record {
-    found = λ clean inside ours s are is_open sound running.
-        let f = upload_view c.args.by_reference s in
-        c.from_vec.ensures ∙ (c.uploads.invariant.1 is_open clean inside ours s are sound running).1 ∙ ap (map f) (take_all c.uploads.upload-index c.args.uploads.now c.uploads-test.false);
+    found = λ clean inside ours s are is_open sound.
+        let f = upload_undigested c.args.by_reference s in
+        c.from_vec.ensures ∙ (c.uploads.invariant.1 is_open clean inside ours s are sound).1 ∙ ap (map f) (take_all c.uploads.upload-index c.args.uploads.now c.uploads-test.false);
     keeps = may_ok c.uploads.invariant.0;
   };
 }
@@ -41,7 +41,7 @@ returns g c = record {
 pub returns-in_err-state : goal.returns-in_err-state
 returns-in_err-state g c = record {
   map = record {
-    found = λ clean inside ours s are is_open sound running. IfOk-from_err c.from_residual.result _ c.from_residual.ensures.0;
+    found = λ clean inside ours s are is_open sound. IfOk-from_err c.from_residual.result _ c.from_residual.ensures.0;
     keeps = may_err c.from_residual.ensures.0 (may_then c.uploads.invariant.0 c.load_state.ensures.map.keeps);
   };
 }
@@ -49,7 +49,7 @@ returns-in_err-state g c = record {
 pub returns-in_err-push : goal.returns-in_err-push
 returns-in_err-push g c = record {
   map = record {
-    found = λ clean inside ours s are is_open sound running. IfOk-from_err c.from_residual-in_err-push.result _ c.from_residual-in_err-push.ensures.0;
+    found = λ clean inside ours s are is_open sound. IfOk-from_err c.from_residual-in_err-push.result _ c.from_residual-in_err-push.ensures.0;
     keeps = may_ok (may_then c.uploads.invariant.0 c.in_ok-state.ensures.map.keeps);
   };
 }

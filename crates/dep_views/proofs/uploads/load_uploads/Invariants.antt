@@ -5,9 +5,8 @@ use Rattle.dep_types.specs.Sound.{IsSound}
 use Rattle.dep_tables.specs.Tables.{tables_of, IsOurs}
 use Rattle.dep_tables.proofs.Chains.{MayReads}
 use Rattle.dep_row_maps.specs.TablesAre.{TablesAre}
-use Rattle.dep_operations.specs.Views.{upload_view}
-use Rattle.dep_staging.specs.HashedAhead.{AreRunning}
-use Rattle.dep_views.specs.Referred.{AreKnown}
+use Rattle.dep_operations.specs.Views.{upload_undigested}
+use Rattle.dep_views.specs.Referred.{AreReferred}
 use Rattle.dep_views.proofs.uploads.load_uploads.Given as goal
 
 -- the views so far are those of the uploads so far, and what is known is so
@@ -16,5 +15,5 @@ invariant-uploads g l =
     let old = g.T.Statements.state l.fn.tx in
     let now = g.T.Statements.state l.tx in
     MayReads g.T.Statements.lenders g.T.Statements.state l.fn.tx l.tx
-    × (IsTrue old.is_open → HasCleanDisk now → IsTrue old.in_transaction → IsOurs old → (s : State) → TablesAre (tables_of old) s → IsSound s → AreRunning s l.running
-    → AreKnown s l.known × (l.views.items ≡ map (upload_view l.by_reference s) (take l.upload-index l.uploads)))
+    × (IsTrue old.is_open → HasCleanDisk now → IsTrue old.in_transaction → IsOurs old → (s : State) → TablesAre (tables_of old) s → IsSound s
+    → AreReferred s l.known × (l.views.items ≡ map (upload_undigested l.by_reference s) (take l.upload-index l.uploads)))

@@ -1,5 +1,6 @@
-use Rattle.std.proofs.Common.{refl, ◌∙◌}
+use Rattle.std.proofs.Common.{ap, refl, ◌∙◌}
 use Rattle.sqlite.proofs.StateLemmas.{clean_if_open}
+use Rattle.dep_store.specs.declared.archive.HashingStore.{HashingStore}
 use Rattle.swordd.proofs.HostedLemmas.{over_hub, without_hub}
 use Rattle.swordd.proofs.hosting.host_database.Goals as goal
 
@@ -9,7 +10,7 @@ returns-in-Ok g c = record {
       (λ h is_open trees may. g.met.S.Store.settled h.store trees is_open may) c.args.connection c.args.config c.in-Ok.hub
       c.in-Ok.ensures.config c.in-Ok.ensures.fresh c.in-Ok.ensures.again
       g.R.Source.unread g.K.Sink.taken g.P.Spool.held g.P.Spool.size
-      c.serve_hub-outcome.result.1 c.close.result c.serve_hub-outcome.ensures.ends.0 c.serve_hub-outcome.result.0 (c.close.ensures ∙ c.into_store.ensures) c.host_limits.ensures
+      c.serve_hub-outcome.result.1 c.close.result c.serve_hub-outcome.ensures.ends.0 c.serve_hub-outcome.result.0 (c.close.ensures ∙ c.into_store.ensures ∙ ap (λ (a : HashingStore _). a.store) c.into_archive.ensures) c.host_limits.ensures
       c.serve_hub-outcome.ensures.ends.1 c.serve_hub-outcome.ensures.ends.2;
 }
 

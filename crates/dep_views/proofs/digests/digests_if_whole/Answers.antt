@@ -6,7 +6,7 @@ use Rattle.dep_fixity.specs.Fixity.{digests_of}
 use Rattle.dep_fixity.specs.declared.hasher.Digests.{Digests}
 use Rattle.dep_views.proofs.Found.{segments_within}
 use Rattle.dep_tables.proofs.Chains.{may_ok, may_err, may_put}
-use Rattle.dep_views.proofs.referred.load_digests.Goals as goal
+use Rattle.dep_views.proofs.digests.digests_if_whole.Goals as goal
 
 pub returns-then-not-is_complete : goal.returns-then-not-is_complete
 returns-then-not-is_complete g c = record {

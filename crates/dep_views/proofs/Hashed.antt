@@ -1,0 +1,54 @@
+-- A view before any digest is taken, and the same with the digests of the uploads that references name.
+use Rattle.std.proofs.Common.{◌≡◌, ◌∙◌, ℕ, Bool, true, false, List, [], ◌∷◌, map, Option, Some, None, is_some, refl, sym, ap}
+use Rattle.std.specs.Prelude.{if◌then◌else◌}
+use Rattle.std.specs.Option.{option_map_or}
+use Rattle.std.specs.FinMap as finmap
+use Rattle.std.specs.FinSet as set
+use Rattle.dep_types.specs.State.{State, Upload as Staged}
+use Rattle.dep_operations.specs.Views.{live_upload, seen_at, state_undigested, upload_state, upload_undigested, upload_view}
+use Rattle.dep_operations.specs.declared.view.Touched.{Touched}
+use Rattle.dep_operations.specs.declared.view.UploadState.TheVariants.{Live, TimedOut, Unknown}
+use Rattle.dep_operations.specs.declared.view.UploadView.{UploadView}
+use Rattle.dep_views.specs.Seen.{loaded_view, loaded_with_digests}
+use Rattle.dep_views.specs.declared.view.LoadedView.{LoadedView}
+
+-- without references no digest is shown
+row_alone : (s : State) (u : ℕ) → state_undigested (upload_state false s u) ≡ upload_state false s u
+row_alone s u = go (finmap.get s.uploads u) (set.contains s.timed_out u)
+  where
+    go : (o : Option Staged) (b : Bool) → state_undigested (option_map_or (λ it. Live (live_upload false u it)) o (if b then TimedOut else Unknown))
+        ≡ option_map_or (λ it. Live (live_upload false u it)) o (if b then TimedOut else Unknown)
+    go (Some it) b = refl
+    go None true = refl
+    go None false = refl
+
+rows_alone : (s : State) (us : List ℕ) → map (upload_undigested false s) us ≡ map (upload_view false s) us
+rows_alone s [] = refl
+rows_alone s (u ∷ us) = (λ i. record { upload = u; state = row_alone s u i } ∷ rows_alone s us i)
+
+-- those that were looked at, and are hashed
+hashed_each : (s : State) (by_reference : Bool) (us : List ℕ) → map (λ (v : UploadView). upload_view true s v.upload) (map (upload_undigested by_reference s) us) ≡ map (upload_view true s) us
+hashed_each s by [] = refl
+hashed_each s by (u ∷ us) = ap (λ vs. upload_view true s u ∷ vs) (hashed_each s by us)
+
+module _ (s : State) (content : List ℕ) (t : Touched) (loaded : LoadedView) (same : loaded ≡ loaded_view s content t) where
+  of_references : loaded.view.references ≡ t.references
+  of_references = ap (λ (l : LoadedView). l.view.references) same
+
+  by_reference : (b : Bool) → is_some loaded.view.references ≡ b → is_some t.references ≡ b
+  by_reference b is = ap is_some (sym of_references) ∙ is
+
+  pub nothing_to_hash : is_some loaded.view.references ≡ false → loaded ≡ loaded_with_digests s content t
+  nothing_to_hash none =
+      let b = by_reference false none in
+      let us = ap (λ x. map (upload_undigested x s) t.uploads) b ∙ rows_alone s t.uploads ∙ ap (λ x. map (upload_view x s) t.uploads) (sym b) in
+      same ∙ (λ i. record (loaded_with_digests s content t) { view = record (seen_at s content t) { uploads = us i } })
+
+  pub hashed_all : (uploads : List UploadView) → is_some loaded.view.references ≡ true → uploads ≡ map (λ (v : UploadView). upload_view true s v.upload) loaded.view.uploads
+      → ◌≡◌ {A = LoadedView} (record { view = record loaded.view { uploads = uploads }; payload = loaded.payload }) (loaded_with_digests s content t)
+  hashed_all uploads some told =
+      let b = by_reference true some in
+      let us : uploads ≡ map (upload_view (is_some t.references) s) t.uploads =
+      told ∙ ap (λ (l : LoadedView). map (λ (v : UploadView). upload_view true s v.upload) l.view.uploads) same
+      ∙ hashed_each s (is_some t.references) t.uploads ∙ ap (λ x. map (upload_view x s) t.uploads) (sym b) in
+      (λ i. record { view = record (same i).view { uploads = us i }; payload = (same i).payload })

@@ -1,0 +1,21 @@
+use Rattle.std.proofs.Common.{◌∙◌, ap}
+use Rattle.dep_types.specs.State.{Texts}
+use Rattle.dep_answers.specs.declared.subject.Shown.TheVariants as shown
+use Rattle.dep_tables.proofs.Chains.{reads_ok, reads_err}
+use Rattle.dep_views.proofs.Shows.{listed_shown, shown_failed}
+use Rattle.dep_views.proofs.shown.show_listed.Goals as goal
+
+pub returns : goal.returns
+returns g c = record {
+  does = record {
+    map = record {
+      found = λ clean inside ours s are sound has.
+          ap (λ (texts : Texts). shown.Files (record { object = c.args.row; metadata = texts; files = c.in_ok-files.files })) c.new.ensures
+          ∙ listed_shown s c.args.row c.in_ok-files.files has (c.in_ok-files.ensures.does.map clean ours s are);
+      keeps = reads_ok c.in_ok-files.ensures.does.keeps;
+    };
+  };
+}
+
+pub returns-in_err-files : goal.returns-in_err-files
+returns-in_err-files g c = record { does = shown_failed c.from_residual.ensures.0 (reads_err c.from_residual.ensures.0 c.in_err-files.ensures.does.keeps) }

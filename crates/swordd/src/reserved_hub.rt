@@ -1,0 +1,66 @@
+//! A hub over a database with a reserve.
+ghost use Rattle.std.specs.Prelude.{◌≡◌, List, [], false, IfOk, IfErr, IsTrue};
+ghost use Rattle.sqlite.specs.Held.{state};
+ghost use Rattle.dep_types.specs.State.{State, empty_state};
+ghost use Rattle.dep_types.specs.Config.{IsChecked};
+ghost use Rattle.dep_schema.specs.Standing.{HoldsNone};
+ghost use Rattle.dep_schema.specs.States.{IsLeftAs};
+ghost use Rattle.dep_store.specs.Migrating.{Keeps};
+ghost use Rattle.dep_store.specs.Starting.{IsStore, OpeningLeaves};
+ghost use Rattle.dep_hub.specs.Records.{Record, Run, first_world};
+ghost use Rattle.dep_hub.specs.Standing.{StandsAfter, IsHonest};
+ghost use Rattle.swordd.specs.Hosted.{condition_of};
+
+use dep_hub::{Hub, HubFault};
+use dep_reserve::{Reserve, ReservedArchive};
+use dep_schema::OpenFault;
+use dep_store::{HashingStore, StartFault, Store, Unwatched};
+use dep_types::Config;
+use sqlite::{Alter, Connection};
+use std::alloc::Global;
+
+/// Opens the database as a store, takes the reserve, if there is one, and makes a hub over both, without connections. A
+/// refusal hands the connection back, as one of `dep_store::open_hub` does.
+pub fn open_reserved_hub<S: Alter, R: Reserve + Drop>(
+    alloc: Global,
+    config: Config,
+    connection: Connection<S>,
+    reserve: Option<R>,
+) -> Result<Hub<ReservedArchive<HashingStore<S>, R>>, (StartFault, Connection<S>)>
+    requires settled { (state S.Store connection).in_transaction ≡ false }
+    ensures fresh { IfOk result (λ hub. IsHonest (condition_of S.Store) hub
+        → HoldsNone (state S.Store connection).now.trees
+        → StandsAfter (condition_of S.Store) hub empty_state []) }
+    ensures again { IfOk result (λ hub. IsHonest (condition_of S.Store) hub
+        → (found : State) → IsLeftAs (state S.Store connection).now.trees found
+        → (first : State) (records : List Record) → Run config first records (first_world found)
+        → StandsAfter (condition_of S.Store) hub first records) }
+    ensures config { IfOk result (λ hub. hub.config ≡ config) }
+    ensures left { IfErr result (λ e. (fault : OpenFault) → e.0 ≡ StartFault.Open fault
+        → IsTrue (state S.Store e.1).is_open
+        → Keeps (state S.Store connection) (state S.Store e.1)) }
+    ensures kept { IfErr result (λ e. (fault : HubFault) → e.0 ≡ StartFault.Hub fault
+        → IsStore (state S.Store connection) (state S.Store e.1)) }
+    ensures refused { IfErr result (λ e. e.0 ≡ StartFault.Hub HubFault.Config
+        → ¬ IsChecked config) }
+    ensures stop { IfErr result (λ e.
+        OpeningLeaves config (state S.Store connection) (state S.Store e.1)) }
+{
+    match Store::open(alloc, connection, &mut Unwatched) {
+        Ok(store) => {
+            let archive = ReservedArchive::new(HashingStore::new(alloc, store), reserve);
+            match Hub::new(alloc, config, archive) {
+                Ok(hub) => Ok(hub),
+                Err((fault, archive)) => {
+                    let connection = archive.into_archive().into_store().close();
+                    Err((StartFault::Hub(fault), connection))
+                }
+            }
+        }
+        Err((fault, connection)) => {
+            drop(config);
+            drop(reserve);
+            Err((StartFault::Open(fault), connection))
+        }
+    }
+}
