@@ -317,10 +317,12 @@ def change_before_the_end(kept, place):
     contents = {"first": b"1" * 1000, **{f"{at:03}": b"%d" % at for at in range(110)}, "large.bin": os.urandom(40 * SEGMENT)}
     paths = write(place / "files", contents)
     browser.choose(*paths)
+    relay.goes_on.clear()
     browser.begin()
     browser.wait("document.querySelector('#items li').dataset.state === 'there'")
     contents["first"] = b"2" * 1000
     put_back(paths[0], contents["first"])
+    relay.goes_on.set()
     compare("a file that changes once it was deposited", site, browser.ends(), contents)
     expect("changes without If-Match", relay.untagged, [])
     relay.close()

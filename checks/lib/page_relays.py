@@ -10,10 +10,13 @@ from relay import Relay, end
 
 class Watching(Relay):
     """Between nginx and a host. It notes each request as its method, its path and the number of its segment, and turns the first
-    byte of the contents that it is to spoil. Changes of objects without If-Match are `untagged`."""
+    byte of the contents that it is to spoil. While `goes_on` is cleared it holds the segments behind each first one. Changes of
+    objects without If-Match are `untagged`."""
 
     def __init__(self, port):
         self.requests, self.untagged, self.spoils = [], [], lambda path: False
+        self.goes_on = threading.Event()
+        self.goes_on.set()
         super().__init__(port)
 
     def pass_on(self, client):
@@ -38,6 +41,8 @@ class Watching(Relay):
                 self.untagged.append((method, path))
             number = re.search(rb"segment_number=(\d+)", head)
             self.requests.append((method.decode(), path.decode(), number and int(number[1])))
+            if number and int(number[1]) > 1:
+                self.goes_on.wait()
             if content and self.spoils(path.decode()):
                 content[0] ^= 1
             server.sendall(head + content)
