@@ -1,12 +1,13 @@
 #!/usr/bin/env python3
 """Exports bags through the program, from a store that `swordd serve` made, and looks at each folder: its files, its
-manifests by hashlib, and checks/validate-bag, a validator that knows RFC 8493 alone and also has to see damage. Then it
-audits the store, before and after statements of Python's sqlite3 that damage it.
+manifests by hashlib, and checks/validate-bag, a validator that knows RFC 8493 alone and also has to see damage. So it
+does with an object of 3,000 files, whose manifests are long, and sees that each file was synchronized once it was whole.
+Then it audits the store, before and after statements of Python's sqlite3 that damage it.
 
     checks/bags.py
 
-It is the story of checks/bag.sh without curl, sha256sum and sqlite3. The status is 0 where all is so. It needs nothing
-else, and takes two seconds.
+It is the story of checks/bag.sh without curl, sha256sum and sqlite3, and more. The status is 0 where all is so. It needs
+the kit's clang (checks/lib/system_faults.py), and takes three seconds.
 """
 
 import sys
@@ -23,12 +24,17 @@ import tempfile
 from commands import NO_SUCH_OBJECT, STORE_FAULT, TRANSFER_FAULT, USAGE, ends
 from crates import ROOT
 from expectations import expect, status_of
+from growing import transaction
 from served import Server
+from system_faults import Faults
 
 VALIDATOR = ROOT / "checks/validate-bag"
 LISTED = ["bagit.txt", "bag-info.txt", "manifest-sha256.txt", "manifest-sha512.txt", "metadata/sword.json"]
 TAGS = [*LISTED, "tagmanifest-sha256.txt", "tagmanifest-sha512.txt"]
 LONG = 255 * "y"
+MANY, LONG_MANIFEST = 3000, 128 * 1024
+FILE_ROW = """INSERT INTO files SELECT ?1, object, name, media, ?2, tag, deposited, behalf, by_reference, ?3 FROM files
+    WHERE file = 1"""
 DAMAGE = """UPDATE blocks SET bytes = X'616264' WHERE owner = 5; UPDATE files SET size = 4 WHERE file = 4;
     UPDATE blocks SET place = 9 WHERE owner = 2 AND place = 0; DELETE FROM blocks WHERE owner = 3;"""
 
@@ -143,15 +149,59 @@ def audit(store, folder):
     has(third, *TAGS, "data/1/50%.txt", "data/2/%2e%2e", "data/3/déjà vu.txt")
 
 
+def fill_many(folder):
+    """Makes an object of a file through the server, and gives it further ones by their rows. Returns the store, and the
+    contents of the files by their numbers."""
+    with Server(1, folder) as server:
+        fields = {"Content-Disposition": "attachment; filename=a", "Content-Type": "text/plain"}
+        server.ask(201, "POST", "/service", b"1", fields)
+        expect("the end of the server", server.ends(), (0, ""))
+    contents = {number: str(number).encode() for number in range(1, MANY + 1)}
+    with transaction(server.store) as database:
+        for number, it in list(contents.items())[1:]:
+            database.execute(FILE_ROW, (number, len(it), hashlib.sha256(it).digest()))
+            database.execute("INSERT INTO blocks VALUES (0, ?, 1, 0, ?)", (number, it))
+            database.execute("INSERT INTO sha512s VALUES (0, ?, ?)", (number, hashlib.sha512(it).digest()))
+        database.execute("UPDATE state SET next_file = ?", (MANY + 1,))
+    return server.store, contents
+
+
+def export_many(folder, faults):
+    """Manifests that are longer than 128 KiB are whole, byte for byte."""
+    folder.mkdir()
+    store, contents = fill_many(folder)
+    bag = folder / "bag"
+    faults.synced()
+    ends(0, "", "export", store, "1", bag, env=faults.environment())
+    is_synced(bag, faults)
+    has(bag, *TAGS, *[f"data/{number}/a" for number in contents])
+    for algorithm in ("sha256", "sha512"):
+        wanted = "".join(f"{hashlib.new(algorithm, it).hexdigest()}  data/{number}/a\n" for number, it in contents.items())
+        manifest = (bag / f"manifest-{algorithm}.txt").read_text(encoding="utf-8")
+        expect(f"whether a manifest is long by {algorithm}", len(wanted) > LONG_MANIFEST, True)
+        expect(f"whether the manifest of {MANY} files is whole by {algorithm}", manifest == wanted, True)
+    is_valid(bag)
+
+
+def is_synced(bag, faults):
+    """Each file was synchronized, when it had all its bytes."""
+    files = {str(it): it.stat().st_size for it in bag.resolve().rglob("*") if it.is_file()}
+    told = {path: length for path, length in faults.synced().items() if path.startswith(f"{bag.resolve()}/")}
+    wrong = sorted(set(told.items()) ^ set(files.items()))
+    expect(f"the files of {bag.name} that weren't synchronized whole, {len(wrong)}", wrong[:3], [])
+
+
 def main():
     large = os.urandom(200_000)
     with tempfile.TemporaryDirectory() as name:
         folder = pathlib.Path(name)
+        faults = Faults(folder)
         with Server(7, folder) as server:
             fill(server, large)
             expect("the end of the server", server.ends(), (0, ""))
         export(server.store, folder, large)
         export_wrongly(server.store, folder)
+        export_many(folder / "many", faults)
         audit(server.store, folder)
     return status_of("bags: exported whole, valid, and damage is seen")
 

@@ -32,9 +32,11 @@ from example_play import listed_files
 
 BODIES = ROOT / "checks/bodies"
 # Which file of examples refuses which body.
-PLAYED = {"always_500": "one-file.txt", "always_503": "one-file.txt", "connects_never": "hubs.txt",
-          "cuts_each_content": "one-file.txt", "ends_at_once": "conversations.txt",
-          "forgets_the_timed_out": "stopped-disks.txt", "replies_before_it_commits": "stopped-disks.txt"}
+PLAYED = {"always_500": "one-file.txt", "always_503": "one-file.txt", "check_finds_no_memory": "one-file.txt",
+          "connects_never": "hubs.txt", "cuts_each_content": "one-file.txt", "ends_at_once": "conversations.txt",
+          "ends_by_a_bound": "conversations.txt", "ends_by_a_read_fault": "conversations.txt",
+          "ends_by_a_write_fault": "conversations.txt", "forgets_the_timed_out": "stopped-disks.txt",
+          "hub_finds_no_memory": "one-file.txt", "replies_before_it_commits": "stopped-disks.txt"}
 # Of these files one example alone is played, with stops of the log alone, since the program that `rt try` builds is slow.
 ONLY = {"conversations.txt": "a deposit and its file in one input",
         "stopped-disks.txt": "an upload that timed out stays so, whatever the moment"}

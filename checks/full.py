@@ -3,12 +3,13 @@
 
     checks/full.py
 
-The store is on a file system of 40 MiB in memory. A client deposits files of 1 MiB until one is refused for want of room. From
+The store is on a file system of 56 MiB in memory. A client deposits files of 1 MiB until one is refused for want of room. From
 then on what brings a content gets 500, for some seconds; GETs, HEADs, a completion and DELETEs are answered as ever. So it is
 after a kill and another start over the full disk. Once the file system is larger, deposits go on, and each file that was
 acknowledged is there, byte for byte, but for those that were deleted. The log tells of the reserve each time, and another host,
-which is configured to have none, has none. The status is 0 where it was so. Mounting needs root; where it is refused, nothing is
-played, and the line says so.
+which is configured to have none, has none. It is the same on a file system that contents of 16 MiB, the largest, fill to within a
+few KiB, so that the copy of the log has nothing but the reserve. The status is 0 where it was so. Mounting needs root; where it is
+refused, nothing is played, and the line says so.
 """
 
 import sys
@@ -25,18 +26,20 @@ from depositing import Client, as_file, exchange, first_file
 from expectations import expect, find, status_of
 from hosted import MIB, Host, until
 
-SIZE, LARGER = "40m", "90m"
-RESERVE = 16 * MIB
+SIZE, LARGER = "56m", "106m"
+RESERVE = 32 * MIB
+# Three contents of 16 MiB in the file, a fourth in the log, the reserve, and 64 KiB.
+TIGHT, TIGHT_FILES = f"{49_616 + 16_769 + RESERVE // 1024 + 64}k", 4
 # For so many seconds it is looked that nothing changes.
 SECONDS = 3
 MOST_FILES = 60
 
 
 @contextlib.contextmanager
-def small_disk(folder):
-    """A file system of SIZE in the folder, or None where it can't be mounted."""
+def small_disk(folder, size):
+    """A file system of this size in the folder, or None where it can't be mounted."""
     folder.mkdir()
-    mounted = subprocess.run(["mount", "-t", "tmpfs", "-o", f"size={SIZE}", "swordd-full", folder], capture_output=True, check=False)
+    mounted = subprocess.run(["mount", "-t", "tmpfs", "-o", f"size={size}", "swordd-full", folder], capture_output=True, check=False)
     try:
         yield folder if mounted.returncode == 0 else None
     finally:
@@ -79,9 +82,9 @@ def states(host):
     return [it["state"] for it in host.lines("reserve")]
 
 
-def fill(host, kept):
+def fill(host, kept, size=MIB):
     """Deposits until one is refused."""
-    while kept.deposit(host, None) and len(kept.files) < MOST_FILES:
+    while kept.deposit(host, None, size) and len(kept.files) < MOST_FILES:
         pass
     find(f"the disk isn't full after {MOST_FILES} deposits", len(kept.files) < MOST_FILES)
 
@@ -130,6 +133,14 @@ def serve_without(folder, store):
         expect("the files of a store without a reserve", sorted(it.name for it in store.parent.glob("other*")), ["other.db", "other.db-wal"])
 
 
+def serve_tight(folder, store):
+    kept = Kept()
+    with Host(folder, database=str(store)) as host:
+        fill(host, kept, 16 * MIB)
+        expect("how many contents of 16 MiB were taken", len(kept.files), TIGHT_FILES)
+        stay_low(host, kept)
+
+
 def play(disk, folder):
     store, reserve, kept = disk / "deposits.db", disk / "deposits.db-reserve", Kept()
     serve_full(folder / "full", store, reserve, kept)
@@ -139,11 +150,13 @@ def play(disk, folder):
 
 
 def main():
-    with tempfile.TemporaryDirectory() as name, small_disk(pathlib.Path(name) / "disk") as disk:
+    with tempfile.TemporaryDirectory() as name, small_disk(pathlib.Path(name) / "disk", SIZE) as disk:
         if disk is None:
             print("full: left out, since no file system can be mounted here")
             return 0
         count = play(disk, pathlib.Path(name))
+        with small_disk(pathlib.Path(name) / "tight-disk", TIGHT) as tight:
+            serve_tight(pathlib.Path(name) / "tight", tight / "deposits.db")
     return status_of(f"full: a disk of {SIZE} filled, {count} files there in the end")
 
 

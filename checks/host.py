@@ -16,13 +16,16 @@ Without PART all parts are played, one after another. Each has a line, and what 
     unfinished   more bytes of unfinished requests than there may be
     stopped      a host that is told to stop under the load of 20 clients, and opened again
     ended        what a host says that ends for a fault of its disk or of its sockets
+    failing      a disk whose writes fail for a while, where the host goes on
+    segments     uploads of segments of 7 to 16 MiB
+    waits        what makes others wait no longer: a deposit of 64 MiB that is refused, 400,000 texts that nobody asked for
     killed       a host that is killed under the load of 20 clients, and opened again
     examples     the example files over sockets, 50 examples at once over one store
     statuses     its names, what it prints of a configuration, each fault of one by its field, and each exit status
 
-What has to come is waited for at most a minute, so a slow machine is no fault; the times that are told are for the reader. The
-status is 0 where all came as it should. It needs Linux, 4,096 files for a process, and the kit's clang
-(checks/lib/system_faults.py).
+What has to come is waited for at most a minute, so a slow machine is no fault; the times that are told are for the reader, but
+those of `waits` are bounded widely. The status is 0 where all came as it should. It needs Linux, 4,096 files for a process, and
+the kit's clang (checks/lib/system_faults.py).
 """
 
 import sys
@@ -43,6 +46,7 @@ from functools import partial
 import host_clients
 import host_examples
 import host_stops
+import host_waits
 import loads
 from commands import USAGE
 from crates import ROOT, built_program
@@ -103,7 +107,7 @@ WRONG_VALUES = {
     "max_upload": (0, 16 * MIB + 1, "1"), "max_assembled": (0, 2**34 + 1), "max_segments": (0, 10_001),
     "staging_max_idle": (0, 31_536_001), "idle_seconds": (0, 86_401, "60"), "least_rate": (-1, "1", 1_000_000_001),
     "connections": (0, 1.5, None), "address_connections": (0, 1_025, True), "spool_bytes": (MIB - 1, "x"),
-    "unfinished_bytes": (32 * MIB - 1, []), "reserve_bytes": (-1, "1", 1024 * MIB + 1)}
+    "unfinished_bytes": (32 * MIB - 1, []), "reserve_bytes": (-1, "1", 64 * MIB + 1)}
 
 
 def ends(words, status, text):
@@ -175,7 +179,7 @@ def version():
     kit = re.search(r"^Proved with `(.+?)`", (ROOT / "README.md").read_text(encoding="utf-8"), re.MULTILINE)[1]
     with begin("--version", stdout=subprocess.PIPE, stderr=subprocess.PIPE, text=True) as program:
         printed, said = program.communicate(timeout=PATIENCE)
-    told = re.fullmatch(r"swordd_host [0-9]+(\.[0-9]+)+, proved with (.+)\n", printed)
+    told = re.fullmatch(r"swordd_host [0-9]+(\.[0-9]+)+, (.+)\n", printed)
     expect("the version", (program.returncode, told and told[2], said), (0, kit, ""))
 
 
@@ -228,7 +232,7 @@ def statuses():
         return f"{number + 1} faults of configurations by their fields, and the statuses 0 to 3"
 
 
-PARTS = {**host_clients.PARTS, **host_stops.PARTS, **{it.__name__: it for it in (killed, examples, statuses)}}
+PARTS = {**host_clients.PARTS, **host_stops.PARTS, **host_waits.PARTS, **{it.__name__: it for it in (killed, examples, statuses)}}
 
 
 def allow_files():

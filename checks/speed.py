@@ -7,7 +7,6 @@ with the same durability (write-ahead log, synchronous=FULL) on the same disk, i
     checks/speed.py --uploads [COUNTxKIB ..]
     checks/speed.py --pictures FOLDER
     checks/speed.py --host
-    checks/speed.py --tables
 
 It prints deposits of 1 KiB and of 16 MiB, reads of both, a file of 512 MiB in segments and its deposit by reference, and
 the greatest memory that the server had: after the deposits and reads, after as many again, and at the end. Then it
@@ -36,8 +35,6 @@ By --host alone, it measures `swordd_host` under 1 to 1,000 clients at once, bes
 `swordd serve`, and how long others wait while one client deposits 16 MiB, or 512 MiB by reference, or reads 512 MiB
 (checks/lib/host_speed.py).
 
-By --tables alone, it measures the kit's `sqlite` by itself beside Python's, with the server's statements (checks/lib/tables_alone.py).
-
 The status is 1 where one of these takes more. It measures, so it is no part of checks/all: numbers of one run on a busy
 machine say little. Run it on one that does nothing else.
 """
@@ -63,7 +60,6 @@ import growing
 import host_speed
 import older_stores
 import pictures
-import tables_alone
 from crates import ROOT, built_program
 from depositing import JSON, Client, as_file, by_reference, exchange, first_file
 from expectations import expect, wrong
@@ -467,12 +463,9 @@ def main():
     options.add_argument("--uploads", nargs="*", metavar="COUNTxKIB")
     options.add_argument("--pictures", type=pathlib.Path, metavar="FOLDER")
     options.add_argument("--host", action="store_true")
-    options.add_argument("--tables", action="store_true")
     given = options.parse_args()
     if given.host:
         return host_speed.main()
-    if given.tables:
-        return tables_alone.main()
     if given.pictures is not None:
         draw(given.pictures)
         return 1 if wrong else 0

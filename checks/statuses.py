@@ -85,7 +85,7 @@ def store_faults(store, folder):
     change(lost, "DELETE FROM blocks")
     ends(2, STORE_FAULT, "export", lost, "1", folder / "lost")
     change(lost, "UPDATE files SET sha256 = X'07'")
-    ends(2, STORE_FAULT, "audit", lost)
+    expect("an audit of a digest of one byte", ends(4, "", "audit", lost), b"damaged 1 1\nfiles 1 damaged 1\n")
     expect("whether a folder was made", (folder / "not-made").exists(), False)
 
 

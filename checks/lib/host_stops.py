@@ -1,4 +1,4 @@
-"""Parts of checks/host.py: a host that is told to stop, and what one says that ends for a fault."""
+"""Parts of checks/host.py: a host that is told to stop, what one says that ends for a fault, and one that doesn't."""
 
 import http.client
 import json
@@ -10,7 +10,7 @@ import tempfile
 import threading
 import time
 
-from depositing import as_file, first_file
+from depositing import as_file, exchange, first_file
 from expectations import expect
 from host_clients import GET, SMALL_ROOM, Client, read_to_end, request_head
 from hosted import ADDRESS, MIB, PATIENCE, Host, until
@@ -191,4 +191,40 @@ def ended():
     return "a shut store, a failed poll, and a file that can't be closed, each with its line"
 
 
-PARTS = {it.__name__: it for it in (stopped, ended)}
+# ---- failing ----
+
+def is_taken(host, content):
+    """Whether a deposit is taken, or gets 500."""
+    with Client(host) as client:
+        reply, _ = exchange(client.connection, "POST", "/service", content, as_file("a"))
+    expect("the status of a deposit over a disk that failed", reply.status in (201, 500), True)
+    return reply.status == 201
+
+
+def fails_for_a_while(fault):
+    """A disk that can't be written, or read either, shuts no store: what writes gets 500, and in the next second all does, as
+    that writes the clock. Once the disk is whole again so is the service, and nothing is lost."""
+    content = os.urandom(1_000_000)
+    with tempfile.TemporaryDirectory() as name:
+        faults = Faults(pathlib.Path(name))
+        with Host(how={"env": faults.environment()}) as host:
+            with Client(host) as client:
+                path, _ = client.deposit(content)
+            faults.fail(fault)
+            expect(f"whether a deposit is taken where each {fault} fails", is_taken(host, content), False)
+            time.sleep(1.1)
+            for _ in range(3):
+                host.ask(500, "GET", path)
+            expect(f"whether it ends where each {fault} fails", host.process.poll(), None)
+            faults.mend(fault)
+            expect("whether deposits go on over a disk that is whole again", until(lambda: is_taken(host, content)), True)
+            expect("a file from before", host.ask(200, "GET", path)[1] == content, True)
+
+
+def failing():
+    for fault in ("write", "disk"):
+        fails_for_a_while(fault)
+    return "a disk that can't be written, and one that can't be read either, until they are whole again"
+
+
+PARTS = {it.__name__: it for it in (stopped, ended, failing)}

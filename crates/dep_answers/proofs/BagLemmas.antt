@@ -1,5 +1,5 @@
 -- What stands at the paths of a bag.
-use Rattle.std.proofs.Common.{◌≡◌, ℕ, Bool, true, false, ◌||◌, if◌then◌else◌, codes, cond, List, [], ◌∷◌, ◌++◌, Option, Some, None, refl, sym, ap, ◌∙◌, map as each, All}
+use Rattle.std.proofs.Common.{◌≡◌, ℕ, Bool, true, false, ◌||◌, codes, cond, List, [], ◌∷◌, ◌++◌, Option, Some, None, refl, sym, ap, ◌∙◌, map as each, All}
 use Rattle.std.specs.Prelude.{find, bytes_eq, option_map}
 use Rattle.std.specs.Cmp.{nat_cmp_total}
 use Rattle.std.specs.FinMap as finmap
@@ -22,8 +22,8 @@ use Rattle.dep_bag.proofs.Files.{payload_entry}
 use Rattle.dep_bag.proofs.ToldBag.{same_tag_files}
 use Rattle.dep_answers.specs.Answers.{ReplyContent, StoredContent, bytes_of}
 use Rattle.dep_answers.specs.Bags.{BagEntry, bag_entries, tags_shown, payload_shown, shown_in_bag}
-use Rattle.dep_answers.specs.Subjects.{files_view, shows_metadata}
-use Rattle.dep_answers.specs.Telling.{tag_view}
+use Rattle.dep_answers.specs.Subjects.{files_view, payload_view, shows_metadata, shows_sha512s}
+use Rattle.dep_answers.specs.Telling.{tag_view, view_by}
 use Rattle.dep_answers.specs.Told.{content_of, form_at}
 
 -- a path, and what is shown there, if it is known
@@ -73,39 +73,54 @@ found_behind : (test : Part → Bool) (front xs ys : List Part) → find test xs
 found_behind test [] xs ys e = e
 found_behind test (p ∷ front) xs ys e = ap (cond (test p) (Some p)) (found_behind test front xs ys e)
 
--- three parts that aren't looked for
-past_three : (a b c : Bool) (x y z u v w : Part) (rest : Option Part) → (a || b || c) ≡ false
-    → cond a (Some x) (cond b (Some y) (cond c (Some z) rest)) ≡ cond a (Some u) (cond b (Some v) (cond c (Some w) rest))
-past_three true b c x y z u v w rest e = absurd (cc)
-past_three false true c x y z u v w rest e = absurd (cc)
-past_three false false true x y z u v w rest e = absurd (cc)
-past_three false false false x y z u v w rest e = refl
+-- parts that aren't looked for
+past_one : (a : Bool) (p q : Part) (rest more : Option Part) → a ≡ false → rest ≡ more → cond a (Some p) rest ≡ cond a (Some q) more
+past_one true p q rest more e same = absurd (cc)
+past_one false p q rest more e same = same
+
+past_three : (a b c : Bool) (p q r s t u : Part) (rest : Option Part) → (a || b || c) ≡ false
+    → cond a (Some p) (cond b (Some q) (cond c (Some r) rest)) ≡ cond a (Some s) (cond b (Some t) (cond c (Some u) rest))
+past_three true b c p q r s t u rest e = absurd (cc)
+past_three false true c p q r s t u rest e = absurd (cc)
+past_three false false true p q r s t u rest e = absurd (cc)
+past_three false false false p q r s t u rest e = refl
 
 module _ (n : ℕ) (o : Object) (path : List ℕ) where
-  -- the tag files that are made without the metadata
+  -- the tag files that are made without the metadata and the SHA-512 values
   abbrev front : List Part
   front =
       (codes "bagit.txt", Bytes bagit_text)
       ∷ (codes "bag-info.txt", Bytes (told_info (object_view n o)))
       ∷ (manifest_path Sha256, Bytes (told_manifest Sha256 (object_view n o)))
-      ∷ (manifest_path Sha512, Bytes (told_manifest Sha512 (object_view n o)))
       ∷ []
 
   abbrev behind : ObjectView → List Part
-  behind view = each text_part ((codes "metadata/sword.json", bag_metadata_document view.metadata) ∷ told_tag_manifests view) ++ each stored_part view.files
+  behind view =
+      each text_part ((codes "metadata/sword.json", bag_metadata_document view.metadata) ∷ told_tag_manifests view) ++ each stored_part view.files
+
+  abbrev hashed : ObjectView → Part
+  hashed view = text_part (manifest_path Sha512, told_manifest Sha512 view)
 
   pub same_part : told_part (tag_view path n o) path ≡ told_part (object_view n o) path
-  same_part = go (shows_metadata path) refl
+  same_part = go (shows_metadata path) (shows_sha512s path) refl refl
     where
       test : Part → Bool
       test = λ p. bytes_eq path p.0
 
-      go : (b : Bool) → shows_metadata path ≡ b → told_part (if b then object_view n o else files_view n o) path ≡ told_part (object_view n o) path
-      go true is = refl
-      go false is =
+      same_behind : (values : List (List ℕ)) → shows_metadata path ≡ false
+          → find test (behind (record (payload_view n o) { sha512s = values })) ≡ find test (behind (object_view n o))
+      same_behind values is =
+          past_three (bytes_eq path (codes "metadata/sword.json")) (bytes_eq path (codes "tagmanifest-sha256.txt")) (bytes_eq path (codes "tagmanifest-sha512.txt")) _ _ _ _ _ _ _ is
+
+      go : (m h : Bool) → shows_metadata path ≡ m → shows_sha512s path ≡ h → told_part (view_by m h n o) path ≡ told_part (object_view n o) path
+      go true h is other = refl
+      go false true is other =
           ap (option_map (λ (p : Part). p.1))
-          (found_behind test front (behind (files_view n o)) (behind (object_view n o))
-          (past_three (bytes_eq path (codes "metadata/sword.json")) (bytes_eq path (codes "tagmanifest-sha256.txt")) (bytes_eq path (codes "tagmanifest-sha512.txt")) _ _ _ _ _ _ _ is))
+          (found_behind test (front ++ hashed (object_view n o) ∷ []) (behind (payload_view n o)) (behind (object_view n o)) (same_behind (object_view n o).sha512s is))
+      go false false is other =
+          ap (option_map (λ (p : Part). p.1))
+          (found_behind test front (hashed (files_view n o) ∷ behind (files_view n o)) (hashed (object_view n o) ∷ behind (object_view n o))
+          (past_one (shows_sha512s path) (hashed (files_view n o)) (hashed (object_view n o)) _ _ other (same_behind [] is)))
 
 -- ---- what is found
 
@@ -163,9 +178,6 @@ same_text a b e = cc
 same_stored : (f g : ℕ) → Some (Stored f) ≡ Some (Stored g) → f ≡ g
 same_stored f g e = cc
 
-not_stored : (f : ℕ) (text : List ℕ) → Some (Bytes text) ≡ Some (Stored f) → ⊥
-not_stored f text e = cc
-
 by_bytes : (o : Object) (path : List ℕ) (p : Option (List ℕ × BagPart)) (q : Option BagEntry)
     → option_map (told_entry o) p ≡ option_map held_entry q → ((x : List ℕ × BagPart) → p ≡ Some x → x.0 ≡ path)
     → (text : List ℕ) → Some (Bytes text) ≡ option_map (λ x. x.1) p
@@ -175,7 +187,7 @@ by_bytes o path (Some (r, Bytes t)) None e right text is = absurd (cc)
 by_bytes o path (Some (r, Bytes t)) (Some place) e right text is =
     let known : Some (content_of (form_at r) t) ≡ Some place.1 = ap (λ (k : Known). k.1) (same_some (r, Some (content_of (form_at r) t)) (held_entry place) e) in
     sym known ∙ (λ i. Some (content_of (form_at (right (r, Bytes t) refl i)) (same_text t text (sym is) i)))
-by_bytes o path (Some (r, Stored f)) q e right text is = absurd (not_stored f text is)
+by_bytes o path (Some (r, Stored f)) q e right text is = absurd (cc is)
 
 -- a content that is known is that of a file
 known_file : (m : Option File) (c : ReplyContent) → option_map shown_file m ≡ Some c
@@ -187,7 +199,7 @@ by_stored : (o : Object) (p : Option (List ℕ × BagPart)) (q : Option BagEntry
     → (f : ℕ) → Some (Stored f) ≡ option_map (λ x. x.1) p
     → (it : File) × ((finmap.get o.files f ≡ Some it) × (option_map (λ x. x.1) q ≡ Some (shown_file it)))
 by_stored o None q e f is = absurd (cc)
-by_stored o (Some (r, Bytes t)) q e f is = absurd (not_stored f t (sym is))
+by_stored o (Some (r, Bytes t)) q e f is = absurd (cc is)
 by_stored o (Some (r, Stored g)) None e f is = absurd (cc)
 by_stored o (Some (r, Stored g)) (Some place) e f is =
     let known : option_map shown_file (finmap.get o.files g) ≡ Some place.1 =

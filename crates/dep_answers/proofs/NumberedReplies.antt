@@ -16,8 +16,8 @@ use Rattle.dep_bag.proofs.Lines.{All-none}
 use Rattle.dep_bag.proofs.Numbered.{HasStorable, files_storable, found_by_number, none_by_number, numbered}
 use Rattle.dep_answers.specs.Answers.{ReplyContent, StoredContent, answer}
 use Rattle.dep_answers.specs.Bags.{BagEntry, bag_entries, payload_shown, shown_in_bag, tags_shown}
-use Rattle.dep_answers.specs.Subjects.{files_view, shown_at, shows_metadata, subject_by, subject_in_bag}
-use Rattle.dep_answers.specs.Telling.{tag_view}
+use Rattle.dep_answers.specs.Subjects.{shown_at, shows_metadata, shows_sha512s, subject_by, subject_in_bag}
+use Rattle.dep_answers.specs.Telling.{tag_view, view_by}
 use Rattle.dep_answers.specs.Told.{bag_answer}
 use Rattle.dep_answers.specs.declared.subject.Shown.{Shown}
 use Rattle.dep_answers.specs.declared.subject.Shown.TheVariants as shown
@@ -140,18 +140,11 @@ no_payload s sound n o is path none media content shows = go (find at (bag_entri
 
 -- ---- which subject was read
 
-no_object_shown : (n : ℕ) (view : ObjectView) (x : Option Object) → shown.Object view ≡ option_map_or (λ (o : Object). shown.Files (files_view n o)) x shown.Nothing → ⊥
-no_object_shown n view None e = cc
-no_object_shown n view (Some o) e = cc
-
-no_files_shown : (n : ℕ) (view : ObjectView) (x : Option Object) → shown.Files view ≡ option_map_or (λ (o : Object). shown.Object (object_view n o)) x shown.Nothing → ⊥
-no_files_shown n view None e = cc
-no_files_shown n view (Some o) e = cc
-
-no_row_shown : (n f : ℕ) (sh : Shown) → ((row : FileRow) → sh ≡ shown.File row → ⊥) → (sh ≡ shown.Nothing → ⊥) → (x : Option File)
-    → sh ≡ option_map_or (λ (it : File). shown.File (file_row n f it)) x shown.Nothing → ⊥
-no_row_shown n f sh no_row something None e = something e
-no_row_shown n f sh no_row something (Some it) e = no_row (file_row n f it) e
+-- what was shown is neither this nor nothing
+not_shown : {X : Type 0} (sh : Shown) (show : X → Shown) → ((x : X) → sh ≡ show x → ⊥) → (sh ≡ shown.Nothing → ⊥) → (x : Option X)
+    → sh ≡ option_map_or show x shown.Nothing → ⊥
+not_shown sh show other something None e = something e
+not_shown sh show other something (Some x) e = other x e
 
 module _ (s : State) (n : ℕ) (path : List ℕ) (sh : Shown) where
   -- this is what the tag file at the path is shown by
@@ -161,29 +154,36 @@ module _ (s : State) (n : ℕ) (path : List ℕ) (sh : Shown) where
   abbrev IsRead : Type 0
   IsRead = sh ≡ shown_at s (subject_in_bag n path)
 
-  abbrev IsReadBy : Option ℕ → Bool → Type 0
-  IsReadBy k b = sh ≡ shown_at s (subject_by n k b)
+  abbrev IsReadBy : Option ℕ → (m h : Bool) → Type 0
+  IsReadBy k m h = sh ≡ shown_at s (subject_by n k m h)
 
-  tag_view_is : (view : ObjectView) (b : Bool) → file_number path ≡ None → shows_metadata path ≡ b
-      → (o : Object) × ((finmap.get s.objects n ≡ Some o) × (view ≡ (if b then object_view n o else files_view n o))) → IsTagView view
-  tag_view_is view b none of found =
-      (none, (found.0, (found.1.0, found.1.1 ∙ sym (ap (λ (x : Bool). if x then object_view n found.0 else files_view n found.0) of))))
+  -- without its metadata, an object is shown with its files
+  abbrev files_by : (h : Bool) → Object → Shown
+  files_by h o = shown.Files (view_by false h n o)
+
+  by_files : (h : Bool) → IsReadBy None false h → sh ≡ option_map_or (files_by h) (finmap.get s.objects n) shown.Nothing
+  by_files true e = e
+  by_files false e = e
+
+  tag_view_is : (view : ObjectView) (m h : Bool) → file_number path ≡ None → shows_metadata path ≡ m → shows_sha512s path ≡ h
+      → (o : Object) × ((finmap.get s.objects n ≡ Some o) × (view ≡ view_by m h n o)) → IsTagView view
+  tag_view_is view m h none is has found = (none, (found.0, (found.1.0, found.1.1 ∙ sym (λ i. view_by (is i) (has i) n found.0))))
 
   whole_read : (view : ObjectView) → sh ≡ shown.Object view → IsRead → IsTagView view
-  whole_read view is read = go (file_number path) (shows_metadata path) refl refl read
+  whole_read view is read = go (file_number path) (shows_metadata path) (shows_sha512s path) refl refl refl read
     where
-      go : (k : Option ℕ) (b : Bool) → file_number path ≡ k → shows_metadata path ≡ b → IsReadBy k b → IsTagView view
-      go None true none of e = tag_view_is view true none of (object_in n view (finmap.get s.objects n) (sym is ∙ e))
-      go None false none of e = absurd (no_object_shown n view (finmap.get s.objects n) (sym is ∙ e))
-      go (Some f) b some of e = absurd (no_row_shown n f (shown.Object view) (λ row e. cc) (λ e. cc) (file_at s n f) (sym is ∙ e))
+      go : (k : Option ℕ) (m h : Bool) → file_number path ≡ k → shows_metadata path ≡ m → shows_sha512s path ≡ h → IsReadBy k m h → IsTagView view
+      go None true h none of has e = tag_view_is view true h none of has (object_in n view (finmap.get s.objects n) (sym is ∙ e))
+      go None false h none of has e = absurd (not_shown (shown.Object view) (files_by h) (λ o e. cc) (λ e. cc) (finmap.get s.objects n) (sym is ∙ by_files h e))
+      go (Some f) m h some of has e = absurd (not_shown (shown.Object view) (λ (it : File). shown.File (file_row n f it)) (λ it e. cc) (λ e. cc) (file_at s n f) (sym is ∙ e))
 
   files_read : (view : ObjectView) → sh ≡ shown.Files view → IsRead → IsTagView view
-  files_read view is read = go (file_number path) (shows_metadata path) refl refl read
+  files_read view is read = go (file_number path) (shows_metadata path) (shows_sha512s path) refl refl refl read
     where
-      go : (k : Option ℕ) (b : Bool) → file_number path ≡ k → shows_metadata path ≡ b → IsReadBy k b → IsTagView view
-      go None true none of e = absurd (no_files_shown n view (finmap.get s.objects n) (sym is ∙ e))
-      go None false none of e = tag_view_is view false none of (files_in n view (finmap.get s.objects n) (sym is ∙ e))
-      go (Some f) b some of e = absurd (no_row_shown n f (shown.Files view) (λ row e. cc) (λ e. cc) (file_at s n f) (sym is ∙ e))
+      go : (k : Option ℕ) (m h : Bool) → file_number path ≡ k → shows_metadata path ≡ m → shows_sha512s path ≡ h → IsReadBy k m h → IsTagView view
+      go None true h none of has e = absurd (not_shown (shown.Files view) (λ (o : Object). shown.Object (object_view n o)) (λ o e. cc) (λ e. cc) (finmap.get s.objects n) (sym is ∙ e))
+      go None false h none of has e = tag_view_is view false h none of has (files_in (view_by false h n) view (finmap.get s.objects n) (sym is ∙ by_files h e))
+      go (Some f) m h some of has e = absurd (not_shown (shown.Files view) (λ (it : File). shown.File (file_row n f it)) (λ it e. cc) (λ e. cc) (file_at s n f) (sym is ∙ e))
 
   -- where an object was shown, with its metadata or without, it is the one whose tag file that is
   pub object_read : (view : ObjectView) → (sh ≡ shown.Object view) ⊎ (sh ≡ shown.Files view) → IsRead → IsTagView view
@@ -193,27 +193,19 @@ module _ (s : State) (n : ℕ) (path : List ℕ) (sh : Shown) where
   -- where a file was shown, it is the one that was read
   pub file_read : (row : FileRow) → sh ≡ shown.File row → IsRead
       → (f : ℕ) × (file_number path ≡ Some f) × (it : File) × (file_at s n f ≡ Some it) × (row ≡ file_row n f it)
-  file_read row is read = go (file_number path) (shows_metadata path) refl read
+  file_read row is read = go (file_number path) (shows_metadata path) (shows_sha512s path) refl read
     where
-      go : (k : Option ℕ) (b : Bool) → file_number path ≡ k → IsReadBy k b → (f : ℕ) × (file_number path ≡ Some f) × (it : File) × (file_at s n f ≡ Some it) × (row ≡ file_row n f it)
-      go None true of e = absurd (none (finmap.get s.objects n) (sym is ∙ e))
-        where
-          none : (x : Option Object) → shown.File row ≡ option_map_or (λ (o : Object). shown.Object (object_view n o)) x shown.Nothing → ⊥
-          none None e = cc
-          none (Some o) e = cc
-      go None false of e = absurd (none (finmap.get s.objects n) (sym is ∙ e))
-        where
-          none : (x : Option Object) → shown.File row ≡ option_map_or (λ (o : Object). shown.Files (files_view n o)) x shown.Nothing → ⊥
-          none None e = cc
-          none (Some o) e = cc
-      go (Some f) b of e = let found = file_in n f row (file_at s n f) (sym is ∙ e) in (f, of, found.0, found.1.0, found.1.1)
+      go : (k : Option ℕ) (m h : Bool) → file_number path ≡ k → IsReadBy k m h → (f : ℕ) × (file_number path ≡ Some f) × (it : File) × (file_at s n f ≡ Some it) × (row ≡ file_row n f it)
+      go None true h of e = absurd (not_shown (shown.File row) (λ (o : Object). shown.Object (object_view n o)) (λ o e. cc) (λ e. cc) (finmap.get s.objects n) (sym is ∙ e))
+      go None false h of e = absurd (not_shown (shown.File row) (files_by h) (λ o e. cc) (λ e. cc) (finmap.get s.objects n) (sym is ∙ by_files h e))
+      go (Some f) m h of e = let found = file_in n f row (file_at s n f) (sym is ∙ e) in (f, of, found.0, found.1.0, found.1.1)
 
   -- where none of them was shown, nothing stands at the path
   pub nothing_read : IsSound s → ((view : ObjectView) → sh ≡ shown.Object view → ⊥) → ((view : ObjectView) → sh ≡ shown.Files view → ⊥)
       → ((row : FileRow) → sh ≡ shown.File row → ⊥) → IsRead → answer 200 None None None ≡ bag_answer s n path
-  nothing_read sound no_view no_files no_row read = go (file_number path) (shows_metadata path) refl read
+  nothing_read sound no_view no_files no_row read = go (file_number path) (shows_metadata path) (shows_sha512s path) refl read
     where
-      go : (k : Option ℕ) (b : Bool) → file_number path ≡ k → IsReadBy k b → answer 200 None None None ≡ bag_answer s n path
-      go None true of e = no_bag_answer s n path (no_object (λ (v : ObjectView). shown.Object v) (object_view n) sh (finmap.get s.objects n) no_view e)
-      go None false of e = no_bag_answer s n path (no_object (λ (v : ObjectView). shown.Files v) (files_view n) sh (finmap.get s.objects n) no_files e)
-      go (Some f) b of e = absent_answer path f of s sound n (no_file n f sh (file_at s n f) no_row e)
+      go : (k : Option ℕ) (m h : Bool) → file_number path ≡ k → IsReadBy k m h → answer 200 None None None ≡ bag_answer s n path
+      go None true h of e = no_bag_answer s n path (no_object (λ (v : ObjectView). shown.Object v) (object_view n) sh (finmap.get s.objects n) no_view e)
+      go None false h of e = no_bag_answer s n path (no_object (λ (v : ObjectView). shown.Files v) (view_by false h n) sh (finmap.get s.objects n) no_files (by_files h e))
+      go (Some f) m h of e = absent_answer path f of s sound n (no_file n f sh (file_at s n f) no_row e)

@@ -12,7 +12,7 @@ use Rattle.dep_answers.specs.Answers.{Answer, StoredContent, answer, is_silent}
 use Rattle.dep_answers.specs.Bags.{shown_in_bag}
 use Rattle.dep_answers.specs.Performing.{IsReply, Says}
 use Rattle.dep_answers.specs.Replies.{shown_answer}
-use Rattle.dep_answers.specs.Subjects.{files_view, shown_at, subject_at}
+use Rattle.dep_answers.specs.Subjects.{shown_at, subject_at}
 use Rattle.dep_answers.specs.Told.{file_answer, bag_answer}
 use Rattle.dep_answers.specs.declared.performed.Delivery.{Delivery}
 use Rattle.dep_answers.specs.declared.performed.FileId.{FileId}
@@ -34,14 +34,11 @@ nothing_said a e = sym (ap (λ (x : Answer). is_silent x) e)
 
 -- ---- a file
 
-same_row : (x y : FileRow) → shown.File x ≡ shown.File y → x ≡ y
-same_row x y e = cc
-
 pub file_in : (n f : ℕ) (row : FileRow) (o : Option File)
     → shown.File row ≡ option_map_or (λ (x : File). shown.File (file_row n f x)) o shown.Nothing
     → (file : File) × ((o ≡ Some file) × (row ≡ file_row n f file))
 file_in n f row None e = absurd (cc)
-file_in n f row (Some file) e = (file, (refl, same_row row (file_row n f file) e))
+file_in n f row (Some file) e = (file, (refl, cc e))
 
 -- what the reply with a row's content says
 abbrev pub SaysRow : FileRow → Option ℕ → Delivery → Performed → Type 0
@@ -73,31 +70,19 @@ pub no_file : (n f : ℕ) (sh : Shown) (o : Option File) → ((row : FileRow) �
 no_file n f sh None not e = refl
 no_file n f sh (Some file) not e = absurd (not (file_row n f file) e)
 
-pub no_file_answer : (s : State) (id : FileId) (sh : Shown) → ((row : FileRow) → sh ≡ shown.File row → ⊥)
-    → sh ≡ shown_at s (subject.File id) → answer 200 None None None ≡ file_answer s id
-no_file_answer s id sh not e =
-    ap (λ (o : Option File). answer 200 (option_map (λ (x : File). StoredContent x.media x.content) o) (option_map (λ (x : File). x.tag) o) None)
-    (sym (no_file id.object id.file sh (file_at s id.object id.file) not e))
-
 -- ---- a bag
-
-same_view : (x y : ObjectView) → shown.Object x ≡ shown.Object y → x ≡ y
-same_view x y e = cc
-
-same_files : (x y : ObjectView) → shown.Files x ≡ shown.Files y → x ≡ y
-same_files x y e = cc
 
 pub object_in : (n : ℕ) (view : ObjectView) (o : Option Object)
     → shown.Object view ≡ option_map_or (λ (x : Object). shown.Object (object_view n x)) o shown.Nothing
     → (it : Object) × ((o ≡ Some it) × (view ≡ object_view n it))
 object_in n view None e = absurd (cc)
-object_in n view (Some it) e = (it, (refl, same_view view (object_view n it) e))
+object_in n view (Some it) e = (it, (refl, cc e))
 
-pub files_in : (n : ℕ) (view : ObjectView) (o : Option Object)
-    → shown.Files view ≡ option_map_or (λ (x : Object). shown.Files (files_view n x)) o shown.Nothing
-    → (it : Object) × ((o ≡ Some it) × (view ≡ files_view n it))
-files_in n view None e = absurd (cc)
-files_in n view (Some it) e = (it, (refl, same_files view (files_view n it) e))
+pub files_in : (view_of : Object → ObjectView) (view : ObjectView) (o : Option Object)
+    → shown.Files view ≡ option_map_or (λ (x : Object). shown.Files (view_of x)) o shown.Nothing
+    → (it : Object) × ((o ≡ Some it) × (view ≡ view_of it))
+files_in view_of view None e = absurd (cc)
+files_in view_of view (Some it) e = (it, (refl, cc e))
 
 -- what was read of the object is what its tag file at the path is shown by
 pub tag_reply_is : (s : State) (n : ℕ) (path : List ℕ) (delivery : Delivery) (said : Option Performed)

@@ -1,7 +1,5 @@
 -- What answers tell of what was read is what they tell of the state.
-use Rattle.std.proofs.Common.{◌≡◌, ◌<◌, ℕ, ◌+◌, Bool, true, List, [], ◌∷◌, ◌++◌, length, take, get_or, codes, Option, Some, None, if◌then◌else◌, refl, sym, ap, ◌∙◌, append-nil, append_assoc, map as each}
-use Rattle.std.proofs.lemmas.Grind.{flat_map-append}
-use Rattle.std.proofs.lemmas.List.{take_more}
+use Rattle.std.proofs.Common.{◌≡◌, ℕ, Bool, true, List, [], ◌∷◌, ◌++◌, Option, Some, None, if◌then◌else◌, refl, ap, ◌∙◌, map as each}
 use Rattle.std.specs.Option.{option_map, option_map_or}
 use Rattle.std.specs.FinMap as finmap
 use Rattle.dep_types.specs.State.{State, Object, File, Upload, file_at}
@@ -127,16 +125,6 @@ same_paths : (n : ℕ) (es : List (ℕ × File))
     → each row_path (each (λ e. file_row n e.0 e.1) es) ≡ each (λ e. payload_path e.0 e.1.name) es
 same_paths n [] = refl
 same_paths n (e ∷ es) = ap (λ (l : List (List ℕ)). payload_path e.0 e.1.name ∷ l) (same_paths n es)
-
--- a line for one more path
-pub lines_more : (paths : List (List ℕ)) (i : ℕ) (p : List ℕ) → i < length paths → p ≡ get_or paths i p
-    → list_text (take (i + 1) paths) ≡ (list_text (take i paths) ++ p) ++ codes "\n"
-lines_more paths i p h is =
-    ap list_text (take_more paths i p h)
-    ∙ flat_map-append (λ (path : List ℕ). path ++ codes "\n") (take i paths) (get_or paths i p ∷ [])
-    ∙ ap (λ (path : List ℕ). list_text (take i paths) ++ list_text (path ∷ [])) (sym is)
-    ∙ ap (λ (line : List ℕ). list_text (take i paths) ++ line) (append-nil (p ++ codes "\n"))
-    ∙ sym (append_assoc (list_text (take i paths)) p (codes "\n"))
 
 list_by : (n : ℕ) (o : Option Object)
     → told_list (option_map_or (λ (x : Object). shown.Files (files_view n x)) o shown.Nothing)

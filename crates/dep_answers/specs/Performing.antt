@@ -47,11 +47,6 @@ pub record HasEnd (p : Performed) : Type 0 where
   pub status : HasStatus head.status None p
   pub ends : IsTrue (is_some head.content_length || head.status == 204)
 
--- what was done is the step, and what is ready is its reply
-pub record Performs (stepped : Stepped) (left : State) (p : Performed) : Type 0 where
-  pub state : left ≡ stepped.state
-  pub ready : IsReady stepped p
-
 -- the file whose content stands behind a head, unless the reply is bare or the file is empty
 abbrev pub stored_behind : (is_bare : Bool) → (content : List ℕ) → StoredFile → Option StoredFile
 stored_behind true content it = None

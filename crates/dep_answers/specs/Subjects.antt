@@ -1,5 +1,5 @@
 -- What has to be read of the archive for a reply, and what is read.
-use Rattle.std.specs.Prelude.{ℕ, ◌-◌, Bool, true, false, List, codes, bytes_eq, ◌||◌, Option, Some, None}
+use Rattle.std.specs.Prelude.{ℕ, ◌-◌, Bool, true, false, List, [], codes, bytes_eq, ◌||◌, Option, Some, None}
 use Rattle.std.specs.Option.{option_map_or}
 use Rattle.std.specs.FinMap as finmap
 use Rattle.dep_types.specs.State.{State, Object as Kept, file_at}
@@ -23,19 +23,24 @@ shows_metadata path =
     || bytes_eq path (codes "tagmanifest-sha256.txt")
     || bytes_eq path (codes "tagmanifest-sha512.txt")
 
+-- it is made of the SHA-512 values, and of no metadata
+abbrev pub shows_sha512s : (path : List ℕ) → Bool
+shows_sha512s path = bytes_eq path (codes "manifest-sha512.txt")
+
 -- what is read to show a tag file
-abbrev pub tag_subject : ℕ → (metadata : Bool) → Subject
-tag_subject n true = subject.Object n
-tag_subject n false = subject.Files n
+abbrev pub tag_subject : ℕ → (metadata sha512s : Bool) → Subject
+tag_subject n true sha512s = subject.Object n
+tag_subject n false true = subject.Payload n
+tag_subject n false false = subject.Files n
 
 -- the same: the one file that can stand at the path, or else what its tag file shows
-abbrev pub subject_by : ℕ → (file : Option ℕ) → (metadata : Bool) → Subject
-subject_by n (Some f) metadata = subject.File (record { object = n; file = f })
-subject_by n None metadata = tag_subject n metadata
+abbrev pub subject_by : ℕ → (file : Option ℕ) → (metadata sha512s : Bool) → Subject
+subject_by n (Some f) metadata sha512s = subject.File (record { object = n; file = f })
+subject_by n None metadata sha512s = tag_subject n metadata sha512s
 
 -- what is read to show what stands at a path of a bag
 abbrev pub subject_in_bag : ℕ → (path : List ℕ) → Subject
-subject_in_bag n path = subject_by n (file_number path) (shows_metadata path)
+subject_in_bag n path = subject_by n (file_number path) (shows_metadata path) (shows_sha512s path)
 
 -- what is read to show a resource
 abbrev pub subject_at : Resource → Subject
@@ -61,14 +66,20 @@ subject_of next Staging Post = subject.Upload (next.upload - 1)
 subject_of next resource method = subject.Nothing
 
 -- an object with its files, as it is shown where no metadata is read
+abbrev pub payload_view : ℕ → Kept → ObjectView
+payload_view n o = record (object_view n o) { metadata = finmap.empty }
+
+-- the same where no SHA-512 values are read either
 abbrev pub files_view : ℕ → Kept → ObjectView
-files_view n o = record (object_view n o) { metadata = finmap.empty }
+files_view n o = record (payload_view n o) { sha512s = [] }
 
 -- what a state shows there
 abbrev pub shown_at : State → Subject → Shown
 shown_at s subject.Nothing = shown.Nothing
 shown_at s (subject.Object n) =
     option_map_or (λ o. shown.Object (object_view n o)) (finmap.get s.objects n) shown.Nothing
+shown_at s (subject.Payload n) =
+    option_map_or (λ o. shown.Files (payload_view n o)) (finmap.get s.objects n) shown.Nothing
 shown_at s (subject.Files n) =
     option_map_or (λ o. shown.Files (files_view n o)) (finmap.get s.objects n) shown.Nothing
 shown_at s (subject.ObjectRow n) =

@@ -2,11 +2,11 @@
 ghost use Rattle.std.specs.Prelude.{◌≡◌};
 ghost use Rattle.dep_types.specs.declared.counters.Counters.{Counters as ACounters};
 ghost use Rattle.dep_types.specs.declared.target.Method.TheVariants.{Post, Put};
-ghost use Rattle.dep_answers.specs.Subjects.{shows_metadata, subject_at, subject_in_bag, subject_of, tag_subject};
+ghost use Rattle.dep_answers.specs.Subjects.{shows_metadata, shows_sha512s, subject_at, subject_in_bag, subject_of, tag_subject};
 
 use crate::performed::FileId;
 use dep_bag::file_number;
-use dep_manifest::{METADATA, TAG_MANIFEST_SHA256, TAG_MANIFEST_SHA512};
+use dep_manifest::{MANIFEST_SHA512, METADATA, TAG_MANIFEST_SHA256, TAG_MANIFEST_SHA512};
 use dep_operations::Numbers;
 use dep_types::{
     Counters, FileRow, Metadata, Method, ObjectRow, ObjectView, Resource, Target, UploadRow,
@@ -17,9 +17,11 @@ use dep_types::{
 pub enum Subject {
     /// Nothing has to be read.
     Nothing,
-    /// The object with this number: its row, its metadata and its files.
+    /// The object with this number: its row, its metadata, its files and their SHA-512 values.
     Object(u64),
     /// An object without its metadata.
+    Payload(u64),
+    /// An object without its metadata and the SHA-512 values of its files.
     Files(u64),
     /// An object without its metadata and files.
     ObjectRow(u64),
@@ -38,7 +40,8 @@ pub enum Shown {
     Nothing,
     /// An object with its metadata and files.
     Object(ObjectView),
-    /// An object with its files. Its metadata isn't read, and is empty here.
+    /// An object with its files. Its metadata isn't read, and is empty here, as are the SHA-512 values where
+    /// they weren't asked for.
     Files(ObjectView),
     /// An object without its metadata and files.
     ObjectRow(ObjectRow),
@@ -108,10 +111,12 @@ fn in_bag(object: u64, path: &[u8]) -> Subject
 
 // What is read to show a tag file.
 fn in_tag_file(object: u64, path: &[u8]) -> Subject
-    ensures { result ≡ tag_subject object (shows_metadata path.now) }
+    ensures { result ≡ tag_subject object (shows_metadata path.now) (shows_sha512s path.now) }
 {
     if shows_metadata(path) {
         Subject::Object(object)
+    } else if path == MANIFEST_SHA512.as_bytes() {
+        Subject::Payload(object)
     } else {
         Subject::Files(object)
     }

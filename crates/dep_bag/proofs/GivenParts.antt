@@ -41,15 +41,11 @@ IsOurs Memory = Unit {0}
 
 pub front_given : (e : ExportFault) (whole given : List ℕ) → IsOurs e → IsFront given whole → IsGivenAt e whole given
 front_given NoSuchObject whole given ours f = ours
-front_given Sink whole given ours f = f
-front_given Store whole given ours f = f
-front_given Memory whole given ours f = f
+front_given _ whole given ours f = f
 
 pub given_front : (e : ExportFault) (whole given : List ℕ) → IsGivenAt e whole given → IsOurs e × IsFront given whole
 given_front NoSuchObject whole given f = absurd f
-given_front Sink whole given f = (tt, f)
-given_front Store whole given f = (tt, f)
-given_front Memory whole given f = (tt, f)
+given_front _ whole given f = (tt, f)
 
 -- an error that is this fault, after a front
 pub faulty : {X : Type 0} (r : Result X ExportFault) (fault : ExportFault) (whole given : List ℕ) → IsErrAnd r (λ e. e ≡ fault) → IsOurs fault → IsFront given whole → IsGiven whole given r
@@ -59,9 +55,7 @@ faulty (Err e) fault whole given h ours f = subst (λ e. IsGivenAt e whole given
 -- a fault that is another than that the object isn't there
 pub there_is_ours : {X : Type 0} (e : ExportFault) → (◌≡◌ {A = Result X ExportFault} (Err e) (Err NoSuchObject) → ⊥) → IsOurs e
 there_is_ours NoSuchObject h = h refl
-there_is_ours Sink h = tt
-there_is_ours Store h = tt
-there_is_ours Memory h = tt
+there_is_ours _ h = tt
 
 fault_of : {X : Type 0} (x y : ExportFault) → ◌≡◌ {A = Result X ExportFault} (Err x) (Err y) → x ≡ y
 fault_of x y e = cc
@@ -80,9 +74,7 @@ err_keeps (Err x) e P err = tt
 
 pub caused_later : (before now after : ℕ) (fault : ExportFault) → now ≡ before → IsCausedBy fault now after → IsCausedBy fault before after
 caused_later before now after Sink same cause = subst (λ n. HasRisen n after) same cause
-caused_later before now after NoSuchObject same cause = cause ∙ same
-caused_later before now after Store same cause = cause ∙ same
-caused_later before now after Memory same cause = cause ∙ same
+caused_later before now after _ same cause = cause ∙ same
 
 -- a result has its cause also where the count is told from before what was given
 pub cause_later : {X : Type 0} (before now after : ℕ) (r : Result X ExportFault) → now ≡ before → HasCause r now after → HasCause r before after

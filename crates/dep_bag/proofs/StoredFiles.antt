@@ -69,16 +69,12 @@ pub unsent_cause : (before after : ℕ) (fault : StreamFault)
     → ((◌≡◌ {A = Result (Unit {0}) StreamFault} (Err fault) (Err Writer) → ⊥) → after ≡ before)
     → IsCausedBy (unsent_fault fault) before after
 unsent_cause before after Writer cause others = cause refl
-unsent_cause before after Store cause others = others (λ is. cc)
-unsent_cause before after Memory cause others = others (λ is. cc)
-unsent_cause before after NoSuchFile cause others = others (λ is. cc)
+unsent_cause before after _ cause others = others (λ is. cc)
 
 -- and none says that the object isn't there
 pub unsent_ours : (fault : StreamFault) → IsOurs (unsent_fault fault)
 unsent_ours Writer = tt
-unsent_ours Store = tt
-unsent_ours Memory = tt
-unsent_ours NoSuchFile = tt
+unsent_ours _ = tt
 
 -- a fault before the source was asked
 pub none_streamed : {X : Type 0} (c : Condition) → ((s : State) → StandsFor c s → Leaves c (λ left. left ≡ s)) → (a b : SinkState) (row : FileRow) (r : Result X ExportFault)

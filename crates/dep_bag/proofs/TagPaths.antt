@@ -1,6 +1,6 @@
 -- The paths of the tag files.
 use Rattle.std.proofs.Common.{◌≡◌, ◌≤◌, ◌<◌, ◌+◌, ◌∙◌, ◌||◌, Bool, true, false, cond, ℕ, List, [], ◌∷◌, ◌++◌, length, map, take, get_or, Some, None, refl, sym, ap, arith, append_assoc, codes, bytes_eq, is_some, Bor}
-use Rattle.std.specs.Prelude.{Option, option_map, find}
+use Rattle.std.specs.Prelude.{Option, option_map}
 use Rattle.std.specs.List.{list_any}
 use Rattle.std.proofs.lemmas.List.{get_or-map, length-map, take_more}
 use Rattle.std.proofs.lemmas.List.Folds.{list_any-append}

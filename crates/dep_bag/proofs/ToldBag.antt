@@ -6,6 +6,7 @@ use Rattle.std.specs.Cmp.{nat_cmp_total}
 use Rattle.std.specs.FinMap as finmap
 use Rattle.std.proofs.lemmas.List.Sums.{sum_by-cons}
 use Rattle.std.proofs.lemmas.List.Elements.{All-head, All-tail}
+use Rattle.sha2.specs.Sha512.{sha512}
 use Rattle.dep_types.specs.State.{Object, File}
 use Rattle.dep_types.specs.Rows.{file_row, object_view}
 use Rattle.dep_manifest.specs.Manifest.{checksum_of, digest_by, manifest, manifest_of}
@@ -15,7 +16,7 @@ use Rattle.dep_manifest.specs.TagFiles.{oxum_text, info_text, bagit_text, manife
 use Rattle.dep_bag.specs.Bag.{payload, oxum, listed_files, tag_files, bag_files}
 use Rattle.dep_types.specs.Sinks.{Entry}
 use Rattle.dep_docs_out.specs.Documents.{bag_metadata_document}
-use Rattle.dep_manifest.specs.Told.{row_checksum, told_oxum, told_listed}
+use Rattle.dep_manifest.specs.Told.{row_checksums, told_oxum, told_listed}
 use Rattle.dep_bag.specs.Parts.{told_tag_files, told_parts, text_part, stored_part, told_bytes, held_bytes}
 use Rattle.dep_bag.proofs.Files.{payload_entry}
 use Rattle.dep_bag.proofs.Keys.{entries-held}
@@ -34,8 +35,9 @@ same_count n (e ∷ es) = ap suc (same_count n es)
 same_oxum : (n : ℕ) (o : Object) → told_oxum (object_view n o).files ≡ oxum (payload o)
 same_oxum n o = λ i. oxum_text (same_sum n (finmap.entries o.files) i) (same_count n (finmap.entries o.files) i)
 
-same_checksums : (a : Algorithm) (n : ℕ) (es : List (ℕ × File)) → each (row_checksum a) (each (λ e. file_row n e.0 e.1) es) ≡ each (checksum_of (digest_by a)) (each payload_entry es)
-same_checksums a n [] = refl
+same_checksums : (a : Algorithm) (n : ℕ) (es : List (ℕ × File)) → row_checksums a (each (λ e. file_row n e.0 e.1) es) (each (λ e. sha512 e.1.content) es) ≡ each (checksum_of (digest_by a)) (each payload_entry es)
+same_checksums Sha256 n [] = refl
+same_checksums Sha512 n [] = refl
 same_checksums Sha256 n (e ∷ es) = ap (λ l. checksum_of (digest_by Sha256) (payload_entry e) ∷ l) (same_checksums Sha256 n es)
 same_checksums Sha512 n (e ∷ es) = ap (λ l. checksum_of (digest_by Sha512) (payload_entry e) ∷ l) (same_checksums Sha512 n es)
 

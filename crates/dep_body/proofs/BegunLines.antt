@@ -1,5 +1,5 @@
 -- A line without an end, and one byte more.
-use Rattle.std.proofs.Common.{◌≡◌, ℕ, ◌+◌, Bool, true, false, List, [], ◌∷◌, ◌++◌, length, length-append, if◌then◌else◌, refl, sym, ap, subst, ◌∙◌, arith, append_assoc, append-nil, None}
+use Rattle.std.proofs.Common.{◌≡◌, ℕ, ◌+◌, ◌==◌, Bool, true, false, List, [], ◌∷◌, ◌++◌, length, length-append, if◌then◌else◌, refl, sym, ap, subst, ◌∙◌, arith, append_assoc, append-nil, None}
 use Rattle.std.specs.List.{fold}
 use Rattle.std.proofs.lemmas.List.Sums.{fold-append}
 use Rattle.dep_body.specs.Lines.{line_end, line_text, IsLine}
@@ -51,7 +51,18 @@ begun_length bytes line h =
     let e : length bytes ≡ length line + 1 = ap length h.bytes_are ∙ length-append line (13 ∷ []) in omega arith
 
 -- what a line's bytes make of a state, its CR included
-pub fold_bytes : {B : Type 0} (f : B → ℕ → B) (a : B) (bytes line : List ℕ) (cr : Bool) → bytes ≡ line ++ (if cr then 13 ∷ [] else [])
+fold_bytes : {B : Type 0} (f : B → ℕ → B) (a : B) (bytes line : List ℕ) (cr : Bool) → bytes ≡ line ++ (if cr then 13 ∷ [] else [])
     → fold f a bytes ≡ (if cr then f (fold f a line) 13 else fold f a line)
 fold_bytes f a bytes line true e = ap (fold f a) e ∙ fold-append f a line (13 ∷ [])
 fold_bytes f a bytes line false e = ap (fold f a) (e ∙ append-nil line)
+
+by_byte : {B : Type 0} (test : Bool) (f : B → ℕ → B) (a : B) (bytes : List ℕ) (b : ℕ)
+    → (if test then fold f a bytes else f (fold f a bytes) b) ≡ fold f a (if test then bytes else bytes ++ b ∷ [])
+by_byte true f a bytes b = refl
+by_byte false f a bytes b = sym (fold-append f a bytes (b ∷ []))
+
+-- and with one byte more, which is kept back where it is a CR
+pub reading_more : {B : Type 0} (f : B → ℕ → B) (a : B) (bytes line : List ℕ) (cr : Bool) (b : ℕ) → bytes ≡ line ++ (if cr then 13 ∷ [] else [])
+    → (if b == 13 then (if cr then f (fold f a line) 13 else fold f a line) else f (if cr then f (fold f a line) 13 else fold f a line) b)
+    ≡ fold f a (if b == 13 then bytes else bytes ++ b ∷ [])
+reading_more f a bytes line cr b e = ap (λ x. if b == 13 then x else f x b) (sym (fold_bytes f a bytes line cr e)) ∙ by_byte (b == 13) f a bytes b

@@ -1,5 +1,5 @@
 -- Some bytes more of a chunk.
-use Rattle.std.proofs.Common.{◌≡◌, ℕ, ◌+◌, ◌-◌, ◌<◌, List, [], ◌∷◌, ◌++◌, length, None, Some, sym, ap, subst, ◌∙◌, arith, append_assoc, append-nil, length-append}
+use Rattle.std.proofs.Common.{◌≡◌, ℕ, ◌+◌, ◌-◌, ◌<◌, List, ◌++◌, length, None, sym, ap, subst, ◌∙◌, arith, append_assoc, append-nil, length-append}
 use Rattle.dep_body.specs.Lines.{line_text}
 use Rattle.dep_body.specs.Body.{IsSizeLine}
 use Rattle.dep_body.specs.Standing.{IsInData, IsBehindData}
@@ -37,18 +37,3 @@ data_ends limit content text more left h all =
       room = omega (arith, count, h.room);
       content_is = ap (λ t. t ++ more) h.content_is ∙ append_assoc h.before h.bytes more;
     }
-
-pub end_begins : (limit : ℕ) (content text : List ℕ) (byte : ℕ) → IsBehindData limit content None text → IsBehindData limit content (Some byte) (text ++ byte ∷ [])
-end_begins limit content text byte h = record {
-  before = h.before;
-  line = h.line;
-  bytes = h.bytes;
-  chunks =
-      chunks_rest limit _ h.before _ _
-      (ap (λ t. (line_text h.line ++ t) ++ byte ∷ []) (append-nil h.bytes) ∙ append_assoc (line_text h.line) h.bytes (byte ∷ []))
-      (chunks_more limit text h.before _ (byte ∷ []) h.chunks);
-  size = h.size;
-  some = h.some;
-  room = h.room;
-  content_is = h.content_is;
-}

@@ -1,16 +1,15 @@
 -- What a reader was fed, and what its answer says.
-use Rattle.std.proofs.Common.{◌≡◌, ℕ, ◌+◌, ◌-◌, ◌<◌, ◌≤◌, true, false, List, [], ◌∷◌, ◌++◌, length, take, drop, Option, Some, None, refl, sym, ap, subst, ◌∙◌, arith, append_assoc, append-nil, length-append, length-take, take_all, slice_index_or, inl, inr}
+use Rattle.std.proofs.Common.{◌≡◌, ℕ, ◌+◌, ◌-◌, ◌<◌, ◌≤◌, true, false, List, [], ◌++◌, length, take, drop, Option, Some, None, refl, sym, ap, subst, ◌∙◌, arith, append_assoc, append-nil, length-append, length-take, length-drop, take_all, inl, inr}
 use Rattle.std.specs.Option.{option_to_list}
 use Rattle.std.proofs.lemmas.Bool.{cases_Bool}
 use Rattle.std.proofs.lemmas.List.{take-append-drop, take-append-le, length-take-le}
 use Rattle.std.proofs.Math.Seq.{take-append_seam, take-append-add, drop-length}
 use Rattle.dep_body.specs.Lines.{line_text}
-use Rattle.dep_body.specs.Body.{IsBodyFault, IsChunkedPart, begun_line, begun_chunk, begun_trailers, lines_text}
+use Rattle.dep_body.specs.Body.{IsChunkedPart, begun_line, begun_chunk, begun_trailers, lines_text}
 use Rattle.dep_body.specs.Standing.{StandsAt, is_settled, IsInLine, IsInData, IsBehindData, IsInTrailers}
 use Rattle.dep_body.specs.ReaderValue.{ReaderValue}
-use Rattle.dep_body.specs.Feeding.{HasFed, TellsFed, ShowsFault, answer_of, used_by}
-use Rattle.dep_body.specs.declared.frame.Framing.TheVariants.{Chunked}
-use Rattle.dep_body.specs.declared.frame.FrameFault.{FrameFault}
+use Rattle.dep_body.specs.Feeding.{HasFed, HasChunkByte, TellsFed, answer_of}
+use Rattle.dep_body.specs.declared.left.DataLeft.{DataLeft}
 use Rattle.dep_body.specs.declared.size.SizeLine.{SizeLine}
 use Rattle.dep_body.specs.declared.trailers.Trailers.{Trailers}
 use Rattle.dep_body.specs.declared.stage.Stage.{Stage}
@@ -75,6 +74,10 @@ pub record FeedsTo (reader : ReaderValue) (fed piece : List ℕ) (used : ℕ) : 
   pub all : is_settled reader.stage ≡ false → behind ≡ []
   pub used_is : used ≡ length text - length fed
 
+-- what isn't settled has used all
+pub all_used : (reader : ReaderValue) (fed : List ℕ) (h : HasFed reader fed) → is_settled reader.stage ≡ false → fed ≡ h.text
+all_used reader fed h f = h.fed_is ∙ ap (λ s. h.text ++ s) (h.all f) ∙ append-nil h.text
+
 pub feeds : (old new : ReaderValue) (fed piece : List ℕ) (used : ℕ) → HasFed old fed
     → ((text : List ℕ) → StandsAt old.limit old.content old.stage text → StandsAt new.limit new.content new.stage (text ++ take used piece))
     → used ≤ length piece → (is_settled new.stage ≡ false → used ≡ length piece)
@@ -93,7 +96,7 @@ feeds old new fed piece used h goes within all settled =
             used_is = let long : length fed ≡ length h.text + length h.behind = ap length h.fed_is ∙ length-append h.text h.behind in omega arith;
           }
       | inr f ↦
-          let whole : fed ≡ h.text = h.fed_is ∙ ap (λ s. h.text ++ s) (h.all f) ∙ append-nil h.text in
+          let whole = all_used old fed h f in
           record {
             text = h.text ++ take used piece;
             behind = drop used piece;
@@ -144,23 +147,15 @@ kept_further first mid last h k =
     take-append-le _ _ _ (let e : length (take (length mid) last) ≡ length mid = ap length k in omega (arith, e, short)) in
     ap (take (length first)) (sym (take-append-drop (length mid) last)) ∙ front ∙ ap (take (length first)) k ∙ h
 
-pub used_within : (stage : Stage) (used most : ℕ) → used ≤ most → used_by (answer_of stage used) ≤ most
-used_within (Line state) used most h = omega arith
-used_within (Data left) used most h = omega arith
-used_within (ChunkEnd byte) used most h = omega arith
-used_within (Section state) used most h = omega arith
-used_within Done used most h = h
-used_within Bad used most h = omega arith
-used_within TooLarge used most h = omega arith
-
-pub fault_front : (limit : ℕ) (content piece : List ℕ) (fault : FrameFault) → ShowsFault limit content [] piece fault
-    → (used : ℕ) × (used ≤ length piece) × IsBodyFault limit Chunked (take used piece) fault
-fault_front limit content piece fault h =
-    let all : length piece ≡ length h.text + length h.behind = ap length h.stream_is ∙ length-append h.text h.behind in
-    let front : take (length h.text) piece ≡ h.text = ap (take (length h.text)) h.stream_is ∙ take-append_seam h.text h.behind in
-    (length h.text, omega arith, subst (λ t. IsBodyFault limit Chunked t fault) (sym front) (content, h.shown))
-
--- the first byte is that of the first one taken
-pub after_one : (P : List ℕ → Type 0) (text rest : List ℕ) → 0 < length rest → P (text ++ slice_index_or rest 0 0 ∷ []) → P (text ++ take 1 rest)
-after_one P text [] some h = absurd (omega (arith, some))
-after_one P text (x ∷ rest) some h = h
+-- where a step fails within a chunk, one of its bytes comes
+pub chunk_byte : (limit used : ℕ) (content text piece : List ℕ) (stage : Stage) → StandsAt limit content stage (text ++ take used piece)
+    → (left : DataLeft) × (stage ≡ Data left) → used < length piece → HasChunkByte limit text piece
+chunk_byte limit used content text piece stage stands within more = record {
+  front = take used piece;
+  rest = drop used piece;
+  piece_is = sym (take-append-drop used piece);
+  some = omega (arith, length-drop used piece);
+  content = content;
+  left = within.0.bytes;
+  within = subst (λ (s : Stage). StandsAt limit content s (text ++ take used piece)) within.1 stands;
+}

@@ -1,26 +1,14 @@
 -- A stream begins with one body, one fault, or a part of a body.
-use Rattle.std.proofs.Common.{◌≡◌, ℕ, suc, ◌+◌, ◌≤◌, List, [], ◌∷◌, ◌++◌, length, All, refl, sym, ap, subst, ◌∙◌, arith, append_assoc, append-nil, length-append, add_assoc, zero-add}
+use Rattle.std.proofs.Common.{◌≡◌, ℕ, ◌+◌, ◌≤◌, List, [], ◌∷◌, ◌++◌, length, All, refl, sym, ap, subst, ◌∙◌, arith, append_assoc, append-nil, length-append, add_assoc, zero-add}
+use Rattle.std.proofs.lemmas.List.Elements.{All-head, All-tail}
 use Rattle.dep_body.specs.Lines.{crlf, line_text, line_size}
 use Rattle.dep_body.specs.Body.{Chunk, IsChunk, chunk_text, chunks_text, chunks_content, HasChunks, IsChunkedBody, IsChunkedFault, IsChunkedPart, IsBodyText, IsBodyFault, IsPartOfBody}
 use Rattle.dep_body.specs.declared.frame.Framing.{Framing}
 use Rattle.dep_body.specs.declared.frame.Framing.TheVariants.{Empty, Length, Chunked}
 use Rattle.dep_body.specs.declared.frame.FrameFault.{FrameFault}
-use Rattle.dep_body.proofs.Splits.{lines_same, rests_same, fronts_same, backs_same, some_same}
+use Rattle.dep_body.proofs.Splits.{lines_same, rests_same, fronts_same, backs_same}
 use Rattle.dep_body.proofs.SectionLaws.{Verdict, Ended, Failed, Waits, Goes}
 use Rattle.dep_body.proofs.UnitLaws.{First, first_same, chunk_first, last_first, fault_first, begun_first}
-
-tail_all : (c : Chunk) (cs : List Chunk) → All IsChunk (c ∷ cs) → All IsChunk cs
-tail_all c cs h k d below = h (suc k) d (omega arith)
-
-head_all : (c : Chunk) (cs : List Chunk) → All IsChunk (c ∷ cs) → IsChunk c
-head_all c cs h = h 0 c (omega arith)
-
-chunk_of : List ℕ → List ℕ → Chunk
-chunk_of line bytes = record { line = line; bytes = bytes }
-
-same_chunk : (c d : Chunk) → c.line ≡ d.line → c.bytes ≡ d.bytes → c ≡ d
-unfolding chunk_of
-same_chunk c d line bytes = ap (λ l. chunk_of l c.bytes) line ∙ ap (λ b. chunk_of d.line b) bytes
 
 -- two chunks that begin the same bytes
 record SameChunk (c d : Chunk) (x y : List ℕ) : Type 0 where
@@ -29,7 +17,7 @@ record SameChunk (c d : Chunk) (x y : List ℕ) : Type 0 where
 
 size_same : (c d : Chunk) → IsChunk c → IsChunk d → c.line ≡ d.line → length c.bytes ≡ length d.bytes
 size_same c d h k e =
-    let both = sym h.size.says ∙ ap line_size e ∙ k.size.says in some_same _ _ both
+    let both = sym h.size.says ∙ ap line_size e ∙ k.size.says in cc (both)
 
 chunk_same : (c d : Chunk) (x y : List ℕ) → IsChunk c → IsChunk d → chunk_text c ++ x ≡ chunk_text d ++ y → SameChunk c d x y
 chunk_same c d x y h k e =
@@ -40,7 +28,7 @@ chunk_same c d x y h k e =
     let size = size_same c d h k line in
     let bytes = fronts_same c.bytes d.bytes _ _ size rest in
     let behind = backs_same c.bytes d.bytes _ _ size rest in
-    record { chunk = same_chunk c d line bytes; rest = backs_same crlf crlf x y refl behind }
+    record { chunk = λ i. record { line = line i; bytes = bytes i }; rest = backs_same crlf crlf x y refl behind }
 
 pub record SameChunks (cs ds : List Chunk) (x y : List ℕ) : Type 0 where
   pub chunks : cs ≡ ds
@@ -55,20 +43,20 @@ same_chunks : (limit t : ℕ) (cs ds : List Chunk) (x y : List ℕ) (v w : Verdi
     → chunks_text cs ++ x ≡ chunks_text ds ++ y → SameChunks cs ds x y
 same_chunks limit t [] [] x y v w a b h k p q stops ends e = record { chunks = refl; rest = e }
 same_chunks limit t [] (d ∷ ds) x y v w a b h k p q stops ends e =
-    let goes = chunk_first limit (t + 0) x (chunks_text ds ++ y) d (head_all d ds b) (omega (arith, k, content_size d ds t)) (e ∙ append_assoc (chunk_text d) (chunks_text ds) y) in
+    let goes = chunk_first limit (t + 0) x (chunks_text ds ++ y) d (All-head IsChunk d ds b) (omega (arith, k, content_size d ds t)) (e ∙ append_assoc (chunk_text d) (chunks_text ds) y) in
     absurd (stops (first_same limit (t + 0) x v Goes p goes))
 same_chunks limit t (c ∷ cs) [] x y v w a b h k p q stops ends e =
-    let goes = chunk_first limit (t + 0) y (chunks_text cs ++ x) c (head_all c cs a) (omega (arith, h, content_size c cs t)) (sym e ∙ append_assoc (chunk_text c) (chunks_text cs) x) in
+    let goes = chunk_first limit (t + 0) y (chunks_text cs ++ x) c (All-head IsChunk c cs a) (omega (arith, h, content_size c cs t)) (sym e ∙ append_assoc (chunk_text c) (chunks_text cs) x) in
     absurd (ends (first_same limit (t + 0) y w Goes q goes))
 same_chunks limit t (c ∷ cs) (d ∷ ds) x y v w a b h k p q stops ends e =
     let f : chunk_text c ++ (chunks_text cs ++ x) ≡ chunk_text d ++ (chunks_text ds ++ y) =
     sym (append_assoc (chunk_text c) (chunks_text cs) x) ∙ e ∙ append_assoc (chunk_text d) (chunks_text ds) y in
-    let first = chunk_same c d _ _ (head_all c cs a) (head_all d ds b) f in
+    let first = chunk_same c d _ _ (All-head IsChunk c cs a) (All-head IsChunk d ds b) f in
     let sizes : length d.bytes ≡ length c.bytes = ap (λ (m : Chunk). length m.bytes) (sym first.chunk) in
     let other : t + length (chunks_content (d ∷ ds)) ≡ t + length c.bytes + length (chunks_content ds) =
     content_size d ds t ∙ ap (λ n. t + n + length (chunks_content ds)) sizes in
     let later =
-    same_chunks limit (t + length c.bytes) cs ds x y v w (tail_all c cs a) (tail_all d ds b)
+    same_chunks limit (t + length c.bytes) cs ds x y v w (All-tail IsChunk c cs a) (All-tail IsChunk d ds b)
     (omega (arith, h, content_size c cs t)) (omega (arith, k, other))
     (subst (λ n. First limit n x v) (content_size c cs t) p) (subst (λ n. First limit n y w) other q) stops ends first.rest in
     record { chunks = ap (λ m. m ∷ cs) first.chunk ∙ ap (λ ms. d ∷ ms) later.chunks; rest = later.rest }
@@ -108,30 +96,6 @@ same_text limit a b x y p q r s e h k rest used =
     let tail : length r + length x ≡ length s + length y = sym (length-append r x) ∙ ap length rest ∙ length-append s y in
     fronts_same a b x y (omega (arith, all, tail, used)) e
 
-ended_same : (m n : ℕ) → Ended m ≡ Ended n → m ≡ n
-ended_same m n e = cc
-
-failed_same : (f g : FrameFault) (m n : ℕ) → Failed f m ≡ Failed g n → (f ≡ g) × (m ≡ n)
-failed_same f g m n e = (cc, cc)
-
-ended_goes : (m : ℕ) → Ended m ≡ Goes → ⊥
-ended_goes m e = cc
-
-failed_goes : (f : FrameFault) (m : ℕ) → Failed f m ≡ Goes → ⊥
-failed_goes f m e = cc
-
-waits_goes : Waits ≡ Goes → ⊥
-waits_goes e = cc
-
-ended_failed : (m n : ℕ) (f : FrameFault) → Ended m ≡ Failed f n → ⊥
-ended_failed m n f e = cc
-
-ended_waits : (m : ℕ) → Ended m ≡ Waits → ⊥
-ended_waits m e = cc
-
-failed_waits : (f : FrameFault) (m : ℕ) → Failed f m ≡ Waits → ⊥
-failed_waits f m e = cc
-
 body_first : (limit : ℕ) (a x content : List ℕ) → (h : IsChunkedBody limit a content) → First limit (length content) (h.rest ++ x) (Ended (length h.rest))
 body_first limit a x content h = last_first limit (length content) (h.rest ++ x) h.rest x h.last refl
 
@@ -145,31 +109,33 @@ part_of limit a content h = subst (λ t. First limit (length h.before) t Waits) 
 pub one_chunked : (limit : ℕ) (a b x y c d : List ℕ) → a ++ x ≡ b ++ y → IsChunkedBody limit a c → IsChunkedBody limit b d → (a ≡ b) × (c ≡ d)
 one_chunked limit a b x y c d e h k =
     let same =
-    same_reading limit a b x y c d h.rest k.rest _ _ e h.chunks k.chunks (body_first limit a x c h) (body_first limit b y d k) (ended_goes _) (ended_goes _) in
-    (same_text limit a b x y c d h.rest k.rest e h.chunks k.chunks same.rest (ended_same _ _ same.verdict), same.content)
+    same_reading limit a b x y c d h.rest k.rest _ _ e h.chunks k.chunks (body_first limit a x c h) (body_first limit b y d k) (λ v. cc) (λ v. cc) in
+    (same_text limit a b x y c d h.rest k.rest e h.chunks k.chunks same.rest (cc (same.verdict)), same.content)
 
 pub one_chunked_fault : (limit : ℕ) (a b x y c d : List ℕ) (f g : FrameFault) → a ++ x ≡ b ++ y → IsChunkedFault limit a f c → IsChunkedFault limit b g d
     → (a ≡ b) × (f ≡ g)
 one_chunked_fault limit a b x y c d f g e h k =
     let same =
-    same_reading limit a b x y h.before k.before h.rest k.rest _ _ e h.chunks k.chunks (fault_of limit a x c f h) (fault_of limit b y d g k) (failed_goes _ _) (failed_goes _ _) in
-    let both = failed_same _ _ _ _ same.verdict in
-    (same_text limit a b x y h.before k.before h.rest k.rest e h.chunks k.chunks same.rest both.1, both.0)
+    same_reading limit a b x y h.before k.before h.rest k.rest _ _ e h.chunks k.chunks (fault_of limit a x c f h) (fault_of limit b y d g k) (λ v. cc) (λ v. cc) in
+    (same_text limit a b x y h.before k.before h.rest k.rest e h.chunks k.chunks same.rest (cc (same.verdict)), cc (same.verdict))
 
 chunked_no_fault : (limit : ℕ) (a b x y c d : List ℕ) (f : FrameFault) → a ++ x ≡ b ++ y → IsChunkedBody limit a c → IsChunkedFault limit b f d → ⊥
 chunked_no_fault limit a b x y c d f e h k =
-    ended_failed _ _ _
-    (same_reading limit a b x y c k.before h.rest k.rest _ _ e h.chunks k.chunks (body_first limit a x c h) (fault_of limit b y d f k) (ended_goes _) (failed_goes _ _)).verdict
+    let same =
+    same_reading limit a b x y c k.before h.rest k.rest _ _ e h.chunks k.chunks (body_first limit a x c h) (fault_of limit b y d f k) (λ v. cc) (λ v. cc) in
+    cc (same.verdict)
 
 chunked_no_part : (limit : ℕ) (a x c d : List ℕ) → IsChunkedBody limit a c → IsChunkedPart limit (a ++ x) d → ⊥
 chunked_no_part limit a x c d h k =
-    ended_waits _
-    (same_reading limit a (a ++ x) x [] c k.before h.rest k.rest _ _ (sym (append-nil (a ++ x))) h.chunks k.chunks (body_first limit a x c h) (part_of limit (a ++ x) d k) (ended_goes _) waits_goes).verdict
+    let same =
+    same_reading limit a (a ++ x) x [] c k.before h.rest k.rest _ _ (sym (append-nil (a ++ x))) h.chunks k.chunks (body_first limit a x c h) (part_of limit (a ++ x) d k) (λ v. cc) (λ v. cc) in
+    cc (same.verdict)
 
 fault_no_chunked_part : (limit : ℕ) (a x c d : List ℕ) (f : FrameFault) → IsChunkedFault limit a f c → IsChunkedPart limit (a ++ x) d → ⊥
 fault_no_chunked_part limit a x c d f h k =
-    failed_waits _ _
-    (same_reading limit a (a ++ x) x [] h.before k.before h.rest k.rest _ _ (sym (append-nil (a ++ x))) h.chunks k.chunks (fault_of limit a x c f h) (part_of limit (a ++ x) d k) (failed_goes _ _) waits_goes).verdict
+    let same =
+    same_reading limit a (a ++ x) x [] h.before k.before h.rest k.rest _ _ (sym (append-nil (a ++ x))) h.chunks k.chunks (fault_of limit a x c f h) (part_of limit (a ++ x) d k) (λ v. cc) (λ v. cc) in
+    cc (same.verdict)
 
 -- a stream begins with one body at most, which has one content
 pub one_body : (limit : ℕ) (framing : Framing) (a b x y c d : List ℕ) → a ++ x ≡ b ++ y → IsBodyText limit framing a c → IsBodyText limit framing b d

@@ -8,7 +8,7 @@ use Rattle.std.specs.Str.Parse.{digits_value, digits_value_after}
 use Rattle.dep_octets.specs.Octets.{capped, is_token_octet}
 use Rattle.dep_body.specs.Lines.{line_size, is_hex_octet, begins_extension, is_extension_octet, is_extension, is_trailer_line, is_trailer_value, is_trailer_octet}
 use Rattle.dep_body.specs.Reading.{with_digit, size_after, size_reading, Says, trailer_after, trailer_reading, Tells}
-use Rattle.dep_body.specs.declared.size.SizeReading.TheVariants.{Start, Digits, Extension, Malformed}
+use Rattle.dep_body.specs.declared.size.SizeReading.TheVariants.{Digits, Extension, Malformed}
 use Rattle.dep_body.specs.declared.trailers.TrailerReading as T
 use Rattle.dep_body.specs.declared.trailers.TrailerReading.TheVariants as V
 
@@ -45,19 +45,20 @@ extension_from most value (b ∷ line) =
 size_at : ℕ → ℕ → List ℕ → Option ℕ
 size_at n digits line = if is_extension (drop digits line) then Some (digits_value_after 16 n (take digits line)) else None
 
-count_digit : (b : ℕ) (line : List ℕ) → is_hex_octet b ≡ true → prefix_len is_hex_octet (b ∷ line) ≡ suc (prefix_len is_hex_octet line)
-count_digit b line t = ap (λ (c : Bool). cond c (1 + prefix_len is_hex_octet line) 0) t ∙ one-add _
+-- the run of octets at the front, by the first one
+count_more : (p : ℕ → Bool) (b : ℕ) (line : List ℕ) → p b ≡ true → prefix_len p (b ∷ line) ≡ suc (prefix_len p line)
+count_more p b line t = ap (λ (c : Bool). cond c (1 + prefix_len p line) 0) t ∙ one-add _
 
-count_none : (b : ℕ) (line : List ℕ) → is_hex_octet b ≡ false → prefix_len is_hex_octet (b ∷ line) ≡ 0
-count_none b line f = ap (λ (c : Bool). cond c (1 + prefix_len is_hex_octet line) 0) f
+count_none : (p : ℕ → Bool) (b : ℕ) (line : List ℕ) → p b ≡ false → prefix_len p (b ∷ line) ≡ 0
+count_none p b line f = ap (λ (c : Bool). cond c (1 + prefix_len p line) 0) f
 
 size_from-digit : (n b : ℕ) (line : List ℕ) → is_hex_octet b ≡ true → size_from n (b ∷ line) ≡ size_from (n * 16 + digit_value b) line
 unfolding size_from size_at
-size_from-digit n b line t = ap (λ k. size_at n k (b ∷ line)) (count_digit b line t)
+size_from-digit n b line t = ap (λ k. size_at n k (b ∷ line)) (count_more is_hex_octet b line t)
 
 size_from-other : (n b : ℕ) (line : List ℕ) → is_hex_octet b ≡ false → size_from n (b ∷ line) ≡ (if is_extension (b ∷ line) then Some n else None)
 unfolding size_from size_at
-size_from-other n b line f = ap (λ k. size_at n k (b ∷ line)) (count_none b line f)
+size_from-other n b line f = ap (λ k. size_at n k (b ∷ line)) (count_none is_hex_octet b line f)
 
 -- a reading that goes on behind the digits for n with a byte that is none
 other_from : (most n : ℕ) (b : ℕ) (line : List ℕ) (begun : Bool) → begins_extension b ≡ begun
@@ -67,12 +68,8 @@ other_from most n b line false e = subst (λ r. Says most r None) (sym (malforme
 other_from most n b line true e =
     let goes = extension_from most (capped most n) line in
     elim (cases_Bool (list_all is_extension_octet line)) [
-      | inl t ↦
-          let is : fold (size_after most) (Extension (capped most n)) line ≡ Extension (capped most n) = rw t at goes in
-          subst (λ r. Says most r (if list_all is_extension_octet line then Some n else None)) (sym is) (n, ap (λ (c : Bool). if c then Some n else None) t, refl)
-      | inr f ↦
-          let is : fold (size_after most) (Extension (capped most n)) line ≡ Malformed = rw f at goes in
-          subst (λ r. Says most r (if list_all is_extension_octet line then Some n else None)) (sym is) (ap (λ (c : Bool). if c then Some n else None) f)
+      | inl t ↦ rw (goes, t) (n, refl, refl)
+      | inr f ↦ rw (goes, f) refl
     ]
 
 digits_from : (most n : ℕ) (line : List ℕ) → Says most (fold (size_after most) (Digits (capped most n)) line) (size_from n line)
@@ -80,19 +77,8 @@ unfolding size_from
 digits_from most n [] = (n, refl, refl)
 digits_from most n (b ∷ line) =
     elim (cases_Bool (is_hex_octet b)) [
-      | inl t ↦
-          let next : size_after most (Digits (capped most n)) b ≡ Digits (capped most (n * 16 + digit_value b)) =
-          ap (λ (c : Bool). if c then Digits (with_digit most (capped most n) (digit_value b)) else (if begins_extension b then Extension (capped most n) else Malformed)) t
-          ∙ ap (λ v. Digits v) (capped_digit most n (digit_value b)) in
-          subst (λ r. Says most (fold (size_after most) r line) (size_from n (b ∷ line))) (sym next)
-          (subst (λ o. Says most (fold (size_after most) (Digits (capped most (n * 16 + digit_value b))) line) o) (sym (size_from-digit n b line t))
-          (digits_from most (n * 16 + digit_value b) line))
-      | inr f ↦
-          let next : size_after most (Digits (capped most n)) b ≡ (if begins_extension b then Extension (capped most n) else Malformed) =
-          ap (λ (c : Bool). if c then Digits (with_digit most (capped most n) (digit_value b)) else (if begins_extension b then Extension (capped most n) else Malformed)) f in
-          subst (λ r. Says most (fold (size_after most) r line) (size_from n (b ∷ line))) (sym next)
-          (subst (λ o. Says most (fold (size_after most) (if begins_extension b then Extension (capped most n) else Malformed) line) o) (sym (size_from-other n b line f))
-          (other_from most n b line (begins_extension b) refl))
+      | inl t ↦ rw (size_from-digit n b line t, t, capped_digit most n (digit_value b)) (digits_from most (n * 16 + digit_value b) line)
+      | inr f ↦ rw (size_from-other n b line f, f) (other_from most n b line (begins_extension b) refl)
     ]
 
 line_size-nil : line_size [] ≡ None
@@ -106,30 +92,21 @@ line_at digits line = if nat_lt 0 digits && is_extension (drop digits line) then
 line_size-digit : (b : ℕ) (line : List ℕ) → is_hex_octet b ≡ true → line_size (b ∷ line) ≡ size_from (0 * 16 + digit_value b) line
 unfolding line_size size_from line_at
 line_size-digit b line t =
-    ap (λ k. line_at k (b ∷ line)) (count_digit b line t)
+    ap (λ k. line_at k (b ∷ line)) (count_more is_hex_octet b line t)
     ∙ ap (λ (c : Bool). if c && is_extension (drop (prefix_len is_hex_octet line) line) then Some (digits_value 16 (b ∷ take (prefix_len is_hex_octet line) line)) else None)
     (lt-ltb 0 (suc (prefix_len is_hex_octet line)) (omega arith))
 
 line_size-other : (b : ℕ) (line : List ℕ) → is_hex_octet b ≡ false → line_size (b ∷ line) ≡ None
 unfolding line_size line_at
-line_size-other b line f = ap (λ k. line_at k (b ∷ line)) (count_none b line f)
+line_size-other b line f = ap (λ k. line_at k (b ∷ line)) (count_none is_hex_octet b line f)
 
 -- the reading of a line says its value
 pub size_said : (most : ℕ) (line : List ℕ) → Says most (size_reading most line) (line_size line)
 size_said most [] = line_size-nil
 size_said most (b ∷ line) =
     elim (cases_Bool (is_hex_octet b)) [
-      | inl t ↦
-          let next : size_after most Start b ≡ Digits (capped most (0 * 16 + digit_value b)) =
-          ap (λ (c : Bool). if c then Digits (with_digit most (Some 0) (digit_value b)) else Malformed) t in
-          subst (λ r. Says most (fold (size_after most) r line) (line_size (b ∷ line))) (sym next)
-          (subst (λ o. Says most (fold (size_after most) (Digits (capped most (0 * 16 + digit_value b))) line) o) (sym (line_size-digit b line t))
-          (digits_from most (0 * 16 + digit_value b) line))
-      | inr f ↦
-          let next : size_after most Start b ≡ Malformed =
-          ap (λ (c : Bool). if c then Digits (with_digit most (Some 0) (digit_value b)) else Malformed) f in
-          subst (λ r. Says most (fold (size_after most) r line) (line_size (b ∷ line))) (sym next)
-          (subst (λ r. Says most r (line_size (b ∷ line))) (sym (malformed_stays most line)) (line_size-other b line f))
+      | inl t ↦ rw (line_size-digit b line t, t) (digits_from most (0 * 16 + digit_value b) line)
+      | inr f ↦ rw (line_size-other b line f, f, malformed_stays most line) refl
     ]
 
 -- what is still wanted behind a token
@@ -151,12 +128,6 @@ value_from (b ∷ line) =
       | inr f ↦ rw f (broken_stays line)
     ]
 
-count_token : (b : ℕ) (line : List ℕ) → is_token_octet b ≡ true → prefix_len is_token_octet (b ∷ line) ≡ suc (prefix_len is_token_octet line)
-count_token b line t = ap (λ (c : Bool). cond c (1 + prefix_len is_token_octet line) 0) t ∙ one-add _
-
-count_no_token : (b : ℕ) (line : List ℕ) → is_token_octet b ≡ false → prefix_len is_token_octet (b ∷ line) ≡ 0
-count_no_token b line f = ap (λ (c : Bool). cond c (1 + prefix_len is_token_octet line) 0) f
-
 -- the reading behind a token, by what is behind its name
 name_by : (r : T.TrailerReading) (line : List ℕ) (good : Bool) → r ≡ (if good then V.Value else V.Broken)
     → is_trailer_value (drop (prefix_len is_token_octet line) line) ≡ good → NameSays r line
@@ -170,22 +141,19 @@ no_token_from b line false e = broken_stays line
 
 name_step : (r : T.TrailerReading) (b : ℕ) (line : List ℕ) → is_token_octet b ≡ true → NameSays r line → NameSays r (b ∷ line)
 name_step V.Empty b line t h = h
-name_step V.Name b line t h = ap (λ k. is_trailer_value (drop k (b ∷ line))) (count_token b line t) ∙ h
-name_step V.Value b line t h = ap (λ k. is_trailer_value (drop k (b ∷ line))) (count_token b line t) ∙ h
-name_step V.Broken b line t h = ap (λ k. is_trailer_value (drop k (b ∷ line))) (count_token b line t) ∙ h
+name_step V.Name b line t h = ap (λ k. is_trailer_value (drop k (b ∷ line))) (count_more is_token_octet b line t) ∙ h
+name_step V.Value b line t h = ap (λ k. is_trailer_value (drop k (b ∷ line))) (count_more is_token_octet b line t) ∙ h
+name_step V.Broken b line t h = ap (λ k. is_trailer_value (drop k (b ∷ line))) (count_more is_token_octet b line t) ∙ h
 
 name_from : (line : List ℕ) → NameSays (fold trailer_after V.Name line) line
 name_from [] = refl
 name_from (b ∷ line) =
     elim (cases_Bool (is_token_octet b)) [
-      | inl t ↦
-          let next : trailer_after V.Name b ≡ V.Name = ap (λ (c : Bool). if c then V.Name else (if b == 58 then V.Value else V.Broken)) t in
-          subst (λ r. NameSays (fold trailer_after r line) (b ∷ line)) (sym next) (name_step _ b line t (name_from line))
+      | inl t ↦ rw t (name_step _ b line t (name_from line))
       | inr f ↦
-          let next : trailer_after V.Name b ≡ (if b == 58 then V.Value else V.Broken) = ap (λ (c : Bool). if c then V.Name else (if b == 58 then V.Value else V.Broken)) f in
-          name_by _ (b ∷ line) (b == 58 && list_all is_trailer_octet line)
-          (ap (λ r. fold trailer_after r line) next ∙ no_token_from b line (b == 58) refl)
-          (ap (λ k. is_trailer_value (drop k (b ∷ line))) (count_no_token b line f))
+          rw f
+          (name_by _ (b ∷ line) (b == 58 && list_all is_trailer_octet line) (no_token_from b line (b == 58) refl)
+          (ap (λ k. is_trailer_value (drop k (b ∷ line))) (count_none is_token_octet b line f)))
     ]
 
 -- the choice of `is_trailer_line`, where the length of the name is given
@@ -195,12 +163,12 @@ trailer_at name line = nat_lt 0 name && is_trailer_value (drop name line)
 trailer-token : (b : ℕ) (line : List ℕ) → is_token_octet b ≡ true → is_trailer_line (b ∷ line) ≡ is_trailer_value (drop (prefix_len is_token_octet line) line)
 unfolding is_trailer_line trailer_at
 trailer-token b line t =
-    ap (λ k. trailer_at k (b ∷ line)) (count_token b line t)
+    ap (λ k. trailer_at k (b ∷ line)) (count_more is_token_octet b line t)
     ∙ ap (λ (c : Bool). c && is_trailer_value (drop (prefix_len is_token_octet line) line)) (lt-ltb 0 (suc (prefix_len is_token_octet line)) (omega arith))
 
 trailer-no_token : (b : ℕ) (line : List ℕ) → is_token_octet b ≡ false → is_trailer_line (b ∷ line) ≡ false
 unfolding is_trailer_line trailer_at
-trailer-no_token b line f = ap (λ k. trailer_at k (b ∷ line)) (count_no_token b line f)
+trailer-no_token b line f = ap (λ k. trailer_at k (b ∷ line)) (count_none is_token_octet b line f)
 
 trailer-nil : is_trailer_line [] ≡ false
 unfolding is_trailer_line
@@ -217,11 +185,6 @@ pub trailer_told : (line : List ℕ) → Tells (trailer_reading line) line
 trailer_told [] = (refl, trailer-nil)
 trailer_told (b ∷ line) =
     elim (cases_Bool (is_token_octet b)) [
-      | inl t ↦
-          let next : trailer_after V.Empty b ≡ V.Name = ap (λ (c : Bool). if c then V.Name else V.Broken) t in
-          subst (λ r. Tells (fold trailer_after r line) (b ∷ line)) (sym next) (name_tells _ b line t (name_from line))
-      | inr f ↦
-          let next : trailer_after V.Empty b ≡ V.Broken = ap (λ (c : Bool). if c then V.Name else V.Broken) f in
-          subst (λ r. Tells (fold trailer_after r line) (b ∷ line)) (sym next)
-          (subst (λ r. Tells r (b ∷ line)) (sym (broken_stays line)) (omega arith, trailer-no_token b line f))
+      | inl t ↦ rw t (name_tells _ b line t (name_from line))
+      | inr f ↦ rw (f, broken_stays line) (omega arith, trailer-no_token b line f)
     ]

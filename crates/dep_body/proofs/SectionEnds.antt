@@ -1,15 +1,16 @@
 -- Trailers end at their first empty line.
-use Rattle.std.proofs.Common.{◌≡◌, ℕ, suc, zero, ◌+◌, ◌<◌, ◌≤◌, Bool, true, false, ◌&&◌, List, [], ◌∷◌, ◌++◌, length, All, Option, Some, None, nat_eq, if◌then◌else◌, refl, sym, ap, ◌∙◌, arith, append_assoc, length-append}
+use Rattle.std.proofs.Common.{◌≡◌, ℕ, suc, zero, ◌+◌, ◌<◌, Bool, true, false, ◌&&◌, List, [], ◌∷◌, ◌++◌, length, All, Option, Some, None, nat_eq, if◌then◌else◌, refl, sym, ap, ◌∙◌, arith, inl, inr, append_assoc, length-append}
+use Rattle.std.proofs.lemmas.List.Elements.{All-head, All-tail}
 use Rattle.std.specs.List.{starts_with}
 use Rattle.std.specs.Option.{option_map}
 use Rattle.dep_head.specs.Head.{head_end, empty_line}
+use Rattle.dep_head.proofs.MarkEnds.{end_if, end_is, ends_by, none_suc, some_none}
 use Rattle.dep_body.specs.Lines.{crlf, line_text, line_end}
 use Rattle.dep_body.specs.Body.{IsTrailer, lines_text, IsSection, IsBegunSection}
 use Rattle.dep_body.specs.Trailers.{section_end}
-use Rattle.dep_body.proofs.LineEnds.{some_none}
 use Rattle.dep_body.proofs.Splits.{text_length, line_first}
 
-begins : List ℕ → Bool
+abbrev begins : List ℕ → Bool
 begins bytes = starts_with nat_eq bytes crlf
 
 begins_empty : List ℕ → Bool
@@ -26,7 +27,7 @@ less false q x f = refl
 
 -- what doesn't begin with CR LF doesn't begin with CR LF CR LF
 not_empty : (bytes : List ℕ) → begins bytes ≡ false → begins_empty bytes ≡ false
-unfolding begins begins_empty
+unfolding begins_empty
 not_empty [] f = refl
 not_empty (a ∷ []) f = no_and (nat_eq 13 a)
 not_empty (a ∷ b ∷ bytes) f = less (nat_eq 13 a) (nat_eq 10 b) (starts_with nat_eq bytes crlf) f
@@ -39,31 +40,9 @@ head_step : (a : ℕ) (bytes : List ℕ) → begins_empty (a ∷ bytes) ≡ fals
 unfolding head_end begins_empty head_if
 head_step a bytes f = ap (λ t. head_if t bytes) f
 
--- the choice of `line_end`
-line_if : Bool → List ℕ → Option ℕ
-line_if t bytes = if t then Some 2 else option_map suc (line_end bytes)
-
-line_is : (a : ℕ) (bytes : List ℕ) → line_end (a ∷ bytes) ≡ line_if (begins (a ∷ bytes)) bytes
-unfolding line_end begins line_if
-line_is a bytes = refl
-
-some_suc : (o : Option ℕ) (n : ℕ) → option_map suc o ≡ Some (suc n) → o ≡ Some n
-some_suc None n e = cc
-some_suc (Some m) n e = cc
-
-none_suc : (o : Option ℕ) → option_map suc o ≡ None → o ≡ None
-none_suc None e = refl
-none_suc (Some m) e = cc
-
--- bytes whose first line isn't empty
-later : (t : Bool) (bytes : List ℕ) (n : ℕ) → line_if t bytes ≡ Some (suc n) → 2 ≤ n → (t ≡ false) × (line_end bytes ≡ Some n)
-unfolding line_if
-later true bytes n e h = let two : 2 ≡ suc n = cc in absurd (omega arith)
-later false bytes n e h = (refl, some_suc (line_end bytes) n e)
-
 -- bytes without an end
-none_later : (t : Bool) (bytes : List ℕ) → line_if t bytes ≡ None → (t ≡ false) × (line_end bytes ≡ None)
-unfolding line_if
+none_later : (t : Bool) (bytes : List ℕ) → end_if t crlf bytes ≡ None → (t ≡ false) × (line_end bytes ≡ None)
+unfolding end_if
 none_later true bytes e = absurd (some_none 2 e)
 none_later false bytes e = (refl, none_suc (line_end bytes) e)
 
@@ -85,9 +64,10 @@ shift_some (suc n) k = ap (option_map suc) (shift_some n k) ∙ ap Some (let e :
 line_step : (a : ℕ) (line z : List ℕ) → line_end (line_text (a ∷ line) ++ z) ≡ Some (length (a ∷ line) + 2)
     → (begins (line_text (a ∷ line) ++ z) ≡ false) × (line_end (line_text line ++ z) ≡ Some (length line + 2))
 line_step a line z e =
-    let size : length (a ∷ line) + 2 ≡ suc (length line + 2) = omega arith in
-    later (begins (a ∷ (line_text line ++ z))) (line_text line ++ z) (length line + 2)
-    (sym (line_is a (line_text line ++ z)) ∙ e ∙ ap Some size) (omega arith)
+    elim (ends_by crlf a (length (a ∷ line) + 2) (line_text line ++ z) e) [
+      | inl h ↦ absurd (let two : length (a ∷ line) + 2 ≡ 2 = h.1 in omega arith)
+      | inr h ↦ let same : h.0 ≡ length line + 2 = omega (arith, h.3) in (h.1, h.2 ∙ ap Some same)
+    ]
 
 -- no CR LF CR LF begins within a line
 skip : (line z : List ℕ) → line_end (line_text line ++ z) ≡ Some (length line + 2) → head_end (line_text line ++ z) ≡ shift (length line) (head_end (crlf ++ z))
@@ -104,11 +84,10 @@ crlf_if true z = refl
 crlf_if false z = refl
 
 head_is : (z : List ℕ) → head_end (crlf ++ z) ≡ head_if (begins z) (10 ∷ z)
-unfolding head_end head_if begins
+unfolding head_end head_if
 head_is z = refl
 
 section_is : (z : List ℕ) → section_end z ≡ (if begins z then Some 2 else head_end z)
-unfolding begins
 section_is z = refl
 
 crlf_step : (z : List ℕ) → head_end (crlf ++ z) ≡ shift 2 (section_end z)
@@ -124,12 +103,6 @@ step line z h =
     section_is (line_text line ++ z) ∙ ap (λ (t : Bool). if t then Some 2 else head_end (line_text line ++ z)) (begins_line line z h)
     ∙ skip line z (line_first line z h.0) ∙ ap (shift (length line)) (crlf_step z)
 
-tail_all : (l : List ℕ) (ls : List (List ℕ)) → All IsTrailer (l ∷ ls) → All IsTrailer ls
-tail_all l ls h k d below = h (suc k) d (omega arith)
-
-head_all : (l : List ℕ) (ls : List (List ℕ)) → All IsTrailer (l ∷ ls) → IsTrailer l
-head_all l ls h = h 0 l (omega arith)
-
 whole_lines : (lines : List (List ℕ)) → All IsTrailer lines → section_end (lines_text lines ++ crlf) ≡ Some (length (lines_text lines ++ crlf))
 whole_lines [] h = refl
 whole_lines (l ∷ ls) h =
@@ -137,27 +110,26 @@ whole_lines (l ∷ ls) h =
     let size : length (line_text l ++ (lines_text ls ++ crlf)) ≡ length l + 2 + length (lines_text ls ++ crlf) =
     length-append (line_text l) (lines_text ls ++ crlf) ∙ ap (λ n. n + length (lines_text ls ++ crlf)) (text_length l) in
     let sum : length l + (2 + length (lines_text ls ++ crlf)) ≡ length ((line_text l ++ lines_text ls) ++ crlf) = omega (arith, size, ap length split) in
-    ap section_end split ∙ step l (lines_text ls ++ crlf) (head_all l ls h)
-    ∙ ap (λ o. shift (length l) (shift 2 o)) (whole_lines ls (tail_all l ls h))
+    ap section_end split ∙ step l (lines_text ls ++ crlf) (All-head IsTrailer l ls h)
+    ∙ ap (λ o. shift (length l) (shift 2 o)) (whole_lines ls (All-tail IsTrailer l ls h))
     ∙ ap (shift (length l)) (shift_some 2 (length (lines_text ls ++ crlf))) ∙ shift_some (length l) (2 + length (lines_text ls ++ crlf)) ∙ ap Some sum
 
 head_none : (z : List ℕ) → line_end z ≡ None → head_end z ≡ None
 unfolding head_end
 head_none [] e = refl
 head_none (a ∷ z) e =
-    let both = none_later (begins (a ∷ z)) z (sym (line_is a z) ∙ e) in
+    let both = none_later (begins (a ∷ z)) z (sym (end_is crlf a z) ∙ e) in
     head_step a z (not_empty (a ∷ z) both.0) ∙ ap (option_map suc) (head_none z both.1)
 
 begins_none : (z : List ℕ) → line_end z ≡ None → begins z ≡ false
-unfolding begins
 begins_none [] e = refl
-begins_none (a ∷ z) e = (none_later (begins (a ∷ z)) z (sym (line_is a z) ∙ e)).0
+begins_none (a ∷ z) e = (none_later (begins (a ∷ z)) z (sym (end_is crlf a z) ∙ e)).0
 
 begun_lines : (lines : List (List ℕ)) (last : List ℕ) → All IsTrailer lines → line_end last ≡ None → section_end (lines_text lines ++ last) ≡ None
 begun_lines [] last h e = section_is last ∙ ap (λ (t : Bool). if t then Some 2 else head_end last) (begins_none last e) ∙ head_none last e
 begun_lines (l ∷ ls) last h e =
-    ap section_end (append_assoc (line_text l) (lines_text ls) last) ∙ step l (lines_text ls ++ last) (head_all l ls h)
-    ∙ ap (λ o. shift (length l) (shift 2 o)) (begun_lines ls last (tail_all l ls h) e)
+    ap section_end (append_assoc (line_text l) (lines_text ls) last) ∙ step l (lines_text ls ++ last) (All-head IsTrailer l ls h)
+    ∙ ap (λ o. shift (length l) (shift 2 o)) (begun_lines ls last (All-tail IsTrailer l ls h) e)
     ∙ ap (shift (length l)) (shift_none 2) ∙ shift_none (length l)
 
 pub section_whole : (text : List ℕ) (lines : List (List ℕ)) → IsSection text lines → section_end text ≡ Some (length text)

@@ -1,9 +1,11 @@
 -- What stands first in bytes behind the line of value 0: trailers of one kind at most.
-use Rattle.std.proofs.Common.{◌≡◌, ℕ, suc, ◌+◌, ◌-◌, ◌<◌, ◌≤◌, List, [], ◌∷◌, ◌++◌, length, All, Some, None, refl, sym, ap, ◌∙◌, arith, append_assoc, length-append}
+use Rattle.std.proofs.Common.{◌≡◌, ℕ, ◌+◌, ◌-◌, ◌<◌, ◌≤◌, List, [], ◌∷◌, ◌++◌, length, All, Some, None, refl, sym, ap, ◌∙◌, arith, append_assoc, length-append}
+use Rattle.std.proofs.lemmas.List.Elements.{All-head, All-tail}
 use Rattle.dep_body.specs.Lines.{crlf, line_text, line_end}
 use Rattle.dep_body.specs.Body.{IsTrailer, lines_text, section_limit}
 use Rattle.dep_body.specs.declared.frame.FrameFault.{FrameFault}
-use Rattle.dep_body.proofs.LineEnds.{end_crlf, end_front, some_none}
+use Rattle.dep_head.proofs.MarkEnds.{some_none}
+use Rattle.dep_body.proofs.LineEnds.{end_crlf, end_front}
 use Rattle.dep_body.proofs.Splits.{lines_same, rests_same, no_line, no_line_all, no_line_crlf}
 
 -- what stands first in bytes, and how many of them it is
@@ -43,12 +45,6 @@ pub record Begun (bytes : List ℕ) : Type 0 where
 NoLine : ℕ → List ℕ → Type 0
 NoLine room bytes = (line x : List ℕ) → IsTrailer line → length line + 2 ≤ room → bytes ≡ line_text line ++ x → ⊥
 
-tail_all : (P : List ℕ → Type 0) (l : List ℕ) (ls : List (List ℕ)) → All P (l ∷ ls) → All P ls
-tail_all P l ls h k d below = h (suc k) d (omega arith)
-
-head_all : (P : List ℕ → Type 0) (l : List ℕ) (ls : List (List ℕ)) → All P (l ∷ ls) → P l
-head_all P l ls h = h 0 l (omega arith)
-
 line_size : (l : List ℕ) (ls : List (List ℕ)) → length (lines_text (l ∷ ls)) ≡ length l + 2 + length (lines_text ls)
 line_size l ls = length-append (line_text l) (lines_text ls) ∙ ap (λ n. n + length (lines_text ls)) (length-append l crlf)
 
@@ -63,17 +59,17 @@ same_lines : (size r s : ℕ) (ms ns : List (List ℕ)) (x y : List ℕ) → All
 unfolding NoLine
 same_lines size r s [] [] x y a b h k p q e = record { lines = refl; rest = e }
 same_lines size r s [] (n ∷ ns) x y a b h k p q e =
-    absurd (p n (lines_text ns ++ y) (head_all IsTrailer n ns b) (omega (arith, h, k, line_size n ns)) (e ∙ append_assoc (line_text n) (lines_text ns) y))
+    absurd (p n (lines_text ns ++ y) (All-head IsTrailer n ns b) (omega (arith, h, k, line_size n ns)) (e ∙ append_assoc (line_text n) (lines_text ns) y))
 same_lines size r s (m ∷ ms) [] x y a b h k p q e =
-    absurd (q m (lines_text ms ++ x) (head_all IsTrailer m ms a) (omega (arith, h, k, line_size m ms)) (sym e ∙ append_assoc (line_text m) (lines_text ms) x))
+    absurd (q m (lines_text ms ++ x) (All-head IsTrailer m ms a) (omega (arith, h, k, line_size m ms)) (sym e ∙ append_assoc (line_text m) (lines_text ms) x))
 same_lines size r s (m ∷ ms) (n ∷ ns) x y a b h k p q e =
     let f : line_text m ++ (lines_text ms ++ x) ≡ line_text n ++ (lines_text ns ++ y) =
     sym (append_assoc (line_text m) (lines_text ms) x) ∙ e ∙ append_assoc (line_text n) (lines_text ns) y in
-    let first = lines_same m n _ _ (head_all IsTrailer m ms a).0 (head_all IsTrailer n ns b).0 f in
-    let rest = rests_same m n _ _ (head_all IsTrailer m ms a).0 (head_all IsTrailer n ns b).0 f in
+    let first = lines_same m n _ _ (All-head IsTrailer m ms a).0 (All-head IsTrailer n ns b).0 f in
+    let rest = rests_same m n _ _ (All-head IsTrailer m ms a).0 (All-head IsTrailer n ns b).0 f in
     let long : length m ≡ length n = ap length first in
     let later =
-    same_lines (size + (length m + 2)) r s ms ns x y (tail_all IsTrailer m ms a) (tail_all IsTrailer n ns b)
+    same_lines (size + (length m + 2)) r s ms ns x y (All-tail IsTrailer m ms a) (All-tail IsTrailer n ns b)
     (omega (arith, h, line_size m ms)) (omega (arith, k, line_size n ns, long)) p q rest in
     record { lines = ap (λ l. l ∷ ms) first ∙ ap (λ ls. n ∷ ls) later.lines; rest = later.rest }
 

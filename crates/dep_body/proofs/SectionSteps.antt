@@ -1,11 +1,9 @@
 -- One byte more of the trailers.
-use Rattle.std.proofs.Common.{◌≡◌, ℕ, suc, zero, ◌+◌, ◌<◌, ◌==◌, ◌&&◌, Bool, true, false, List, [], ◌∷◌, ◌++◌, length, All, Some, if◌then◌else◌, refl, sym, ap, subst, ◌∙◌, arith, append_assoc, append-nil, length-append, inl, inr}
+use Rattle.std.proofs.Common.{◌≡◌, ℕ, ◌+◌, ◌<◌, ◌==◌, ◌&&◌, Bool, true, false, List, [], ◌∷◌, ◌++◌, length, Some, refl, sym, ap, subst, ◌∙◌, arith, append_assoc, append-nil, length-append}
 use Rattle.std.specs.List.{list_all}
-use Rattle.std.proofs.lemmas.Bool.{cases_Bool}
 use Rattle.std.proofs.lemmas.Grind.{flat_map-append}
-use Rattle.std.proofs.lemmas.List.Elements.{All-append}
+use Rattle.std.proofs.lemmas.List.Elements.{All-append, All-cons, All-nil}
 use Rattle.std.proofs.lemmas.List.Folds.{list_all-append}
-use Rattle.std.proofs.lemmas.List.Sums.{fold-append}
 use Rattle.dep_body.specs.Lines.{crlf, line_text, is_trailer_line}
 use Rattle.dep_body.specs.Body.{IsSizeLine, HasChunks, IsTrailer, lines_text, IsSection, IsChunkedBody, IsChunkedFault, long_trailers, bad_trailers, section_limit}
 use Rattle.dep_body.specs.Reading.{trailer_after, trailer_reading, next_trailer, Tells}
@@ -15,7 +13,7 @@ use Rattle.dep_body.specs.declared.trailers.Trailers.{Trailers}
 use Rattle.dep_body.specs.declared.trailers.TrailerReading as T
 use Rattle.dep_body.specs.declared.trailers.TrailerReading.TheVariants as V
 use Rattle.dep_body.proofs.LineEnds.{end_nil}
-use Rattle.dep_body.proofs.BegunLines.{begun_none, begun_line, begun_text, fold_bytes}
+use Rattle.dep_body.proofs.BegunLines.{begun_none, begun_line, begun_text, reading_more}
 use Rattle.dep_body.proofs.ChunkLemmas.{chunks_more, chunks_rest}
 use Rattle.dep_body.proofs.Readings.{trailer_told}
 use Rattle.dep_body.proofs.SizeSteps.{begun_next, next_line, not_both, capped_some}
@@ -23,17 +21,7 @@ use Rattle.dep_body.proofs.SizeSteps.{begun_next, next_line, not_both, capped_so
 reading_next : (bytes line : List ℕ) (cr : Bool) (b : ℕ) → IsBegunLine bytes line cr
     → next_trailer (trailer_reading line) cr b ≡ trailer_reading (next_line bytes b)
 unfolding next_line
-reading_next bytes line cr b h =
-    let all = fold_bytes trailer_after V.Empty bytes line cr h.bytes_are in
-    elim (cases_Bool (b == 13)) [
-      | inl t ↦
-          ap (λ (c : Bool). if c then (if cr then trailer_after (trailer_reading line) 13 else trailer_reading line) else trailer_after (if cr then trailer_after (trailer_reading line) 13 else trailer_reading line) b) t
-          ∙ sym all ∙ ap (λ (c : Bool). trailer_reading (if c then bytes else bytes ++ b ∷ [])) (sym t)
-      | inr f ↦
-          ap (λ (c : Bool). if c then (if cr then trailer_after (trailer_reading line) 13 else trailer_reading line) else trailer_after (if cr then trailer_after (trailer_reading line) 13 else trailer_reading line) b) f
-          ∙ ap (λ r. trailer_after r b) (sym all) ∙ sym (fold-append trailer_after V.Empty bytes (b ∷ []))
-          ∙ ap (λ (c : Bool). trailer_reading (if c then bytes else bytes ++ b ∷ [])) (sym f)
-    ]
+reading_next bytes line cr b h = reading_more trailer_after V.Empty bytes line cr b h.bytes_are
 
 -- the bytes with one more
 with_byte : (limit : ℕ) (content text : List ℕ) (state : Trailers) (b : ℕ) → (h : IsInTrailers limit content state text)
@@ -155,10 +143,6 @@ section_bad limit content text state h cr empty bad =
       content_is = sym (append-nil content);
     }
 
-one_only : (P : List ℕ → Type 0) (l : List ℕ) → P l → All P (l ∷ [])
-one_only P l p zero d below = p
-one_only P l p (suc k) d below = absurd (omega arith)
-
 and_true : (a : Bool) → (a && true) ≡ a
 and_true true = refl
 and_true false = refl
@@ -175,7 +159,7 @@ line_joins limit content text state good h cr some good_is =
       lines = h.lines ++ h.line ∷ [];
       chunks = chunks_rest limit _ content _ _ (ap (λ t. line_text h.size_line ++ t) joined) (ended limit content text state h cr);
       zero = h.zero;
-      are = All-append IsTrailer h.lines (h.line ∷ []) h.are (one_only IsTrailer h.line (begun_line h.rest h.line begun, some));
+      are = All-append IsTrailer h.lines (h.line ∷ []) h.are (All-cons IsTrailer h.line [] (begun_line h.rest h.line begun, some) (All-nil IsTrailer));
       good_is =
           good_is ∙ ap (λ b. b && is_trailer_line h.line) h.good_is
           ∙ ap (λ b. list_all is_trailer_line h.lines && b) (sym (and_true (is_trailer_line h.line)))

@@ -1,18 +1,17 @@
 -- One byte more of a chunk line, and what follows the line.
-use Rattle.std.proofs.Common.{◌≡◌, ℕ, ◌+◌, ◌<◌, ◌≤◌, ◌==◌, ◌&&◌, Bool, true, false, nat_le, List, [], ◌∷◌, ◌++◌, length, Option, Some, None, if◌then◌else◌, refl, sym, ap, subst, ◌∙◌, arith, append_assoc, append-nil, zero-add, length-append, inl, inr}
+use Rattle.std.proofs.Common.{◌≡◌, ℕ, ◌+◌, ◌<◌, ◌==◌, ◌&&◌, Bool, true, false, nat_le, List, [], ◌∷◌, ◌++◌, length, Option, Some, None, if◌then◌else◌, refl, sym, ap, subst, ◌∙◌, arith, append_assoc, append-nil, length-append, inl, inr}
 use Rattle.std.proofs.lemmas.Bool.{cases_Bool}
 use Rattle.std.proofs.lemmas.Bool.Decides.{nat_tests}
-use Rattle.std.proofs.lemmas.List.Sums.{fold-append}
 use Rattle.dep_octets.specs.Octets.{capped}
 use Rattle.dep_body.specs.Lines.{line_text, line_size}
-use Rattle.dep_body.specs.Body.{IsSizeLine, HasChunks, IsChunkedFault, long_line, bad_line, large_chunk, bad_end, line_limit}
+use Rattle.dep_body.specs.Body.{HasChunks, IsChunkedFault, long_line, bad_line, large_chunk, bad_end, line_limit}
 use Rattle.dep_body.specs.Reading.{size_after, size_reading, next_size, Says}
-use Rattle.dep_body.specs.Standing.{IsBegunLine, IsInLine, IsAtLineEnd, IsSizedLine, IsInData, IsBehindData}
+use Rattle.dep_body.specs.Standing.{IsBegunLine, IsInLine, IsAtLineEnd, IsSizedLine, IsBehindData}
 use Rattle.dep_body.specs.declared.frame.FrameFault.TheVariants.{Bad, TooLarge}
 use Rattle.dep_body.specs.declared.size.SizeLine.{SizeLine}
 use Rattle.dep_body.specs.declared.size.SizeReading.{SizeReading}
 use Rattle.dep_body.specs.declared.size.SizeReading.TheVariants.{Start}
-use Rattle.dep_body.proofs.BegunLines.{begun_none, begun_cr, begun_plain, begun_line, begun_text, begun_length, fold_bytes}
+use Rattle.dep_body.proofs.BegunLines.{begun_none, begun_cr, begun_plain, begun_line, begun_text, begun_length, reading_more}
 use Rattle.dep_body.proofs.ChunkLemmas.{chunks_more, chunks_rest, chunks_join}
 use Rattle.dep_body.proofs.Readings.{size_said}
 
@@ -56,17 +55,7 @@ begun_next bytes line cr b h other =
 pub reading_next : (most : ℕ) (bytes line : List ℕ) (cr : Bool) (b : ℕ) → IsBegunLine bytes line cr
     → next_size most (size_reading most line) cr b ≡ size_reading most (next_line bytes b)
 unfolding next_line
-reading_next most bytes line cr b h =
-    let all = fold_bytes (size_after most) Start bytes line cr h.bytes_are in
-    elim (cases_Bool (b == 13)) [
-      | inl t ↦
-          ap (λ (c : Bool). if c then (if cr then size_after most (size_reading most line) 13 else size_reading most line) else size_after most (if cr then size_after most (size_reading most line) 13 else size_reading most line) b) t
-          ∙ sym all ∙ ap (λ (c : Bool). size_reading most (if c then bytes else bytes ++ b ∷ [])) (sym t)
-      | inr f ↦
-          ap (λ (c : Bool). if c then (if cr then size_after most (size_reading most line) 13 else size_reading most line) else size_after most (if cr then size_after most (size_reading most line) 13 else size_reading most line) b) f
-          ∙ ap (λ r. size_after most r b) (sym all) ∙ sym (fold-append (size_after most) Start bytes (b ∷ []))
-          ∙ ap (λ (c : Bool). size_reading most (if c then bytes else bytes ++ b ∷ [])) (sym f)
-    ]
+reading_next most bytes line cr b h = reading_more (size_after most) Start bytes line cr b h.bytes_are
 
 pub line_goes : (limit : ℕ) (content text : List ℕ) (state next : SizeLine) (b : ℕ) → IsInLine limit content state text
     → (state.after_cr && b == 10) ≡ false → state.length + 1 < line_limit → next.length ≡ state.length + 1 → next.after_cr ≡ (b == 13)
@@ -157,21 +146,6 @@ sized_large limit content text size value h large = record {
 
 pub sized_none : (limit : ℕ) (content text : List ℕ) (size : ℕ) → IsSizedLine limit content size None text → IsChunkedFault limit text TooLarge content
 sized_none limit content text size h = sized_large limit content text size None h (omega (arith, capped_none limit size h.value_is))
-
-pub sized_fits : (limit : ℕ) (content text : List ℕ) (size n : ℕ) → IsSizedLine limit content size (Some n) text → 0 < n → length content + n ≤ limit
-    → IsInData limit content n text
-sized_fits limit content text size n h some room =
-    let same : n ≡ size = capped_some limit size n h.value_is in
-    record {
-      before = content;
-      line = h.line;
-      bytes = [];
-      chunks = chunks_rest limit text content _ _ (sym (append-nil (line_text h.line))) h.chunks;
-      size = subst (IsSizeLine h.line) (sym same ∙ sym (zero-add n)) h.size_line;
-      some = some;
-      room = omega (arith, zero-add n, room);
-      content_is = sym (append-nil content);
-    }
 
 two_behind : (limit : ℕ) (content text : List ℕ) (a b : ℕ) → (h : IsBehindData limit content (Some a) text)
     → HasChunks limit (text ++ b ∷ []) h.before (line_text h.line ++ (h.bytes ++ a ∷ b ∷ []))

@@ -1,34 +1,23 @@
 -- Bytes that begin with a line begin with one alone.
-use Rattle.std.proofs.Common.{◌≡◌, ℕ, ◌+◌, ◌<◌, ◌≤◌, List, [], ◌∷◌, ◌++◌, length, Some, None, refl, sym, ap, ◌∙◌, arith, append_assoc, length-append}
+use Rattle.std.proofs.Common.{◌≡◌, ℕ, ◌+◌, ◌<◌, ◌≤◌, List, ◌++◌, length, take, drop, Some, None, sym, ap, ◌∙◌, arith, append_assoc, length-append}
+use Rattle.std.proofs.Math.Seq.{take-append_seam, drop-append_seam}
 use Rattle.dep_body.specs.Lines.{crlf, line_text, line_end, IsLine}
-use Rattle.dep_body.proofs.LineEnds.{end_more, end_front, end_crlf, some_none}
+use Rattle.dep_head.proofs.MarkEnds.{end_more, some_none}
+use Rattle.dep_body.proofs.LineEnds.{end_front, end_crlf}
 
 pub fronts_same : (a b x y : List ℕ) → length a ≡ length b → a ++ x ≡ b ++ y → a ≡ b
-fronts_same [] [] x y n e = refl
-fronts_same [] (d ∷ b) x y n e = absurd (omega arith)
-fronts_same (c ∷ a) [] x y n e = absurd (omega arith)
-fronts_same (c ∷ a) (d ∷ b) x y n e =
-    let first : c ≡ d = cc in
-    let rest : a ++ x ≡ b ++ y = cc in
-    let same = fronts_same a b x y (omega arith) rest in
-    ap (λ h. h ∷ a) first ∙ ap (λ t. d ∷ t) same
+fronts_same a b x y n e = sym (take-append_seam a x) ∙ ap (λ k. take k (a ++ x)) n ∙ ap (take (length b)) e ∙ take-append_seam b y
 
 pub backs_same : (a b x y : List ℕ) → length a ≡ length b → a ++ x ≡ b ++ y → x ≡ y
-backs_same [] [] x y n e = e
-backs_same [] (d ∷ b) x y n e = absurd (omega arith)
-backs_same (c ∷ a) [] x y n e = absurd (omega arith)
-backs_same (c ∷ a) (d ∷ b) x y n e = let rest : a ++ x ≡ b ++ y = cc in backs_same a b x y (omega arith) rest
+backs_same a b x y n e = sym (drop-append_seam a x) ∙ ap (λ k. drop k (a ++ x)) n ∙ ap (drop (length b)) e ∙ drop-append_seam b y
 
 -- where a line ends first
 pub line_first : (line x : List ℕ) → IsLine line → line_end (line_text line ++ x) ≡ Some (length line + 2)
-line_first line x h = end_more (line_text line) x (length line + 2) h
-
-pub some_same : (m n : ℕ) → Some m ≡ Some n → m ≡ n
-some_same m n e = cc
+line_first line x h = end_more crlf (line_text line) x (length line + 2) h
 
 lengths_same : (a b x y : List ℕ) → IsLine a → IsLine b → line_text a ++ x ≡ line_text b ++ y → length a ≡ length b
 lengths_same a b x y h k e =
-    let same : length a + 2 ≡ length b + 2 = some_same _ _ (sym (line_first a x h) ∙ ap line_end e ∙ line_first b y k) in
+    let same : length a + 2 ≡ length b + 2 = cc (sym (line_first a x h) ∙ ap line_end e ∙ line_first b y k) in
     omega arith
 
 pub text_length : (a : List ℕ) → length (line_text a) ≡ length a + 2
@@ -57,4 +46,4 @@ no_line_all line x last h none e =
 -- CR LF alone begins no line that isn't empty
 pub no_line_crlf : (line x behind : List ℕ) → IsLine line → 0 < length line → crlf ++ behind ≡ line_text line ++ x → ⊥
 no_line_crlf line x behind h some e =
-    let same : 2 ≡ length line + 2 = some_same _ _ (sym (end_crlf behind) ∙ ap line_end e ∙ line_first line x h) in absurd (omega arith)
+    let same : 2 ≡ length line + 2 = cc (sym (end_crlf behind) ∙ ap line_end e ∙ line_first line x h) in absurd (omega arith)

@@ -1,7 +1,7 @@
 -- What a chunk reader was fed, and what it returns. Its state doesn't show the bytes, so these are relations.
-use Rattle.std.specs.Prelude.{◌≡◌, ℕ, ◌-◌, false, List, [], ◌++◌, length}
+use Rattle.std.specs.Prelude.{◌≡◌, ℕ, ◌-◌, ◌<◌, false, List, [], ◌++◌, length}
 use Rattle.dep_body.specs.Body.{IsBodyText, IsChunkedPart, IsChunkedFault}
-use Rattle.dep_body.specs.Standing.{StandsAt, is_settled}
+use Rattle.dep_body.specs.Standing.{StandsAt, IsInData, is_settled}
 use Rattle.dep_body.specs.ReaderValue.{ReaderValue}
 use Rattle.dep_body.specs.declared.frame.Framing.TheVariants.{Chunked}
 use Rattle.dep_body.specs.declared.frame.FrameFault.{FrameFault}
@@ -40,6 +40,16 @@ TellsFed reader fed piece A.More = IsChunkedPart reader.limit (fed ++ piece) rea
 TellsFed reader fed piece (A.Done used) = EndsBody reader.limit reader.content fed piece used
 TellsFed reader fed piece A.Bad = ShowsFault reader.limit reader.content fed piece F.Bad
 TellsFed reader fed piece A.TooLarge = ShowsFault reader.limit reader.content fed piece F.TooLarge
+
+-- a byte of a chunk stands in the piece, behind the stream that was fed before
+pub record HasChunkByte (limit : ℕ) (fed piece : List ℕ) : Type 0 where
+  pub front : List ℕ
+  pub rest : List ℕ
+  pub piece_is : piece ≡ front ++ rest
+  pub some : 0 < length rest
+  pub content : List ℕ
+  pub left : ℕ
+  pub within : IsInData limit content left (fed ++ front)
 
 -- what is returned at a stage
 abbrev pub answer_of : Stage → ℕ → Fed

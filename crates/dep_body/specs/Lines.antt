@@ -1,19 +1,17 @@
 -- Lines that end with CR LF: the lines before chunks, and trailer lines (RFC 9112, section 7.1).
-use Rattle.std.specs.Prelude.{◌≡◌, ℕ, suc, ◌+◌, ◌==◌, ◌&&◌, ◌||◌, not, Bool, true, false, nat_lt, nat_le, nat_eq, List, [], ◌∷◌, ◌++◌, length, take, drop, Option, Some, None, if◌then◌else◌}
-use Rattle.std.specs.List.{starts_with, prefix_len, list_all}
-use Rattle.std.specs.Option.{option_map}
+use Rattle.std.specs.Prelude.{◌≡◌, ℕ, ◌+◌, ◌==◌, ◌&&◌, ◌||◌, not, Bool, true, false, nat_lt, nat_le, List, [], ◌∷◌, ◌++◌, length, take, drop, Option, Some, None, if◌then◌else◌}
+use Rattle.std.specs.List.{prefix_len, list_all}
 use Rattle.std.specs.Char.{is_digit}
 use Rattle.std.specs.Str.Parse.{digits_value}
 use Rattle.dep_octets.specs.Octets.{is_token_octet}
+use Rattle.dep_head.specs.Marks.{mark_end}
 
 abbrev pub crlf : List ℕ
 crlf = 13 ∷ 10 ∷ []
 
 -- the length of the shortest front that ends with CR LF
-unfoldable pub line_end : List ℕ → Option ℕ
-line_end [] = None
-line_end (b ∷ bytes) =
-    if starts_with nat_eq (b ∷ bytes) crlf then Some 2 else option_map suc (line_end bytes)
+abbrev pub line_end : List ℕ → Option ℕ
+line_end = mark_end crlf
 
 -- a line and its end
 abbrev pub line_text : List ℕ → List ℕ

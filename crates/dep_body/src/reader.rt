@@ -1,7 +1,7 @@
 //! Reads a chunked body piece by piece.
 ghost use Rattle.std.specs.Prelude.{◌≡◌, ◌<◌, ◌≤◌, ◌++◌, ℕ, List, [], length, take, true, false, IfOk, OnErr};
 ghost use Rattle.dep_body.specs.Standing.{StandsAt, IsInData, is_settled};
-ghost use Rattle.dep_body.specs.Feeding.{HasFed, TellsFed, answer_of, used_by};
+ghost use Rattle.dep_body.specs.Feeding.{HasFed, HasChunkByte, TellsFed, answer_of, used_by};
 
 use crate::left::DataLeft;
 use crate::size::SizeLine;
@@ -68,6 +68,8 @@ impl ChunkReader {
         ensures within { IfOk result (λ answer. used_by answer ≤ length piece.now) }
         ensures limit { self.new.limit ≡ self.old.limit }
         ensures err { OnErr result (self.new ≡ self.old) }
+        ensures wanted { OnErr result ((fed : List ℕ) → HasFed self.old fed
+            → HasChunkByte self.old.limit fed piece.now) }
     {
         let held = self.content.as_slice().len();
         let (stage, used) = match advance(self.stage, self.max_upload, &mut self.content, piece) {
@@ -130,6 +132,9 @@ fn advance(
     ensures all { IfOk result (λ r. is_settled r.0 ≡ false → r.1 ≡ length piece.now) }
     ensures settled { is_settled stage ≡ true → IfOk result (λ r. (r.1 ≡ 0) × (r.0 ≡ stage)) }
     ensures kept { take (length content.old) content.new ≡ content.old }
+    ensures unsettled { OnErr result (is_settled stage ≡ false) }
+    ensures wanted { OnErr result ((text : List ℕ) → StandsAt limit content.old stage text
+        → HasChunkByte limit text piece.now) }
 {
     let mut stage = stage;
     let mut used = 0;
@@ -154,6 +159,7 @@ fn step(
     ensures within { IfOk result (λ r. r.1 ≤ length rest.now) }
     ensures some { is_settled stage ≡ false → IfOk result (λ r. 0 < r.1) }
     ensures kept { take (length content.old) content.new ≡ content.old }
+    ensures wanted { OnErr result ((left : DataLeft) × (stage ≡ Stage.Data left)) }
 {
     let byte = rest[0];
     let taken = content.as_slice().len() as u64;

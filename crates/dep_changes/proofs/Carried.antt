@@ -11,7 +11,7 @@ use Rattle.dep_types.specs.declared.config.Config.{Config}
 use Rattle.dep_types.specs.declared.counters.Counters.{Counters}
 use Rattle.dep_types.specs.declared.store_fault.StoreFault.{StoreFault}
 use Rattle.dep_tables.specs.Tables.{Tables}
-use Rattle.dep_row_maps.specs.TablesAre.{TablesAre, with_upload}
+use Rattle.dep_row_maps.specs.TablesAre.{TablesAre}
 use Rattle.dep_row_maps.specs.Clauses.{SeesState}
 use Rattle.dep_params.proofs.Runs.{and_both}
 use Rattle.dep_decisions.specs.Decisions.{decision, numbers_for}
@@ -109,9 +109,3 @@ pub at_object : (s : State) (uploads : Numbered Upload) (now : db.State) (r : Re
     → OnOk r (SeesState now (record s { objects = at s.objects n f; uploads = uploads }))
 at_object s uploads now r n o f there made =
     subst (λ (found : Option Object). OnOk r (SeesState now (record s { objects = option_map_or (λ x. finmap.insert s.objects n (f x)) found s.objects; uploads = uploads }))) (sym there) made
-
--- the same of an upload
-pub at_upload : (s : State) (now : db.State) (r : Result (Unit {0}) StoreFault) (u : ℕ) (it : Upload) (f : Upload → Upload) → finmap.get s.uploads u ≡ Some it
-    → OnOk r (SeesState now (with_upload s u (f it))) → OnOk r (SeesState now (record s { uploads = at s.uploads u f }))
-at_upload s now r u it f there made =
-    subst (λ (found : Option Upload). OnOk r (SeesState now (record s { uploads = option_map_or (λ x. finmap.insert s.uploads u (f x)) found s.uploads }))) (sym there) made

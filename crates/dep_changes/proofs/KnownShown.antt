@@ -14,7 +14,7 @@ use Rattle.dep_decisions.specs.Effects.{added, appended, at, changed, effect_of,
 use Rattle.dep_decisions.specs.declared.decision.Decision.{Decision}
 use Rattle.dep_decisions.specs.declared.decision.Deposit.{Deposit}
 use Rattle.dep_decisions.specs.declared.decision.NewFile.{NewFile}
-use Rattle.dep_decisions.specs.declared.decision.Decision.TheVariants.{Show, Create, Append, Replace, Complete, SetMetadata, SetFiles, SetFile, DropFile, DropObject, Open, Receive, DropUpload}
+use Rattle.dep_decisions.specs.declared.decision.Decision.TheVariants.{Show, Create, Append, Replace, Complete, SetMetadata, SetFiles, SetFile}
 use Rattle.dep_answers.specs.Subjects.{files_view}
 use Rattle.dep_answers.specs.declared.subject.Shown.TheVariants as shown
 use Rattle.dep_operations.specs.declared.view.View.{View}
@@ -118,13 +118,4 @@ has_known s content d (Some was) known is = subst (λ (x : Option ObjectRow). If
     has Show = found (effect_of s content Show) _ refl
     has (Append n d ingests) = found (effect_of s content (Append n d ingests)) _ refl
     has (Complete n) = found (effect_of s content (Complete n)) _ refl
-    has (Create d ingests) = tt
-    has (Replace n d ingests) = tt
-    has (SetMetadata n texts) = tt
-    has (SetFiles n new) = tt
-    has (SetFile n f new) = tt
-    has (DropFile n f) = tt
-    has (DropObject n) = tt
-    has (Open o) = tt
-    has (Receive u k) = tt
-    has (DropUpload u) = tt
+    has _ = tt

@@ -137,16 +137,16 @@ module _ (s : State) (content : List ℕ) where
 
 -- what is told of an object of this row that has a deposit alone
 module _ (s : State) (content : List ℕ) (n : ℕ) (ingested : Bool) (row : ObjectRow) (is : row ≡ object_row n (blank s ingested)) (d : Deposit) where
-  pub view_of_files : (new : List NewFile) → d ≡ Files new → (texts : Texts) → texts ≡ finmap.empty → (rows : List FileRow) → rows ≡ new_rows s content row.object new
-      → ◌≡◌ {A = ObjectView} (record { object = row; metadata = texts; files = rows }) (files_view n (filled s content d ingested))
-  view_of_files new same texts none rows are =
+  pub view_of_files : (new : List NewFile) → d ≡ Files new → (texts : Texts) → texts ≡ finmap.empty → (rows : List FileRow) → rows ≡ new_rows s content row.object new → (values : List (List ℕ)) → values ≡ []
+      → ◌≡◌ {A = ObjectView} (record { object = row; metadata = texts; files = rows; sha512s = values }) (files_view n (filled s content d ingested))
+  view_of_files new same texts none rows are values unread =
       let rows_are : rows ≡ new_rows s content n new = are ∙ ap (λ (r : ObjectRow). new_rows s content r.object new) is in
-      let told : ◌≡◌ {A = ObjectView} (record { object = row; metadata = texts; files = rows }) (files_view n (filled s content (Files new) ingested)) = λ i. record { object = is i; metadata = none i; files = rows_are i } in
+      let told : ◌≡◌ {A = ObjectView} (record { object = row; metadata = texts; files = rows; sha512s = values }) (files_view n (filled s content (Files new) ingested)) = λ i. record { object = is i; metadata = none i; files = rows_are i; sha512s = unread i } in
       told ∙ ap (λ (x : Deposit). files_view n (filled s content x ingested)) (sym same)
 
-  pub view_of_texts : (given : Texts) → d ≡ Metadata given → (texts : Texts) → texts ≡ finmap.empty → (rows : List FileRow) → rows ≡ []
-      → ◌≡◌ {A = ObjectView} (record { object = row; metadata = texts; files = rows }) (files_view n (filled s content d ingested))
-  view_of_texts given same texts none rows no_rows =
+  pub view_of_texts : (given : Texts) → d ≡ Metadata given → (texts : Texts) → texts ≡ finmap.empty → (rows : List FileRow) → rows ≡ [] → (values : List (List ℕ)) → values ≡ []
+      → ◌≡◌ {A = ObjectView} (record { object = row; metadata = texts; files = rows; sha512s = values }) (files_view n (filled s content d ingested))
+  view_of_texts given same texts none rows no_rows values unread =
       let rows_are : rows ≡ map (λ (e : Entry). file_row n e.0 e.1) (finmap.entries finmap.empty) = no_rows ∙ sym (ap (map (λ (e : Entry). file_row n e.0 e.1)) (entries-empty nat_cmp File)) in
-      let told : ◌≡◌ {A = ObjectView} (record { object = row; metadata = texts; files = rows }) (files_view n (filled s content (Metadata given) ingested)) = λ i. record { object = is i; metadata = none i; files = rows_are i } in
+      let told : ◌≡◌ {A = ObjectView} (record { object = row; metadata = texts; files = rows; sha512s = values }) (files_view n (filled s content (Metadata given) ingested)) = λ i. record { object = is i; metadata = none i; files = rows_are i; sha512s = unread i } in
       told ∙ ap (λ (x : Deposit). files_view n (filled s content x ingested)) (sym same)

@@ -82,7 +82,6 @@ new_row change numbers new extent = record {
   behalf = new.behalf;
   by_reference = is_reference new.source;
   sha256 = extent.digests.sha256;
-  sha512 = extent.digests.sha512;
 }
 
 -- the size and the digests are those of these bytes

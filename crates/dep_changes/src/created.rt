@@ -13,7 +13,7 @@ ghost use Rattle.dep_changes.specs.Told.{TellsDeposit, TellsNewFile, TellsObject
 use crate::change::{Change, NumberedDeposit, NumberedFiles, touched_object};
 use crate::new_files::{Extent, FileNumbers, new_row, whole_upload};
 use dep_decisions::{Deposit, NewFile, Source};
-use dep_types::{FileRow, FileRows, Metadata, ObjectRow, ObjectView, StoreFault};
+use dep_types::{FileRow, FileRows, Metadata, ObjectRow, ObjectView, Sha512s, StoreFault};
 
 // How many bytes a new file has, and their digests.
 fn extent_of(change: &Change<'_>, source: Source, index: usize) -> Result<Extent, StoreFault>
@@ -88,12 +88,14 @@ pub(crate) fn filled_view(
                 object: row,
                 metadata: Metadata::new(change.alloc),
                 files: rows,
+                sha512s: Sha512s::new(Vec::new(change.alloc)),
             })
         }
         Deposit::Metadata(_) => Ok(ObjectView {
             object: row,
             metadata: Metadata::new(change.alloc),
             files: FileRows::new(Vec::new(change.alloc)),
+            sha512s: Sha512s::new(Vec::new(change.alloc)),
         }),
     }
 }

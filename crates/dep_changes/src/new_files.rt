@@ -16,8 +16,8 @@ ghost use Rattle.dep_changes.specs.Told.{whole_view};
 use crate::change::{Change, NumberedFiles, touched_object};
 use crate::objects::{files_changed, write_row};
 use dep_decisions::{NewFile, Source};
+use dep_files::{delete_file, delete_files, put_file};
 use dep_fixity::Digests;
-use dep_objects::{delete_file, delete_files, put_file};
 use dep_operations::{UploadState, UploadView, View};
 use dep_staging::assemble;
 use dep_tables::Statements;
@@ -77,7 +77,6 @@ pub(crate) fn new_row(
         behalf: copied_behalf(change.alloc, &new.behalf)?,
         by_reference: is_reference(new.source),
         sha256: extent.digests.sha256,
-        sha512: extent.digests.sha512,
     })
 }
 
@@ -97,7 +96,7 @@ fn put_posted<T: Statements>(
         digests,
     };
     let row = new_row(change, numbers, new, extent)?;
-    put_file(tx, &row, change.content)
+    put_file(tx, &row, &digests.sha512, change.content)
 }
 
 /// An upload that is whole, with the digests of its bytes.
@@ -145,7 +144,7 @@ fn put_assembled<T: Statements>(
         digests: upload.digests,
     };
     let row = new_row(change, numbers, new, extent)?;
-    assemble(tx, &upload.row, &row)
+    assemble(tx, &upload.row, &row, &upload.digests.sha512)
 }
 
 // One of the new files of an object, in their order.

@@ -8,7 +8,8 @@ ghost use Rattle.dep_changes.specs.Clauses.{CarriesOut, MakesOf};
 ghost use Rattle.dep_changes.specs.Told.{Rewrites};
 
 use crate::change::{Change, touched_object};
-use dep_objects::{delete_file, delete_files, delete_object, put_object};
+use dep_files::{delete_file, delete_files};
+use dep_objects::{delete_object, put_object};
 use dep_operations::View;
 use dep_tables::Statements;
 use dep_types::{Metadata, ObjectRow, StoreFault};

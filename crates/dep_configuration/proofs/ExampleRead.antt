@@ -101,7 +101,7 @@ example_lexemes =
     ∷ comma
     ∷ (token (Token.string (codes "reserve_bytes")))
     ∷ colon
-    ∷ (token (Token.number (codes "16777216")))
+    ∷ (token (Token.number (codes "33554432")))
     ∷ (token Token.end_object) ∷ []
 
 unfoldable pub example_tokens : List Token
@@ -148,7 +148,7 @@ example_tokens =
     ∷ (Token.key (codes "unfinished_bytes"))
     ∷ (Token.number (codes "1073741824"))
     ∷ (Token.key (codes "reserve_bytes"))
-    ∷ (Token.number (codes "16777216"))
+    ∷ (Token.number (codes "33554432"))
     ∷ Token.end_object ∷ []
 
 unfoldable pub example_members : Members
@@ -172,7 +172,7 @@ example_members = member (codes "address") (Json.string (codes "127.0.0.1")) (
     member (codes "address_connections") (Json.number (codes "1024")) (
     member (codes "spool_bytes") (Json.number (codes "68719476736")) (
     member (codes "unfinished_bytes") (Json.number (codes "1073741824")) (
-    member (codes "reserve_bytes") (Json.number (codes "16777216")) (
+    member (codes "reserve_bytes") (Json.number (codes "33554432")) (
     no_members)))))))))))))))))))))
 
 punctuated : punctuate fresh example_lexemes ≡ example_tokens

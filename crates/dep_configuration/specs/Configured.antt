@@ -40,7 +40,7 @@ pub record HasConfiguration (c : Configuration) (j : Json) : Type 0 where
   pub stop_file : text_of StopFile [] j ≡ Some c.stop_file
   pub config : HasConfig c.config j
   pub limits : HasLimits c.limits j
-  pub reserve : number_of ReserveBytes 16777216 j ≡ Some c.reserve_bytes
+  pub reserve : number_of ReserveBytes 33554432 j ≡ Some c.reserve_bytes
 
 -- a value gives fields alone, each once, which are the configuration, and a server can be set up with it
 pub record IsRead (c : Configuration) (j : Json) : Type 0 where

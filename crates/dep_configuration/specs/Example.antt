@@ -39,5 +39,5 @@ example_configuration = record {
   stop_file = [];
   config = example_config;
   limits = example_limits;
-  reserve_bytes = 16777216;
+  reserve_bytes = 33554432;
 }

@@ -36,17 +36,7 @@ bounds least most = record { least = least; most = most }
 
 -- what a whole number may be; of any other field, 0 alone
 unfoldable pub bounds_of : Field → Bounds
-bounds_of Address = bounds 0 0
 bounds_of Port = bounds 1 65535
-bounds_of Database = bounds 0 0
-bounds_of SpoolFolder = bounds 0 0
-bounds_of StopFile = bounds 0 0
-bounds_of Base = bounds 0 0
-bounds_of Title = bounds 0 0
-bounds_of Abstract = bounds 0 0
-bounds_of Depositor = bounds 0 0
-bounds_of OnBehalfOf = bounds 0 0
-bounds_of RequireIfMatch = bounds 0 0
 bounds_of MaxUpload = bounds 1 16777216
 bounds_of MaxAssembled = bounds 1 17179869184
 bounds_of MaxSegments = bounds 1 10000
@@ -57,12 +47,12 @@ bounds_of Connections = bounds 1 1000000000
 bounds_of AddressConnections = bounds 1 1024
 bounds_of SpoolBytes = bounds 1048576 1125899906842624
 bounds_of UnfinishedBytes = bounds 33554432 1099511627776
-bounds_of ReserveBytes = bounds 0 1073741824
+bounds_of ReserveBytes = bounds 0 67108864
+bounds_of f = bounds 0 0
 
 -- what a field takes; numbers are bytes, seconds, bytes per second or counts
 unfoldable pub wanted_of : Field → Wanted
 wanted_of Address = Kind.Address
-wanted_of Port = Kind.WholeNumber (bounds 1 65535)
 wanted_of Database = Kind.FilledText
 wanted_of SpoolFolder = Kind.FilledText
 wanted_of StopFile = Kind.AnyText
@@ -72,14 +62,4 @@ wanted_of Abstract = Kind.AnyText
 wanted_of Depositor = Kind.AnyText
 wanted_of OnBehalfOf = Kind.Flag
 wanted_of RequireIfMatch = Kind.Flag
-wanted_of MaxUpload = Kind.WholeNumber (bounds 1 16777216)
-wanted_of MaxAssembled = Kind.WholeNumber (bounds 1 17179869184)
-wanted_of MaxSegments = Kind.WholeNumber (bounds 1 10000)
-wanted_of StagingMaxIdle = Kind.WholeNumber (bounds 1 31536000)
-wanted_of IdleSeconds = Kind.WholeNumber (bounds 1 86400)
-wanted_of LeastRate = Kind.WholeNumber (bounds 0 1000000000)
-wanted_of Connections = Kind.WholeNumber (bounds 1 1000000000)
-wanted_of AddressConnections = Kind.WholeNumber (bounds 1 1024)
-wanted_of SpoolBytes = Kind.WholeNumber (bounds 1048576 1125899906842624)
-wanted_of UnfinishedBytes = Kind.WholeNumber (bounds 33554432 1099511627776)
-wanted_of ReserveBytes = Kind.WholeNumber (bounds 0 1073741824)
+wanted_of f = Kind.WholeNumber (bounds_of f)

@@ -123,7 +123,7 @@ fn configuration_in(alloc: Global, value: &Value<'_>) -> Result<Configuration, A
         stop_file,
         config,
         limits: limits_in(value),
-        reserve_bytes: number(value, Field::ReserveBytes, 16_777_216),
+        reserve_bytes: number(value, Field::ReserveBytes, 33_554_432),
     })
 }
 

@@ -26,7 +26,7 @@ pub const EXAMPLE: &str = "{
   \"address_connections\": 1024,
   \"spool_bytes\": 68719476736,
   \"unfinished_bytes\": 1073741824,
-  \"reserve_bytes\": 16777216
+  \"reserve_bytes\": 33554432
 }
 ";
 
@@ -71,7 +71,7 @@ impl Field {
                 "the bytes that unfinished requests may hold in all; 1073741824 by default"
             }
             Field::ReserveBytes =>
-                "the bytes kept for a full disk, 0 for none; 16777216 by default",
+                "the bytes kept for a full disk, 0 for none; 33554432 by default",
         }
     }
 }

@@ -188,7 +188,7 @@ impl Field {
             Field::AddressConnections => within(1, 1_024),
             Field::SpoolBytes => within(1_048_576, 1_125_899_906_842_624),
             Field::UnfinishedBytes => within(33_554_432, 1_099_511_627_776),
-            Field::ReserveBytes => within(0, 1_073_741_824),
+            Field::ReserveBytes => within(0, 67_108_864),
             _ => within(0, 0),
         }
     }

@@ -8,9 +8,9 @@ use Rattle.dep_types.specs.Sound.{IsSound}
 use Rattle.dep_types.specs.declared.config.Config.{Config}
 use Rattle.dep_types.specs.declared.refusal.Refusal.TheVariants.{NotFound, MaxAssembledSizeExceeded, SegmentLimitExceeded, InvalidSegmentSize}
 use Rattle.dep_types.specs.declared.target.Resource.{Resource}
-use Rattle.dep_types.specs.declared.target.Resource.TheVariants.{Service, Object, Metadata, FileSet, File, Staging, Upload, BagList, BagFile}
+use Rattle.dep_types.specs.declared.target.Resource.TheVariants.{Service, Object, Metadata, FileSet, File, Staging, Upload}
 use Rattle.dep_types.specs.declared.target.Method.{Method}
-use Rattle.dep_types.specs.declared.target.Method.TheVariants.{Get, Head, Post, Put, Delete}
+use Rattle.dep_types.specs.declared.target.Method.TheVariants.{Post, Put, Delete}
 use Rattle.dep_params.proofs.Runs.{and_both}
 use Rattle.dep_fields.specs.Fit.{AreFit, IfValue, IsFitKind}
 use Rattle.dep_fields.specs.declared.field.Field.{Field}
@@ -46,18 +46,7 @@ held_kind false k kind fit h = cc h
 
 without_kind : (resource : Resource) (method : Method) (kind : Kind) → kind_without resource method ≡ Some kind → IsFitKind kind
 without_kind (Metadata n) Put kind h = let same : of.Metadata ≡ kind = cc h in subst IsFitKind same tt
-without_kind (Metadata n) Get kind h = cc h
-without_kind (Metadata n) Head kind h = cc h
-without_kind (Metadata n) Post kind h = cc h
-without_kind (Metadata n) Delete kind h = cc h
-without_kind Service method kind h = cc h
-without_kind (Object n) method kind h = cc h
-without_kind (FileSet n) method kind h = cc h
-without_kind (File n f) method kind h = cc h
-without_kind Staging method kind h = cc h
-without_kind (Upload u) method kind h = cc h
-without_kind (BagList n) method kind h = cc h
-without_kind (BagFile n path) method kind h = cc h
+without_kind _ _ kind h = cc h
 
 by_fit : (op : Operation) (field : Field Kind) (kind : Kind) → IfValue field IsFitKind → kind_by op field ≡ Some kind → IsFitKind kind
 by_fit op (Value k) kind fit h = held_kind (takes_kind op.target.resource op.target.method k && may_hold k op.content) k kind fit h
@@ -110,12 +99,8 @@ read_fit config content None h = tt
 read_fit config content (Some refs) h = references-fit config content refs h
 
 references_by_fit : (config : Config) (op : Operation) (o : Option Kind) → AreFitReferences (references_by config op o)
-references_by_fit config op None = tt
-references_by_fit config op (Some (of.File name)) = tt
-references_by_fit config op (Some of.Metadata) = tt
 references_by_fit config op (Some of.References) = read_fit config op.content (references_read config op.content) refl
-references_by_fit config op (Some (of.Opening o)) = tt
-references_by_fit config op (Some (of.Segment k)) = tt
+references_by_fit config op _ = tt
 
 references_in_fit : (config : Config) (op : Operation) → AreFitReferences (references_in config op)
 unfolding references_in
@@ -123,12 +108,10 @@ references_in_fit config op = references_by_fit config op (kind_of op)
 
 deposit_by_fit : (refs : Option (List Reference)) (op : Operation) (o : Option Kind) → AreFitReferences refs → AreFit op.fields → kind_of op ≡ o
     → Fits (option_and_then (deposit_by refs op) o)
-deposit_by_fit refs op None good fit is = tt
 deposit_by_fit refs op (Some (of.File name)) good fit is = (posted_fit op name fit (kind_fit op (of.File name) fit is), tt)
 deposit_by_fit refs op (Some of.Metadata) good fit is = metadata_fits op.content (metadata_read op.content) refl
 deposit_by_fit refs op (Some of.References) good fit is = references_fit op refs good
-deposit_by_fit refs op (Some (of.Opening o)) good fit is = tt
-deposit_by_fit refs op (Some (of.Segment k)) good fit is = tt
+deposit_by_fit refs op _ good fit is = tt
 
 deposit_fit : (refs : Option (List Reference)) (op : Operation) → AreFitReferences refs → AreFit op.fields → Fits (deposit_of refs op)
 unfolding deposit_of
@@ -164,12 +147,8 @@ module _ (s : State) (content : List ℕ) where
   files_set n (Some (deposit.Metadata texts)) fit = tt
 
   file_set : (op : Operation) (n f : ℕ) (o : Option Kind) → AreFit op.fields → kind_of op ≡ o → is_some (file_at s n f) ≡ true → Good (option_and_then (replaced_file op n f) o)
-  file_set op n f None fit is there = tt
   file_set op n f (Some (of.File name)) fit is there = (posted_fit op name fit (kind_fit op (of.File name) fit is), there)
-  file_set op n f (Some of.Metadata) fit is there = tt
-  file_set op n f (Some of.References) fit is there = tt
-  file_set op n f (Some (of.Opening o)) fit is there = tt
-  file_set op n f (Some (of.Segment k)) fit is there = tt
+  file_set op n f _ fit is there = tt
 
 opening_sizes : (config : Config) (o : Opening) → opening_refusal config o ≡ None → IsTrue (sizes_agree o.size o.count o.segment_size)
 opening_sizes config o e =
@@ -182,23 +161,15 @@ opening_sizes config o e =
 
 module _ (config : Config) (s : State) (op : Operation) (fit : AreFit op.fields) where
   opened_fit : (o : Option Kind) → kind_of op ≡ o → option_and_then (size_refusal config (in_state s) op) o ≡ None → Good s op.content (option_and_then opened o)
-  opened_fit None is passed = tt
-  opened_fit (Some (of.File name)) is passed = tt
-  opened_fit (Some of.Metadata) is passed = tt
-  opened_fit (Some of.References) is passed = tt
   opened_fit (Some (of.Opening o)) is passed = (kind_fit op (of.Opening o) fit is, opening_sizes config o passed)
-  opened_fit (Some (of.Segment k)) is passed = tt
+  opened_fit _ is passed = tt
 
   received_fit : (u : ℕ) (o : Option Kind) → op.target.resource ≡ Upload u → option_and_then (size_refusal config (in_state s) op) o ≡ None → Good s op.content (option_and_then (received u) o)
-  received_fit u None at passed = tt
-  received_fit u (Some (of.File name)) at passed = tt
-  received_fit u (Some of.Metadata) at passed = tt
-  received_fit u (Some of.References) at passed = tt
-  received_fit u (Some (of.Opening o)) at passed = tt
   received_fit u (Some (of.Segment k)) at passed = λ upload there.
       ap (option_and_then (λ x. segment_refusal x k op.content)) (sym there)
       ∙ ap (λ r. received_refusal (in_state s) r k op.content) (sym at)
       ∙ passed
+  received_fit u _ at passed = tt
 
   sizes : size_rule config (in_state s) op ≡ None → option_and_then (size_refusal config (in_state s) op) (kind_of op) ≡ None
   unfolding size_rule
@@ -214,42 +185,15 @@ module _ (config : Config) (s : State) (op : Operation) (fit : AreFit op.fields)
   asked_fit : (resource : Resource) (method : Method) → op.target.resource ≡ resource → op.target.method ≡ method → refusal config s op ≡ None
       → Good s op.content (decision_at (references_in config op) op resource method)
   asked_fit Service Post at by e = created s op.content (ingests op) (deposit_of (references_in config op) op) fits
-  asked_fit Service Get at by e = tt
-  asked_fit Service Head at by e = tt
-  asked_fit Service Put at by e = tt
-  asked_fit Service Delete at by e = tt
   asked_fit (Object n) Post at by e = appended s op.content n (is_completion op) (ingests op) (deposit_of (references_in config op) op) fits
   asked_fit (Object n) Put at by e = replaced s op.content n (ingests op) (deposit_of (references_in config op) op) fits
-  asked_fit (Object n) Delete at by e = tt
-  asked_fit (Object n) Get at by e = tt
-  asked_fit (Object n) Head at by e = tt
   asked_fit (Metadata n) Put at by e = metadata_set s op.content n (deposit_of (references_in config op) op) fits
   asked_fit (Metadata n) Delete at by e = nothing-kept
-  asked_fit (Metadata n) Get at by e = tt
-  asked_fit (Metadata n) Head at by e = tt
-  asked_fit (Metadata n) Post at by e = tt
   asked_fit (FileSet n) Put at by e = files_set s op.content n (deposit_of (references_in config op) op) fits
-  asked_fit (FileSet n) Delete at by e = tt
-  asked_fit (FileSet n) Get at by e = tt
-  asked_fit (FileSet n) Head at by e = tt
-  asked_fit (FileSet n) Post at by e = tt
   asked_fit (File n f) Put at by e = file_set s op.content op n f (kind_of op) fit refl (file_there n f at (presence_passed config (in_state s) op e))
-  asked_fit (File n f) Delete at by e = tt
-  asked_fit (File n f) Get at by e = tt
-  asked_fit (File n f) Head at by e = tt
-  asked_fit (File n f) Post at by e = tt
   asked_fit Staging Post at by e = opened_fit (kind_of op) refl (sizes (content_passed config (in_state s) op e (ap has_content by)).size)
-  asked_fit Staging Get at by e = tt
-  asked_fit Staging Head at by e = tt
-  asked_fit Staging Put at by e = tt
-  asked_fit Staging Delete at by e = tt
   asked_fit (Upload u) Post at by e = received_fit u (kind_of op) at (sizes (content_passed config (in_state s) op e (ap has_content by)).size)
-  asked_fit (Upload u) Delete at by e = tt
-  asked_fit (Upload u) Get at by e = tt
-  asked_fit (Upload u) Head at by e = tt
-  asked_fit (Upload u) Put at by e = tt
-  asked_fit (BagList n) method at by e = tt
-  asked_fit (BagFile n path) method at by e = tt
+  asked_fit _ _ at by e = tt
 
   pub decision_fit : refusal config s op ≡ None → IsFitDecision s op.content (decision config op)
   unfolding decision_with

@@ -4,7 +4,7 @@ use Rattle.std.proofs.lemmas.List.{take_more}
 use Rattle.std.proofs.lemmas.List.Elements.{filter_map-append}
 use Rattle.std.specs.List.{cons_option}
 use Rattle.dep_types.specs.declared.target.Resource.{Resource}
-use Rattle.dep_types.specs.declared.target.Resource.TheVariants.{Service, Object, Metadata, FileSet, File, Staging, Upload, BagList, BagFile}
+use Rattle.dep_types.specs.declared.target.Resource.TheVariants.{Service}
 use Rattle.dep_types.specs.declared.target.Method.TheVariants.{Get, Head}
 use Rattle.dep_docs_in.specs.declared.reference.Reference.{Reference}
 use Rattle.dep_decisions.specs.Asked.{asked_at}
@@ -14,25 +14,11 @@ use Rattle.dep_decisions.specs.declared.decision.Decision.TheVariants.{Show}
 
 pub shown_by_get : (refs : Option (List Reference)) (op : Operation) (resource : Resource) → Show ≡ asked_at refs op resource Get
 shown_by_get refs op Service = refl
-shown_by_get refs op (Object n) = refl
-shown_by_get refs op (Metadata n) = refl
-shown_by_get refs op (FileSet n) = refl
-shown_by_get refs op (File n f) = refl
-shown_by_get refs op Staging = refl
-shown_by_get refs op (Upload u) = refl
-shown_by_get refs op (BagList n) = refl
-shown_by_get refs op (BagFile n path) = refl
+shown_by_get refs op _ = refl
 
 pub shown_by_head : (refs : Option (List Reference)) (op : Operation) (resource : Resource) → Show ≡ asked_at refs op resource Head
 shown_by_head refs op Service = refl
-shown_by_head refs op (Object n) = refl
-shown_by_head refs op (Metadata n) = refl
-shown_by_head refs op (FileSet n) = refl
-shown_by_head refs op (File n f) = refl
-shown_by_head refs op Staging = refl
-shown_by_head refs op (Upload u) = refl
-shown_by_head refs op (BagList n) = refl
-shown_by_head refs op (BagFile n path) = refl
+shown_by_head refs op _ = refl
 
 -- the files up to one more entry
 pub files_more : (op : Operation) (refs : List Reference) (i : ℕ) (r : Reference) → i < length refs → r ≡ get_or refs i r

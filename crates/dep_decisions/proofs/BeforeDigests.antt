@@ -72,14 +72,10 @@ module _ {U : Type 0} (config : Config) (l : LookUps U) (op : Operation) where
   last_two : (o : Option Kind) (r : Refusal)
       → first_of (option_and_then (document_refusal config (without_digests l) op) o ∷ option_and_then (size_refusal config (without_digests l) op) o ∷ []) ≡ Some r
       → first_of (option_and_then (document_refusal config l op) o ∷ option_and_then (size_refusal config l op) o ∷ []) ≡ Some r
-  last_two None r e = e
-  last_two (Some (of.File name)) r e = e
-  last_two (Some of.Metadata) r e = e
   last_two (Some of.References) r e =
       single (references_refusal l (l.references config op))
       ∙ references_before (l.references config op) r (sym (single (references_refusal (without_digests l) (l.references config op))) ∙ e)
-  last_two (Some (of.Opening o)) r e = e
-  last_two (Some (of.Segment k)) r e = e
+  last_two _ r e = e
 
   content_before : (r : Refusal) → content_by config (without_digests l) op ≡ Some r → content_by config l op ≡ Some r
   unfolding content_by document_rule size_rule
@@ -108,20 +104,12 @@ module _ {U : Type 0} (config : Config) (l : LookUps U) (op : Operation) where
   -- ---- other contents
 
   same_document : (o : Option Kind) → o ≢ Some of.References → option_and_then (document_refusal config (without_digests l) op) o ≡ option_and_then (document_refusal config l op) o
-  same_document None other = refl
-  same_document (Some (of.File name)) other = refl
-  same_document (Some of.Metadata) other = refl
   same_document (Some of.References) other = absurd (other refl)
-  same_document (Some (of.Opening o)) other = refl
-  same_document (Some (of.Segment k)) other = refl
+  same_document _ other = refl
 
   same_size : (o : Option Kind) → option_and_then (size_refusal config (without_digests l) op) o ≡ option_and_then (size_refusal config l op) o
-  same_size None = refl
-  same_size (Some (of.File name)) = refl
-  same_size (Some of.Metadata) = refl
   same_size (Some of.References) = refl
-  same_size (Some (of.Opening o)) = refl
-  same_size (Some (of.Segment k)) = refl
+  same_size _ = refl
 
   same_content : kind_of op ≢ Some of.References → content_refusal config (without_digests l) op ≡ content_refusal config l op
   unfolding content_refusal content_by document_rule size_rule

@@ -10,9 +10,9 @@ use Rattle.dep_types.specs.Sound.{IsSound}
 use Rattle.dep_types.specs.declared.config.Config.{Config}
 use Rattle.dep_types.specs.declared.refusal.Refusal.TheVariants.{NotFound}
 use Rattle.dep_types.specs.declared.target.Resource.{Resource}
-use Rattle.dep_types.specs.declared.target.Resource.TheVariants.{Service, Object, Metadata, FileSet, File, Staging, Upload, BagList, BagFile}
+use Rattle.dep_types.specs.declared.target.Resource.TheVariants.{Service, Object, FileSet}
 use Rattle.dep_types.specs.declared.target.Method.{Method}
-use Rattle.dep_types.specs.declared.target.Method.TheVariants.{Get, Head, Post, Put, Delete}
+use Rattle.dep_types.specs.declared.target.Method.TheVariants.{Get, Post, Put}
 use Rattle.dep_types.proofs.Kept.{get-insert_same}
 use Rattle.dep_fixity.specs.Fixity.{digests_of, keeps}
 use Rattle.dep_params.proofs.Runs.{and_both}
@@ -41,12 +41,8 @@ use Rattle.dep_decisions.proofs.Taken.{content_taken, taken, uncompleted}
 -- ---- the kind
 
 kind_read_as : (config : Config) (op : Operation) (refs : List Reference) (o : Option Kind) → references_by config op o ≡ Some refs → o ≡ Some of.References
-kind_read_as config op refs None e = cc e
-kind_read_as config op refs (Some (of.File name)) e = cc e
-kind_read_as config op refs (Some of.Metadata) e = cc e
 kind_read_as config op refs (Some of.References) e = refl
-kind_read_as config op refs (Some (of.Opening o)) e = cc e
-kind_read_as config op refs (Some (of.Segment k)) e = cc e
+kind_read_as config op refs _ e = cc e
 
 kind_is : (config : Config) (op : Operation) (refs : List Reference) → references_in config op ≡ Some refs → kind_of op ≡ Some of.References
 unfolding references_in
@@ -119,51 +115,12 @@ module _ (s : State) (op : Operation) (refs : Option (List Reference)) (new : Li
 
   by_case : (resource : Resource) (method : Method) → takes_kind resource method of.References ≡ true → presence_refusal (in_state s) resource ≡ None
       → Has (unwrap_or (decision_at refs op resource method) Show) (deposited_object s resource)
-  by_case Service Get h there = cc h
-  by_case Service Head h there = cc h
   by_case Service Post h there = subst (λ (o : Option Deposit). Has (unwrap_or (option_map (λ d. Create d (ingests op)) o) Show) s.next.object) (sym deposits) (created (ingests op))
-  by_case Service Put h there = cc h
-  by_case Service Delete h there = cc h
-  by_case (Object n) Get h there = cc h
-  by_case (Object n) Head h there = cc h
   by_case (Object n) Post h there = subst (λ (o : Option Decision). Has (unwrap_or o Show) n) (sym (not_completed n)) (added_to n (ingests op) (object_at n there))
   by_case (Object n) Put h there = subst (λ (o : Option Deposit). Has (unwrap_or (option_map (λ d. Replace n d (ingests op)) o) Show) n) (sym deposits) (in_place_of n (ingests op) (object_at n there))
-  by_case (Object n) Delete h there = cc h
-  by_case (Metadata n) Get h there = cc h
-  by_case (Metadata n) Head h there = cc h
-  by_case (Metadata n) Post h there = cc h
-  by_case (Metadata n) Put h there = cc h
-  by_case (Metadata n) Delete h there = cc h
-  by_case (FileSet n) Get h there = cc h
-  by_case (FileSet n) Head h there = cc h
-  by_case (FileSet n) Post h there = cc h
   by_case (FileSet n) Put h there = subst (λ (o : Option Deposit). Has (unwrap_or (option_map (λ files. SetFiles n files) (option_and_then files_of o)) Show) n) (sym deposits) (set_to n (object_at n there))
-  by_case (FileSet n) Delete h there = cc h
-  by_case (File n f) Get h there = cc h
-  by_case (File n f) Head h there = cc h
-  by_case (File n f) Post h there = cc h
-  by_case (File n f) Put h there = cc h
-  by_case (File n f) Delete h there = cc h
-  by_case Staging Get h there = cc h
-  by_case Staging Head h there = cc h
-  by_case Staging Post h there = cc h
-  by_case Staging Put h there = cc h
-  by_case Staging Delete h there = cc h
-  by_case (Upload u) Get h there = cc h
-  by_case (Upload u) Head h there = cc h
-  by_case (Upload u) Post h there = cc h
-  by_case (Upload u) Put h there = cc h
-  by_case (Upload u) Delete h there = cc h
-  by_case (BagList n) Get h there = cc h
-  by_case (BagList n) Head h there = cc h
-  by_case (BagList n) Post h there = cc h
-  by_case (BagList n) Put h there = cc h
-  by_case (BagList n) Delete h there = cc h
-  by_case (BagFile n path) Get h there = cc h
-  by_case (BagFile n path) Head h there = cc h
-  by_case (BagFile n path) Post h there = cc h
-  by_case (BagFile n path) Put h there = cc h
-  by_case (BagFile n path) Delete h there = cc h
+  by_case _ Get h there = cc h
+  by_case _ _ h there = cc h
 
 -- ---- the deposit
 

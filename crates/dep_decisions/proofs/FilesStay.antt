@@ -1,5 +1,5 @@
 -- A file stays unless it, the files of its object or its object are put or deleted.
-use Rattle.std.proofs.Common.{◌≡◌, ◌≢◌, ◌∙◌, ℕ, ◌==◌, ◌<◌, ◌&&◌, Bool, true, false, List, Option, Some, None, option_map, option_and_then, unwrap_or, if◌then◌else◌, cond, refl, sym, ap, subst, arith}
+use Rattle.std.proofs.Common.{◌≡◌, ◌≢◌, ◌∙◌, ℕ, ◌==◌, ◌<◌, ◌&&◌, Bool, true, false, List, Option, Some, None, option_map, option_and_then, unwrap_or, if◌then◌else◌, cond, refl, sym, ap, subst}
 use Rattle.std.specs.FinMap as map
 use Rattle.std.specs.Cmp.{nat_cmp_total}
 use Rattle.std.proofs.lemmas.Bool.{eqb-true, eq-eqb}
@@ -22,10 +22,10 @@ use Rattle.dep_decisions.specs.declared.operation.Operation.{Operation}
 use Rattle.dep_decisions.specs.declared.decision.Deposit.{Deposit}
 use Rattle.dep_decisions.specs.declared.decision.Deposit.TheVariants.{Files, Metadata}
 use Rattle.dep_decisions.specs.declared.decision.Decision.{Decision}
-use Rattle.dep_decisions.specs.declared.decision.Decision.TheVariants.{Show, Create, Append, Replace, Complete, SetMetadata, SetFiles, SetFile, DropFile, DropObject, Open, Receive, DropUpload}
+use Rattle.dep_decisions.specs.declared.decision.Decision.TheVariants.{Show, Create, Append, Replace, Complete, SetMetadata, SetFiles, SetFile, DropFile, DropObject}
 use Rattle.dep_decisions.specs.Laws.{puts_or_deletes, has_file_in, takes_file}
 use Rattle.dep_decisions.proofs.FoundInMaps.{at-some, at-none}
-use Rattle.dep_decisions.proofs.InOrder.{added-below}
+use Rattle.dep_decisions.proofs.InOrder.{added-below, below_not}
 use Rattle.dep_decisions.proofs.SoundParts.{file_of_object, object_there}
 
 -- numbers that are not the same
@@ -34,9 +34,6 @@ apart_by k n e same = (let on : (k == n) ≡ true = eq-eqb k n (sym same) in cc)
 
 apart_if_same : (k n g f : ℕ) → ((k == n) && (g == f)) ≡ false → n ≡ k → f ≢ g
 apart_if_same k n g f e same is = (let on : (k == n) ≡ true = eq-eqb k n (sym same) in let too : (g == f) ≡ true = eq-eqb g f (sym is) in cc)
-
-below_not : (q n : ℕ) → q < n → q ≢ n
-below_not q n h e = omega arith
 
 get-remove_other : {X : Type 0} (m : Numbered X) (k q : ℕ) → q ≢ k → map.get (map.remove m k) q ≡ map.get m q
 get-remove_other m k q apart = map.get-remove nat_cmp_total m k q ∙ ap (λ (b : Bool). cond b None (map.get m q)) (tied q k apart)
@@ -100,7 +97,6 @@ module _ (s : State) (content : List ℕ) (n f : ℕ) (file : File) (low : f < s
   Spares _ = Unit {0}
 
   kept : (d : Decision) → Spares d → HasFile n f file s.objects → HasFile n f file (objects_after s content d)
-  kept Show spares h = h
   kept (Create d ingests) spares h = beside n f file s.objects s.next.object (filled s content d ingests) (below_not n s.next.object given) h
   kept (Append k d ingests) spares h =
       changed_at n f file s.objects k (λ o. ingested_by ingests (appended s content d o)) (n == k) refl (λ same. appended_has d ingests) h
@@ -115,9 +111,7 @@ module _ (s : State) (content : List ℕ) (n f : ℕ) (file : File) (low : f < s
       changed_at n f file s.objects k (λ o. with_files s (map.remove o.files g) o) (n == k) refl
       (λ same o has. get-remove_other o.files g f (spares same) ∙ has) h
   kept (DropObject k) spares h = removed n f file s.objects k spares h
-  kept (Open o) spares h = h
-  kept (Receive u k) spares h = h
-  kept (DropUpload u) spares h = h
+  kept _ spares h = h
 
   -- ---- by what is asked for
 
@@ -131,28 +125,16 @@ module _ (s : State) (content : List ℕ) (n f : ℕ) (file : File) (low : f < s
   spared_deposit false k o op = spared_map o (λ d. Append k d (ingests op)) (λ d. tt)
 
   spared_file : (op : Operation) (k g : ℕ) (o : Option Kind) → (n ≡ k → f ≢ g) → Spares (unwrap_or (option_and_then (replaced_file op k g) o) Show)
-  spared_file op k g None apart = tt
   spared_file op k g (Some (of.File name)) apart = apart
-  spared_file op k g (Some of.Metadata) apart = tt
-  spared_file op k g (Some of.References) apart = tt
-  spared_file op k g (Some (of.Opening o)) apart = tt
-  spared_file op k g (Some (of.Segment j)) apart = tt
+  spared_file op k g _ apart = tt
 
   spared_opening : (o : Option Kind) → Spares (unwrap_or (option_and_then opened o) Show)
-  spared_opening None = tt
-  spared_opening (Some (of.File name)) = tt
-  spared_opening (Some of.Metadata) = tt
-  spared_opening (Some of.References) = tt
   spared_opening (Some (of.Opening o)) = tt
-  spared_opening (Some (of.Segment j)) = tt
+  spared_opening _ = tt
 
   spared_segment : (u : ℕ) (o : Option Kind) → Spares (unwrap_or (option_and_then (received u) o) Show)
-  spared_segment u None = tt
-  spared_segment u (Some (of.File name)) = tt
-  spared_segment u (Some of.Metadata) = tt
-  spared_segment u (Some of.References) = tt
-  spared_segment u (Some (of.Opening o)) = tt
   spared_segment u (Some (of.Segment j)) = tt
+  spared_segment u _ = tt
 
   spared : (refs : Option (List Reference)) (op : Operation) (r : Resource) (m : Method) → (puts_or_deletes m && has_file_in n f r) ≡ false
       → Spares (unwrap_or (decision_at refs op r m) Show)
@@ -161,14 +143,12 @@ module _ (s : State) (content : List ℕ) (n f : ℕ) (file : File) (low : f < s
   spared refs op (at_resource.Object k) Put e = spared_map (deposit_of refs op) (λ d. Replace k d (ingests op)) (λ d. apart_by k n e)
   spared refs op (at_resource.Object k) Delete e = apart_by k n e
   spared refs op (at_resource.Metadata k) Put e = spared_map (option_and_then texts_of (deposit_of refs op)) (λ texts. SetMetadata k texts) (λ texts. tt)
-  spared refs op (at_resource.Metadata k) Delete e = tt
   spared refs op (at_resource.FileSet k) Put e = spared_map (option_and_then files_of (deposit_of refs op)) (λ new. SetFiles k new) (λ new. apart_by k n e)
   spared refs op (at_resource.FileSet k) Delete e = apart_by k n e
   spared refs op (at_resource.File k g) Put e = spared_file op k g (kind_of op) (apart_if_same k n g f e)
   spared refs op (at_resource.File k g) Delete e = apart_if_same k n g f e
   spared refs op at_resource.Staging Post e = spared_opening (kind_of op)
   spared refs op (at_resource.Upload u) Post e = spared_segment u (kind_of op)
-  spared refs op (at_resource.Upload u) Delete e = tt
   spared refs op _ _ e = tt
 
   kept_by : (refs : Option (List Reference)) (op : Operation) → takes_file n f op.target ≡ false → HasFile n f file s.objects

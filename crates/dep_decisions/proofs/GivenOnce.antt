@@ -1,5 +1,5 @@
 -- What an accepted request puts at a number stood there before, or the number is new.
-use Rattle.std.proofs.Common.{◌≡◌, ◌∙◌, ◌⊎◌, inl, inr, ℕ, ◌+◌, ◌<◌, ◌≤◌, ◌||◌, Bool, true, List, [], Some, None, refl, sym, ap, subst, arith, le_refl}
+use Rattle.std.proofs.Common.{◌≡◌, ◌∙◌, ◌⊎◌, inl, inr, ℕ, ◌+◌, ◌<◌, ◌≤◌, ◌||◌, Bool, true, List, Some, None, refl, sym, ap, subst, arith, le_refl}
 use Rattle.std.specs.FinMap as map
 use Rattle.dep_types.specs.Maps.{Numbered}
 use Rattle.dep_types.specs.State.{State, Object, File, Upload, file_at}
@@ -11,7 +11,7 @@ use Rattle.dep_decisions.specs.Effects.{appended, at, changed, effect_of, filled
 use Rattle.dep_decisions.specs.declared.decision.Deposit.{Deposit}
 use Rattle.dep_decisions.specs.declared.decision.Deposit.TheVariants.{Files, Metadata}
 use Rattle.dep_decisions.specs.declared.decision.Decision.{Decision}
-use Rattle.dep_decisions.specs.declared.decision.Decision.TheVariants.{Show, Create, Append, Replace, Complete, SetMetadata, SetFiles, SetFile, DropFile, DropObject, Open, Receive, DropUpload}
+use Rattle.dep_decisions.specs.declared.decision.Decision.TheVariants.{Create, Append, Replace, Complete, SetMetadata, SetFiles, SetFile, DropFile, DropObject, Open, Receive}
 use Rattle.dep_decisions.specs.Fit.{IsFitDecision}
 use Rattle.dep_decisions.specs.Laws.{AreGivenOnce, IsNew}
 use Rattle.dep_decisions.proofs.FoundInMaps.{at-none, at-some, left-was, without-was}
@@ -61,7 +61,6 @@ module _ (s : State) (content : List ℕ) where
 
   kept_or_changed : (d : Decision) (n : ℕ) (o : Object) → map.get (effect_of s content d).objects n ≡ Some o
       → IsKeptOrChanged (effect_of s content d).next.change n o
-  kept_or_changed Show n o e = inl e
   kept_or_changed (Create d ingests) n o e = created d ingests n o (found s.objects s.next.object (filled s content d ingests) n o e)
   kept_or_changed (Append k d ingests) n o e = changed_at k (λ o. ingested_by ingests (appended s content d o)) (appended_tag s content d ingests) n o e
   kept_or_changed (Replace k d ingests) n o e = changed_at k (λ o. filled s content d (o.ingested || ingests)) (λ y. filled_tag s content d (y.ingested || ingests)) n o e
@@ -71,9 +70,7 @@ module _ (s : State) (content : List ℕ) where
   kept_or_changed (SetFile k f new) n o e = changed_at k (λ o. with_files s (map.insert o.files f (file_from s content new)) o) (λ y. refl) n o e
   kept_or_changed (DropFile k f) n o e = changed_at k (λ o. with_files s (map.remove o.files f) o) (λ y. refl) n o e
   kept_or_changed (DropObject k) n o e = inl (left-was s.objects k n o e)
-  kept_or_changed (Open x) n o e = inl e
-  kept_or_changed (Receive u k) n o e = inl e
-  kept_or_changed (DropUpload u) n o e = inl e
+  kept_or_changed _ n o e = inl e
 
   -- an upload that was there, or has the next number
   abbrev IsOldUpload : ℕ → Type 0
@@ -93,17 +90,7 @@ module _ (s : State) (content : List ℕ) where
   old_upload : (d : Decision) (n : ℕ) (u : Upload) → map.get (effect_of s content d).uploads n ≡ Some u → IsOldUpload n
   old_upload (Open o) n u e = opened_upload n u (fresh s o) (found s.uploads s.next.upload (fresh s o) n u e)
   old_upload (Receive k j) n u e = received_upload n k u (with_segment s j content) (at-found s.uploads k (with_segment s j content) n u e)
-  old_upload Show n u e = left_upload [] n u e
-  old_upload (Create d ingests) n u e = left_upload (used (Create d ingests)) n u e
-  old_upload (Append k d ingests) n u e = left_upload (used (Append k d ingests)) n u e
-  old_upload (Replace k d ingests) n u e = left_upload (used (Replace k d ingests)) n u e
-  old_upload (Complete k) n u e = left_upload [] n u e
-  old_upload (SetMetadata k texts) n u e = left_upload [] n u e
-  old_upload (SetFiles k new) n u e = left_upload (used (SetFiles k new)) n u e
-  old_upload (SetFile k f new) n u e = left_upload [] n u e
-  old_upload (DropFile k f) n u e = left_upload [] n u e
-  old_upload (DropObject k) n u e = left_upload [] n u e
-  old_upload (DropUpload k) n u e = left_upload (used (DropUpload k)) n u e
+  old_upload d n u e = left_upload (used d) n u e
 
   -- with the bound of a number that is there
   new_or_old : {X : Type 0} (P : X → Type 0) (next after n : ℕ) → n < after → ((old : X) × P old) ⊎ (next ≤ n) → ((old : X) × P old) ⊎ IsNew next after n

@@ -7,7 +7,7 @@ use Rattle.dep_types.proofs.Kept.{get-insert_same, get-insert_other}
 use Rattle.dep_decisions.specs.Effects.{added_from, file_from}
 use Rattle.dep_decisions.specs.declared.decision.NewFile.{NewFile}
 
-below_not : (q n : ℕ) → q < n → q ≢ n
+pub below_not : (q n : ℕ) → q < n → q ≢ n
 below_not q n h e = omega arith
 
 -- numbers below the first stay as they were

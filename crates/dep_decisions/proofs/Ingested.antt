@@ -1,5 +1,5 @@
 -- An object that is ingested stays so.
-use Rattle.std.proofs.Common.{◌≡◌, ◌∙◌, ◌⊎◌, inl, inr, ℕ, ◌<◌, ◌||◌, Bool, true, false, List, Some, refl, sym, ap, arith}
+use Rattle.std.proofs.Common.{◌≡◌, ◌∙◌, ◌⊎◌, inl, inr, ℕ, ◌<◌, ◌||◌, Bool, true, false, List, Some, refl, sym, ap}
 use Rattle.std.specs.FinMap as map
 use Rattle.dep_types.specs.State.{State, Object}
 use Rattle.dep_types.proofs.Kept.{found}
@@ -7,9 +7,10 @@ use Rattle.dep_decisions.specs.Effects.{appended, at, changed, effect_of, filled
 use Rattle.dep_decisions.specs.declared.decision.Deposit.{Deposit}
 use Rattle.dep_decisions.specs.declared.decision.Deposit.TheVariants.{Files, Metadata}
 use Rattle.dep_decisions.specs.declared.decision.Decision.{Decision}
-use Rattle.dep_decisions.specs.declared.decision.Decision.TheVariants.{Show, Create, Append, Replace, Complete, SetMetadata, SetFiles, SetFile, DropFile, DropObject, Open, Receive, DropUpload}
+use Rattle.dep_decisions.specs.declared.decision.Decision.TheVariants.{Create, Append, Replace, Complete, SetMetadata, SetFiles, SetFile, DropFile, DropObject}
 use Rattle.dep_decisions.proofs.FoundInMaps.{left-was}
 use Rattle.dep_decisions.proofs.GivenOnce.{at-found}
+use Rattle.dep_decisions.proofs.InOrder.{below_not}
 
 same_one : {X : Type 0} (x y : X) → Some x ≡ Some y → x ≡ y
 same_one x y e = cc e
@@ -17,9 +18,6 @@ same_one x y e = cc e
 either_true : (a b : Bool) → a ≡ true → (a || b) ≡ true
 either_true true b e = refl
 either_true false b e = absurd (cc)
-
-not_itself : (n m : ℕ) → n ≡ m → n < m → ⊥
-not_itself n m same h = omega arith
 
 filled_ingested : (s : State) (content : List ℕ) (d : Deposit) (ingested : Bool) → ingested ≡ true → (filled s content d ingested).ingested ≡ true
 filled_ingested s content (Files new) ingested e = e
@@ -41,11 +39,10 @@ module _ (s : State) (content : List ℕ) (n : ℕ) (o now : Object) (was : map.
     one_of (inr same) = unchanged same
 
   created : n < s.next.object → (x : Object) → ((n ≡ s.next.object) × (now ≡ x)) ⊎ (map.get s.objects n ≡ Some now) → now.ingested ≡ true
-  created low x (inl new) = absurd (not_itself n s.next.object new.0 low)
+  created low x (inl new) = absurd (below_not n s.next.object low new.0)
   created low x (inr same) = unchanged same
 
   pub stays_ingested : n < s.next.object → (d : Decision) → map.get (effect_of s content d).objects n ≡ Some now → now.ingested ≡ true
-  stays_ingested low Show e = unchanged e
   stays_ingested low (Create d ingests) e = created low (filled s content d ingests) (found s.objects s.next.object (filled s content d ingests) n now e)
   stays_ingested low (Append k d ingests) e = changed_so k (λ o. ingested_by ingests (appended s content d o)) (appended_ingested s content d ingests) e
   stays_ingested low (Replace k d ingests) e = changed_so k (λ o. filled s content d (o.ingested || ingests)) (λ y h. filled_ingested s content d (y.ingested || ingests) (either_true y.ingested ingests h)) e
@@ -55,6 +52,4 @@ module _ (s : State) (content : List ℕ) (n : ℕ) (o now : Object) (was : map.
   stays_ingested low (SetFile k f new) e = changed_so k (λ o. with_files s (map.insert o.files f (file_from s content new)) o) (λ y h. h) e
   stays_ingested low (DropFile k f) e = changed_so k (λ o. with_files s (map.remove o.files f) o) (λ y h. h) e
   stays_ingested low (DropObject k) e = unchanged (left-was s.objects k n now e)
-  stays_ingested low (Open x) e = unchanged e
-  stays_ingested low (Receive u k) e = unchanged e
-  stays_ingested low (DropUpload u) e = unchanged e
+  stays_ingested low _ e = unchanged e

@@ -63,7 +63,7 @@ all_hold p (suc m) a k h low high =
       within : (a m k : ℕ) → k < a + suc m → k < a + 1 + m
       within a m k h = omega arith
 
-some_of : {X : Type 0} (o : Option X) → is_some o ≡ true → (x : X) × (o ≡ Some x)
+pub some_of : {X : Type 0} (o : Option X) → is_some o ≡ true → (x : X) × (o ≡ Some x)
 some_of (Some x) h = (x, refl)
 some_of None h = cc h
 

@@ -10,7 +10,7 @@ use Rattle.dep_types.specs.declared.refusal.Refusal.{Refusal}
 use Rattle.dep_types.specs.declared.refusal.Refusal.TheVariants.{StoreFull}
 use Rattle.dep_types.specs.declared.target.Target.{Target}
 use Rattle.dep_types.specs.declared.target.Resource.{Resource}
-use Rattle.dep_types.specs.declared.target.Resource.TheVariants.{Service, Object, Metadata, FileSet, File, Staging, Upload, BagList, BagFile}
+use Rattle.dep_types.specs.declared.target.Resource.TheVariants.{Upload}
 use Rattle.dep_types.specs.declared.target.Method.{Method}
 use Rattle.dep_types.specs.declared.target.Method.TheVariants.{Get, Head, Post, Put, Delete}
 use Rattle.dep_fields.specs.declared.field.Field.{Field}
@@ -42,23 +42,15 @@ asked_by (Some u) = DropUpload u
 drops_so : (refs : Option (List Reference)) (op : Operation) (resource : Resource) → IsTrue (is_upload resource) → asked_at refs op resource Delete ≡ asked_by (upload_in resource)
 unfolding upload_in
 drops_so refs op (Upload u) h = refl
-drops_so refs op Service h = cc h
-drops_so refs op (Object n) h = cc h
-drops_so refs op (Metadata n) h = cc h
-drops_so refs op (FileSet n) h = cc h
-drops_so refs op (File n f) h = cc h
-drops_so refs op Staging h = cc h
-drops_so refs op (BagList n) h = cc h
-drops_so refs op (BagFile n path) h = cc h
+drops_so refs op _ h = cc h
 
 asks_at : (refs : Option (List Reference)) (op : Operation) (resource : Resource) (method : Method) → IsTrue (reads_alone resource method)
     → asked_at refs op resource method ≡ asked_by (dropped_at resource method)
 unfolding dropped_at
 asks_at refs op resource Get h = sym (shown_by_get refs op resource)
 asks_at refs op resource Head h = sym (shown_by_head refs op resource)
-asks_at refs op resource Post h = cc h
-asks_at refs op resource Put h = cc h
 asks_at refs op resource Delete h = drops_so refs op resource h
+asks_at refs op resource _ h = cc h
 
 asks_so : (config : Config) (op : Operation) → IsTrue (reads_alone op.target.resource op.target.method)
     → decision config op ≡ asked_by (dropped_at op.target.resource op.target.method)
@@ -68,11 +60,9 @@ asks_so config op h = asks_at (references_in config op) op op.target.resource op
 -- ---- the rules that such a request meets
 
 no_content : (resource : Resource) (method : Method) → IsTrue (reads_alone resource method) → has_content method ≡ false
-no_content resource Get h = refl
-no_content resource Head h = refl
-no_content resource Delete h = refl
 no_content resource Post h = cc h
 no_content resource Put h = cc h
+no_content resource _ h = refl
 
 room_left : (next : Counters) (dropped : Option ℕ) → unless (room_for next (numbers_for (asked_by dropped))) StoreFull ≡ None
 unfolding room_for
@@ -80,9 +70,8 @@ room_left next None = refl
 room_left next (Some u) = refl
 
 alone : (b p : Option Refusal) → first_of (first_of (b ∷ p ∷ None ∷ []) ∷ None ∷ None ∷ []) ≡ first_of (b ∷ p ∷ [])
-alone (Some r) p = refl
 alone None (Some r) = refl
-alone None None = refl
+alone _ _ = refl
 
 refused_so : (config : Config) (s : State) (op : Operation) → IsTrue (reads_alone op.target.resource op.target.method)
     → refusal config s op ≡ first_of (behalf_rule config op ∷ presence_rule (in_state s) op ∷ [])
@@ -134,9 +123,7 @@ read_is_plain : (resource : Resource) (method : Method) → IsTrue (is_safe meth
 unfolding dropped_at
 read_is_plain resource Get h = (refl, refl)
 read_is_plain resource Head h = (refl, refl)
-read_is_plain resource Post h = cc h
-read_is_plain resource Put h = cc h
-read_is_plain resource Delete h = cc h
+read_is_plain resource _ h = cc h
 
 pub reads_keep : (config : Config) (s : State) (op : Operation) → IsTrue (is_safe op.target.method) → effect config s op ≡ s
 unfolding effect

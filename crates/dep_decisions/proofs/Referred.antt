@@ -22,6 +22,7 @@ use Rattle.dep_decisions.specs.Effects.{upload_of, uploads_of, without}
 use Rattle.dep_decisions.specs.declared.operation.Operation.{Operation}
 use Rattle.dep_decisions.specs.declared.decision.NewFile.{NewFile}
 use Rattle.dep_decisions.proofs.FoundInMaps.{all_passed, unless-none, without-none}
+use Rattle.dep_decisions.proofs.Lengths.{some_of}
 
 -- ---- one entry of those that a rule passed
 
@@ -66,10 +67,7 @@ there_by false true e = cc e
 there_by false false e = cc e
 
 pub upload_there : (s : State) (u : ℕ) → upload_refusal (in_state s) u ≡ None → (x : Upload) × (finmap.get s.uploads u ≡ Some x)
-upload_there s u e = some_one (finmap.get s.uploads u) (there_by (finmap.contains_key s.uploads u) (set.contains s.timed_out u) e) where
-  some_one : (o : Option Upload) → is_some o ≡ true → (x : Upload) × (o ≡ Some x)
-  some_one (Some x) h = (x, refl)
-  some_one None h = cc h
+upload_there s u e = some_of (finmap.get s.uploads u) (there_by (finmap.contains_key s.uploads u) (set.contains s.timed_out u) e)
 
 passed_by : (test : Upload → Bool) (o : Option Upload) (x : Upload) (refusal : Refusal) → o ≡ Some x → unless (option_map_or test o true) refusal ≡ None → test x ≡ true
 passed_by test o x refusal there e = ap (λ (o : Option Upload). option_map_or test o true) (sym there) ∙ unless-none (option_map_or test o true) refusal e

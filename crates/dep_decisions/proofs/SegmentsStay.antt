@@ -1,5 +1,5 @@
 -- A segment that was received stays while its upload is there, and an upload's number is never given again.
-use Rattle.std.proofs.Common.{◌≡◌, ◌∙◌, ◌⊎◌, inl, inr, ℕ, ◌<◌, List, Option, Some, None, refl, sym, ap, subst, arith, le_refl, le-add_right}
+use Rattle.std.proofs.Common.{◌≡◌, ◌∙◌, ◌⊎◌, inl, inr, ℕ, ◌<◌, List, Option, Some, None, refl, sym, ap, subst, le_refl, le-add_right}
 use Rattle.std.specs.FinMap as map
 use Rattle.dep_types.specs.Maps.{Numbered}
 use Rattle.dep_types.specs.State.{State, Upload, tick, clock_at}
@@ -14,6 +14,7 @@ use Rattle.dep_decisions.specs.declared.decision.Decision.TheVariants.{Open, Rec
 use Rattle.dep_decisions.specs.Laws.{HoldsSegments, KeepsSegments}
 use Rattle.dep_decisions.proofs.FoundInMaps.{without-was}
 use Rattle.dep_decisions.proofs.GivenOnce.{at-found}
+use Rattle.dep_decisions.proofs.InOrder.{below_not}
 
 -- ---- one upload
 
@@ -47,9 +48,6 @@ tick_keeps_segments config s moment = record {
 
 -- ---- requests
 
-not_itself : (n m : ℕ) → n ≡ m → n < m → ⊥
-not_itself n m same h = omega arith
-
 module _ (s : State) (content : List ℕ) where
   -- it was there, and holds each segment that it had
   abbrev WasThere : ℕ → Upload → Type 0
@@ -59,7 +57,7 @@ module _ (s : State) (content : List ℕ) where
   left us n u e = (u, without-was s.uploads us n u e, holds_itself u)
 
   opened : (n : ℕ) (u x : Upload) → n < s.next.upload → ((n ≡ s.next.upload) × (u ≡ x)) ⊎ (map.get s.uploads n ≡ Some u) → WasThere n u
-  opened n u x low (inl new) = absurd (not_itself n s.next.upload new.0 low)
+  opened n u x low (inl new) = absurd (below_not n s.next.upload low new.0)
   opened n u x low (inr was) = (u, was, holds_itself u)
 
   received : (n m k : ℕ) (u : Upload)

@@ -1,9 +1,9 @@
 -- What a request has whose content is of a kind: a target that takes it, and a method with a content; and it completes no object.
 use Rattle.std.proofs.Common.{◌≡◌, ◌∙◌, ◌&&◌, Bool, true, false, Some, None, inl, inr, refl, sym, ap}
 use Rattle.dep_types.specs.declared.target.Resource.{Resource}
-use Rattle.dep_types.specs.declared.target.Resource.TheVariants.{Service, Object, Metadata, FileSet, File, Staging, Upload, BagList, BagFile}
+use Rattle.dep_types.specs.declared.target.Resource.TheVariants.{Service, Object, Metadata}
 use Rattle.dep_types.specs.declared.target.Method.{Method}
-use Rattle.dep_types.specs.declared.target.Method.TheVariants.{Get, Head, Post, Put, Delete}
+use Rattle.dep_types.specs.declared.target.Method.TheVariants.{Get, Post, Put}
 use Rattle.dep_params.proofs.Runs.{and_both, chosen}
 use Rattle.dep_fields.specs.declared.field.Field.{Field}
 use Rattle.dep_fields.specs.declared.field.Field.TheVariants.{Absent, Bad, Value}
@@ -15,18 +15,7 @@ use Rattle.dep_decisions.specs.declared.operation.Operation.{Operation}
 
 taken_without : (resource : Resource) (method : Method) (k : Kind) → kind_without resource method ≡ Some k → takes_kind resource method k ≡ true
 taken_without (Metadata n) Put k e = let same : k ≡ of.Metadata = cc in ap (takes_kind (Metadata n) Put) same
-taken_without (Metadata n) Get k e = cc e
-taken_without (Metadata n) Head k e = cc e
-taken_without (Metadata n) Post k e = cc e
-taken_without (Metadata n) Delete k e = cc e
-taken_without Service method k e = cc e
-taken_without (Object n) method k e = cc e
-taken_without (FileSet n) method k e = cc e
-taken_without (File n f) method k e = cc e
-taken_without Staging method k e = cc e
-taken_without (Upload u) method k e = cc e
-taken_without (BagList n) method k e = cc e
-taken_without (BagFile n path) method k e = cc e
+taken_without _ _ k e = cc e
 
 taken_by : (op : Operation) (field : Field Kind) (k : Kind) → kind_by op field ≡ Some k → takes_kind op.target.resource op.target.method k ≡ true
 taken_by op (Value j) k e = elim (chosen (takes_kind op.target.resource op.target.method j && may_hold j op.content) (Some j) None (Some k) e) [
@@ -44,54 +33,18 @@ unfolding kind_of
 taken op k e = taken_by op op.fields.disposition k e
 
 takes_content : (resource : Resource) (method : Method) (k : Kind) → takes_kind resource method k ≡ true → has_content method ≡ true
-takes_content resource Post k e = refl
-takes_content resource Put k e = refl
 takes_content Service Get k e = cc e
-takes_content (Object n) Get k e = cc e
-takes_content (Metadata n) Get k e = cc e
-takes_content (FileSet n) Get k e = cc e
-takes_content (File n f) Get k e = cc e
-takes_content Staging Get k e = cc e
-takes_content (Upload u) Get k e = cc e
-takes_content (BagList n) Get k e = cc e
-takes_content (BagFile n path) Get k e = cc e
-takes_content Service Head k e = cc e
-takes_content (Object n) Head k e = cc e
-takes_content (Metadata n) Head k e = cc e
-takes_content (FileSet n) Head k e = cc e
-takes_content (File n f) Head k e = cc e
-takes_content Staging Head k e = cc e
-takes_content (Upload u) Head k e = cc e
-takes_content (BagList n) Head k e = cc e
-takes_content (BagFile n path) Head k e = cc e
-takes_content Service Delete k e = cc e
-takes_content (Object n) Delete k e = cc e
-takes_content (Metadata n) Delete k e = cc e
-takes_content (FileSet n) Delete k e = cc e
-takes_content (File n f) Delete k e = cc e
-takes_content Staging Delete k e = cc e
-takes_content (Upload u) Delete k e = cc e
-takes_content (BagList n) Delete k e = cc e
-takes_content (BagFile n path) Delete k e = cc e
+takes_content _ Post k e = refl
+takes_content _ Put k e = refl
+takes_content _ _ k e = cc e
 
 -- the method has a content
 pub content_taken : (op : Operation) (k : Kind) → kind_of op ≡ Some k → has_content op.target.method ≡ true
 content_taken op k e = takes_content op.target.resource op.target.method k (taken op k e)
 
 uncompleted_without : (resource : Resource) (method : Method) (k : Kind) → kind_without resource method ≡ Some k → may_complete resource method ≡ false
-uncompleted_without (Metadata n) Put k e = refl
-uncompleted_without (Metadata n) Get k e = refl
-uncompleted_without (Metadata n) Head k e = refl
-uncompleted_without (Metadata n) Post k e = refl
-uncompleted_without (Metadata n) Delete k e = refl
-uncompleted_without Service method k e = refl
 uncompleted_without (Object n) method k e = cc e
-uncompleted_without (FileSet n) method k e = refl
-uncompleted_without (File n f) method k e = refl
-uncompleted_without Staging method k e = refl
-uncompleted_without (Upload u) method k e = refl
-uncompleted_without (BagList n) method k e = refl
-uncompleted_without (BagFile n path) method k e = refl
+uncompleted_without _ _ k e = refl
 
 and_none : (a : Bool) → (a && false) ≡ false
 and_none true = refl

@@ -25,10 +25,7 @@ no_document content none = elim (is_utf8 content) as (λ b. is_utf8 content ≡ 
 
 fails_by : {Y : Type 0} (kind : Category) (found : Option Y) → (¬ (kind ≡ json.Memory) → found ≡ None) → Fails (fault_of_json kind) found
 fails_by json.Memory found none = tt
-fails_by json.Io found none = none (grind arith)
-fails_by json.Syntax found none = none (grind arith)
-fails_by json.Data found none = none (grind arith)
-fails_by json.Eof found none = none (grind arith)
+fails_by _ found none = none (grind arith)
 
 pub unread : (content : List ℕ) (e : Error) → (¬ IsMemory e → IsUtf8 content → read content ≡ None) → Fails (fault_of_json (category e)) (document content)
 unread content e none = fails_by (category e) (document content) (λ told. no_document content (none (λ memory. told (rw memory refl))))

@@ -61,9 +61,8 @@ module _ {X : Type 0} (reads : Data → Option X) where
   at_end all vs i front so_far h = so_far ∙ ap (λ l. with_front front (each_read reads (items_view l))) (past vs i h) ∙ ap Some (append-nil front)
 
   then_one : (o : Option X) (more : Option (List X)) → ((o >>= (λ x. more >>= (λ xs. Some (x ∷ xs)))) >>= not_empty) ≡ (o >>= (λ x. more >>= (λ xs. Some (x ∷ xs))))
-  then_one None more = refl
-  then_one (Some x) None = refl
   then_one (Some x) (Some xs) = refl
+  then_one _ _ = refl
 
   -- where there are items, something is read or nothing can be
   pub some_read : (b : Bool) (o : Option Items) (vs : List Value) → b ≡ true → o ≡ Some (items_view vs) → (length vs == 0) ≡ false

@@ -7,7 +7,7 @@ use Rattle.serde_json.specs.Read.{max_depth}
 use Rattle.serde_json.specs.Written.{compact_text}
 use Rattle.dep_types.specs.Refusals.{facts_of}
 use Rattle.dep_types.specs.declared.refusal.Refusal.{Refusal}
-use Rattle.dep_types.specs.declared.refusal.Refusal.TheVariants.{BadRequest, ContentMalformed, InvalidSegmentSize, UnexpectedSegment, SegmentLimitExceeded, MaxAssembledSizeExceeded, NotFound, MethodNotAllowed, SegmentedUploadTimedOut, DigestMismatch, ETagNotMatched, ETagRequired, OnBehalfOfNotAllowed, ByReferenceNotAllowed, MaxUploadSizeExceeded, ContentTypeNotAcceptable, MetadataFormatNotAcceptable, PackagingFormatNotAcceptable, StoreFull}
+use Rattle.dep_types.specs.declared.refusal.Refusal.TheVariants.{BadRequest}
 use Rattle.dep_types.specs.declared.config.Config.{Config}
 use Rattle.dep_docs_out.specs.Documents.{url, object_url, files_url, file_url, metadata_url, upload_url}
 use Rattle.dep_docs_out.specs.ReadBack.{ReadsAs}
@@ -24,45 +24,11 @@ reads d n small plain texts = record { utf8 = text_utf8 d n plain texts; value =
 
 pub name_text : (r : Refusal) → IsText (facts_of r).name
 name_text BadRequest = tt
-name_text ContentMalformed = tt
-name_text InvalidSegmentSize = tt
-name_text UnexpectedSegment = tt
-name_text SegmentLimitExceeded = tt
-name_text MaxAssembledSizeExceeded = tt
-name_text NotFound = tt
-name_text MethodNotAllowed = tt
-name_text SegmentedUploadTimedOut = tt
-name_text DigestMismatch = tt
-name_text ETagNotMatched = tt
-name_text ETagRequired = tt
-name_text OnBehalfOfNotAllowed = tt
-name_text ByReferenceNotAllowed = tt
-name_text MaxUploadSizeExceeded = tt
-name_text ContentTypeNotAcceptable = tt
-name_text MetadataFormatNotAcceptable = tt
-name_text PackagingFormatNotAcceptable = tt
-name_text StoreFull = tt
+name_text _ = tt
 
 pub words_text : (r : Refusal) → IsText (facts_of r).text
 words_text BadRequest = tt
-words_text ContentMalformed = tt
-words_text InvalidSegmentSize = tt
-words_text UnexpectedSegment = tt
-words_text SegmentLimitExceeded = tt
-words_text MaxAssembledSizeExceeded = tt
-words_text NotFound = tt
-words_text MethodNotAllowed = tt
-words_text SegmentedUploadTimedOut = tt
-words_text DigestMismatch = tt
-words_text ETagNotMatched = tt
-words_text ETagRequired = tt
-words_text OnBehalfOfNotAllowed = tt
-words_text ByReferenceNotAllowed = tt
-words_text MaxUploadSizeExceeded = tt
-words_text ContentTypeNotAcceptable = tt
-words_text MetadataFormatNotAcceptable = tt
-words_text PackagingFormatNotAcceptable = tt
-words_text StoreFull = tt
+words_text _ = tt
 
 -- ---- URLs
 

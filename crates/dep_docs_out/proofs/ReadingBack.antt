@@ -1,5 +1,5 @@
 -- A value whose numbers are whole and whose names rise is read back from its text.
-use Rattle.std.proofs.Common.{◌≡◌, ◌∙◌, ◌≤◌, ◌^◌, ℕ, zero, suc, Bool, true, false, List, [], Some, option_map, option_and_then, Ordering, Less, Equal, Greater, ◌&&◌, nat_lt, refl, sym, ap, arith, append-nil, nat_cmp, ltb-true}
+use Rattle.std.proofs.Common.{◌≡◌, ◌∙◌, ◌≤◌, ◌^◌, ℕ, zero, suc, Bool, true, false, List, [], Some, option_map, option_and_then, Ordering, Less, Greater, ◌&&◌, nat_lt, refl, sym, ap, arith, append-nil, nat_cmp, ltb-true}
 use Rattle.std.specs.Prelude.{⊤}
 use Rattle.std.specs.Ordering.{is_lt, ordering_reverse}
 use Rattle.std.specs.Cmp.Lexicographic.{slice_cmp}
@@ -50,8 +50,7 @@ abbrev mutual
 
 less : (o : Ordering) → is_lt o ≡ true → o ≡ Less
 less Less h = refl
-less Equal h = absurd (false≢true h)
-less Greater h = absurd (false≢true h)
+less _ h = absurd (false≢true h)
 
 pub member_parts : (k : List ℕ) (d : Data) (ms : Members) (n : ℕ) → members_are_plain (member k d ms) n ≡ true
     → (is_plain d n ≡ true) × (is_below k ms ≡ true) × (members_are_plain ms n ≡ true)
@@ -103,19 +102,16 @@ before_more (member l e found) k d ms = ap (member l e) (before_more found k d m
 
 number_read : (m : Num) → is_whole m ≡ true → of_json (outline (number m)) ≡ Some (number m)
 number_read (unsigned n) h = ap (option_map number) (number_of-decimal n (ltb-true _ _ h))
-number_read (negative z) h = absurd (false≢true h)
-number_read (float x) h = absurd (false≢true h)
+number_read _ h = absurd (false≢true h)
 
 mutual
   data_read : (d : Data) (n : ℕ) → is_plain d n ≡ true → of_json (outline d) ≡ Some d
-  data_read null n h = refl
-  data_read (boolean b) n h = refl
   data_read (number m) n h = number_read m h
-  data_read (string s) n h = refl
   data_read (array ds) zero h = absurd (false≢true h)
   data_read (array ds) (suc n) h = ap (option_map array) (items_read ds n h)
   data_read (object ms) zero h = absurd (false≢true h)
   data_read (object ms) (suc n) h = ap (option_map object) (members_read ms no_members n h (nothing_below ms))
+  data_read _ n h = refl
 
   items_read : (ds : Items) (n : ℕ) → are_plain ds n ≡ true → of_items (items_outline ds) ≡ Some ds
   items_read no_items n h = refl
@@ -140,14 +136,11 @@ mutual
 
 mutual
   shallow : (d : Data) (n : ℕ) → is_plain d n ≡ true → tree.depth (outline d) ≤ n
-  shallow null n h = omega arith
-  shallow (boolean b) n h = omega arith
-  shallow (number m) n h = omega arith
-  shallow (string s) n h = omega arith
   shallow (array ds) zero h = absurd (false≢true h)
   shallow (array ds) (suc n) h = omega (arith, items_shallow ds n h)
   shallow (object ms) zero h = absurd (false≢true h)
   shallow (object ms) (suc n) h = omega (arith, members_shallow ms n h)
+  shallow _ n h = omega arith
 
   items_shallow : (ds : Items) (n : ℕ) → are_plain ds n ≡ true → tree.items_depth (items_outline ds) ≤ n
   items_shallow no_items n h = omega arith
@@ -159,19 +152,16 @@ mutual
 
 number_numeral : (m : Num) → is_whole m ≡ true → tree.HasNumbers (outline (number m))
 number_numeral (unsigned n) h = IsNumber-decimal n (ltb-true _ _ h)
-number_numeral (negative z) h = absurd (false≢true h)
-number_numeral (float x) h = absurd (false≢true h)
+number_numeral _ h = absurd (false≢true h)
 
 mutual
   numerals : (d : Data) (n : ℕ) → is_plain d n ≡ true → tree.HasNumbers (outline d)
-  numerals null n h = tt
-  numerals (boolean b) n h = tt
   numerals (number m) n h = number_numeral m h
-  numerals (string s) n h = tt
   numerals (array ds) zero h = absurd (false≢true h)
   numerals (array ds) (suc n) h = items_numerals ds n h
   numerals (object ms) zero h = absurd (false≢true h)
   numerals (object ms) (suc n) h = members_numerals ms n h
+  numerals _ n h = tt
 
   items_numerals : (ds : Items) (n : ℕ) → are_plain ds n ≡ true → tree.ItemsHaveNumbers (items_outline ds)
   items_numerals no_items n h = tt

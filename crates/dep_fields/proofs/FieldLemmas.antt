@@ -1,17 +1,11 @@
 -- Texts that name someone, and texts that are joined by commas.
-use Rattle.std.proofs.Common.{◌≡◌, ◌==◌, ◌&&◌, ◌++◌, ◌∷◌, ℕ, List, [], Bool, true, false, Some, None, length, nat_lt, sym, refl, append_assoc, if◌then◌else◌, inl, inr}
+use Rattle.std.proofs.Common.{◌≡◌, ◌==◌, ◌&&◌, ℕ, List, Bool, true, false, Some, None, length, nat_lt, refl, if◌then◌else◌, inl, inr}
 use Rattle.std.proofs.lemmas.Bool.{cases_Bool}
 use Rattle.std.proofs.lemmas.Str.{IsUtf8-from_is_utf8, is_utf8-from_IsUtf8}
-use Rattle.std.specs.List.{join_with_byte}
 use Rattle.std.specs.Str.{IsUtf8, is_utf8}
 use Rattle.dep_params.proofs.Values.{is_some}
 use Rattle.dep_types.specs.Names.{if_passes}
 use Rattle.dep_fields.specs.Fields.{is_behalf}
-
--- a text that is joined to the next one, before the others
-pub one_more : (text next : List ℕ) (more : List (List ℕ)) → join_with_byte 44 (text ∷ next ∷ more) ≡ join_with_byte 44 ((text ++ 44 ∷ next) ∷ more)
-one_more text next [] = refl
-one_more text next (other ∷ more) = sym (append_assoc text (44 ∷ next) (44 ∷ join_with_byte 44 (other ∷ more)))
 
 and_false : (b : Bool) (text : List ℕ) → (if b && false then Some text else None) ≡ None
 and_false true text = refl

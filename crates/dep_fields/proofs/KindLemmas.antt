@@ -2,7 +2,7 @@
 use Rattle.std.proofs.Common.{ℕ, List, bytes_eq, subst}
 use Rattle.std.specs.List.{IsDistinct}
 use Rattle.dep_params.specs.Grammar.{IsDisposition, DispositionValue, names_of}
-use Rattle.dep_params.proofs.Dispositions.{same_reading}
+use Rattle.dep_params.proofs.ToldReadings.{same_reading}
 use Rattle.dep_fields.specs.Kinds.{IsKind, IsKindOf}
 use Rattle.dep_fields.specs.Values.{IsRead}
 use Rattle.dep_fields.specs.declared.field.Field.{Field}

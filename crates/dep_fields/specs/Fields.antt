@@ -5,8 +5,9 @@ use Rattle.dep_head.specs.Head.{values_of}
 use Rattle.dep_types.specs.Names.{if_passes, is_media}
 use Rattle.dep_fixity.specs.Fixity.{digest_field}
 use Rattle.dep_fields.specs.Kinds.{IsKind, truth}
-use Rattle.dep_fields.specs.Values.{IsReadFrom, joined, read_from, single}
+use Rattle.dep_fields.specs.Values.{HasValue, IsReadFrom, joined, read_from, single}
 use Rattle.dep_fields.specs.declared.field.Field.{Field}
+use Rattle.dep_fields.specs.declared.field.Field.TheVariants.{Bad}
 use Rattle.dep_fields.specs.declared.fields.SwordFields.{SwordFields}
 
 -- a text that names someone
@@ -36,3 +37,15 @@ pub record AreFields (fields : List (List ℕ × List ℕ)) (told : SwordFields)
   pub content_encoding : told.content_encoding
       ≡ read_from as_it_stands (field_in fields (codes "Content-Encoding"))
   pub digest : told.digest ≡ read_from digest_field (joined (values_of fields (codes "Digest")))
+
+-- a text that is copied stands in the head: a value, a disposition, or digests in more than one field
+pub data IsCopied (fields : List (List ℕ × List ℕ)) : Type 0 where
+  behalf : HasValue (read_from (if_passes is_behalf) (field_in fields (codes "On-Behalf-Of")))
+      → IsCopied fields
+  disposition : HasValue (field_in fields (codes "Content-Disposition")) → IsCopied fields
+  packaging : HasValue (field_in fields (codes "Packaging")) → IsCopied fields
+  metadata_format : HasValue (field_in fields (codes "Metadata-Format")) → IsCopied fields
+  content_type : HasValue (read_from (if_passes is_media) (field_in fields (codes "Content-Type")))
+      → IsCopied fields
+  content_encoding : HasValue (field_in fields (codes "Content-Encoding")) → IsCopied fields
+  digests : field_in fields (codes "Digest") ≡ Bad → IsCopied fields

@@ -21,6 +21,12 @@ abbrev pub or_bad : {X : Type 0} → Option X → Field X
 or_bad None = Bad
 or_bad (Some x) = Value x
 
+-- the field has a value
+abbrev pub HasValue : {X : Type 0} → Field X → Type 0
+HasValue Absent = ⊥
+HasValue Bad = ⊥
+HasValue (Value x) = Unit {0}
+
 -- what a reader makes of a field's text
 abbrev pub read_from : {X : Type 0} → (List ℕ → Option X) → Field (List ℕ) → Field X
 read_from read Absent = Absent

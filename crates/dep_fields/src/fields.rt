@@ -1,12 +1,12 @@
 //! The fields of SWORD 3.0 in a request's head.
-ghost use Rattle.std.specs.Prelude.{◌≡◌, IfOk, IsAscii, codes};
+ghost use Rattle.std.specs.Prelude.{◌≡◌, IfOk, OnErr, MatchResult, IsAscii, codes};
 ghost use Rattle.dep_head.specs.Head.{values_of};
 ghost use Rattle.dep_types.specs.Names.{if_passes, is_media};
 ghost use Rattle.dep_fixity.specs.Fixity.{digest_field};
-ghost use Rattle.dep_fields.specs.Fields.{AreFields, as_it_stands, is_behalf};
+ghost use Rattle.dep_fields.specs.Fields.{AreFields, IsCopied, as_it_stands, field_in, is_behalf};
 ghost use Rattle.dep_fields.specs.Told.{fields_of};
 ghost use Rattle.dep_fields.specs.Kinds.{IsKind, truth};
-ghost use Rattle.dep_fields.specs.Values.{IsReadFrom, joined, or_bad, read_from, texts};
+ghost use Rattle.dep_fields.specs.Values.{HasValue, IsReadFrom, joined, or_bad, read_from, texts};
 
 use crate::field::Field;
 use crate::kind::{Kind, read_kind, truth};
@@ -42,6 +42,7 @@ impl SwordFields {
     pub fn read(alloc: Global, head: &Head) -> Result<SwordFields, AllocError>
         ensures fields { IfOk result (AreFields head.now.fields) }
         ensures one { IfOk result (λ read. read ≡ fields_of head.now.fields) }
+        ensures wanted { OnErr result (IsCopied head.now.fields) }
     {
         Ok(SwordFields {
             on_behalf_of: behalf(alloc, single(head, "On-Behalf-Of"))?,
@@ -57,7 +58,8 @@ impl SwordFields {
 }
 
 fn disposition(alloc: Global, field: Field<&[u8]>) -> Result<Field<Kind>, AllocError>
-    ensures { IfOk result (IsReadFrom IsKind (texts field.entry)) }
+    ensures { MatchResult result (IsReadFrom IsKind (texts field.entry))
+        (λ _. HasValue (texts field.entry)) }
 {
     match field {
         Field::Absent => Ok(Field::Absent),
@@ -67,7 +69,8 @@ fn disposition(alloc: Global, field: Field<&[u8]>) -> Result<Field<Kind>, AllocE
 }
 
 fn behalf(alloc: Global, field: Field<&[u8]>) -> Result<Field<Text>, AllocError>
-    ensures { IfOk result (λ read. read ≡ read_from (if_passes is_behalf) (texts field.entry)) }
+    ensures { let is = read_from (if_passes is_behalf) (texts field.entry) in
+        MatchResult result (λ read. read ≡ is) (λ _. HasValue is) }
 {
     match field {
         Field::Absent => Ok(Field::Absent),
@@ -77,7 +80,8 @@ fn behalf(alloc: Global, field: Field<&[u8]>) -> Result<Field<Text>, AllocError>
 }
 
 fn behalf_text(alloc: Global, text: &[u8]) -> Result<Field<Text>, AllocError>
-    ensures { IfOk result (λ read. read ≡ or_bad (if_passes is_behalf text.now)) }
+    ensures { let is = or_bad (if_passes is_behalf text.now) in
+        MatchResult result (λ read. read ≡ is) (λ _. HasValue is) }
 {
     if text.is_empty() {
         return Ok(Field::Bad);
@@ -102,7 +106,8 @@ fn progress(field: Field<&[u8]>) -> Field<bool>
 }
 
 fn copied(alloc: Global, field: Field<&[u8]>) -> Result<Field<Octets>, AllocError>
-    ensures { IfOk result (λ read. read ≡ read_from as_it_stands (texts field.entry)) }
+    ensures { MatchResult result (λ read. read ≡ read_from as_it_stands (texts field.entry))
+        (λ _. HasValue (texts field.entry)) }
 {
     match field {
         Field::Absent => Ok(Field::Absent),
@@ -112,7 +117,8 @@ fn copied(alloc: Global, field: Field<&[u8]>) -> Result<Field<Octets>, AllocErro
 }
 
 fn media(alloc: Global, field: Field<&[u8]>) -> Result<Field<Text>, AllocError>
-    ensures { IfOk result (λ read. read ≡ read_from (if_passes is_media) (texts field.entry)) }
+    ensures { let is = read_from (if_passes is_media) (texts field.entry) in
+        MatchResult result (λ read. read ≡ is) (λ _. HasValue is) }
 {
     match field {
         Field::Absent => Ok(Field::Absent),
@@ -122,7 +128,8 @@ fn media(alloc: Global, field: Field<&[u8]>) -> Result<Field<Text>, AllocError>
 }
 
 fn media_text(alloc: Global, text: &[u8]) -> Result<Field<Text>, AllocError>
-    ensures { IfOk result (λ read. read ≡ or_bad (if_passes is_media text.now)) }
+    ensures { let is = or_bad (if_passes is_media text.now) in
+        MatchResult result (λ read. read ≡ is) (λ _. HasValue is) }
 {
     if !is_media(text) {
         return Ok(Field::Bad);
@@ -143,8 +150,9 @@ fn ascii_text(bytes: &[u8]) -> &str
 
 // One field is read where it stands; the texts of several are joined in a copy.
 fn digest(alloc: Global, head: &Head) -> Result<Field<DigestList>, AllocError>
-    ensures { IfOk result (λ read. read ≡
-        read_from digest_field (joined (values_of head.now.fields (codes "Digest")))) }
+    ensures { MatchResult result (λ read. read ≡
+        read_from digest_field (joined (values_of head.now.fields (codes "Digest"))))
+        (λ _. field_in head.now.fields (codes "Digest") ≡ Field.Bad) }
 {
     match single(head, "Digest") {
         Field::Absent => Ok(Field::Absent),

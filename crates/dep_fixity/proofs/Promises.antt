@@ -1,5 +1,5 @@
 -- What a member adds to the promises of those before it.
-use Rattle.std.proofs.Common.{◌≡◌, ◌∙◌, ◌&&◌, refl, ap, List, [], ◌∷◌, ◌++◌, true, false, ℕ, Bool, Option, Some, None, inl, inr, bytes_eq, is_some, cond}
+use Rattle.std.proofs.Common.{◌≡◌, ◌∙◌, refl, ap, List, [], ◌∷◌, ◌++◌, true, false, ℕ, Bool, Option, Some, None, inl, inr, bytes_eq, is_some, cond}
 use Rattle.std.proofs.lemmas.Bool.{cases_Bool}
 use Rattle.std.proofs.lemmas.List.{map-append}
 use Rattle.std.proofs.lemmas.List.Elements.{filter_map-append}
@@ -14,10 +14,6 @@ when_all : (digest : List ℕ) (all : Bool) (before : Option (List ℕ))
     → cond all (Some (Some digest)) None ≡ Some before → (all ≡ true) × (before ≡ Some digest)
 when_all digest true before h = (refl, cc h)
 when_all digest false before h = cc h
-
-and_false : (b : Bool) → (b && false) ≡ false
-and_false true = refl
-and_false false = refl
 
 joined_first : (before : Option (List ℕ)) (digest : List ℕ) → Some None ≡ Some before → joined before (Some digest) ≡ Some digest
 joined_first None digest h = refl
@@ -86,15 +82,6 @@ pub spelled_under-other : (n : ℕ) (name : List ℕ) (done : List (List ℕ)) (
     → value_under name member ≡ None → spelled_under n name (done ++ member ∷ rest) ≡ spelled_under n name done ++ spelled_under n name rest
 spelled_under-other n name done member rest h =
     rw (filter_map-append (value_under name) done (member ∷ rest), h, map-append (octets_of n) (filter_map (value_under name) done) (filter_map (value_under name) rest)) refl
-
-pub digest_under-unnamed : (n : ℕ) (name : List ℕ) (done : List (List ℕ)) (member : List ℕ) (rest : List (List ℕ)) → name_and_value member ≡ None
-    → digest_under n name (done ++ member ∷ rest) ≡ None
-digest_under-unnamed n name done member rest h =
-    let named = λ (m : List ℕ). is_some (name_and_value m) in
-    let not_named : named member ≡ false = rw h refl in
-    let not_all : list_all named (done ++ member ∷ rest) ≡ false =
-    rw (list_all-append named done (member ∷ rest), not_named) (and_false (list_all named done)) in
-    rw not_all refl
 
 pub digest_under-bad : (n : ℕ) (name : List ℕ) (done : List (List ℕ)) (member : List ℕ) (rest : List (List ℕ)) (before : Option (List ℕ)) (value : List ℕ)
     → one_digest (spelled_under n name done) ≡ Some before → value_under name member ≡ Some value

@@ -46,7 +46,7 @@ end_later : (x : ℕ) (xs : List ℕ) → starts_with nat_eq (x ∷ xs) empty_li
 unfolding head_end
 end_later x xs t = ap (λ b. if b then Some 4 else option_map suc (head_end xs)) t
 
-end_nil : head_end [] ≡ None
+pub end_nil : head_end [] ≡ None
 unfolding head_end
 end_nil = refl
 

@@ -1,9 +1,8 @@
 -- What the first field adds to the values of a name.
-use Rattle.std.proofs.Common.{◌≡◌, ℕ, suc, cond, List, [], ◌∷◌, length, map, filter, refl, ap, arith, inl, inr}
+use Rattle.std.proofs.Common.{◌≡◌, ℕ, suc, cond, List, [], ◌∷◌, map, filter, refl, ap, arith, inl, inr}
 use Rattle.std.proofs.lemmas.Bool.{cases_Bool}
 use Rattle.std.proofs.lemmas.Slice.Eq.{bytes_eq-Decides}
 use Rattle.std.specs.Char.{to_ascii_lowercase}
-use Rattle.httparse.specs.Spans.{IsHeaderWithin}
 use Rattle.httparse.specs.declared.spans.HeaderSpan.{HeaderSpan}
 use Rattle.dep_head.specs.Head.{values_of, is_named}
 use Rattle.dep_head.specs.Spans.{AreWithin}
@@ -30,6 +29,3 @@ values_of-other field fields name other =
 -- the spans after the first lie in the text
 pub AreWithin-rest : (text : List ℕ) (first : HeaderSpan) (rest : List HeaderSpan) → AreWithin text (first ∷ rest) → AreWithin text rest
 AreWithin-rest text first rest h = λ k d below. h (suc k) d (omega arith)
-
-pub AreWithin-first : (text : List ℕ) (first : HeaderSpan) (rest : List HeaderSpan) → AreWithin text (first ∷ rest) → IsHeaderWithin (length text) first
-AreWithin-first text first rest h = h 0 first (omega arith)

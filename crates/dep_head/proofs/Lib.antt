@@ -1,3 +1,5 @@
+pub mod AnyError
+pub mod MarkEnds
 pub mod HeadEnd
 pub mod EndFinds
 pub mod FieldLemmas

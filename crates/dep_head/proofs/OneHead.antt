@@ -15,20 +15,13 @@ same_path target u v h k =
     ap (λ d. if not (length d == 0) || is_some (uri_scheme u) then path_of d else []) same.2
     ∙ ap (λ s. if not (length (uri_data v) == 0) || is_some s then path_of (uri_data v) else []) same.0
 
-abbrev parts : List ℕ → List ℕ → ℕ → List (List ℕ × List ℕ) → HeadParts
-parts method path minor fields = record { method = method; path = path; minor = minor; fields = fields }
-
-same_parts : (a b : HeadParts) → a.method ≡ b.method → a.path ≡ b.path → a.minor ≡ b.minor → a.fields ≡ b.fields → a ≡ b
-same_parts a b method path minor fields =
-    ap (λ m. parts m a.path a.minor a.fields) method ∙ ap (λ p. parts b.method p a.minor a.fields) path
-    ∙ ap (λ n. parts b.method b.path n a.fields) minor ∙ ap (λ f. parts b.method b.path b.minor f) fields
-
 pub one_head : (text : List ℕ) (a b : HeadParts) → IsHeadText text a → IsHeadText text b → a ≡ b
 one_head text a b h k =
     let same = (request_unique text h.head k.head [] [] h.reads k.reads).0 in
     let target = subst (λ t. Spells t k.uri) (sym (ap (λ (r : RequestHead). r.target) same)) k.spelled in
-    same_parts a b
-    (h.method_is ∙ ap (λ (r : RequestHead). r.method) same ∙ sym k.method_is)
-    (h.path_is ∙ same_path h.head.target h.uri k.uri h.spelled target ∙ sym k.path_is)
-    (h.minor_is ∙ ap (λ (r : RequestHead). r.minor) same ∙ sym k.minor_is)
-    (h.fields_are ∙ ap (λ (r : RequestHead). map name_and_value r.fields) same ∙ sym k.fields_are)
+    λ i. record {
+      method = (h.method_is ∙ ap (λ (r : RequestHead). r.method) same ∙ sym k.method_is) i;
+      path = (h.path_is ∙ same_path h.head.target h.uri k.uri h.spelled target ∙ sym k.path_is) i;
+      minor = (h.minor_is ∙ ap (λ (r : RequestHead). r.minor) same ∙ sym k.minor_is) i;
+      fields = (h.fields_are ∙ ap (λ (r : RequestHead). map name_and_value r.fields) same ∙ sym k.fields_are) i;
+    }

@@ -72,3 +72,7 @@ pub record IsHeadButForTarget (text : List ℕ) (head : RequestHead) : Type 0 wh
   pub reads : ReadsRequest text head []
   pub room : length head.fields ≤ field_limit
   pub hosts : IsHostCount head.minor (length (values_of (map name_and_value head.fields) (codes "Host")))
+
+-- the text is some head's, but perhaps for its target
+abbrev pub IsHeadOfAnyTarget : List ℕ → Type 0
+IsHeadOfAnyTarget text = (head : RequestHead) × IsHeadButForTarget text head

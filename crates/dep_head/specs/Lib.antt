@@ -1,3 +1,4 @@
 pub mod Head
 pub mod Spans
 pub mod Faults
+pub mod Marks

@@ -1,10 +1,9 @@
 //! Heads of requests.
 ghost use Rattle.std.specs.String.{string_bytes};
 ghost use Rattle.std.specs.Prelude.{◌≡◌, ◌↔◌, [], length, codes, IfOk, IsTrue, IsErrOf, Err};
-ghost use Rattle.httparse.specs.Grammar.{RequestHead};
 ghost use Rattle.http_uri.specs.Uri.{Spells, uri_path};
 ghost use Rattle.http_uri.specs.declared.uri.Uri.{Uri};
-ghost use Rattle.dep_head.specs.Head.{HeadParts, IsHeadText, IsHeadButForTarget, IsHostCount, values_of};
+ghost use Rattle.dep_head.specs.Head.{HeadParts, IsHeadText, IsHeadOfAnyTarget, IsHostCount, values_of};
 ghost use Rattle.dep_head.specs.Spans.{fields_at, AreWithin};
 ghost use Rattle.dep_head.specs.Faults.{fault_number};
 
@@ -148,8 +147,7 @@ pub fn read_head(alloc: Global, text: &[u8]) -> Result<Head, HeadFault>
         (parts : HeadParts) → ¬ IsHeadText text.now parts }
 
     // All but the target is read without memory.
-    ensures wanted { result ≡ Err HeadFault.Memory →
-        (head : RequestHead) × IsHeadButForTarget text.now head }
+    ensures wanted { result ≡ Err HeadFault.Memory → IsHeadOfAnyTarget text.now }
 {
     let Some(end) = find_end(text) else {
         return Err(HeadFault::NotAHead);

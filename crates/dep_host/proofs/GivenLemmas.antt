@@ -11,10 +11,10 @@ use Rattle.dep_host.specs.Hosting.{Position, slot, Deed, Opens, Takes, Replies, 
 use Rattle.dep_host.specs.Runs.{read_by, read_of, given_by, given_of, IsGiven}
 use Rattle.dep_host.proofs.ReadLemmas.{read_append}
 use Rattle.dep_host.proofs.TellLemmas.{Tidy, steps_tidy, slot_set, some_same, no_some, told_keeps}
+use Rattle.std.proofs.lemmas.Grind.{flat_map-append}
 
 given_append : (n : ℕ) (xs ys : List Deed) → given_of n (xs ++ ys) ≡ given_of n xs ++ given_of n ys
-given_append n [] ys = refl
-given_append n (d ∷ xs) ys = ap (λ l. given_by n d ++ l) (given_append n xs ys) ∙ sym (append_assoc (given_by n d) (given_of n xs) (given_of n ys))
+given_append n xs ys = flat_map-append (λ d. given_by n d) xs ys
 
 -- a source had the bytes that it gave and, behind them, what it has left
 consumed : (a b : Option (List ℕ)) (rest piece : List ℕ) → Consumes a b piece → Tells b → a ≡ Some rest → (after : List ℕ) × ((b ≡ Some after) × (rest ≡ piece ++ after))
@@ -150,9 +150,9 @@ module _ {A R K S : Type 0} (condition : A → Condition) (unread : R → Option
   step_given {p = p} {q = q} {deeds = deeds} tidy g (answers {at = at} {moment = moment} {before = before} {after = after} t a) =
       given_turn p q deeds (Replies at before.connection moment a.answers.sent ∷ []) at before after g t (λ n. (refl, refl))
       (λ h. subst (λ (s : R). Keeps (unread before.source) (unread s)) (sym a.same_source) (Keeps-refl (unread before.source)))
-  step_given {p = p} {q = q} {deeds = deeds} tidy g (leaves {at = at} {second = second} {seat = seat} r) =
+  step_given {p = p} {q = q} {deeds = deeds} tidy g (leaves {at = at} {second = second} {reason = reason} {seat = seat} r) =
       let later : p.hub.next ≤ q.hub.next = let e = r.next in omega (arith, e) in
-      given_set p q deeds (Closes at seat.connection second ∷ []) at None g r.there r.gone later
+      given_set p q deeds (Closes at seat.connection second reason ∷ []) at None g r.there r.gone later
       (λ s e. absurd (no_some s e)) (λ j t ne h. (refl, refl)) (λ n h. (refl, refl))
 
   steps_given : {p q : Position A R K S} {deeds : List Deed} → ((at : ℕ) → slot at p.seats ≡ None) → Steps condition unread taken held p deeds q → Given q deeds

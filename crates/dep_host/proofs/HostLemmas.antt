@@ -1,5 +1,5 @@
 -- How a host goes on.
-use Rattle.std.proofs.Common.{◌≡◌, ◌⊎◌, ◌<◌, ◌≤◌, ◌+◌, ℕ, zero, suc, Bool, true, false, List, [], ◌∷◌, ◌++◌, Option, None, Some, refl, sym, ap, subst, ◌∙◌, append_assoc, length, get_or, set, take, Ok, IsTrue, add-one, inl, inr, arith}
+use Rattle.std.proofs.Common.{◌≡◌, ◌⊎◌, ◌<◌, ◌≤◌, ◌+◌, ℕ, zero, suc, Bool, true, false, List, [], ◌∷◌, ◌++◌, Option, None, Some, refl, sym, ap, subst, ◌∙◌, append_assoc, length, get_or, set, take, is_some, Ok, IsTrue, add-one, inl, inr, arith}
 use Rattle.std.proofs.lemmas.List.{append-nil, get_or_default, set-get_or, get_or-set_same, get_or-set_other}
 use Rattle.std.proofs.Math.ListN.{length-set}
 use Rattle.std.proofs.lemmas.Bool.{cases_eq, cases_lt}
@@ -7,8 +7,9 @@ use Rattle.std.proofs.KnownBytes.{Keeps-refl}
 use Rattle.std.specs.Prelude.{IfSome, IsSomeAnd}
 use Rattle.std.specs.Io.KnownBytes.{Keeps}
 use Rattle.dep_types.specs.Conditions.{Condition}
-use Rattle.dep_hub.specs.Holding.{KeepsHolding}
+use Rattle.dep_hub.specs.Holding.{KeepsHolding, RestsOn}
 use Rattle.dep_hub.specs.declared.hub.Hub.{Hub}
+use Rattle.dep_hub.specs.Records.{Line}
 use Rattle.dep_hub.specs.Standing.{IsClean, IsHonest}
 use Rattle.dep_hub.specs.Shut.{TellsOpen}
 use Rattle.dep_hub.specs.Errands.{Account, Asked, Runs}
@@ -17,17 +18,26 @@ use Rattle.dep_outbox.specs.Wires.{told}
 use Rattle.dep_host.specs.Courses.{is_ended, closing as why}
 use Rattle.dep_host.specs.declared.seat.Seat.{Seat}
 use Rattle.dep_host.specs.declared.host.Host.{Host}
-use Rattle.dep_host.specs.declared.limits.Limits.{Limits}
 use Rattle.dep_host.specs.declared.log.Closing.{Closing}
 use Rattle.dep_host.specs.declared.log.Closing.TheVariants.{Large}
 use Rattle.dep_host.specs.declared.course.Phase.TheVariants.{Open}
-use Rattle.dep_host.specs.declared.course.Duty.TheVariants.{Wait}
-use Rattle.dep_host.specs.Seats.{SameClient, next_duty}
-use Rattle.dep_host.specs.Hosting.{Position, slot, HasTime, IsWaiting, MayGo, Stays, Deed, unfinished_of, unfinished_in, Goes, Asks, Refused, Step, refused, asks, rests, Steps, begins, goes_on, Sheds}
+use Rattle.dep_host.specs.Notes.{Note, Grows}
+use Rattle.dep_host.specs.Seats.{SameClient}
+use Rattle.dep_host.specs.Hosting.{Position, slot, farewell, MayGo, Stays, Deed, unfinished_of, unfinished_in, Goes, IsRightlyTold, Asks, Refused, Step, refused, asks, rests, Steps, begins, goes_on, Sheds}
 
--- the places that there are stay
-pub there_still : {X : Type 0} (l : List X) (at : ℕ) (x : X) → at < length l → at < length (set l at x)
-there_still l at x there = omega (arith, there, length-set l at x)
+-- what a log is told
+pub grows_none : {X : Type 0} (told : Option (List X)) → Grows told told []
+grows_none None = tt
+grows_none (Some xs) = sym (append-nil xs)
+
+pub grows_on : {X : Type 0} (old mid new : Option (List X)) (xs ys : List X) → Grows old mid xs → Grows mid new ys → Grows old new (xs ++ ys)
+grows_on None mid new xs ys g h = tt
+grows_on (Some o) None new xs ys g h = absurd g
+grows_on (Some o) (Some m) None xs ys g h = absurd h
+grows_on (Some o) (Some m) (Some n) xs ys g h = h ∙ (ap (λ l. l ++ ys) g ∙ append_assoc o xs ys)
+
+pub grows_same : {X : Type 0} (told tells : Option (List X)) → tells ≡ told → Grows told tells []
+grows_same {X = X} told tells same = subst (λ (o : Option (List X)). Grows told o []) (sym same) (grows_none told)
 
 -- what was read at a place is what stands there
 pub slot_read : {X : Type 0} (at : ℕ) (seats : List (Option X)) (x : Option X) → at < length seats → x ≡ get_or seats at x → slot at seats ≡ x
@@ -51,32 +61,6 @@ free_where_sat {X = X} seats at end x seat sat free place h = elim (cases_eq pla
 pub within_still : {X : Type 0} (seats : List (Option X)) (at end : ℕ) (x : Option X) → end ≤ length seats → end ≤ length (set seats at x)
 within_still seats at end x within = omega (arith, within, length-set seats at x)
 
--- who has time left at the places so far, and at one more
-pub left_goes_on : {R K S : Type 0} (old new : List (Option (Seat R K S))) (at next second : ℕ) (was limits : Limits) → ((place : ℕ) → place < at → HasTime second was (slot place old))
-    → HasTime second limits (slot at new) → limits ≡ was → ((place : ℕ) → (place ≡ at → ⊥) → slot place new ≡ slot place old) → next ≡ at + 1
-    → (place : ℕ) → place < next → HasTime second limits (slot place new)
-left_goes_on {R = R} {K = K} {S = S} old new at next second was limits before here same others e place h = elim (cases_lt place at) [
-  | inl lt ↦ subst (λ (n : Limits). HasTime second n (slot place new)) (sym same)
-      (subst (λ (x : Option (Seat R K S)). HasTime second was x) (sym (others place (λ is. omega (arith, is, lt)))) (before place lt))
-  | inr ge ↦ let is : place ≡ at = omega (arith, ge, h, e) in subst (λ (n : ℕ). HasTime second limits (slot n new)) (sym is) here
-]
-
--- so at all places, where nobody sits behind those
-pub left_ends : {R K S : Type 0} (seats : List (Option (Seat R K S))) (at second : ℕ) (limits : Limits) → ((place : ℕ) → at ≤ place → slot place seats ≡ None) → ((place : ℕ) → place < at → HasTime second limits (slot place seats))
-    → (place : ℕ) → HasTime second limits (slot place seats)
-left_ends {R = R} {K = K} {S = S} seats at second limits all before place = elim (cases_lt place at) [
-  | inl lt ↦ before place lt
-  | inr ge ↦ subst (λ (x : Option (Seat R K S)). HasTime second limits x) (sym (all place (omega (arith, ge)))) tt
-]
-
--- who has time left where the largest was closed
-pub left_sheds : {R K S : Type 0} (old new : List (Option (Seat R K S))) (second : ℕ) (was limits : Limits) → ((place : ℕ) → HasTime second was (slot place old)) → limits ≡ was
-    → ((place : ℕ) → (slot place new ≡ slot place old) ⊎ (slot place new ≡ None)) → (place : ℕ) → HasTime second limits (slot place new)
-left_sheds {R = R} {K = K} {S = S} old new second was limits before same stays place = elim (stays place) [
-  | inl e ↦ subst (λ (x : Option (Seat R K S)). HasTime second limits x) (sym e) (subst (λ (n : Limits). HasTime second n (slot place old)) (sym same) (before place))
-  | inr e ↦ subst (λ (x : Option (Seat R K S)). HasTime second limits x) (sym e) tt
-]
-
 -- what holds at the places so far, and at one more
 pub each_goes_on : {X : Type 0} (P : Option X → Type 0) (old new : List (Option X)) (at next : ℕ) → ((place : ℕ) → place < at → P (slot place old)) → P (slot at new)
     → ((place : ℕ) → (place ≡ at → ⊥) → slot place new ≡ slot place old) → next ≡ at + 1 → (place : ℕ) → place < next → P (slot place new)
@@ -96,24 +80,10 @@ each_sheds {X = X} P old new at none all before stays place = elim (stays place)
   | inr e ↦ subst (λ (x : Option X). P x) (sym e) none
 ]
 
--- who sits at a place is closed for a reason, or has time left
+-- who sits at a place is closed for a reason
 pub closes_there : {A R K S : Type 0} (p : Position A R K S) (at second : ℕ) (seat : Seat R K S) (told : Option Closing) (reason : Closing) → slot at p.seats ≡ Some seat → told ≡ why seat.course second p.limits
     → told ≡ Some reason → MayGo p second reason (slot at p.seats)
 closes_there {R = R} {K = K} {S = S} p at second seat told reason sat e is = subst (λ (o : Option (Seat R K S)). MayGo p second reason o) (sym sat) (inl (sym e ∙ is))
-
-pub time_there : {R K S : Type 0} (seats : List (Option (Seat R K S))) (at second : ℕ) (limits : Limits) (seat : Seat R K S) (told : Option Closing) → slot at seats ≡ Some seat → told ≡ why seat.course second limits
-    → told ≡ None → HasTime second limits (slot at seats)
-time_there {R = R} {K = K} {S = S} seats at second limits seat told sat e is = subst (λ (o : Option (Seat R K S)). HasTime second limits o) (sym sat) (sym e ∙ is)
-
-pub none_there : {R K S : Type 0} (seats : List (Option (Seat R K S))) (at second : ℕ) (limits : Limits) → slot at seats ≡ None → HasTime second limits (slot at seats)
-none_there {R = R} {K = K} {S = S} seats at second limits free = subst (λ (o : Option (Seat R K S)). HasTime second limits o) (sym free) tt
-
--- who sits at a place waits, also where nobody sits there
-pub none_waits : {R K S : Type 0} (size : S → ℕ) (seats : List (Option (Seat R K S))) (at : ℕ) → slot at seats ≡ None → IsWaiting size (slot at seats)
-none_waits {R = R} {K = K} {S = S} size seats at free = subst (λ (o : Option (Seat R K S)). IsWaiting size o) (sym free) tt
-
-pub waits_there : {R K S : Type 0} (size : S → ℕ) (seats : List (Option (Seat R K S))) (at : ℕ) (seat : Seat R K S) → slot at seats ≡ Some seat → next_duty size seat ≡ Wait → IsWaiting size (slot at seats)
-waits_there {R = R} {K = K} {S = S} size seats at seat sat waits = subst (λ (o : Option (Seat R K S)). IsWaiting size o) (sym sat) waits
 
 -- nothing of what stays changed
 pub stays_same : {A R K S : Type 0} (p : Host A R K S) → Stays p p
@@ -136,11 +106,6 @@ stays_on p q r s t = record {
   shut = t.shut ∙ s.shut;
   unanswered = t.unanswered ∙ s.unanswered;
 }
-
--- one place changed, and then nothing of what stays
-pub stays_after : {A R K S : Type 0} (p q r : Host A R K S) (at : ℕ) (x : Option (Seat R K S)) → Stays q r → q.seats.items ≡ set p.seats.items at x → q.limits ≡ p.limits → q.shut ≡ p.shut
-    → q.unanswered ≡ p.unanswered → Stays p r
-stays_after p q r at x t seats limits shut unanswered = stays_on p q r (stays_set p q at x seats limits shut unanswered) t
 
 -- the store is shut where the hub tells that it is
 pub told_shut : (c : Condition) (is_open : Bool) → is_open ≡ false → TellsOpen c is_open → ¬ IsTrue c.is_open
@@ -217,18 +182,17 @@ module _ {A R K S : Type 0} (condition : A → Condition) (unread : R → Option
   steps_join {p = p} {r = r} {xs = xs} s (goes_on {deeds = ys} {more = more} t step) =
       subst (λ (l : List Deed). Steps condition unread taken held p l r) (append_assoc xs ys more) (goes_on (steps_join s t) step)
 
-  -- one stretch after another
+  -- no connection could be opened
+  pub unopened : (p q : Position A R K S) → q.seats ≡ p.seats → q.hub.next ≡ p.hub.next → ((lines : ℕ → Line) (kept : ℕ → List ℕ) → KeepsHolding condition p.hub lines kept → KeepsHolding condition q.hub lines kept)
+      → q.hub.store ≡ p.hub.store → q.hub.config ≡ p.hub.config → q.limits ≡ p.limits → q.shut ≡ p.shut → Refused condition unread taken held p q
+  unopened p q seats next keeps store config limits shut =
+      record { sits = seats; next = next; keeps = keeps; same_store = store; same_config = config; same_limits = limits; same_shut = shut }
+
   -- nothing changed
   pub untouched : (p q : Position A R K S) → q.hub ≡ p.hub → q.limits ≡ p.limits → q.shut ≡ p.shut → q.seats ≡ p.seats → Refused condition unread taken held p q
-  untouched p q hub limits shut seats = record {
-    sits = seats;
-    next = ap (λ (h : Hub A). h.next) hub;
-    keeps = λ lines kept h. subst (λ (k : Hub A). KeepsHolding condition k lines kept) (sym hub) h;
-    same_store = ap (λ (h : Hub A). h.store) hub;
-    same_config = ap (λ (h : Hub A). h.config) hub;
-    same_limits = limits;
-    same_shut = shut;
-  }
+  untouched p q hub limits shut seats =
+      unopened p q seats (ap (λ (h : Hub A). h.next) hub) (λ lines kept h. subst (λ (k : Hub A). KeepsHolding condition k lines kept) (sym hub) h)
+      (ap (λ (h : Hub A). h.store) hub) (ap (λ (h : Hub A). h.config) hub) limits shut
 
   -- a place was looked at, and stands as it stood
   pub unchanged : (p q : Position A R K S) (at : ℕ) (x : Option (Seat R K S)) → q.hub ≡ p.hub → q.limits ≡ p.limits → q.shut ≡ p.shut → q.seats ≡ set p.seats at x → at < length p.seats → x ≡ get_or p.seats at x
@@ -236,13 +200,15 @@ module _ {A R K S : Type 0} (condition : A → Condition) (unread : R → Option
   unchanged p q at x hub limits shut seats there read =
       refused (untouched p q hub limits shut (seats ∙ (ap (λ (y : Option (Seat R K S)). set p.seats at y) read ∙ set-get_or p.seats at x)))
 
-  pub same_seats : (p q : Position A R K S) (at : ℕ) (x : Option (Seat R K S)) → q.hub ≡ p.hub → q.limits ≡ p.limits → q.shut ≡ p.shut → q.seats ≡ set p.seats at x → at < length p.seats → x ≡ get_or p.seats at x
-      → Steps condition unread taken held p [] q
-  same_seats p q at x hub limits shut seats there read = goes_on begins (unchanged p q at x hub limits shut seats there read)
-
   -- the hub was asked whether its store is open
   pub asked : (p q : Position A R K S) → Asks condition unread taken held p q → Steps condition unread taken held p [] q
   asked p q a = goes_on begins (asks a)
+
+  -- and no connection had a part in it
+  pub asked_alone : (p q : Position A R K S) (KeepsSo : Condition → Condition → Type 0) → RestsOn condition KeepsSo p.hub q.hub → (IsClean condition q.hub → IsClean condition p.hub) → (IsHonest condition q.hub → IsHonest condition p.hub)
+      → q.seats ≡ p.seats → q.limits ≡ p.limits → (q.shut ≡ p.shut) ⊎ ((is_some p.shut ≡ false) × IsRightlyTold condition q) → Steps condition unread taken held p [] q
+  asked_alone p q KeepsSo r clean honest seats limits told =
+      asked p q (record { sits = seats; hub = record { next = r.next; same_config = r.config; clean = clean; honest = honest }; stands = r.stands; same_limits = limits; told = told })
 
   -- a connection took note of something, and neither its bytes nor its phase changed
   pub woken : (p q : Position A R K S) (at : ℕ) (before after : Seat R K S) → at < length p.seats → slot at p.seats ≡ Some before → q.seats ≡ set p.seats at (Some after)
@@ -272,15 +238,15 @@ module _ {A R K S : Type 0} (condition : A → Condition) (unread : R → Option
   }))
 
   -- who was at a place was closed, or nobody was there
-  pub closing : (p q : Position A R K S) (at second : ℕ) (x : Option (Seat R K S)) (seat : Seat R K S) → x ≡ Some seat → Goes condition unread taken held p q at second seat
-      → IfSome x (Goes condition unread taken held p q at second)
-  closing p q at second x seat e g = subst (λ (o : Option (Seat R K S)). IfSome o (Goes condition unread taken held p q at second)) (sym e) g
+  pub closing : (p q : Position A R K S) (at second : ℕ) (reason : Closing) (x : Option (Seat R K S)) (seat : Seat R K S) → x ≡ Some seat → Goes condition unread taken held p q at second reason seat
+      → IfSome x (Goes condition unread taken held p q at second reason)
+  closing p q at second reason x seat e g = subst (λ (o : Option (Seat R K S)). IfSome o (Goes condition unread taken held p q at second reason)) (sym e) g
 
-  pub closing_none : (p q : Position A R K S) (at second : ℕ) (x : Option (Seat R K S)) → x ≡ None → IfSome x (Goes condition unread taken held p q at second)
-  closing_none p q at second x e = subst (λ (o : Option (Seat R K S)). IfSome o (Goes condition unread taken held p q at second)) (sym e) tt
+  pub closing_none : (p q : Position A R K S) (at second : ℕ) (reason : Closing) (x : Option (Seat R K S)) → x ≡ None → IfSome x (Goes condition unread taken held p q at second reason)
+  closing_none p q at second reason x e = subst (λ (o : Option (Seat R K S)). IfSome o (Goes condition unread taken held p q at second reason)) (sym e) tt
 
   -- the largest was closed
-  pub shed_one : (p q : Position A R K S) (at second : ℕ) (x : Option (Seat R K S)) → slot at p.seats ≡ x → IsSomeAnd x (λ seat. seat.course.phase ≡ Open)
-      → IfSome (slot at p.seats) (Goes condition unread taken held p q at second) → Sheds condition unread taken held p q second
-  shed_one p q at second None e waits g = absurd waits
-  shed_one p q at second (Some seat) e waits g = inr (at, seat, subst (λ (o : Option (Seat R K S)). IfSome o (Goes condition unread taken held p q at second)) e g)
+  pub shed_one : (p q : Position A R K S) (at second : ℕ) (told tells : Option (List Note)) (x : Option (Seat R K S)) → slot at p.seats ≡ x → IsSomeAnd x (λ seat. seat.course.phase ≡ Open)
+      → IfSome x (Goes condition unread taken held p q at second Large) → Grows told tells (farewell Large x) → Sheds condition unread taken held p q second told tells
+  shed_one p q at second told tells None e waits g noted = absurd waits
+  shed_one p q at second told tells (Some seat) e waits g noted = inr (at, seat, g, noted)

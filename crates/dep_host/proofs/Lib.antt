@@ -4,7 +4,7 @@ mod ServeLemmas
 mod RunLemmas
 mod TellLemmas
 mod ReadLemmas
-mod CloseLemmas
+pub mod CloseLemmas
 mod GivenLemmas
 mod ShutLemmas
 mod RoundLemmas

@@ -1,5 +1,5 @@
 -- What a host makes of what comes to it.
-use Rattle.std.proofs.Common.{◌≡◌, ◌⊎◌, inl, inr, ◌<◌, ◌+◌, ℕ, Bool, true, false, List, [], ◌∷◌, ◌++◌, Option, None, Some, is_some, refl, sym, ap, subst, ◌∙◌, append_assoc, length, set, IsSome, IfSome, arith}
+use Rattle.std.proofs.Common.{◌≡◌, ◌⊎◌, inl, inr, ◌<◌, ◌+◌, ℕ, Bool, true, false, List, [], ◌∷◌, ◌++◌, Option, None, Some, is_some, refl, sym, ap, subst, ◌∙◌, length, set, IsSome, IfSome, arith}
 use Rattle.std.specs.Option.{option_map}
 use Rattle.std.specs.declared.result.Result.{Result}
 use Rattle.std.specs.declared.result.Result.TheVariants.{Ok, Err}
@@ -28,32 +28,15 @@ use Rattle.dep_hub.specs.declared.hub.Hub.{Hub}
 use Rattle.dep_hub.specs.Standing.{IsClean, IsHonest}
 use Rattle.dep_hub.specs.Holding.{StandsHoldingAfter, StandsOn}
 use Rattle.dep_host.specs.Hosting.{Deed, IsEmpty, Position, Steps, position, slot, refused, comes}
-use Rattle.dep_host.specs.Meeting.{IsOffer, IsShutBy, MayEnd, Stops, Wakes, MayRefuse, TurnsAway, Admits, Meets, refusal_for, refusal_of, shut_by, wakes, lets_in, turns_away, makes_round, stops, IsMet, begins, goes_on, all_given, Met}
+use Rattle.dep_host.specs.Meeting.{IsOffer, MayCall, IsShutBy, MayEnd, Stops, Wakes, MayRefuse, TurnsAway, Admits, Meets, refusal_for, refusal_of, shut_by, wakes, lets_in, turns_away, makes_round, stops, IsMet, begins, goes_on, all_given, Met}
 use Rattle.dep_host.specs.Notes.{Note, Grows}
 use Rattle.dep_host.specs.Rounds.{IsTold, EndsInTime}
-use Rattle.dep_host.proofs.HostLemmas.{asked, untouched, woken, alone, stands_still, steps_join}
+use Rattle.dep_host.proofs.HostLemmas.{grows_none, grows_on, asked, untouched, woken, alone, stands_still, steps_join}
 use Rattle.dep_host.proofs.RoundLemmas.{rounds_begin, rounds_go_on, one_second}
 
--- what goes on has not ended, and what is shut has ended for nothing else
+-- what goes on has not ended
 pub not_yet_ended : {X : Type 0} (x : X) (end : Ended) → (let r : Result X Ended = Ok x in r) ≡ Err end → ⊥
 not_yet_ended {X = X} x end e = let bad : (let r : Result X Ended = Ok x in r) ≡ Err end = e in cc
-
-pub shut_alone : {X : Type 0} (why : Cause) (end : Ended) → (ended.Shut why ≡ end → ⊥) → (let r : Result X Ended = Err (ended.Shut why) in r) ≡ Err end → ⊥
-shut_alone {X = X} why end ne e = ne (let same : (let r : Result X Ended = Err (ended.Shut why) in r) ≡ Err end = e in cc)
-
--- the cause for which it ended
-pub shut_for : {X : Type 0} (why told : Cause) → (let r : Result X Ended = Err (ended.Shut why) in r) ≡ Err (ended.Shut told) → why ≡ told
-shut_for {X = X} why told e = let same : (let r : Result X Ended = Err (ended.Shut why) in r) ≡ Err (ended.Shut told) = e in cc
-
-pub grows_none : {X : Type 0} (told : Option (List X)) → Grows told told []
-grows_none None = tt
-grows_none (Some xs) = sym (append-nil xs)
-
-pub grows_on : {X : Type 0} (old mid new : Option (List X)) (xs ys : List X) → Grows old mid xs → Grows mid new ys → Grows old new (xs ++ ys)
-grows_on None mid new xs ys g h = tt
-grows_on (Some o) None new xs ys g h = absurd g
-grows_on (Some o) (Some m) None xs ys g h = absurd h
-grows_on (Some o) (Some m) (Some n) xs ys g h = h ∙ (ap (λ l. l ++ ys) g ∙ append_assoc o xs ys)
 
 -- where nobody sits nobody is changed
 pub changes_none : {X : Type 0} (f : X → X) (seats : List (Option X)) (at : ℕ) → slot at seats ≡ None → seats ≡ set seats at (option_map f (slot at seats))
@@ -148,10 +131,10 @@ may_end_on : {A R K S : Type 0} (host : Host A R K S) (why : Cause) (xs ys : Lis
 may_end_on host why xs ys (shut, inl empty) = (shut, inl empty)
 may_end_on host why xs ys (shut, inr late) = (shut, inr (late.0, Contains-append_right xs ys late.0 late.1, late.2))
 
-given_more : {R K S : Type 0} (old new : Option (List (Call R K S))) (calls : List (Call R K S)) (end : Ended) → (end ≡ ended.Events → ⊥) → Grows old new calls → Grows old new (all_given end None calls)
-given_more old new calls ended.Events more g = absurd (more refl)
-given_more old new calls (ended.Shut why) more g = g
-given_more old new calls ended.Spent more g = g
+given_more : {R K S : Type 0} (old new : Option (List (Call R K S))) (last : Call R K S) (calls : List (Call R K S)) (end : Ended) → (end ≡ ended.Events → ⊥) → Grows old new calls → Grows old new (all_given end last calls)
+given_more old new last calls ended.Events more g = absurd (more refl)
+given_more old new last calls (ended.Shut why) more g = g
+given_more old new last calls ended.Spent more g = g
 
 seconds_more : {R K S : Type 0} (calls : List (Call R K S)) (call : Call R K S) → seconds_in (calls ++ call ∷ []) ≡ seconds_in calls ++ seconds_of call.event
 seconds_more {R = R} {K = K} {S = S} calls call =
@@ -250,34 +233,33 @@ module _ {A R K S : Type 0} (condition : A → Condition) (unread : R → Option
     pub met_none : (told : Option (List (Call R K S))) (p : Host A R K S) (l : L) → Met condition account unread taken held size notes told told p p l l [] 0 ended.Spent
     met_none told p l = record {
       calls = [];
-      last = None;
+      last = record { offer = None; is_busy = true; event = came.End };
       given = grows_none told;
       each = begins;
       steps = stands_still condition unread taken held (position p);
-      offered = λ e. let bad : ended.Spent ≡ ended.Events = e in cc;
+      ends = λ e. let bad : ended.Spent ≡ ended.Events = e in cc;
       in_time = rounds_begin p.shut p.limits;
       may_end = λ why e. let bad : ended.Spent ≡ ended.Shut why = e in cc;
       spent = λ e. refl;
     }
 
-    pub met_on : (old mid new : Option (List (Call R K S))) (p q r : Host A R K S) (l m n : L) (offer : Option ℕ) (event : Event R K S) (deeds more : List Deed) (count most : ℕ) (end : Ended)
-        → Met condition account unread taken held size notes old mid p q l m deeds count ended.Spent → Grows mid new (record { offer = offer; event = event } ∷ []) → IsOffer q offer
-        → Meets condition account unread taken held size notes q r m n offer event more
-        → (end ≡ ended.Events → ⊥) → (((why : Cause) → end ≡ ended.Shut why → ⊥) → AllByRecursion (λ second. is_overdue r.shut second r.limits ≡ false) (seconds_of event))
-        → ((why : Cause) → end ≡ ended.Shut why → MayEnd r why (seconds_of event)) → (end ≡ ended.Spent → most ≡ count + 1)
+    pub met_on : (old mid new : Option (List (Call R K S))) (p q r : Host A R K S) (l m n : L) (call : Call R K S) (deeds more : List Deed) (count most : ℕ) (end : Ended)
+        → Met condition account unread taken held size notes old mid p q l m deeds count ended.Spent → Grows mid new (call ∷ []) → MayCall size q call
+        → Meets condition account unread taken held size notes q r m n call.offer call.event more
+        → (end ≡ ended.Events → ⊥) → (((why : Cause) → end ≡ ended.Shut why → ⊥) → AllByRecursion (λ second. is_overdue r.shut second r.limits ≡ false) (seconds_of call.event))
+        → ((why : Cause) → end ≡ ended.Shut why → MayEnd r why (seconds_of call.event)) → (end ≡ ended.Spent → most ≡ count + 1)
         → Met condition account unread taken held size notes old new p r l n (deeds ++ more) most end
-    met_on old mid new p q r l m n offer event deeds more count most end s g offered h events now may next =
-        let call : Call R K S = record { offer = offer; event = event } in
+    met_on old mid new p q r l m n call deeds more count most end s g offered h events now may next =
         record {
           calls = s.calls ++ call ∷ [];
-          last = None;
-          given = given_more old new (s.calls ++ call ∷ []) end events (grows_on old mid new s.calls (call ∷ []) s.given g);
-          each = goes_on s.each offered h;
+          last = call;
+          given = given_more old new call (s.calls ++ call ∷ []) end events (grows_on old mid new s.calls (call ∷ []) s.given g);
+          each = goes_on {call = call} s.each offered h;
           steps = steps_join condition unread taken held s.steps (meets_go h);
-          offered = λ e. absurd (events e);
+          ends = λ e. absurd (events e);
           in_time = subst (λ (l : List ℕ). EndsInTime l p.shut r.shut r.limits end) (sym (seconds_more s.calls call))
-              (rounds_go_on (seconds_in s.calls) (seconds_of event) p.shut q.shut r.shut q.limits r.limits end s.in_time (meets_told h) (one_second event) (meets_limits h) now);
-          may_end = λ why e. subst (λ (l : List ℕ). MayEnd r why l) (sym (seconds_more s.calls call)) (may_end_on r why (seconds_in s.calls) (seconds_of event) (may why e));
+              (rounds_go_on (seconds_in s.calls) (seconds_of call.event) p.shut q.shut r.shut q.limits r.limits end s.in_time (meets_told h) (one_second call.event) (meets_limits h) now);
+          may_end = λ why e. subst (λ (l : List ℕ). MayEnd r why l) (sym (seconds_more s.calls call)) (may_end_on r why (seconds_in s.calls) (seconds_of call.event) (may why e));
           spent = λ e.
               let long : length (s.calls ++ call ∷ []) ≡ length s.calls + 1 = length-append s.calls (call ∷ []) in
               let so_far = s.spent refl in
@@ -286,18 +268,18 @@ module _ {A R K S : Type 0} (condition : A → Condition) (unread : R → Option
         }
 
     -- the last event, behind which nothing more is asked for
-    ended_by : (T : Type 0) (old mid new : Option (List (Call R K S))) (p q r : Host A R K S) (l m n : L) (offer : Option ℕ) (event : Event R K S) (deeds : List Deed) (count most : ℕ) (end : Ended)
-        → Met condition account unread taken held size notes old mid p q l m deeds count ended.Spent → Grows mid new (record { offer = offer; event = event } ∷ []) → IsOffer q offer
-        → IsMet condition account unread taken held size notes {T = T} q r m n offer event (Err end)
-        → ((why : Cause) → end ≡ ended.Shut why → MayEnd r why (seconds_of event)) → (all : List Deed) × Met condition account unread taken held size notes old new p r l n all most end
-    ended_by T old mid new p q r l m n offer event deeds count most ended.Events s g offered h may =
+    ended_by : (T : Type 0) (old mid new : Option (List (Call R K S))) (p q r : Host A R K S) (l m n : L) (call : Call R K S) (deeds : List Deed) (count most : ℕ) (end : Ended)
+        → Met condition account unread taken held size notes old mid p q l m deeds count ended.Spent → Grows mid new (call ∷ []) → MayCall size q call
+        → IsMet condition account unread taken held size notes {T = T} q r m n call.offer call.event (Err end)
+        → ((why : Cause) → end ≡ ended.Shut why → MayEnd r why (seconds_of call.event)) → (all : List Deed) × Met condition account unread taken held size notes old new p r l n all most end
+    ended_by T old mid new p q r l m n call deeds count most ended.Events s g offered h may =
         let now : Met condition account unread taken held size notes old new p q l m deeds most ended.Events = record {
           calls = s.calls;
-          last = offer;
-          given = grows_on old mid new s.calls (record { offer = offer; event = came.End } ∷ []) s.given (subst (λ (e : Event R K S). Grows mid new (record { offer = offer; event = e } ∷ [])) h.0 g);
+          last = call;
+          given = grows_on old mid new s.calls (call ∷ []) s.given g;
           each = s.each;
           steps = s.steps;
-          offered = λ e. offered;
+          ends = λ e. (offered, h.0);
           in_time = record { is_told = s.in_time.is_told; in_time = s.in_time.in_time };
           may_end = λ why e. let bad : ended.Events ≡ ended.Shut why = e in cc;
           spent = λ e. let bad : ended.Events ≡ ended.Spent = e in cc;
@@ -306,27 +288,27 @@ module _ {A R K S : Type 0} (condition : A → Condition) (unread : R → Option
           subst (λ (k : L). Met condition account unread taken held size notes old new p r l k deeds most ended.Events) (sym h.2)
               (subst (λ (k : Host A R K S). Met condition account unread taken held size notes old new p k l m deeds most ended.Events) (sym h.1) now),
         )
-    ended_by T old mid new p q r l m n offer event deeds count most (ended.Shut why) s g offered h may = (
+    ended_by T old mid new p q r l m n call deeds count most (ended.Shut why) s g offered h may = (
       deeds ++ h.0,
-      met_on old mid new p q r l m n offer event deeds h.0 count most (ended.Shut why) s g offered h.1 (λ e. let bad : ended.Shut why ≡ ended.Events = e in cc) (λ more. absurd (more why refl)) may
+      met_on old mid new p q r l m n call deeds h.0 count most (ended.Shut why) s g offered h.1 (λ e. let bad : ended.Shut why ≡ ended.Events = e in cc) (λ more. absurd (more why refl)) may
           (λ e. let bad : ended.Shut why ≡ ended.Spent = e in cc),
     )
-    ended_by T old mid new p q r l m n offer event deeds count most ended.Spent s g offered h may = absurd h
+    ended_by T old mid new p q r l m n call deeds count most ended.Spent s g offered h may = absurd h
 
-    pub met_last : {T : Type 0} (old mid new : Option (List (Call R K S))) (p q r : Host A R K S) (l m n : L) (offer : Option ℕ) (event : Event R K S) (deeds : List Deed) (count most : ℕ) (end : Ended) (result : Result T Ended)
-        → result ≡ Err end → Met condition account unread taken held size notes old mid p q l m deeds count ended.Spent → Grows mid new (record { offer = offer; event = event } ∷ []) → IsOffer q offer
-        → IsMet condition account unread taken held size notes q r m n offer event result
-        → ((why : Cause) → result ≡ Err (ended.Shut why) → MayEnd r why (seconds_of event)) → (all : List Deed) × Met condition account unread taken held size notes old new p r l n all most end
-    met_last {T = T} old mid new p q r l m n offer event deeds count most end result is s g offered h may =
-        ended_by T old mid new p q r l m n offer event deeds count most end s g offered (subst (λ (k : Result T Ended). IsMet condition account unread taken held size notes q r m n offer event k) is h) (λ why e. may why (is ∙ ap Err e))
+    pub met_last : {T : Type 0} (old mid new : Option (List (Call R K S))) (p q r : Host A R K S) (l m n : L) (call : Call R K S) (deeds : List Deed) (count most : ℕ) (end : Ended) (result : Result T Ended)
+        → result ≡ Err end → Met condition account unread taken held size notes old mid p q l m deeds count ended.Spent → Grows mid new (call ∷ []) → MayCall size q call
+        → IsMet condition account unread taken held size notes q r m n call.offer call.event result
+        → ((why : Cause) → result ≡ Err (ended.Shut why) → MayEnd r why (seconds_of call.event)) → (all : List Deed) × Met condition account unread taken held size notes old new p r l n all most end
+    met_last {T = T} old mid new p q r l m n call deeds count most end result is s g offered h may =
+        ended_by T old mid new p q r l m n call deeds count most end s g offered (subst (λ (k : Result T Ended). IsMet condition account unread taken held size notes q r m n call.offer call.event k) is h) (λ why e. may why (is ∙ ap Err e))
 
-    pub met_next : (old mid new : Option (List (Call R K S))) (p q r : Host A R K S) (l m n : L) (offer : Option ℕ) (event : Event R K S) (count most : ℕ)
-        → (deeds : List Deed) × Met condition account unread taken held size notes old mid p q l m deeds count ended.Spent → Grows mid new (record { offer = offer; event = event } ∷ []) → IsOffer q offer
-        → IsMetBySome q r m n offer event → AllByRecursion (λ second. is_overdue r.shut second r.limits ≡ false) (seconds_of event) → most ≡ count + 1
+    pub met_next : (old mid new : Option (List (Call R K S))) (p q r : Host A R K S) (l m n : L) (call : Call R K S) (count most : ℕ)
+        → (deeds : List Deed) × Met condition account unread taken held size notes old mid p q l m deeds count ended.Spent → Grows mid new (call ∷ []) → MayCall size q call
+        → IsMetBySome q r m n call.offer call.event → AllByRecursion (λ second. is_overdue r.shut second r.limits ≡ false) (seconds_of call.event) → most ≡ count + 1
         → (deeds : List Deed) × Met condition account unread taken held size notes old new p r l n deeds most ended.Spent
-    met_next old mid new p q r l m n offer event count most s g offered h now next = (
+    met_next old mid new p q r l m n call count most s g offered h now next = (
       s.0 ++ h.0,
-      met_on old mid new p q r l m n offer event s.0 h.0 count most ended.Spent s.1 g offered h.1 (λ e. let bad : ended.Spent ≡ ended.Events = e in cc) (λ more. now)
+      met_on old mid new p q r l m n call s.0 h.0 count most ended.Spent s.1 g offered h.1 (λ e. let bad : ended.Spent ≡ ended.Events = e in cc) (λ more. now)
           (λ why e. let bad : ended.Spent ≡ ended.Shut why = e in cc) (λ e. next),
     )
 

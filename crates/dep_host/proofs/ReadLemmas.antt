@@ -6,10 +6,10 @@ use Rattle.dep_hub.specs.Records.{Record, Connect, Arrive, Close}
 use Rattle.dep_hub.specs.Holding.{with_held}
 use Rattle.dep_host.specs.Hosting.{Deed, Opens, Takes, Replies, Declines, Closes, sent_by, replies_to}
 use Rattle.dep_host.specs.Runs.{Follows, begins, opens, takes, replies, declines, closes, read_by, read_of, arrived_by, arrived_of, StaysOpen, sent_for, sent_of}
+use Rattle.std.proofs.lemmas.Grind.{flat_map-append}
 
 pub read_append : (n : ℕ) (xs ys : List Deed) → read_of n (xs ++ ys) ≡ read_of n xs ++ read_of n ys
-read_append n [] ys = refl
-read_append n (d ∷ xs) ys = ap (λ l. read_by n d ++ l) (read_append n xs ys) ∙ sym (append_assoc (read_by n d) (read_of n xs) (read_of n ys))
+read_append n xs ys = flat_map-append (λ d. read_by n d) xs ys
 
 arrived_append : (n : ℕ) (xs ys : List Record) → arrived_of n (xs ++ ys) ≡ arrived_of n xs ++ arrived_of n ys
 arrived_append n [] ys = refl
@@ -90,17 +90,15 @@ reads_arrive {first = first} n (declines {deeds = deeds} {records = records} {he
       | inr ne ↦ stays (first n) (read_of n deeds) (arrived_of n records) (held n) _ _ (with_held m rest held n) before
           (read_none n deeds d (elsewhere n m piece [] ne)) (arrived_none n records r (elsewhere n m part [] ne)) (elsewhere n m rest (held n) ne)
     ]
-reads_arrive {first = first} n (closes {deeds = deeds} {records = records} {held = held} at m second f) h =
-    stays (first n) (read_of n deeds) (arrived_of n records) (held n) _ _ (with_held m [] held n) (reads_arrive n f (open_before n deeds (Closes at m second ∷ []) h))
-    (read_none n deeds (Closes at m second) refl) (arrived_none n records (record { event = Close m; sent = [] }) refl) (elsewhere n m [] (held n) (open_last n deeds (Closes at m second ∷ []) h).0)
+reads_arrive {first = first} n (closes {deeds = deeds} {records = records} {held = held} at m second reason f) h =
+    stays (first n) (read_of n deeds) (arrived_of n records) (held n) _ _ (with_held m [] held n) (reads_arrive n f (open_before n deeds (Closes at m second reason ∷ []) h))
+    (read_none n deeds (Closes at m second reason) refl) (arrived_none n records (record { event = Close m; sent = [] }) refl) (elsewhere n m [] (held n) (open_last n deeds (Closes at m second reason ∷ []) h).0)
 
 replies_one : (n : ℕ) (deeds : List Deed) (d : Deed) → replies_to n (deeds ++ d ∷ []) ≡ replies_to n deeds ++ sent_by n d
-replies_one n [] d = append-nil (sent_by n d)
-replies_one n (e ∷ deeds) d = ap (λ l. sent_by n e ++ l) (replies_one n deeds d) ∙ sym (append_assoc (sent_by n e) (replies_to n deeds) (sent_by n d))
+replies_one n deeds d = flat_map-append (λ e. sent_by n e) deeds (d ∷ []) ∙ ap (λ l. replies_to n deeds ++ l) (append-nil (sent_by n d))
 
 sent_one : (n : ℕ) (records : List Record) (r : Record) → sent_of n (records ++ r ∷ []) ≡ sent_of n records ++ sent_for n r.event r.sent
-sent_one n [] r = append-nil (sent_for n r.event r.sent)
-sent_one n (e ∷ records) r = ap (λ l. sent_for n e.event e.sent ++ l) (sent_one n records r) ∙ sym (append_assoc (sent_for n e.event e.sent) (sent_of n records) (sent_for n r.event r.sent))
+sent_one n records r = flat_map-append (λ (e : Record). sent_for n e.event e.sent) records (r ∷ []) ∙ ap (λ l. sent_of n records ++ l) (append-nil (sent_for n r.event r.sent))
 
 -- one deed and its record say the same
 both_one : (n : ℕ) (deeds : List Deed) (d : Deed) (records : List Record) (r : Record) → replies_to n deeds ≡ sent_of n records → sent_by n d ≡ sent_for n r.event r.sent
@@ -117,5 +115,5 @@ replies_sent n (replies {deeds = deeds} {records = records} at m moment part res
     both_one n deeds (Replies at m moment sent) records (record { event = Arrive m part moment; sent = sent }) (replies_sent n f) refl
 replies_sent n (declines {deeds = deeds} {records = records} at m moment piece part rest sent f cut) =
     both_one n deeds (Declines at m piece moment sent) records (record { event = Arrive m part moment; sent = sent }) (replies_sent n f) refl
-replies_sent n (closes {deeds = deeds} {records = records} at m second f) =
-    both_one n deeds (Closes at m second) records (record { event = Close m; sent = [] }) (replies_sent n f) refl
+replies_sent n (closes {deeds = deeds} {records = records} at m second reason f) =
+    both_one n deeds (Closes at m second reason) records (record { event = Close m; sent = [] }) (replies_sent n f) refl

@@ -39,37 +39,35 @@ module _ {A R K S : Type 0} (condition : A → Condition) (unread : R → Option
     };
   }
 
-  behind_more : (hub : Hub A) (first : State) (records more : List Record) (one : Record) (holds : ℕ → List ℕ) → StandsHoldingAfter condition hub first ((records ++ more) ++ one ∷ []) holds
-      → StandsHoldingAfter condition hub first (records ++ (more ++ one ∷ [])) holds
-  behind_more hub first records more one holds h = subst (λ (l : List Record). StandsHoldingAfter condition hub first l holds) (append_assoc records more (one ∷ [])) h
+  behind_still : (old new : Hub A) (first : State) (records : List Record) (holds : ℕ → List ℕ) (deeds : List Deed) (m : StandsBehind condition old first records holds deeds)
+      → StandsHoldingAfter condition new first (records ++ m.more) m.holds → StandsBehind condition new first records holds (deeds ++ [])
+  behind_still old new first records holds deeds m stands = record {
+    more = m.more;
+    holds = m.holds;
+    follows = subst (λ (l : List Deed). Follows holds l m.more m.holds) (sym (append-nil deeds)) m.follows;
+    stands = stands;
+  }
+
+  behind_one : (new : Hub A) (first : State) (records : List Record) (holds later : ℕ → List ℕ) (deeds : List Deed) (more : List Record) (one : Record) → Follows holds deeds (more ++ one ∷ []) later
+      → StandsHoldingAfter condition new first ((records ++ more) ++ one ∷ []) later → StandsBehind condition new first records holds deeds
+  behind_one new first records holds later deeds more one follows stands = record {
+    more = more ++ one ∷ [];
+    holds = later;
+    follows = follows;
+    stands = subst (λ (l : List Record). StandsHoldingAfter condition new first l later) (append_assoc records more (one ∷ [])) stands;
+  }
 
   step_run : {p q : Position A R K S} {deeds more : List Deed} (first : State) (records : List Record) (holds : ℕ → List ℕ)
       → StandsBehind condition p.hub first records holds deeds → Step condition unread taken held p q more → IsClean condition q.hub
       → StandsBehind condition q.hub first records holds (deeds ++ more)
-  step_run {p = p} {q = q} {deeds = deeds} first records holds m (refused r) clean = record {
-    more = m.more;
-    holds = m.holds;
-    follows = subst (λ (l : List Deed). Follows holds l m.more m.holds) (sym (append-nil deeds)) m.follows;
-    stands = moved p.hub q.hub first (records ++ m.more) m.holds m.holds r.same_store r.same_config (λ lines h. r.keeps lines m.holds h) m.stands;
-  }
-  step_run {p = p} {q = q} {deeds = deeds} first records holds m (asks r) clean = record {
-    more = m.more;
-    holds = m.holds;
-    follows = subst (λ (l : List Deed). Follows holds l m.more m.holds) (sym (append-nil deeds)) m.follows;
-    stands = r.stands clean first (records ++ m.more) m.holds m.stands;
-  }
-  step_run {p = p} {q = q} {deeds = deeds} first records holds m (rests t r) clean = record {
-    more = m.more;
-    holds = m.holds;
-    follows = subst (λ (l : List Deed). Follows holds l m.more m.holds) (sym (append-nil deeds)) m.follows;
-    stands = subst (λ (h : Hub A). StandsHoldingAfter condition h first (records ++ m.more) m.holds) (sym r.same) m.stands;
-  }
-  step_run {p = p} {q = q} first records holds m (comes {at = at} {seat = seat} r) clean = record {
-    more = m.more ++ record { event = Connect seat.connection; sent = [] } ∷ [];
-    holds = m.holds;
-    follows = opens at seat.connection (unread seat.source) m.follows;
-    stands = behind_more q.hub first records m.more (record { event = Connect seat.connection; sent = [] }) m.holds (connects p.hub q.hub seat.connection first (records ++ m.more) m.holds m.stands r.same_config r.same_store r.moves);
-  }
+  step_run {p = p} {q = q} {deeds = deeds} first records holds m (refused r) clean =
+      behind_still p.hub q.hub first records holds deeds m (moved p.hub q.hub first (records ++ m.more) m.holds m.holds r.same_store r.same_config (λ lines h. r.keeps lines m.holds h) m.stands)
+  step_run {p = p} {q = q} {deeds = deeds} first records holds m (asks r) clean = behind_still p.hub q.hub first records holds deeds m (r.stands clean first (records ++ m.more) m.holds m.stands)
+  step_run {p = p} {q = q} {deeds = deeds} first records holds m (rests t r) clean =
+      behind_still p.hub q.hub first records holds deeds m (subst (λ (h : Hub A). StandsHoldingAfter condition h first (records ++ m.more) m.holds) (sym r.same) m.stands)
+  step_run {p = p} {q = q} first records holds m (comes {at = at} {seat = seat} r) clean =
+      behind_one q.hub first records holds _ _ m.more _ (opens at seat.connection (unread seat.source) m.follows)
+      (connects p.hub q.hub seat.connection first (records ++ m.more) m.holds m.stands r.same_config r.same_store r.moves)
   step_run {p = p} {q = q} first records holds m (offers {at = at} {before = before} t o) clean = record {
     more = m.more;
     holds = with_held before.connection (m.holds before.connection ++ o.piece) m.holds;
@@ -79,29 +77,15 @@ module _ {A R K S : Type 0} (condition : A → Condition) (unread : R → Option
   }
   step_run {p = p} {q = q} first records holds m (refuses {at = at} {moment = moment} {before = before} t r) clean =
       let came = r.answers.answers (honest q.hub.store clean) m.stands.world m.holds m.stands.at in
-      record {
-        more = m.more ++ record { event = Arrive before.connection came.0.part moment; sent = r.answers.sent } ∷ [];
-        holds = with_held before.connection came.0.rest m.holds;
-        follows = declines at before.connection moment r.piece came.0.part came.0.rest r.answers.sent m.follows came.0.whole;
-        stands = behind_more q.hub first records m.more (record { event = Arrive before.connection came.0.part moment; sent = r.answers.sent }) (with_held before.connection came.0.rest m.holds)
-            (adds p.hub q.hub before.connection _ moment r.answers.sent _ _ _ first (records ++ m.more) m.holds m.stands came.0 t.hub.same_config clean);
-      }
+      behind_one q.hub first records holds _ _ m.more _ (declines at before.connection moment r.piece came.0.part came.0.rest r.answers.sent m.follows came.0.whole)
+      (adds p.hub q.hub before.connection _ moment r.answers.sent _ _ _ first (records ++ m.more) m.holds m.stands came.0 t.hub.same_config clean)
   step_run {p = p} {q = q} first records holds m (answers {at = at} {moment = moment} {before = before} t a) clean =
       let came = a.answers.answers (honest q.hub.store clean) m.stands.world m.holds m.stands.at in
-      record {
-        more = m.more ++ record { event = Arrive before.connection came.0.part moment; sent = a.answers.sent } ∷ [];
-        holds = with_held before.connection came.0.rest m.holds;
-        follows = replies at before.connection moment came.0.part came.0.rest a.answers.sent m.follows came.0.whole;
-        stands = behind_more q.hub first records m.more (record { event = Arrive before.connection came.0.part moment; sent = a.answers.sent }) (with_held before.connection came.0.rest m.holds)
-            (adds p.hub q.hub before.connection _ moment a.answers.sent _ _ _ first (records ++ m.more) m.holds m.stands came.0 t.hub.same_config clean);
-      }
-  step_run {p = p} {q = q} first records holds m (leaves {at = at} {second = second} {seat = seat} r) clean = record {
-    more = m.more ++ record { event = Close seat.connection; sent = [] } ∷ [];
-    holds = with_held seat.connection [] m.holds;
-    follows = closes at seat.connection second m.follows;
-    stands = behind_more q.hub first records m.more (record { event = Close seat.connection; sent = [] }) (with_held seat.connection [] m.holds)
-        (closed p.hub q.hub seat.connection first (records ++ m.more) m.holds m.stands r.same_config r.same_store r.moves);
-  }
+      behind_one q.hub first records holds _ _ m.more _ (replies at before.connection moment came.0.part came.0.rest a.answers.sent m.follows came.0.whole)
+      (adds p.hub q.hub before.connection _ moment a.answers.sent _ _ _ first (records ++ m.more) m.holds m.stands came.0 t.hub.same_config clean)
+  step_run {p = p} {q = q} first records holds m (leaves {at = at} {second = second} {reason = reason} {seat = seat} r) clean =
+      behind_one q.hub first records holds _ _ m.more _ (closes at seat.connection second reason m.follows)
+      (closed p.hub q.hub seat.connection first (records ++ m.more) m.holds m.stands r.same_config r.same_store r.moves)
 
   pub steps_run : {p q : Position A R K S} {deeds : List Deed} (first : State) (records : List Record) (holds : ℕ → List ℕ)
       → Steps condition unread taken held p deeds q → StandsHoldingAfter condition p.hub first records holds → IsClean condition q.hub

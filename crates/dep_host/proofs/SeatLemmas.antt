@@ -1,12 +1,12 @@
 -- What a turn of a connection comes to.
-use Rattle.std.proofs.Common.{◌≡◌, ◌⊎◌, inl, inr, ◌<◌, ◌≤◌, ◌+◌, ◌-◌, ◌^◌, ◌||◌, min, nat_lt, ℕ, Bool, List, ◌++◌, Option, None, Some, length, take, false, true, refl, sym, subst, ap, ◌∙◌, arith}
+use Rattle.std.proofs.Common.{◌≡◌, ◌⊎◌, inl, inr, ◌<◌, ◌≤◌, ◌+◌, ◌-◌, ◌^◌, ◌||◌, min, nat_lt, ℕ, Bool, List, Option, length, take, false, true, refl, sym, subst, ap, ◌∙◌, arith}
 use Rattle.std.proofs.lemmas.List.{length-take}
 use Rattle.std.proofs.lemmas.Bool.{lt-ltb}
 use Rattle.std.proofs.Math.Bool.{or-true, true-or}
-use Rattle.std.proofs.KnownBytes.{Keeps-refl}
-use Rattle.std.specs.Io.KnownBytes.{Keeps, Appends, Consumes, IsAtEnd}
+use Rattle.std.proofs.KnownBytes.{Keeps-refl, Appends-kept, Keeps-trans}
+use Rattle.std.specs.Io.KnownBytes.{Keeps, Consumes, IsAtEnd}
 use Rattle.dep_types.specs.Conditions.{Condition}
-use Rattle.dep_hub.specs.Holding.{AnswersOver, ComesToNext, OffersTo, Outcome, IsNext, IsRefused, arrived_by}
+use Rattle.dep_hub.specs.Holding.{AnswersOver, ComesToNext, OffersTo, Outcome, IsNext, arrived_by}
 use Rattle.dep_hub.specs.Turns.{most_read}
 use Rattle.dep_hub.specs.declared.hub.Hub.{Hub}
 use Rattle.dep_hub.specs.declared.arrived.Arrived.{Arrived}
@@ -26,18 +26,6 @@ use Rattle.dep_host.specs.declared.course.Duty.{Duty}
 use Rattle.dep_host.specs.declared.course.Duty.TheVariants.{Flush, Answer, Read, Finish, Drain, Wait}
 use Rattle.dep_host.specs.Courses.{duty, is_ended, StaysOrEnds}
 use Rattle.dep_host.specs.Seats.{HubStays, SameClient, SendsOn, IsUnknown, Rests, Answers, IsRead, MayRest, ActsOnce, TakesTurn, next_duty, phase_offered, phase_answered, left_unfinished}
-
-appends_kept : (a b c : Option (List ℕ)) (bytes : List ℕ) → Appends a b bytes → Keeps b c → Appends a c bytes
-appends_kept None b c bytes p q = tt
-appends_kept (Some x) None c bytes p q = absurd p
-appends_kept (Some x) (Some y) None bytes p q = absurd q
-appends_kept (Some x) (Some y) (Some z) bytes p q = q ∙ p
-
-keeps_kept : (a b c : Option (List ℕ)) → Keeps a b → Keeps b c → Keeps a c
-keeps_kept None b c p q = tt
-keeps_kept (Some x) None c p q = absurd p
-keeps_kept (Some x) (Some y) None p q = absurd q
-keeps_kept (Some x) (Some y) (Some z) p q = q ∙ p
 
 -- a connection is read again only once its answer was `Waiting`
 opened : (next : Next) (mid after : Phase) → mid ≡ phase_answered next → (after ≡ mid) ⊎ (after ≡ Over) → after ≡ Open → next ≡ Waiting
@@ -127,7 +115,23 @@ module _ {A R K S : Type 0} (condition : A → Condition) (unread : R → Option
   over_kept : (t k l : Option (List ℕ)) (f g h : ℕ) (old new : Hub A) (n : ℕ) (offered : List ℕ → List ℕ) (moment : ℕ) (answer : Arrived) (outcome : Outcome)
       → AnswersOver condition t k f g old new n offered moment answer outcome → Keeps k l → h ≡ g → AnswersOver condition t l f h old new n offered moment answer outcome
   over_kept t k l f g h old new n offered moment answer outcome a q same = subst (λ (x : ℕ). AnswersOver condition t l f x old new n offered moment answer outcome) (sym same)
-      (record { sent = a.sent; appends = appends_kept t k l a.sent a.appends q; answers = a.answers; shut = a.shut })
+      (record { sent = a.sent; appends = Appends-kept t k l a.sent a.appends q; answers = a.answers; shut = a.shut })
+
+  answers_as : (old new : Hub A) (before mid after : Seat R K S) (moment : ℕ) (next : Next) → IsAtEnd (owed held before.wire) → before.course.phase ≡ Answering
+      → AnswersOver condition (told taken held before.wire) (told taken held mid.wire) before.wire.failures mid.wire.failures old new before.connection (λ kept. kept) moment (arrived_by next) (IsNext next)
+      → mid.course.phase ≡ phase_answered next → after.source ≡ before.source → Keeps (told taken held mid.wire) (told taken held after.wire) → after.wire.failures ≡ mid.wire.failures
+      → (after.course.phase ≡ mid.course.phase) ⊎ (after.course.phase ≡ Over) → after.course.has_moved ≡ true → after.course.unfinished ≡ left_unfinished next before.course.unfinished
+      → Answers condition unread taken held old new before after moment
+  answers_as old new before mid after moment next none was c m s k f p stirs leaves = record {
+    unowed = none;
+    was_read = was;
+    same_source = s;
+    next = next;
+    answers = over_kept _ _ _ _ _ _ _ _ _ _ _ _ _ c k f;
+    opens = opened next mid.course.phase after.course.phase m p;
+    stirs = stirs;
+    leaves = leaves;
+  }
 
   -- an item was answered, and what was owed for it was sent as far as the socket took it
   pub answered : (old new : Hub A) (before mid after : Seat R K S) (moment : ℕ) (next : Next)
@@ -143,53 +147,17 @@ module _ {A R K S : Type 0} (condition : A → Condition) (unread : R → Option
       inl (
         record {
           same = c.same;
-          keeps = keeps_kept (told taken held before.wire) (told taken held mid.wire) (told taken held after.wire) c.sends_nothing k;
+          keeps = Keeps-trans (told taken held before.wire) (told taken held mid.wire) (told taken held after.wire) c.sends_nothing k;
           gives = λ h. absurd (not_ended after.course.phase over h);
           opens = λ h. absurd (not_open after.course.phase over h);
           keeps_count = λ h. absurd (not_ended after.course.phase over h);
         },
         c.absent,
       )
-  answered old new before mid after moment More none was c m s k f t p stirs leaves = inr (record {
-    unowed = none;
-    was_read = was;
-    same_source = t ∙ s;
-    next = More;
-    answers = over_kept _ _ _ _ _ _ _ _ _ _ _ _ _ c k f;
-    opens = opened More mid.course.phase after.course.phase m p;
-    stirs = stirs;
-    leaves = leaves;
-  })
-  answered old new before mid after moment Waiting none was c m s k f t p stirs leaves = inr (record {
-    unowed = none;
-    was_read = was;
-    same_source = t ∙ s;
-    next = Waiting;
-    answers = over_kept _ _ _ _ _ _ _ _ _ _ _ _ _ c k f;
-    opens = opened Waiting mid.course.phase after.course.phase m p;
-    stirs = stirs;
-    leaves = leaves;
-  })
-  answered old new before mid after moment Closed none was c m s k f t p stirs leaves = inr (record {
-    unowed = none;
-    was_read = was;
-    same_source = t ∙ s;
-    next = Closed;
-    answers = over_kept _ _ _ _ _ _ _ _ _ _ _ _ _ c k f;
-    opens = opened Closed mid.course.phase after.course.phase m p;
-    stirs = stirs;
-    leaves = leaves;
-  })
-  answered old new before mid after moment Cut none was c m s k f t p stirs leaves = inr (record {
-    unowed = none;
-    was_read = was;
-    same_source = t ∙ s;
-    next = Cut;
-    answers = over_kept _ _ _ _ _ _ _ _ _ _ _ _ _ c k f;
-    opens = opened Cut mid.course.phase after.course.phase m p;
-    stirs = stirs;
-    leaves = leaves;
-  })
+  answered old new before mid after moment More none was c m s k f t p stirs leaves = inr (answers_as old new before mid after moment More none was c m (t ∙ s) k f p stirs leaves)
+  answered old new before mid after moment Waiting none was c m s k f t p stirs leaves = inr (answers_as old new before mid after moment Waiting none was c m (t ∙ s) k f p stirs leaves)
+  answered old new before mid after moment Closed none was c m s k f t p stirs leaves = inr (answers_as old new before mid after moment Closed none was c m (t ∙ s) k f p stirs leaves)
+  answered old new before mid after moment Cut none was c m s k f t p stirs leaves = inr (answers_as old new before mid after moment Cut none was c m (t ∙ s) k f p stirs leaves)
 
   -- by what comes next it may rest
   rests_as : (size : S → ℕ) (hub : Hub A) (before after : Seat R K S) (is_full is_shut : Bool) (d : Duty) → next_duty size before ≡ d
@@ -282,22 +250,6 @@ module _ {A R K S : Type 0} (condition : A → Condition) (unread : R → Option
         keeps_count = λ h. count;
       })
 
-  read_counted : (before mid after : Seat R K S) (piece : List ℕ) (is_full is_shut : Bool) → IsRead condition unread taken held before mid piece is_full is_shut → after.source ≡ mid.source
-      → (mid.course.has_moved ≡ true → after.course.has_moved ≡ true) → min mid.course.moved (2 ^ 64 - 1) ≤ after.course.moved → after.course.unfinished ≡ mid.course.unfinished
-      → IsRead condition unread taken held before after piece is_full is_shut
-  read_counted before mid after piece is_full is_shut r source stirs moves count = record {
-    unowed = r.unowed;
-    waits = r.waits;
-    some = r.some;
-    small = r.small;
-    gives = subst (λ (x : R). Consumes (unread before.source) (unread x) piece) (sym source) r.gives;
-    allowed = r.allowed;
-    is_open = r.is_open;
-    stirs = stirs r.stirs;
-    moves = let m = r.moves in omega (arith, m, moves);
-    counts = count ∙ r.counts;
-  }
-
   -- a piece that was read was offered
   offered : (size : S → ℕ) (old new : Hub A) (before after : Seat R K S) (piece : List ℕ) (answer : Arrived) (is_full is_shut : Bool) → next_duty size before ≡ Read → IsRead condition unread taken held before after piece is_full is_shut → new.store ≡ old.store
       → OffersTo condition (told taken held before.wire) (told taken held after.wire) before.wire.failures after.wire.failures old new before.connection piece answer
@@ -313,26 +265,10 @@ module _ {A R K S : Type 0} (condition : A → Condition) (unread : R → Option
     },
     due,
   ))
-  offered size old new before after piece came.Closed is_full is_shut due read store o p moment = inr (inr (inl (
-    record {
-      piece = piece;
-      read = read;
-      ends = ap is_ended p;
-      answer = came.Closed;
-      answers = o moment;
-    },
-    due,
-  )))
-  offered size old new before after piece came.Cut is_full is_shut due read store o p moment = inr (inr (inl (
-    record {
-      piece = piece;
-      read = read;
-      ends = ap is_ended p;
-      answer = came.Cut;
-      answers = o moment;
-    },
-    due,
-  )))
+  offered size old new before after piece came.Closed is_full is_shut due read store o p moment =
+      inr (inr (inl (record { piece = piece; read = read; ends = ap is_ended p; answer = came.Closed; answers = o moment }, due)))
+  offered size old new before after piece came.Cut is_full is_shut due read store o p moment =
+      inr (inr (inl (record { piece = piece; read = read; ends = ap is_ended p; answer = came.Cut; answers = o moment }, due)))
   offered size old new before after piece came.NoSuch is_full is_shut due read store o p moment = inl (
     record {
       same = o.same;
@@ -373,87 +309,82 @@ module _ {A R K S : Type 0} (condition : A → Condition) (unread : R → Option
         }) store o p moment;
       }
 
-  -- what was sent in a turn was counted behind it
-  rest_counted : (size : S → ℕ) (hub : Hub A) (before mid after : Seat R K S) (is_full is_shut : Bool) (d : Duty) → MayRest condition unread taken held size hub before mid is_full is_shut d
-      → after.wire ≡ mid.wire → after.source ≡ mid.source → after.course.phase ≡ mid.course.phase → after.course.is_readable ≡ mid.course.is_readable → after.course.is_writable ≡ mid.course.is_writable
-      → MayRest condition unread taken held size hub before after is_full is_shut d
-  rest_counted size hub before mid after is_full is_shut Flush (inl fewer) wire source phase readable writable = inl (subst (λ (w : Wire K S). owed_count size w < owed_count size before.wire) (sym wire) fewer)
-  rest_counted size hub before mid after is_full is_shut Flush (inr (inl later)) wire source phase readable writable = inr (inl (writable ∙ later))
-  rest_counted size hub before mid after is_full is_shut Flush (inr (inr over)) wire source phase readable writable = inr (inr (phase ∙ over))
-  rest_counted size hub before mid after is_full is_shut Answer may wire source phase readable writable = may
-  rest_counted size hub before mid after is_full is_shut Read (inl back) wire source phase readable writable = inl back
-  rest_counted size hub before mid after is_full is_shut Read (inr (inl later)) wire source phase readable writable = inr (inl (readable ∙ later))
-  rest_counted size hub before mid after is_full is_shut Read (inr (inr (over, inl keeps))) wire source phase readable writable =
-      inr (inr (phase ∙ over, inl (subst (λ (r : R). Keeps (unread before.source) (unread r)) (sym source) keeps)))
-  rest_counted size hub before mid after is_full is_shut Read (inr (inr (over, inr unknown))) wire source phase readable writable = inr (inr (phase ∙ over, inr unknown))
-  rest_counted size hub before mid after is_full is_shut Finish may wire source phase readable writable = phase ∙ may
-  rest_counted size hub before mid after is_full is_shut Drain may wire source phase readable writable = tt
-  rest_counted size hub before mid after is_full is_shut Wait may wire source phase readable writable = tt
+  -- what was sent in a turn is counted behind it
+  abbrev with_counted : Seat R K S → ℕ → Seat R K S
+  with_counted mid bytes =
+      record mid { course = record mid.course { has_moved = mid.course.has_moved || nat_lt 0 bytes; moved = min (mid.course.moved + bytes) (2 ^ 64 - 1) } }
 
-  acts_counted : (size : S → ℕ) (old new : Hub A) (before mid after : Seat R K S) (moment : ℕ) (is_full is_shut : Bool) → ActsOnce condition unread taken held size old new before mid moment is_full is_shut
-      → after.wire ≡ mid.wire → after.source ≡ mid.source → after.course.phase ≡ mid.course.phase → after.course.is_readable ≡ mid.course.is_readable → after.course.is_writable ≡ mid.course.is_writable → (mid.course.has_moved ≡ true → after.course.has_moved ≡ true)
-      → min mid.course.moved (2 ^ 64 - 1) ≤ after.course.moved → after.course.unfinished ≡ mid.course.unfinished → ActsOnce condition unread taken held size old new before after moment is_full is_shut
-  acts_counted size old new before mid after moment is_full is_shut (inl (r, may)) wire source phase readable writable stirs moves count = inl (
-    record {
-      same = r.same;
-      keeps = subst (λ (w : Wire K S). Keeps (told taken held before.wire) (told taken held w)) (sym wire) r.keeps;
-      gives = λ h. subst (λ (x : R). Keeps (unread before.source) (unread x)) (sym source) (r.gives (sym (ap is_ended phase) ∙ h));
-      opens = λ h. r.opens (sym phase ∙ h);
-      keeps_count = λ h. count ∙ r.keeps_count (sym (ap is_ended phase) ∙ h);
-    },
-    rest_counted size old before mid after is_full is_shut (next_duty size before) may wire source phase readable writable,
+  stirs_still : (mid : Seat R K S) (bytes : ℕ) → mid.course.has_moved ≡ true → (with_counted mid bytes).course.has_moved ≡ true
+  stirs_still mid bytes h = ap (λ (b : Bool). b || nat_lt 0 bytes) h ∙ true-or (nat_lt 0 bytes)
+
+  read_counted : (before mid : Seat R K S) (bytes : ℕ) (piece : List ℕ) (is_full is_shut : Bool) → IsRead condition unread taken held before mid piece is_full is_shut
+      → IsRead condition unread taken held before (with_counted mid bytes) piece is_full is_shut
+  read_counted before mid bytes piece is_full is_shut r = record {
+    unowed = r.unowed;
+    waits = r.waits;
+    some = r.some;
+    small = r.small;
+    gives = r.gives;
+    allowed = r.allowed;
+    is_open = r.is_open;
+    stirs = stirs_still mid bytes r.stirs;
+    moves = let m = r.moves in omega (arith, m);
+    counts = r.counts;
+  }
+
+  rest_counted : (size : S → ℕ) (hub : Hub A) (before mid : Seat R K S) (bytes : ℕ) (is_full is_shut : Bool) (d : Duty) → MayRest condition unread taken held size hub before mid is_full is_shut d
+      → MayRest condition unread taken held size hub before (with_counted mid bytes) is_full is_shut d
+  rest_counted size hub before mid bytes is_full is_shut Flush may = may
+  rest_counted size hub before mid bytes is_full is_shut Answer may = may
+  rest_counted size hub before mid bytes is_full is_shut Read may = may
+  rest_counted size hub before mid bytes is_full is_shut Finish may = may
+  rest_counted size hub before mid bytes is_full is_shut Drain may = tt
+  rest_counted size hub before mid bytes is_full is_shut Wait may = tt
+
+  acts_counted : (size : S → ℕ) (old new : Hub A) (before mid : Seat R K S) (bytes moment : ℕ) (is_full is_shut : Bool) → ActsOnce condition unread taken held size old new before mid moment is_full is_shut
+      → ActsOnce condition unread taken held size old new before (with_counted mid bytes) moment is_full is_shut
+  acts_counted size old new before mid bytes moment is_full is_shut (inl (r, may)) = inl (
+    record { same = r.same; keeps = r.keeps; gives = r.gives; opens = r.opens; keeps_count = r.keeps_count },
+    rest_counted size old before mid bytes is_full is_shut (next_duty size before) may,
   )
-  acts_counted size old new before mid after moment is_full is_shut (inr (inl (o, due))) wire source phase readable writable stirs moves count = inr (inl (
+  acts_counted size old new before mid bytes moment is_full is_shut (inr (inl (o, due))) = inr (inl (
     record {
       piece = o.piece;
-      read = read_counted before mid after o.piece is_full is_shut o.read source stirs moves count;
-      answers_next = phase ∙ o.answers_next;
-      keeps = subst (λ (w : Wire K S). Keeps (told taken held before.wire) (told taken held w)) (sym wire) o.keeps;
+      read = read_counted before mid bytes o.piece is_full is_shut o.read;
+      answers_next = o.answers_next;
+      keeps = o.keeps;
       same_store = o.same_store;
       holds = o.holds;
     },
     due,
   ))
-  acts_counted size old new before mid after moment is_full is_shut (inr (inr (inl (r, due)))) wire source phase readable writable stirs moves count = inr (inr (inl (
-    record {
-      piece = r.piece;
-      read = read_counted before mid after r.piece is_full is_shut r.read source stirs moves count;
-      ends = ap is_ended phase ∙ r.ends;
-      answer = r.answer;
-      answers = subst (λ (w : Wire K S). AnswersOver condition (told taken held before.wire) (told taken held w) before.wire.failures w.failures old new before.connection
-          (λ kept. kept ++ r.piece) moment r.answer (IsRefused r.answer)) (sym wire) r.answers;
-    },
+  acts_counted size old new before mid bytes moment is_full is_shut (inr (inr (inl (r, due)))) = inr (inr (inl (
+    record { piece = r.piece; read = read_counted before mid bytes r.piece is_full is_shut r.read; ends = r.ends; answer = r.answer; answers = r.answers },
     due,
   )))
-  acts_counted size old new before mid after moment is_full is_shut (inr (inr (inr (a, due)))) wire source phase readable writable stirs moves count = inr (inr (inr (
+  acts_counted size old new before mid bytes moment is_full is_shut (inr (inr (inr (a, due)))) = inr (inr (inr (
     record {
       unowed = a.unowed;
       was_read = a.was_read;
-      same_source = source ∙ a.same_source;
+      same_source = a.same_source;
       next = a.next;
-      answers = subst (λ (w : Wire K S). AnswersOver condition (told taken held before.wire) (told taken held w) before.wire.failures w.failures old new before.connection
-          (λ kept. kept) moment (arrived_by a.next) (IsNext a.next)) (sym wire) a.answers;
-      opens = λ h. a.opens (sym phase ∙ h);
-      stirs = stirs a.stirs;
-      leaves = count ∙ a.leaves;
+      answers = a.answers;
+      opens = a.opens;
+      stirs = stirs_still mid bytes a.stirs;
+      leaves = a.leaves;
     },
     due,
   )))
 
   pub counted : (size : S → ℕ) (old new : Hub A) (before mid : Seat R K S) (course : Course) (bytes moment : ℕ) (is_full is_shut : Bool) → TakesTurn condition unread taken held size old new before mid moment is_full is_shut
-      → course ≡ record mid.course { has_moved = mid.course.has_moved || nat_lt 0 bytes; moved = min (mid.course.moved + bytes) (2 ^ 64 - 1) }
-      → TakesTurn condition unread taken held size old new before (record mid { course = course }) moment is_full is_shut
+      → course ≡ (with_counted mid bytes).course → TakesTurn condition unread taken held size old new before (record mid { course = course }) moment is_full is_shut
   counted size old new before mid course bytes moment is_full is_shut t e =
-      let phase : course.phase ≡ mid.course.phase = ap (λ (c : Course). c.phase) e in
-      record {
+      subst (λ (k : Course). TakesTurn condition unread taken held size old new before (record mid { course = k }) moment is_full is_shut) (sym e) (record {
         client = record { connection = t.client.connection; address = t.client.address };
         hub = t.hub;
-        ended = λ h. ap is_ended phase ∙ t.ended h;
-        acts = acts_counted size old new before mid (record mid { course = course }) moment is_full is_shut t.acts refl refl phase
-            (ap (λ (c : Course). c.is_readable) e) (ap (λ (c : Course). c.is_writable) e)
-            (λ h. ap (λ (c : Course). c.has_moved) e ∙ (ap (λ (b : Bool). b || nat_lt 0 bytes) h ∙ true-or (nat_lt 0 bytes)))
-            (omega (arith, ap (λ (c : Course). c.moved) e)) (ap (λ (c : Course). c.unfinished) e);
-      }
+        ended = t.ended;
+        acts = acts_counted size old new before mid bytes moment is_full is_shut t.acts;
+      })
 
   -- an item was answered, whatever else may be
   pub answers_turn : (size : S → ℕ) (old new : Hub A) (before after : Seat R K S) (moment : ℕ) → SameClient before after → HubStays condition old new → before.course.phase ≡ Answering → next_duty size before ≡ Answer

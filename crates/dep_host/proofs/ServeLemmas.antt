@@ -13,12 +13,15 @@ use Rattle.dep_host.specs.Courses.{duty, is_ended, is_held_back, phase_begun}
 use Rattle.dep_host.specs.declared.seat.Seat.{Seat}
 use Rattle.dep_host.specs.declared.seat.Time.{Time}
 use Rattle.dep_host.specs.declared.log.Closing.{Closing}
+use Rattle.dep_host.specs.declared.log.Closing.TheVariants.{Large}
 use Rattle.dep_host.specs.declared.course.Phase.TheVariants.{Open}
 use Rattle.dep_host.specs.declared.course.Duty.{Duty}
 use Rattle.dep_host.specs.declared.course.Duty.TheVariants as to
 use Rattle.dep_host.specs.Seats.{MayRest, ActsOnce, TakesTurn, next_duty}
-use Rattle.dep_host.specs.Hosting.{Position, slot, MayGo, Deed, Takes, Replies, Declines, Closes, answers_at, pieces_at, unfinished_of, unfinished_in, AreDoneAt, HasTurn, Goes, rests, offers, refuses, answers, leaves, Steps, begins, goes_on, IsLost, IsServed, IsServedAt, turn_duty, Serves, GoesRound, Sheds}
-use Rattle.dep_host.proofs.HostLemmas.{slot_read, steps_join, unchanged, woken}
+use Rattle.dep_host.specs.Hosting.{Position, slot, MayGo, farewell, note_of, closings_of, Deed, Takes, Replies, Declines, Closes, answers_at, pieces_at, unfinished_of, unfinished_in, AreDoneAt, HasTurn, Goes, rests, offers, refuses, answers, leaves, Steps, begins, goes_on, IsLost, IsServed, IsServedAt, turn_duty, Serves, GoesRound, Sheds}
+use Rattle.std.proofs.lemmas.Grind.{flat_map-append}
+use Rattle.dep_host.specs.Notes.{Note, LetGo, Grows}
+use Rattle.dep_host.proofs.HostLemmas.{grows_none, grows_on, grows_same, slot_read, steps_join, unchanged, woken}
 
 -- what was set twice is as it was set last
 set_again : {X : Type 0} (l : List X) (at : ℕ) (x y : X) → set (set l at x) at y ≡ set l at y
@@ -37,6 +40,10 @@ pieces_append place (d ∷ xs) ys = let e = pieces_append place xs ys in omega (
 in_time_append : (time : Time) (xs ys : List Deed) → AreDoneAt time xs → AreDoneAt time ys → AreDoneAt time (xs ++ ys)
 in_time_append time [] ys h k = k
 in_time_append time (d ∷ xs) ys h k = (h.0, in_time_append time xs ys h.1 k)
+
+-- the log was told of the one stretch and then of the other
+noted_on : (told so_far tells : Option (List Note)) (xs ys : List Deed) → Grows told so_far (closings_of xs) → Grows so_far tells (closings_of ys) → Grows told tells (closings_of (xs ++ ys))
+noted_on told so_far tells xs ys g h = subst (λ (l : List Note). Grows told tells l) (sym (flat_map-append note_of xs ys)) (grows_on told so_far tells (closings_of xs) (closings_of ys) g h)
 
 one_at_most : (b : Bool) → (if b then 1 else 0) + 0 ≤ 1
 one_at_most true = omega arith
@@ -142,9 +149,9 @@ module _ {A R K S : Type 0} (condition : A → Condition) (unread : R → Option
       (served_later p q r xs ys is_full seat (slot place q.seats) (answers_at place (xs ++ ys)) (pieces_at place (xs ++ ys)) d s k)
 
   -- nothing was done at a place
-  pub served_none : (p q : Position A R K S) (at : ℕ) (time : Time) (is_full : Bool) (x : Option (Seat R K S)) → q.hub ≡ p.hub → q.limits ≡ p.limits → q.shut ≡ p.shut → q.seats ≡ set p.seats at x → at < length p.seats → x ≡ get_or p.seats at x → x ≡ None
-      → Serves condition unread taken held size p q at time is_full
-  served_none p q at time is_full x hub limits shut seats there read none = record {
+  pub served_none : (p q : Position A R K S) (at : ℕ) (time : Time) (is_full : Bool) (told tells : Option (List Note)) (x : Option (Seat R K S)) → tells ≡ told → q.hub ≡ p.hub → q.limits ≡ p.limits → q.shut ≡ p.shut → q.seats ≡ set p.seats at x → at < length p.seats → x ≡ get_or p.seats at x → x ≡ None
+      → Serves condition unread taken held size p q at time is_full told tells
+  served_none p q at time is_full told tells x same hub limits shut seats there read none = record {
     deeds = [];
     steps = goes_on begins (unchanged condition unread taken held p q at x hub limits shut seats there read);
     once = omega arith;
@@ -153,6 +160,7 @@ module _ {A R K S : Type 0} (condition : A → Condition) (unread : R → Option
     unread_others = λ place ne. refl;
     served = subst (λ (o : Option (Seat R K S)). IsServedAt condition unread taken held size p q is_full [] at o) (sym (slot_read at p.seats x there read ∙ none)) tt;
     in_time = tt;
+    noted = grows_same told tells same;
   }
 
   -- what a turn did, and that it was what came next
@@ -165,6 +173,7 @@ module _ {A R K S : Type 0} (condition : A → Condition) (unread : R → Option
     unread_others : (place : ℕ) → (place ≡ at → ⊥) → pieces_at place deeds ≡ 0
     does : IsServed condition unread taken held size p q deeds is_full before (Some after) (answers_at at deeds) (pieces_at at deeds) (next_duty size before)
     in_time : AreDoneAt time deeds
+    quiet : closings_of deeds ≡ []
 
   rest_served : (p q : Position A R K S) (is_full : Bool) (before after : Seat R K S) (d : Duty) → Steps condition unread taken held p [] q → MayRest condition unread taken held size p.hub before after is_full (is_some p.shut) d
       → IsServed condition unread taken held size p q [] is_full before (Some after) 0 0 d
@@ -197,6 +206,7 @@ module _ {A R K S : Type 0} (condition : A → Condition) (unread : R → Option
     unread_others = λ place ne. refl;
     does = rest_served p q is_full before after (next_duty size before) (goes_on begins (rests t r)) may;
     in_time = tt;
+    quiet = refl;
   }
   took_turn p q at time is_full before after t (inr (inl (o, due))) = record {
     deeds = Takes at before.connection o.piece ∷ [];
@@ -207,6 +217,7 @@ module _ {A R K S : Type 0} (condition : A → Condition) (unread : R → Option
     unread_others = λ place ne. none_elsewhere at place ne;
     does = read_served p q _ is_full before (Some after) _ _ due (one_here at);
     in_time = (tt, tt);
+    quiet = refl;
   }
   took_turn p q at time is_full before after t (inr (inr (inl (r, due)))) = record {
     deeds = Declines at before.connection r.piece time.moment r.answers.sent ∷ [];
@@ -217,6 +228,7 @@ module _ {A R K S : Type 0} (condition : A → Condition) (unread : R → Option
     unread_others = λ place ne. none_elsewhere at place ne;
     does = read_served p q _ is_full before (Some after) _ _ due (one_here at);
     in_time = (refl, tt);
+    quiet = refl;
   }
   took_turn p q at time is_full before after t (inr (inr (inr (a, due)))) = record {
     deeds = Replies at before.connection time.moment a.answers.sent ∷ [];
@@ -227,6 +239,7 @@ module _ {A R K S : Type 0} (condition : A → Condition) (unread : R → Option
     unread_others = λ place ne. refl;
     does = answer_served p q _ is_full before (Some after) _ _ due (one_here at);
     in_time = (refl, tt);
+    quiet = refl;
   }
 
   -- what comes next is what came next as the turn began
@@ -262,13 +275,13 @@ module _ {A R K S : Type 0} (condition : A → Condition) (unread : R → Option
   served_begun p m q deeds is_full before mid after answered read to.Wait s shut number wire count h = tt
 
   -- a connection had its turn, once that had begun
-  pub served : (p q : Position A R K S) (at : ℕ) (time : Time) (is_full is_shut : Bool) (before mid after : Seat R K S) → at < length p.seats → slot at p.seats ≡ Some before
+  pub served : (p q : Position A R K S) (at : ℕ) (time : Time) (is_full is_shut : Bool) (told_old told_new : Option (List Note)) (before mid after : Seat R K S) → told_new ≡ told_old → at < length p.seats → slot at p.seats ≡ Some before
       → q.seats ≡ set p.seats at (Some after) → q.limits ≡ p.limits → q.shut ≡ p.shut → mid ≡ record before { course = mid.course }
       → (mid.course.phase ≡ Open → before.course.phase ≡ Open) → (is_ended before.course.phase ≡ true → is_ended mid.course.phase ≡ true)
       → mid.course.unfinished ≡ before.course.unfinished → mid.course.phase ≡ phase_begun before.course.phase is_shut → mid.course.is_readable ≡ before.course.is_readable
       → mid.course.is_writable ≡ before.course.is_writable → is_shut ≡ is_some p.shut
-      → TakesTurn condition unread taken held size p.hub q.hub mid after time.moment is_full is_shut → Serves condition unread taken held size p q at time is_full
-  served p q at time is_full is_shut before mid after there sat sits limits shut same opens ended count phase readable writable told t =
+      → TakesTurn condition unread taken held size p.hub q.hub mid after time.moment is_full is_shut → Serves condition unread taken held size p q at time is_full told_old told_new
+  served p q at time is_full is_shut told_old told_new before mid after quiet there sat sits limits shut same opens ended count phase readable writable told t =
       let m : Position A R K S = record p { seats = set p.seats at (Some mid) } in
       let begun : slot at m.seats ≡ Some mid = get_or-set_same p.seats at (Some mid) None there in
       let unfinished : unfinished_of (slot at m.seats) ≡ unfinished_of (slot at p.seats) =
@@ -301,13 +314,14 @@ module _ {A R K S : Type 0} (condition : A → Condition) (unread : R → Option
             (subst (λ (x : Option (Seat R K S)). IsServed condition unread taken held size p q s.deeds is_full before x (answers_at at s.deeds) (pieces_at at s.deeds) (next_duty size mid)) stands
             (served_begun p m q s.deeds is_full before mid after (answers_at at s.deeds) (pieces_at at s.deeds) (next_duty size mid) began refl (ap (λ (x : Seat R K S). x.connection) same) wire count s.does)));
         in_time = s.in_time;
+        noted = subst (λ (l : List Note). Grows told_old told_new l) (sym s.quiet) (grows_same told_old told_new quiet);
       }
 
   -- and was closed after it
-  pub then_closed : (p q r : Position A R K S) (at : ℕ) (time : Time) (is_full : Bool) (seat : Seat R K S) → Serves condition unread taken held size p q at time is_full → Goes condition unread taken held q r at time.second seat
-      → Serves condition unread taken held size p r at time is_full
-  then_closed p q r at time is_full seat s g =
-      let more : List Deed = Closes at seat.connection time.second ∷ [] in
+  pub then_closed : (p q r : Position A R K S) (at : ℕ) (time : Time) (is_full : Bool) (told so_far tells : Option (List Note)) (reason : Closing) (seat : Seat R K S) → Serves condition unread taken held size p q at time is_full told so_far → Goes condition unread taken held q r at time.second reason seat
+      → Grows so_far tells (LetGo seat.connection reason ∷ []) → Serves condition unread taken held size p r at time is_full told tells
+  then_closed p q r at time is_full told so_far tells reason seat s g noted =
+      let more : List Deed = Closes at seat.connection time.second reason ∷ [] in
       record {
         deeds = s.deeds ++ more;
         steps = goes_on s.steps (leaves g);
@@ -318,15 +332,16 @@ module _ {A R K S : Type 0} (condition : A → Condition) (unread : R → Option
         served = at_after p q r is_full s.deeds more at (slot at p.seats) (goes_on begins (leaves g))
             (inr (ap (λ (l : List (Option (Seat R K S))). slot at l) g.gone ∙ get_or-set_same q.seats at None None g.there)) refl refl s.served;
         in_time = in_time_append time s.deeds more s.in_time (refl, tt);
+        noted = noted_on told so_far tells s.deeds more s.noted noted;
       }
 
-  pub closes_served : (p q r : Position A R K S) (at : ℕ) (time : Time) (is_full : Bool) (reason : Closing) (x : Option (Seat R K S)) → IfSome x (Goes condition unread taken held q r at time.second) → MayGo q time.second reason x
-      → Serves condition unread taken held size p q at time is_full → Serves condition unread taken held size p r at time is_full
-  closes_served p q r at time is_full reason None g d s = absurd d
-  closes_served p q r at time is_full reason (Some seat) g d s = then_closed p q r at time is_full seat s g
+  pub closes_served : (p q r : Position A R K S) (at : ℕ) (time : Time) (is_full : Bool) (told so_far tells : Option (List Note)) (reason : Closing) (x : Option (Seat R K S)) → IfSome x (Goes condition unread taken held q r at time.second reason) → MayGo q time.second reason x
+      → Serves condition unread taken held size p q at time is_full told so_far → Grows so_far tells (farewell reason x) → Serves condition unread taken held size p r at time is_full told tells
+  closes_served p q r at time is_full told so_far tells reason None g d s noted = absurd d
+  closes_served p q r at time is_full told so_far tells reason (Some seat) g d s noted = then_closed p q r at time is_full told so_far tells reason seat s g noted
 
   -- the places so far had their turns
-  pub record RoundSoFar (p q : Position A R K S) (at : ℕ) (time : Time) (is_full : Bool) : Type 0 where
+  pub record RoundSoFar (p q : Position A R K S) (at : ℕ) (time : Time) (is_full : Bool) (told tells : Option (List Note)) : Type 0 where
     deeds : List Deed
     steps : Steps condition unread taken held p deeds q
     once : (place : ℕ) → answers_at place deeds ≤ 1
@@ -336,9 +351,10 @@ module _ {A R K S : Type 0} (condition : A → Condition) (unread : R → Option
     pub stays : (place : ℕ) → at ≤ place → slot place q.seats ≡ slot place p.seats
     served : (place : ℕ) → place < at → IsServedAt condition unread taken held size p q is_full deeds place (slot place p.seats)
     in_time : AreDoneAt time deeds
+    noted : Grows told tells (closings_of deeds)
 
-  pub round_begins : (p : Position A R K S) (time : Time) (is_full : Bool) → RoundSoFar p p 0 time is_full
-  round_begins p time is_full = record {
+  pub round_begins : (p : Position A R K S) (time : Time) (is_full : Bool) (told : Option (List Note)) → RoundSoFar p p 0 time is_full told told
+  round_begins p time is_full told = record {
     deeds = [];
     steps = begins;
     once = λ place. omega arith;
@@ -348,11 +364,12 @@ module _ {A R K S : Type 0} (condition : A → Condition) (unread : R → Option
     stays = λ place h. refl;
     served = λ place h. absurd (let none : ⊥ = omega (arith, h) in none);
     in_time = tt;
+    noted = grows_none told;
   }
 
-  pub round_goes_on : (p q r : Position A R K S) (at next : ℕ) (time : Time) (is_full : Bool) → RoundSoFar p q at time is_full → Serves condition unread taken held size q r at time is_full
-      → ((place : ℕ) → (place ≡ at → ⊥) → slot place r.seats ≡ slot place q.seats) → next ≡ at + 1 → q.shut ≡ p.shut → RoundSoFar p r next time is_full
-  round_goes_on p q r at next time is_full s t same e shut = record {
+  pub round_goes_on : (p q r : Position A R K S) (at next : ℕ) (time : Time) (is_full : Bool) (told so_far tells : Option (List Note)) → RoundSoFar p q at time is_full told so_far → Serves condition unread taken held size q r at time is_full so_far tells
+      → ((place : ℕ) → (place ≡ at → ⊥) → slot place r.seats ≡ slot place q.seats) → next ≡ at + 1 → q.shut ≡ p.shut → RoundSoFar p r next time is_full told tells
+  round_goes_on p q r at next time is_full told so_far tells s t same e shut = record {
     deeds = s.deeds ++ t.deeds;
     steps = steps_join condition unread taken held s.steps t.steps;
     once = λ place. elim (cases_eq place at) [
@@ -381,36 +398,45 @@ module _ {A R K S : Type 0} (condition : A → Condition) (unread : R → Option
       | inr ne ↦ at_after p q r is_full s.deeds t.deeds place (slot place p.seats) t.steps (inl (same place ne)) (t.others place ne) (t.unread_others place ne) (s.served place (omega (arith, h, e, ne)))
     ];
     in_time = in_time_append time s.deeds t.deeds s.in_time t.in_time;
+    noted = noted_on told so_far tells s.deeds t.deeds s.noted t.noted;
   }
 
-  pub round_ends : (p q : Position A R K S) (at : ℕ) (time : Time) (is_full : Bool) → RoundSoFar p q at time is_full → is_full ≡ nat_lt p.limits.unfinished_bytes (unfinished_in p.seats) → ((place : ℕ) → at ≤ place → slot place p.seats ≡ None)
-      → GoesRound condition unread taken held size p q time
-  round_ends p q at time is_full s e all = record {
+  -- so all had, as nobody sits behind these
+  all_served : (p q : Position A R K S) (at : ℕ) (time : Time) (is_full : Bool) (told tells : Option (List Note)) → (s : RoundSoFar p q at time is_full told tells) → ((place : ℕ) → at ≤ place → slot place p.seats ≡ None)
+      → (place : ℕ) → IsServedAt condition unread taken held size p q is_full s.deeds place (slot place p.seats)
+  all_served p q at time is_full told tells s all place = elim (cases_lt place at) [
+    | inl lt ↦ s.served place lt
+    | inr ge ↦ subst (λ (x : Option (Seat R K S)). IsServedAt condition unread taken held size p q is_full s.deeds place x) (sym (all place (omega (arith, ge)))) tt
+  ]
+
+  -- and the largest was closed, where it had to be
+  pub round_ends : (p q r : Position A R K S) (at : ℕ) (time : Time) (is_full : Bool) (told so_far tells : Option (List Note)) → RoundSoFar p q at time is_full told so_far → is_full ≡ nat_lt p.limits.unfinished_bytes (unfinished_in p.seats) → ((place : ℕ) → at ≤ place → slot place p.seats ≡ None)
+      → Sheds condition unread taken held q r time.second so_far tells → GoesRound condition unread taken held size p r time told tells
+  round_ends p q r at time is_full told so_far tells s e all (inl (same, keep, quiet)) = subst (λ (x : Position A R K S). GoesRound condition unread taken held size p x time told tells) (sym same) (record {
     deeds = s.deeds;
     steps = s.steps;
     once = s.once;
     waits = λ more place some. s.waits (e ∙ lt-ltb p.limits.unfinished_bytes (unfinished_in p.seats) more) place some;
-    served = λ place. subst (λ (b : Bool). IsServedAt condition unread taken held size p q b s.deeds place (slot place p.seats)) e (elim (cases_lt place at) [
-      | inl lt ↦ s.served place lt
-      | inr ge ↦ subst (λ (x : Option (Seat R K S)). IsServedAt condition unread taken held size p q is_full s.deeds place x) (sym (all place (omega (arith, ge)))) tt
-    ]);
+    served = λ place. subst (λ (b : Bool). IsServedAt condition unread taken held size p q b s.deeds place (slot place p.seats)) e (all_served p q at time is_full told so_far s all place);
     in_time = s.in_time;
-  }
-
-  -- the largest was closed after it
-  pub round_sheds : (p q r : Position A R K S) (time : Time) → GoesRound condition unread taken held size p q time → Sheds condition unread taken held q r time.second
-      → GoesRound condition unread taken held size p r time
-  round_sheds p q r time s (inl e) = subst (λ (x : Position A R K S). GoesRound condition unread taken held size p x time) (sym e) s
-  round_sheds p q r time s (inr (at, seat, g)) =
-      let more : List Deed = Closes at seat.connection time.second ∷ [] in
+    noted = subst (λ (o : Option (List Note)). Grows told o (closings_of s.deeds)) (sym quiet) s.noted;
+    sheds = (q, s.deeds, so_far, s.steps, inl (refl, keep, quiet));
+  })
+  round_ends p q r at time is_full told so_far tells s e all (inr (place, seat, g, noted)) =
+      let more : List Deed = Closes place seat.connection time.second Large ∷ [] in
       record {
         deeds = s.deeds ++ more;
         steps = goes_on s.steps (leaves g);
-        once = λ place. let e = answers_append place s.deeds more in let f : answers_at place more ≡ 0 = refl in let o = s.once place in omega (arith, e, f, o);
-        waits = λ full place some. let e = pieces_append place s.deeds more in let f : pieces_at place more ≡ 0 = refl in let o = s.waits full place some in omega (arith, e, f, o);
-        served = λ place. at_after p q r (nat_lt p.limits.unfinished_bytes (unfinished_in p.seats)) s.deeds more place (slot place p.seats) (goes_on begins (leaves g)) (elim (cases_eq place at) [
-          | inl is ↦ inr (ap (λ (l : List (Option (Seat R K S))). slot place l) g.gone ∙ (ap (λ (n : ℕ). slot n (set q.seats at None)) is ∙ get_or-set_same q.seats at None None g.there))
-          | inr ne ↦ inl (ap (λ (l : List (Option (Seat R K S))). slot place l) g.gone ∙ get_or-set_other q.seats at place None None ne)
-        ]) refl refl (s.served place);
+        once = λ other. let e = answers_append other s.deeds more in let f : answers_at other more ≡ 0 = refl in let o = s.once other in omega (arith, e, f, o);
+        waits = λ full other some.
+            let a = pieces_append other s.deeds more in let f : pieces_at other more ≡ 0 = refl in
+            let o = s.waits (e ∙ lt-ltb p.limits.unfinished_bytes (unfinished_in p.seats) full) other some in omega (arith, a, f, o);
+        served = λ other. subst (λ (b : Bool). IsServedAt condition unread taken held size p r b (s.deeds ++ more) other (slot other p.seats)) e
+            (at_after p q r is_full s.deeds more other (slot other p.seats) (goes_on begins (leaves g)) (elim (cases_eq other place) [
+              | inl is ↦ inr (ap (λ (l : List (Option (Seat R K S))). slot other l) g.gone ∙ (ap (λ (n : ℕ). slot n (set q.seats place None)) is ∙ get_or-set_same q.seats place None None g.there))
+              | inr ne ↦ inl (ap (λ (l : List (Option (Seat R K S))). slot other l) g.gone ∙ get_or-set_other q.seats place other None None ne)
+            ]) refl refl (all_served p q at time is_full told so_far s all other));
         in_time = in_time_append time s.deeds more s.in_time (refl, tt);
+        noted = noted_on told so_far tells s.deeds more s.noted noted;
+        sheds = (q, s.deeds, so_far, s.steps, inr (place, seat, g, noted));
       }

@@ -65,7 +65,7 @@ module _ {A R K S : Type 0} (condition : A → Condition) (unread : R → Option
   step_rightly {p = p} {q = q} (offers t o) h = rightly_kept p q t.same_shut t.hub.clean h
   step_rightly {p = p} {q = q} (refuses t r) h = rightly_kept p q t.same_shut t.hub.clean h
   step_rightly {p = p} {q = q} (answers t a) h = rightly_kept p q t.same_shut t.hub.clean h
-  step_rightly {p = p} {q = q} (leaves {at = at} {second = second} {seat = seat} r) h = rightly_kept p q r.same_shut (clean_before condition unread taken held (leaves {at = at} {second = second} {seat = seat} r)) h
+  step_rightly {p = p} {q = q} (leaves {at = at} {second = second} {reason = reason} {seat = seat} r) h = rightly_kept p q r.same_shut (clean_before condition unread taken held (leaves {at = at} {second = second} {reason = reason} {seat = seat} r)) h
 
   pub steps_rightly : {p q : Position A R K S} {deeds : List Deed} → Steps condition unread taken held p deeds q → IsRightlyTold condition p → IsRightlyTold condition q
   steps_rightly begins h = h

@@ -1,5 +1,5 @@
 -- What the wires of a host take is what is sent for their connections.
-use Rattle.std.proofs.Common.{◌≡◌, ◌⊎◌, inl, inr, ◌<◌, ◌≤◌, ◌==◌, ℕ, Bool, if◌then◌else◌, List, [], ◌∷◌, ◌++◌, Option, None, Some, refl, sym, ap, subst, ◌∙◌, append_assoc, length, set, arith}
+use Rattle.std.proofs.Common.{◌≡◌, ◌⊎◌, inl, inr, ◌<◌, ◌≤◌, ◌==◌, ℕ, Bool, if◌then◌else◌, List, [], ◌∷◌, ◌++◌, Option, None, Some, refl, sym, ap, subst, ◌∙◌, length, set, arith}
 use Rattle.std.proofs.lemmas.List.{append-nil, get_or-set_same, get_or-set_other}
 use Rattle.std.proofs.lemmas.Bool.{cases_eq, eq-eqb, ne_eqb}
 use Rattle.std.specs.Io.KnownBytes.{Appends, Keeps, IsAtEnd, prepend_known}
@@ -8,6 +8,7 @@ use Rattle.dep_host.specs.declared.seat.Seat.{Seat}
 use Rattle.dep_outbox.specs.Wires.{front_of, joined, told}
 use Rattle.dep_host.specs.Runs.{StaysOpen}
 use Rattle.dep_host.specs.Hosting.{Position, slot, Deed, Opens, Takes, Replies, Declines, Closes, sent_by, replies_to, Tells, Step, refused, asks, comes, rests, offers, refuses, answers, leaves, HasTurn, Steps, begins, goes_on}
+use Rattle.std.proofs.lemmas.Grind.{flat_map-append}
 
 abbrev or_else : {X : Type 0} → X → Option X → X
 or_else d None = d
@@ -20,8 +21,7 @@ pub no_some : {X : Type 0} (a : X) → None ≡ Some a → ⊥
 no_some a e = absurd (cc)
 
 replies_append : (n : ℕ) (xs ys : List Deed) → replies_to n (xs ++ ys) ≡ replies_to n xs ++ replies_to n ys
-replies_append n [] ys = refl
-replies_append n (r ∷ xs) ys = ap (λ l. sent_by n r ++ l) (replies_append n xs ys) ∙ sym (append_assoc (sent_by n r) (replies_to n xs) (replies_to n ys))
+replies_append n xs ys = flat_map-append (λ d. sent_by n d) xs ys
 
 -- what is sent to a connection goes to no other
 sent_here : (n : ℕ) (sent : List ℕ) → (if n == n then sent else []) ++ [] ≡ sent
@@ -193,9 +193,9 @@ module _ {A R K S : Type 0} (condition : A → Condition) (unread : R → Option
       sent_tidy p q rs (Declines at before.connection r.piece moment r.answers.sent) at before after r.answers.sent tidy t r.answers.appends (λ n. refl) (λ n. (tt, tt))
   step_tidy {p = p} {q = q} {rs = rs} tidy (answers {at = at} {moment = moment} {before = before} {after = after} t a) =
       sent_tidy p q rs (Replies at before.connection moment a.answers.sent) at before after a.answers.sent tidy t a.answers.appends (λ n. refl) (λ n. (tt, tt))
-  step_tidy {p = p} {q = q} {rs = rs} tidy (leaves {at = at} {second = second} {seat = seat} r) =
+  step_tidy {p = p} {q = q} {rs = rs} tidy (leaves {at = at} {second = second} {reason = reason} {seat = seat} r) =
       let later : p.hub.next ≤ q.hub.next = let e = r.next in omega (arith, e) in
-      tidy_set p q rs (Closes at seat.connection second ∷ []) at None tidy r.there r.gone later
+      tidy_set p q rs (Closes at seat.connection second reason ∷ []) at None tidy r.there r.gone later
       (λ s e. absurd (no_some s e))
       (λ j t ne h. (refl, ((λ same. ne (tidy.apart j at t seat h r.sat same)), tt)))
       (λ n h. (refl, ((λ same. let lower = tidy.below at seat r.sat in omega (arith, lower, h, same, later)), tt)))

@@ -27,9 +27,11 @@ seconds_of (Round time) = time.second ∷ []
 seconds_of (Stop second) = second ∷ []
 seconds_of End = []
 
--- what came when it was asked what comes, and the place that was offered then
+-- what came when it was asked what comes, the place that was offered then, and whether the host was told
+-- as one that can go on at once
 pub record Call (R K S : Type 0) : Type 0 where
   pub offer : Option ℕ
+  pub is_busy : Bool
   pub event : Event R K S
 
 -- the seconds of the rounds among what came, and of where it was told to stop

@@ -1,5 +1,5 @@
 -- How a host goes on: what becomes of its places, what comes to its hub, and what its wires take for it.
-use Rattle.std.specs.Prelude.{◌≡◌, ◌⊎◌, ◌<◌, ◌≤◌, ◌+◌, ◌==◌, nat_lt, ℕ, Bool, List, [], ◌∷◌, ◌++◌, length, get_or, set, Option, None, Some, is_some, IfSome, IsNone, if◌then◌else◌, true, false}
+use Rattle.std.specs.Prelude.{◌≡◌, ◌⊎◌, ◌<◌, ◌≤◌, ◌+◌, ◌==◌, nat_lt, ℕ, Bool, List, [], ◌∷◌, ◌++◌, length, get_or, set, Option, None, Some, is_some, IfSome, IsSomeAnd, IsNone, if◌then◌else◌, true, false}
 use Rattle.std.specs.List.{flat_map}
 use Rattle.std.specs.Io.KnownBytes.{IsAtEnd}
 use Rattle.dep_types.specs.Conditions.{Condition}
@@ -20,6 +20,7 @@ use Rattle.dep_host.specs.declared.limits.Limits.{Limits}
 use Rattle.dep_host.specs.declared.log.Closing.{Closing}
 use Rattle.dep_host.specs.declared.log.Closing.TheVariants as ends
 use Rattle.dep_host.specs.Courses.{closing, duty, is_ended, is_held_back, phase_begun}
+use Rattle.dep_host.specs.Notes.{Note, LetGo, Grows}
 use Rattle.dep_host.specs.Seats.{HubStays, SameClient, SendsOn, next_duty, IsUnknown, Rests, Offers, Refuses, Answers}
 
 -- the hub, who sits where, what bounds them, and since when it is shut
@@ -56,8 +57,8 @@ pub data Deed : Type 0 where
   Replies : (at number moment : ℕ) → (sent : List ℕ) → Deed
   -- a piece is read for which memory runs out, and these bytes are sent for it
   Declines : (at number : ℕ) → (piece : List ℕ) → (moment : ℕ) → (sent : List ℕ) → Deed
-  -- it is closed at a second
-  Closes : (at number second : ℕ) → Deed
+  -- it is closed at a second, for a reason
+  Closes : (at number second : ℕ) → (reason : Closing) → Deed
 
 -- what was sent to a connection
 abbrev pub sent_by : ℕ → Deed → List ℕ
@@ -65,7 +66,7 @@ sent_by number (Opens at n given) = []
 sent_by number (Takes at n piece) = []
 sent_by number (Replies at n moment sent) = if n == number then sent else []
 sent_by number (Declines at n piece moment sent) = if n == number then sent else []
-sent_by number (Closes at n second) = []
+sent_by number (Closes at n second reason) = []
 
 -- what all deeds sent to the connection of a number
 abbrev pub replies_to : ℕ → List Deed → List ℕ
@@ -82,7 +83,7 @@ answer_at place (Opens at n given) = 0
 answer_at place (Takes at n piece) = 0
 answer_at place (Replies at n moment sent) = if at == place then 1 else 0
 answer_at place (Declines at n piece moment sent) = if at == place then 1 else 0
-answer_at place (Closes at n second) = 0
+answer_at place (Closes at n second reason) = 0
 
 abbrev pub answers_at : ℕ → List Deed → ℕ
 answers_at place [] = 0
@@ -94,7 +95,7 @@ piece_at place (Opens at n given) = 0
 piece_at place (Takes at n piece) = if at == place then 1 else 0
 piece_at place (Replies at n moment sent) = 0
 piece_at place (Declines at n piece moment sent) = if at == place then 1 else 0
-piece_at place (Closes at n second) = 0
+piece_at place (Closes at n second reason) = 0
 
 abbrev pub pieces_at : ℕ → List Deed → ℕ
 pieces_at place [] = 0
@@ -109,13 +110,25 @@ abbrev pub unfinished_in : {R K S : Type 0} → List (Option (Seat R K S)) → �
 unfinished_in [] = 0
 unfinished_in (s ∷ seats) = unfinished_of s + unfinished_in seats
 
+-- what a log is told of a deed
+abbrev pub note_of : Deed → List Note
+note_of (Opens at n given) = []
+note_of (Takes at n piece) = []
+note_of (Replies at n moment sent) = []
+note_of (Declines at n piece moment sent) = []
+note_of (Closes at n second reason) = LetGo n reason ∷ []
+
+-- and of all deeds: of each closing its reason
+abbrev pub closings_of : List Deed → List Note
+closings_of deeds = flat_map note_of deeds
+
 -- what is answered is answered at the moment, and what is closed is closed at the second
 abbrev pub IsDoneAt : Time → Deed → Type 0
 IsDoneAt time (Opens at n given) = Unit {0}
 IsDoneAt time (Takes at n piece) = Unit {0}
 IsDoneAt time (Replies at n moment sent) = moment ≡ time.moment
 IsDoneAt time (Declines at n piece moment sent) = moment ≡ time.moment
-IsDoneAt time (Closes at n second) = second ≡ time.second
+IsDoneAt time (Closes at n second reason) = second ≡ time.second
 
 abbrev pub AreDoneAt : Time → List Deed → Type 0
 AreDoneAt time [] = Unit {0}
@@ -132,7 +145,7 @@ IsOutgoing (Opens at n given) = ⊥
 IsOutgoing (Takes at n piece) = ⊥
 IsOutgoing (Replies at n moment sent) = Unit {0}
 IsOutgoing (Declines at n piece moment sent) = ⊥
-IsOutgoing (Closes at n second) = Unit {0}
+IsOutgoing (Closes at n second reason) = Unit {0}
 
 -- so are all of them
 abbrev pub AreOutgoing : List Deed → Type 0
@@ -145,6 +158,17 @@ pub record IsTooLarge {A R K S : Type 0} (p : Position A R K S) (seat : Seat R K
   pub full : p.limits.unfinished_bytes < unfinished_in p.seats
   pub largest : (place : ℕ) → unfinished_of (slot place p.seats) ≤ seat.course.unfinished
   pub waits : seat.course.phase ≡ Open
+
+-- who sits at a place is read, and none of its requests can be complete
+abbrev pub IsReadAt : {A R K S : Type 0} → Position A R K S → ℕ → Type 0
+IsReadAt p at = IsSomeAnd (slot at p.seats) (λ seat. seat.course.phase ≡ Open)
+
+-- no connection has to be closed for what is kept of it: that isn't too much, or what one has that has
+-- most may be a whole request
+abbrev pub MayKeep : {A R K S : Type 0} → Position A R K S → Type 0
+MayKeep p = (unfinished_in p.seats ≤ p.limits.unfinished_bytes) ⊎ ((at : ℕ)
+    × ((place : ℕ) → unfinished_of (slot place p.seats) ≤ unfinished_of (slot at p.seats))
+    × (IsReadAt p at → ⊥))
 
 -- why a connection is closed
 abbrev pub HasReason : {A R K S : Type 0} → Position A R K S → (second : ℕ) → Seat R K S → Closing
@@ -204,11 +228,11 @@ module _ {A R K S : Type 0} (condition : A → Condition) (unread : R → Option
     pub same_shut : q.shut ≡ p.shut
 
   -- a connection is closed for a reason
-  pub record Goes (p q : Position A R K S) (at second : ℕ) (seat : Seat R K S) : Type 0 where
+  pub record Goes (p q : Position A R K S) (at second : ℕ) (reason : Closing) (seat : Seat R K S)
+      : Type 0 where
     pub there : at < length p.seats
     pub sat : slot at p.seats ≡ Some seat
     pub gone : q.seats ≡ set p.seats at None
-    pub reason : Closing
     pub done : HasReason p second seat reason
     pub next : q.hub.next ≡ p.hub.next
     pub moves : MovesLine condition p.hub q.hub seat.connection Absent (with_held seat.connection [])
@@ -236,8 +260,8 @@ module _ {A R K S : Type 0} (condition : A → Condition) (unread : R → Option
     answers : {at moment : ℕ} {before after : Seat R K S} → HasTurn p q at before after
         → (a : Answers condition unread taken held p.hub q.hub before after moment)
         → Step p q (Replies at before.connection moment a.answers.sent ∷ [])
-    leaves : {at second : ℕ} {seat : Seat R K S} → Goes p q at second seat
-        → Step p q (Closes at seat.connection second ∷ [])
+    leaves : {at second : ℕ} {reason : Closing} {seat : Seat R K S} → Goes p q at second reason seat
+        → Step p q (Closes at seat.connection second reason ∷ [])
 
   -- one step after another, and all that the host does in them
   pub data Steps (first : Position A R K S) : List Deed → Position A R K S → Type 0 where
@@ -249,9 +273,12 @@ module _ {A R K S : Type 0} (condition : A → Condition) (unread : R → Option
   abbrev pub GoesOn : Position A R K S → Position A R K S → Type 0
   GoesOn first last = (deeds : List Deed) × Steps first deeds last
 
-  -- the largest is closed, or nothing is done
-  abbrev pub Sheds : Position A R K S → Position A R K S → (second : ℕ) → Type 0
-  Sheds p q second = (q ≡ p) ⊎ ((at : ℕ) × (seat : Seat R K S) × Goes p q at second seat)
+  -- the largest is closed, and the log is told so, or nothing is done, where nothing has to be
+  abbrev pub Sheds : Position A R K S → Position A R K S → (second : ℕ)
+      → (told tells : Option (List Note)) → Type 0
+  Sheds p q second told tells = ((q ≡ p) × MayKeep p × (tells ≡ told))
+      ⊎ ((at : ℕ) × (seat : Seat R K S) × Goes p q at second ends.Large seat
+      × Grows told tells (LetGo seat.connection ends.Large ∷ []))
 
 -- what a connection does next once its turn begins
 abbrev pub turn_duty : {R K S : Type 0} → (S → ℕ) → Option Shut → Seat R K S → Duty
@@ -297,7 +324,8 @@ module _ {A R K S : Type 0} (condition : A → Condition) (unread : R → Option
       (pieces_at place deeds) (turn_duty size p.shut seat)
 
   -- one place has its turn, where too many bytes of unfinished requests are kept or not
-  pub record Serves (p q : Position A R K S) (at : ℕ) (time : Time) (is_full : Bool) : Type 0 where
+  pub record Serves (p q : Position A R K S) (at : ℕ) (time : Time) (is_full : Bool)
+      (told tells : Option (List Note)) : Type 0 where
     pub deeds : List Deed
     pub steps : Steps condition unread taken held p deeds q
     pub once : answers_at at deeds ≤ 1
@@ -306,11 +334,14 @@ module _ {A R K S : Type 0} (condition : A → Condition) (unread : R → Option
     pub unread_others : (place : ℕ) → (place ≡ at → ⊥) → pieces_at place deeds ≡ 0
     pub served : IsServedAt p q is_full deeds at (slot at p.seats)
     pub in_time : AreDoneAt time deeds
+    -- what the log was told before, and what it was told then
+    pub noted : Grows told tells (closings_of deeds)
 
   -- each place has its turn, in which it is served: of no connection more than one item is
   -- answered, and where too many bytes of unfinished requests are kept, nothing more is read of
   -- these
-  pub record GoesRound (p q : Position A R K S) (time : Time) : Type 0 where
+  pub record GoesRound (p q : Position A R K S) (time : Time) (told tells : Option (List Note))
+      : Type 0 where
     pub deeds : List Deed
     pub steps : Steps condition unread taken held p deeds q
     pub once : (place : ℕ) → answers_at place deeds ≤ 1
@@ -319,6 +350,11 @@ module _ {A R K S : Type 0} (condition : A → Condition) (unread : R → Option
     pub served : (place : ℕ) → IsServedAt p q
         (nat_lt p.limits.unfinished_bytes (unfinished_in p.seats)) deeds place (slot place p.seats)
     pub in_time : AreDoneAt time deeds
+    pub noted : Grows told tells (closings_of deeds)
+    -- once each had its turn, the largest is closed where it has to be
+    pub sheds : (turned : Position A R K S) × (early : List Deed) × (so_far : Option (List Note))
+        × Steps condition unread taken held p early turned
+        × Sheds condition unread taken held turned q time.second so_far tells
 
 -- who sits at a place has time left, and is not over
 abbrev pub HasTime : {R K S : Type 0} → (second : ℕ) → Limits → Option (Seat R K S) → Type 0
@@ -342,6 +378,11 @@ pub record Stays {A R K S : Type 0} (old new : Host A R K S) : Type 0 where
   pub shut : new.shut ≡ old.shut
   pub unanswered : new.unanswered ≡ old.unanswered
 
+-- what a log is told of who sits at a place and is closed for a reason
+abbrev pub farewell : {R K S : Type 0} → Closing → Option (Seat R K S) → List Note
+farewell reason None = []
+farewell reason (Some seat) = LetGo seat.connection reason ∷ []
+
 -- a connection sits at a place that may be closed for a reason
 abbrev pub MayGo : {A R K S : Type 0} → Position A R K S → (second : ℕ) → Closing
     → Option (Seat R K S) → Type 0
@@ -351,9 +392,9 @@ MayGo p second reason (Some seat) = HasReason p second seat reason
 module _ {A R K S : Type 0} (condition : A → Condition) (unread : R → Option (List ℕ))
     (taken : K → Option (List ℕ)) (held : S → Option (List ℕ)) where
   -- who sat at a place, if anybody did, is gone from there, and nothing else changed
-  pub record Closed (p q : Host A R K S) (at second : ℕ) : Type 0 where
+  pub record Closed (p q : Host A R K S) (at second : ℕ) (reason : Closing) : Type 0 where
     pub goes : IfSome (slot at p.seats.items)
-        (Goes condition unread taken held (position p) (position q) at second)
+        (Goes condition unread taken held (position p) (position q) at second reason)
     pub gone : slot at q.seats.items ≡ None
     pub others : (place : ℕ) → (place ≡ at → ⊥)
         → slot place q.seats.items ≡ slot place p.seats.items

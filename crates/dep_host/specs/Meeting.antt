@@ -27,7 +27,7 @@ use Rattle.dep_host.specs.declared.serving.Ended.TheVariants as ended
 use Rattle.dep_host.specs.Coming.{Call, origin, seated_from, seconds_in}
 use Rattle.dep_host.specs.Courses.{is_overdue}
 use Rattle.dep_host.specs.Seats.{woken_seat}
-use Rattle.dep_host.specs.Hosting.{Comes, Deed, Opens, GoesRound, HasTime, IsEmpty, IsVacant, Refused, Stays, Steps, position, slot}
+use Rattle.dep_host.specs.Hosting.{Comes, Deed, Opens, GoesRound, HasTime, IsEmpty, IsVacant, IsWaiting, Refused, Stays, Steps, position, slot}
 use Rattle.dep_host.specs.Notes.{Note, LetIn, TurnedAway, Grows}
 use Rattle.dep_host.specs.Rounds.{EndsInTime, IsTold}
 
@@ -35,6 +35,18 @@ use Rattle.dep_host.specs.Rounds.{EndsInTime, IsTold}
 abbrev pub IsOffer : {A R K S : Type 0} → Host A R K S → Option ℕ → Type 0
 IsOffer host None = (at : ℕ) → IsVacant host at → ⊥
 IsOffer host (Some at) = IsVacant host at
+
+-- nothing can go on before a socket is ready or a time is up, and an open store has no work left
+pub record IsIdle {A R K S : Type 0} (size : S → ℕ) (host : Host A R K S) : Type 0 where
+  pub waits : (at : ℕ) → IsWaiting size (slot at host.seats.items)
+  pub works : IsNone host.shut → host.is_left ≡ false
+
+-- it may be asked so what comes: a free place is offered, if there is one, and it is told as idle only
+-- where it is
+pub record MayCall {A R K S : Type 0} (size : S → ℕ) (host : Host A R K S) (call : Call R K S)
+    : Type 0 where
+  pub offered : IsOffer host call.offer
+  pub idle : call.is_busy ≡ false → IsIdle size host
 
 -- the socket of the connection at a place may be ready, where one sits there
 pub record Wakes {A R K S : Type 0} (p q : Host A R K S) (at : ℕ) (is_readable is_writable : Bool)
@@ -68,10 +80,10 @@ pub record Stops {A R K S : Type 0} (p q : Host A R K S) (second : ℕ) : Type 0
   pub unanswered : q.unanswered ≡ p.unanswered
   pub shut : q.shut ≡ shut_by p.shut second
 
--- what came, of which these were met: an end is the last, for which this place was offered
-abbrev pub all_given : {R K S : Type 0} → Ended → (last : Option ℕ) → List (Call R K S)
+-- what came, of which these were met: an end is the last
+abbrev pub all_given : {R K S : Type 0} → Ended → (last : Call R K S) → List (Call R K S)
     → List (Call R K S)
-all_given ended.Events last calls = calls ++ record { offer = last; event = came.End } ∷ []
+all_given ended.Events last calls = calls ++ last ∷ []
 all_given (ended.Shut why) last calls = calls
 all_given ended.Spent last calls = calls
 
@@ -130,12 +142,14 @@ module _ {A R K S : Type 0} (condition : A → Condition) (account : A → Accou
     pub works : Steps condition unread taken held (position mid) [] (position q)
     pub stays : Stays mid q
     pub ahead : IsNone mid.shut
-        → Runs WorkedAhead (account mid.hub.store) (account q.hub.store)
+        → Runs (WorkedAhead q.is_left) (account mid.hub.store) (account q.hub.store)
 
   -- each place had its turn at that time, and then it was asked whether the store is open
-  pub record MakesRound (size : S → ℕ) (p q : Host A R K S) (time : Time) : Type 0 where
+  pub record MakesRound (size : S → ℕ) (p q : Host A R K S) (time : Time)
+      (told tells : Option (List Note)) : Type 0 where
     pub mid : Host A R K S
-    pub goes : GoesRound condition unread taken held size (position p) (position mid) time
+    pub goes : GoesRound condition unread taken held size (position p) (position mid) time told
+        tells
     pub left : (at : ℕ) → HasTime time.second mid.limits (slot at mid.seats.items)
     pub stays : Stays p mid
     pub asks : AsksOn mid q time.second
@@ -185,7 +199,7 @@ module _ {A R K S L : Type 0} (condition : A → Condition) (account : A → Acc
         → TurnsAway condition unread taken held notes p q l m client why
         → Meets p q l m offer (came.Client client) []
     makes_round : {offer : Option ℕ} {time : Time}
-        → (round : MakesRound condition account unread taken held size p q time)
+        → (round : MakesRound condition account unread taken held size p q time (notes l) (notes m))
         → Meets p q l m offer (came.Round time) round.goes.deeds
     stops : {offer : Option ℕ} {second : ℕ} → Stops p q second → m ≡ l
         → Meets p q l m offer (came.Stop second) []
@@ -201,14 +215,14 @@ module _ {A R K S L : Type 0} (condition : A → Condition) (account : A → Acc
   IsMet p q l m offer event (result.Err ended.Spent) = ⊥
 
   -- what it makes of all of them, one after another, and all its deeds in them: before each a free
-  -- place was offered, if there was one
+  -- place was offered, if there was one, and it was told as idle only where it was
   pub data MeetsAll (p : Host A R K S) (l : L)
       : List (Call R K S) → List Deed → Host A R K S → L → Type 0 where
     begins : MeetsAll p l [] [] p l
-    goes_on : {calls : List (Call R K S)} {offer : Option ℕ} {event : Event R K S}
-        {deeds more : List Deed} {q n : Host A R K S} {m o : L} → MeetsAll p l calls deeds q m
-        → IsOffer q offer → Meets q n m o offer event more
-        → MeetsAll p l (calls ++ record { offer = offer; event = event } ∷ []) (deeds ++ more) n o
+    goes_on : {calls : List (Call R K S)} {call : Call R K S} {deeds more : List Deed}
+        {q n : Host A R K S} {m o : L} → MeetsAll p l calls deeds q m → MayCall size q call
+        → Meets q n m o call.offer call.event more
+        → MeetsAll p l (calls ++ call ∷ []) (deeds ++ more) n o
 
   -- What came in a call, where it is shown, and what became of each, by these deeds and no others: it
   -- was met, up to the end, and no round was too late, nor the end of what is shut too soon. No more
@@ -216,11 +230,11 @@ module _ {A R K S L : Type 0} (condition : A → Condition) (account : A → Acc
   pub record Met (told_old told_new : Option (List (Call R K S))) (p q : Host A R K S) (l m : L)
       (deeds : List Deed) (most : ℕ) (end : Ended) : Type 0 where
     pub calls : List (Call R K S)
-    pub last : Option ℕ
+    pub last : Call R K S
     pub given : Grows told_old told_new (all_given end last calls)
     pub each : MeetsAll p l calls deeds q m
     pub steps : Steps condition unread taken held (position p) deeds (position q)
-    pub offered : end ≡ ended.Events → IsOffer q last
+    pub ends : end ≡ ended.Events → MayCall size q last × (last.event ≡ came.End)
     pub in_time : EndsInTime (seconds_in calls) p.shut q.shut q.limits end
     pub may_end : (why : Cause) → end ≡ ended.Shut why → MayEnd q why (seconds_in calls)
     pub spent : end ≡ ended.Spent → length calls ≡ most

@@ -2,11 +2,14 @@
 use Rattle.std.specs.Prelude.{◌≡◌, ℕ, List, ◌++◌, Option, None, Some}
 use Rattle.std.specs.declared.net.ip_addr.IpAddr.{IpAddr}
 use Rattle.dep_host.specs.declared.log.Refusal.{Refusal}
+use Rattle.dep_host.specs.declared.log.Closing.{Closing}
 
--- a client was let in, over the connection of a number, or it was turned away
+-- a client was let in, over the connection of a number, or it was turned away, or that connection was
+-- closed for a reason
 pub data Note : Type 0 where
   LetIn : (connection : ℕ) → (address : IpAddr) → Note
   TurnedAway : (address : IpAddr) → (refusal : Refusal) → Note
+  LetGo : (connection : ℕ) → (reason : Closing) → Note
 
 -- what is shown grows by these, where it is shown
 abbrev pub Grows : {X : Type 0} → Option (List X) → Option (List X) → List X → Type 0

@@ -10,6 +10,7 @@ use Rattle.dep_hub.specs.declared.hub.Hub.{Hub}
 use Rattle.dep_outbox.specs.Wires.{told}
 use Rattle.dep_host.specs.declared.seat.Seat.{Seat}
 use Rattle.dep_host.specs.Courses.{is_ended}
+use Rattle.dep_host.specs.declared.log.Closing.{Closing}
 use Rattle.dep_host.specs.Hosting.{Position, Steps, IsEmpty, slot, Tells, Deed, Opens, Takes, Replies, Declines, Closes}
 
 -- The records of the deeds, from what each connection held at first to what it holds now: a piece is
@@ -33,8 +34,8 @@ pub data Follows (first : ℕ → List ℕ) : List Deed → List Record → (ℕ
       → Follows first (deeds ++ Declines at n piece moment sent ∷ [])
       (records ++ record { event = Arrive n part moment; sent = sent } ∷ []) (with_held n rest held)
   closes : {deeds : List Deed} {records : List Record} {held : ℕ → List ℕ} (at n second : ℕ)
-      → Follows first deeds records held
-      → Follows first (deeds ++ Closes at n second ∷ [])
+      (reason : Closing) → Follows first deeds records held
+      → Follows first (deeds ++ Closes at n second reason ∷ [])
       (records ++ record { event = Close n; sent = [] } ∷ []) (with_held n [] held)
 
 -- behind these records the hub stands for those of the deeds
@@ -51,7 +52,7 @@ read_by number (Opens at n given) = []
 read_by number (Takes at n piece) = if number == n then piece else []
 read_by number (Replies at n moment sent) = []
 read_by number (Declines at n piece moment sent) = if number == n then piece else []
-read_by number (Closes at n second) = []
+read_by number (Closes at n second reason) = []
 
 -- what all deeds read of a connection
 abbrev pub read_of : ℕ → List Deed → List ℕ
@@ -63,7 +64,7 @@ given_by number (Opens at n given) = if number == n then given ∷ [] else []
 given_by number (Takes at n piece) = []
 given_by number (Replies at n moment sent) = []
 given_by number (Declines at n piece moment sent) = []
-given_by number (Closes at n second) = []
+given_by number (Closes at n second reason) = []
 
 abbrev pub given_of : ℕ → List Deed → List (Option (List ℕ))
 given_of number deeds = flat_map (λ d. given_by number d) deeds
@@ -93,7 +94,7 @@ IsKept number (Opens at n given) = Unit {0}
 IsKept number (Takes at n piece) = Unit {0}
 IsKept number (Replies at n moment sent) = Unit {0}
 IsKept number (Declines at n piece moment sent) = Unit {0}
-IsKept number (Closes at n second) = number ≡ n → ⊥
+IsKept number (Closes at n second reason) = number ≡ n → ⊥
 
 -- none of the deeds closed it
 abbrev pub StaysOpen : ℕ → List Deed → Type 0
@@ -131,8 +132,8 @@ abbrev pub KeptToTheLast : {A R K S : Type 0} → (A → Condition) → (R → O
     → (K → Option (List ℕ)) → (S → Option (List ℕ)) → Position A R K S → State → List Record
     → List Deed → Type 0
 KeptToTheLast {A = A} {R = R} {K = K} {S = S} condition unread taken held p first before deeds =
-    (done later : List Deed) → (at number second : ℕ)
-    → deeds ≡ done ++ Closes at number second ∷ later
+    (done later : List Deed) → (at number second : ℕ) → (reason : Closing)
+    → deeds ≡ done ++ Closes at number second reason ∷ later
     → (m : Position A R K S) × (Steps condition unread taken held p done m
     × (KeepsPromise condition unread taken held m first before done
     × ((seat : Seat R K S) × ((slot at m.seats ≡ Some seat) × (seat.connection ≡ number)))))

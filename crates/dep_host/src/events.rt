@@ -117,6 +117,6 @@ pub trait Events<R: Source, K: Sink, S: Spool> {
     fn next(&mut self, vacancy: Option<usize>, is_busy: bool) -> Event<R, K, S>
         ensures fresh { IsFresh K.taken S.held result }
         ensures given { Grows (given self.old) (given self.new)
-            (record { offer = vacancy; event = result } ∷ []) }
+            (record { offer = vacancy; is_busy = is_busy; event = result } ∷ []) }
         ensures end { result ≡ Event.End → IsTrue (is_over self.new) };
 }

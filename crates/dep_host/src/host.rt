@@ -26,6 +26,8 @@ pub struct Host<A, R, K, S> {
     limits: Limits,
     /// Since when it is shut, and why, if it is.
     shut: Option<Shut>,
+    /// Whether its store had work left when it worked ahead last. Clauses alone read it.
+    is_left: bool,
     /// How often it could not be known whether the store is open, up to 2^64 - 1. Clauses alone read it.
     unanswered: u64,
     ghost within: { end ≤ length seats.items },
@@ -37,9 +39,10 @@ impl<A: Archive, R: Source + Drop, K: Sink + Drop, S: Spool + Drop> Host<A, R, K
     ghost use Rattle.std.specs.Io.KnownBytes.{IsAtEnd};
     ghost use Rattle.dep_outbox.specs.Wires.{told};
     ghost use Rattle.dep_hub.specs.Errands.{WorkedAhead, Runs};
-    ghost use Rattle.dep_host.specs.Hosting.{Steps, Serves, Closed, GoesRound, Sheds, Stays, HasTime, MayGo, IsEmpty, IsVacant, IsWaiting, position, slot, unfinished_of, unfinished_in};
+    ghost use Rattle.dep_host.specs.Hosting.{Steps, Serves, Closed, GoesRound, Sheds, Stays, HasTime, MayGo, IsEmpty, IsReadAt, farewell, IsVacant, IsWaiting, position, slot, unfinished_of, unfinished_in};
     ghost use Rattle.dep_host.specs.Coming.{origin, seated_from};
     ghost use Rattle.dep_host.specs.Courses.{is_overdue};
+    ghost use Rattle.dep_host.specs.Notes.{Grows};
     ghost use Rattle.dep_host.specs.Meeting.{Admits, IsAsked, IsOffer, MayEnd, Stops, Wakes, refusal_of};
 
     /// A host without connections, which are bounded by the limits. Where memory is refused the hub is handed back.
@@ -59,6 +62,7 @@ impl<A: Archive, R: Source + Drop, K: Sink + Drop, S: Spool + Drop> Host<A, R, K
             end: 0,
             limits,
             shut: None,
+            is_left: false,
             unanswered: 0,
         })
     }
@@ -73,6 +77,7 @@ impl<A: Archive, R: Source + Drop, K: Sink + Drop, S: Spool + Drop> Host<A, R, K
             end: _,
             limits: _,
             shut: _,
+            is_left: _,
             unanswered: _,
         } = self;
         hub
@@ -83,6 +88,7 @@ impl<A: Archive, R: Source + Drop, K: Sink + Drop, S: Spool + Drop> Host<A, R, K
     pub fn is_open(&mut self, second: u64) -> bool
         ensures asks { IsAsked A.condition A.account R.unread K.taken S.held self.old self.new
             second }
+        ensures seats { self.new.seats ≡ self.old.seats }
         ensures untold { result ≡ true → IsNone self.new.shut }
         ensures shut { result ≡ false → IsSome self.new.shut }
     {
@@ -123,10 +129,13 @@ impl<A: Archive, R: Source + Drop, K: Sink + Drop, S: Spool + Drop> Host<A, R, K
         ensures goes { Steps A.condition R.unread K.taken S.held (position self.old) []
             (position self.new) }
         ensures stays { Stays self.old self.new }
-        ensures asked { Runs WorkedAhead (A.account self.old.hub.store)
+        ensures seats { self.new.seats ≡ self.old.seats }
+        ensures left { self.new.is_left ≡ result }
+        ensures asked { Runs (WorkedAhead result) (A.account self.old.hub.store)
             (A.account self.new.hub.store) }
     {
-        self.hub.work_ahead()
+        self.is_left = self.hub.work_ahead();
+        self.is_left
     }
 
     /// Why it ends at a second, if it does: it is shut, and all connections are closed, or an idle time has
@@ -242,7 +251,7 @@ impl<A: Archive, R: Source + Drop, K: Sink + Drop, S: Spool + Drop> Host<A, R, K
     /// closes the one that has most. It returns whether one of them can go on at once.
     pub fn round<L: HostLog>(&mut self, buffer: &mut ReadBuffer, time: &Time, log: &mut L) -> bool
         ensures goes { GoesRound A.condition R.unread K.taken S.held S.size (position self.old)
-            (position self.new) time.now }
+            (position self.new) time.now (L.notes log.old) (L.notes log.new) }
         ensures left { (at : ℕ)
             → HasTime time.now.second self.new.limits (slot at self.new.seats.items) }
         ensures waits { result ≡ false
@@ -277,7 +286,8 @@ impl<A: Archive, R: Source + Drop, K: Sink + Drop, S: Spool + Drop> Host<A, R, K
         requires there { at < length self.old.seats.items }
         requires shut { turn.now.is_shut ≡ is_some self.old.shut }
         ensures goes { Serves A.condition R.unread K.taken S.held S.size (position self.old)
-            (position self.new) at turn.now.time turn.now.is_full }
+            (position self.new) at turn.now.time turn.now.is_full (L.notes log.old)
+            (L.notes log.new) }
         ensures here { HasTime turn.now.time.second self.new.limits
             (slot at self.new.seats.items) }
         ensures waits { result ≡ false → IsWaiting S.size (slot at self.new.seats.items) }
@@ -304,7 +314,10 @@ impl<A: Archive, R: Source + Drop, K: Sink + Drop, S: Spool + Drop> Host<A, R, K
         requires there { at < length self.old.seats.items }
         requires done { MayGo (position self.old) second closing
             (slot at self.old.seats.items) }
-        ensures { Closed A.condition R.unread K.taken S.held self.old self.new at second }
+        ensures goes { Closed A.condition R.unread K.taken S.held self.old self.new at second
+            closing }
+        ensures noted { Grows (L.notes log.old) (L.notes log.new)
+            (farewell closing (slot at self.old.seats.items)) }
     {
         if let Some(seat) = self.seats[at].take() {
             self.hub.close(seat.connection);
@@ -317,15 +330,14 @@ impl<A: Archive, R: Source + Drop, K: Sink + Drop, S: Spool + Drop> Host<A, R, K
     /// most of them, unless one of its requests may be complete, which is answered first.
     fn shed<L: HostLog>(&mut self, second: u64, log: &mut L)
         ensures goes { Sheds A.condition R.unread K.taken S.held (position self.old)
-            (position self.new) second }
+            (position self.new) second (L.notes log.old) (L.notes log.new) }
         ensures left { (at : ℕ) → (slot at self.new.seats.items ≡ slot at self.old.seats.items)
             ⊎ (slot at self.new.seats.items ≡ None) }
         ensures stays { Stays self.old self.new }
     {
-        if let Some(at) = self.largest() {
-            if self.is_full() && is_read(&self.seats[at]) {
-                self.close(at, second, Closing::Large, log);
-            }
+        let at = self.largest();
+        if self.is_full() && self.is_read(at) {
+            self.close(at, second, Closing::Large, log);
         }
     }
 
@@ -342,10 +354,9 @@ impl<A: Archive, R: Source + Drop, K: Sink + Drop, S: Spool + Drop> Host<A, R, K
     }
 
     /// Where the most bytes of unfinished requests are kept.
-    fn largest(&self) -> Option<usize>
-        ensures { IfSome result (λ at. (at < length self.now.seats.items)
-            × ((place : ℕ) → unfinished_of (slot place self.now.seats.items)
-            ≤ unfinished_of (slot at self.now.seats.items))) }
+    fn largest(&self) -> usize
+        ensures { (place : ℕ) → unfinished_of (slot place self.now.seats.items)
+            ≤ unfinished_of (slot result self.now.seats.items) }
     {
         let mut largest = 0;
         for at in 0..self.end {
@@ -353,11 +364,15 @@ impl<A: Archive, R: Source + Drop, K: Sink + Drop, S: Spool + Drop> Host<A, R, K
                 largest = at;
             }
         }
-        if largest < self.seats.len() {
-            Some(largest)
-        } else {
-            None
-        }
+        largest
+    }
+
+    /// Whether who sits there is read, and none of its requests may be complete.
+    fn is_read(&self, at: usize) -> bool
+        ensures read { result ≡ true → IsReadAt (position self.now) at }
+        ensures unread { result ≡ false → IsReadAt (position self.now) at → ⊥ }
+    {
+        at < self.seats.len() && is_read(&self.seats[at])
     }
 
     /// Whether more bytes of unfinished requests are kept than may be.

@@ -1,6 +1,6 @@
 //! What is told of each connection, for a log of them.
 ghost use Rattle.std.specs.Prelude.{◌≡◌, List, [], ◌∷◌, Option, None};
-ghost use Rattle.dep_host.specs.Notes.{Note, LetIn, TurnedAway, Grows};
+ghost use Rattle.dep_host.specs.Notes.{Note, LetIn, TurnedAway, LetGo, Grows};
 
 use dep_hub::{AccessLog, ConnId, Next};
 use std::net::IpAddr;
@@ -40,10 +40,12 @@ pub struct Bytes {
     pub sent: u64,
 }
 
-/// A log that is told of a host's connections. What is sent and kept doesn't depend on it. The calls of an
-/// `AccessLog` come between `answering` and `answered`.
-pub trait HostLog: AccessLog {
-    /// What it was told so far of the clients that came, where it shows that.
+/// A log that is told of a host's connections. What is sent and kept doesn't depend on it.
+pub trait HostLog {
+    /// What is told of one item, between `answering` and `answered`.
+    type Item: AccessLog + Drop;
+
+    /// What it was told so far of the clients that came and went, where it shows that.
     ghost notes: { Self → Option (List Note) } = { λ _. None };
 
     /// A client was let in.
@@ -56,16 +58,19 @@ pub trait HostLog: AccessLog {
         ensures noted { Grows (notes self.old) (notes self.new)
             (TurnedAway address refusal ∷ []) };
 
-    /// The next item of a connection is answered, where one is complete: the calls up to `answered` are of
-    /// it. None may be.
-    fn answering(&mut self, connection: ConnId, address: IpAddr);
+    /// The next item of a connection is answered, where one is complete. None may be.
+    fn answering(&mut self, connection: ConnId, address: IpAddr) -> Self::Item
+        ensures noted { notes self.new ≡ notes self.old };
 
-    /// How the connection stands then, how many bytes were read of it since the item before, and how many the
-    /// wire took for the reply.
-    fn answered(&mut self, next: Next, bytes: Bytes);
+    /// What that was told of it, how the connection stands then, how many bytes were read of it since the item
+    /// before, and how many the wire took for the reply.
+    fn answered(&mut self, item: Self::Item, next: Next, bytes: Bytes)
+        ensures noted { notes self.new ≡ notes self.old };
 
     /// A connection was closed, of which so many bytes were read, and so many taken by its socket.
-    fn closed(&mut self, connection: ConnId, address: IpAddr, closing: Closing, bytes: Bytes);
+    fn closed(&mut self, connection: ConnId, address: IpAddr, closing: Closing, bytes: Bytes)
+        ensures noted { Grows (notes self.old) (notes self.new)
+            (LetGo connection closing ∷ []) };
 
     /// Nothing can go on at once: what it was told may be written now.
     fn rest(&mut self)

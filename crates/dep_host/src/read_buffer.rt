@@ -1,5 +1,5 @@
 //! What bytes are read into.
-ghost use Rattle.std.specs.Prelude.{◌≡◌, ◌≤◌, IfOk, length, min};
+ghost use Rattle.std.specs.Prelude.{◌≡◌, ◌<◌, ◌≤◌, IfOk, length, min, max};
 ghost use Rattle.dep_hub.specs.Turns.{most_read};
 ghost use Rattle.dep_outbox.specs.Sockets.{Receives};
 
@@ -13,15 +13,17 @@ pub const MOST_READ: usize = 65_536;
 #[derive(Drop)]
 pub struct ReadBuffer {
     pub(crate) bytes: Vec<u8>,
+    ghost some: { 0 < length bytes.items },
     ghost small: { length bytes.items ≤ most_read },
 }
 
 impl ReadBuffer {
-    /// A buffer of so many bytes, up to `MOST_READ`. An `Err` is want of memory.
+    /// A buffer of so many bytes, at least one, up to `MOST_READ`. An `Err` is want of memory.
     pub fn new(alloc: Global, size: usize) -> Result<ReadBuffer, AllocError>
-        ensures { IfOk result (λ buffer. length buffer.bytes.items ≡ min size MOST_READ) }
+        ensures { IfOk result (λ buffer. length buffer.bytes.items
+            ≡ min (max size 1) MOST_READ) }
     {
-        let bytes = vec![in alloc; 0u8; size.min(MOST_READ)]?;
+        let bytes = vec![in alloc; 0u8; size.max(1).min(MOST_READ)]?;
         Ok(ReadBuffer { bytes })
     }
 

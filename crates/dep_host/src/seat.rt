@@ -13,7 +13,7 @@ use crate::events::Client;
 use crate::limits::Limits;
 use crate::log::{Bytes, HostLog};
 use crate::read_buffer::ReadBuffer;
-use dep_hub::{Archive, Arrived, ConnId, Hub, Next};
+use dep_hub::{AccessLog, Archive, Arrived, ConnId, Hub, Next};
 use dep_moment::Moment;
 use dep_outbox::{Flushed, Received, Sink, Source, Spool, Wire};
 use std::net::IpAddr;
@@ -141,6 +141,7 @@ impl<R: Source, K: Sink, S: Spool> Seat<R, K, S> {
         ensures moved { min (self.old.course.moved
             + (self.new.wire.delivered - self.old.wire.delivered)) (2 ^ 64 - 1)
             ≤ self.new.course.moved }
+        ensures noted { L.notes log.new ≡ L.notes log.old }
     {
         let before = self.wire.delivered();
         self.act(hub, buffer, turn, log);
@@ -171,6 +172,7 @@ impl<R: Source, K: Sink, S: Spool> Seat<R, K, S> {
         ensures turn { TakesTurn A.condition R.unread K.taken S.held S.size hub.old hub.new
             self.old self.new turn.now.time.moment turn.now.is_full turn.now.is_shut }
         ensures moved { min self.old.course.moved (2 ^ 64 - 1) ≤ self.new.course.moved }
+        ensures noted { L.notes log.new ≡ L.notes log.old }
     {
         match self.course.duty(self.wire.owes()) {
             Duty::Flush => self.flush(),
@@ -190,18 +192,19 @@ impl<R: Source, K: Sink, S: Spool> Seat<R, K, S> {
         ensures turn { MayAnswer A.condition R.unread K.taken S.held S.size hub.old hub.new
             self.old self.new moment }
         ensures moved { self.new.course.moved ≡ self.old.course.moved }
+        ensures noted { L.notes log.new ≡ L.notes log.old }
     {
-        log.answering(self.connection, self.address);
+        let mut item = log.answering(self.connection, self.address);
         let received = self.course.unfinished;
         let before = self.wire.written();
-        let next = self.answer_next(hub, moment, log);
+        let next = self.answer_next(hub, moment, &mut item);
         let sent = self.wire.written().saturating_sub(before);
-        log.answered(next, Bytes { received, sent });
+        log.answered(item, next, Bytes { received, sent });
         self.flush();
     }
 
     /// Answers the next item.
-    fn answer_next<A: Archive, L: HostLog>(
+    fn answer_next<A: Archive, L: AccessLog>(
         &mut self,
         hub: &mut Hub<A>,
         moment: Moment,
@@ -328,7 +331,9 @@ pub(crate) fn unfinished<R: Source, K: Sink, S: Spool>(place: &Option<Seat<R, K,
 
 /// Whether who sits at a place is read, and none of its requests may be complete.
 pub(crate) fn is_read<R: Source, K: Sink, S: Spool>(place: &Option<Seat<R, K, S>>) -> bool
-    ensures { result ≡ true → IsSomeAnd place.now (λ seat. seat.course.phase ≡ Open) }
+    ensures read { result ≡ true → IsSomeAnd place.now (λ seat. seat.course.phase ≡ Open) }
+    ensures unread { result ≡ false
+        → IsSomeAnd place.now (λ seat. seat.course.phase ≡ Open) → ⊥ }
 {
     match place {
         Some(seat) => seat.course.phase == Phase::Open,

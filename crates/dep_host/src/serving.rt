@@ -1,10 +1,10 @@
 //! Serving all clients until no more comes.
-ghost use Rattle.std.specs.Prelude.{◌≡◌, ◌≢◌, List, [], ◌∷◌, Err, IfOk, IsNone, IsTrue, false};
+ghost use Rattle.std.specs.Prelude.{◌≡◌, ◌≢◌, ℕ, List, [], ◌∷◌, Err, IfOk, IsNone, IsTrue, false};
 ghost use Rattle.std.specs.List.{AllByRecursion};
 ghost use Rattle.dep_host.specs.Coming.{IsFresh, seconds_of};
 ghost use Rattle.dep_host.specs.Courses.{is_overdue};
-ghost use Rattle.dep_host.specs.Hosting.{Deed, GoesOn, position};
-ghost use Rattle.dep_host.specs.Meeting.{AsksOn, IsMet, IsOffer, MayEnd, Meets, Met, most_events};
+ghost use Rattle.dep_host.specs.Hosting.{Deed, GoesOn, IsWaiting, position, slot};
+ghost use Rattle.dep_host.specs.Meeting.{AsksOn, IsIdle, IsMet, IsOffer, MayEnd, Meets, Met, most_events};
 ghost use Rattle.dep_host.specs.Runs.{Promises};
 
 use crate::ending::Cause;
@@ -85,6 +85,7 @@ fn meet<A: Archive, R: Source + Drop, K: Sink + Drop, S: Spool + Drop, L: HostLo
     ensures met { IsMet A.condition A.account R.unread K.taken S.held S.size L.notes host.old host.new
         log.old log.new now.vacancy event result }
     ensures vacant { IfOk result (λ next. IsOffer host.new next.vacancy) }
+    ensures idle { IfOk result (λ next. next.is_busy ≡ false → IsIdle S.size host.new) }
     ensures shut { (cause : Cause) → result ≡ Err (Ended.Shut cause)
         → MayEnd host.new cause (seconds_of event) }
     ensures time { IfOk result (λ _. AllByRecursion (λ second.
@@ -97,7 +98,10 @@ fn meet<A: Archive, R: Source + Drop, K: Sink + Drop, S: Spool + Drop, L: HostLo
             is_writable,
         } => {
             host.awake(at, is_readable, is_writable);
-            Ok(now)
+            Ok(Now {
+                vacancy: now.vacancy,
+                is_busy: true,
+            })
         }
         Event::Client(client) => {
             let_in(host, now.vacancy, client, log);
@@ -126,8 +130,11 @@ fn go_on<A: Archive, R: Source + Drop, K: Sink + Drop, S: Spool + Drop>(
     is_busy: bool,
     second: u64,
 ) -> Result<Now, Ended>
+    requires waits { is_busy ≡ false
+        → (at : ℕ) → IsWaiting S.size (slot at host.old.seats.items) }
     ensures asks { AsksOn A.condition A.account R.unread K.taken S.held host.old host.new second }
     ensures vacant { IfOk result (λ next. IsOffer host.new next.vacancy) }
+    ensures idle { IfOk result (λ next. next.is_busy ≡ false → IsIdle S.size host.new) }
     ensures end { result ≢ Err Ended.Events }
     ensures unspent { result ≢ Err Ended.Spent }
     ensures shut { (cause : Cause) → result ≡ Err (Ended.Shut cause)
@@ -150,7 +157,9 @@ fn wind_up<A: Archive, R: Source + Drop, K: Sink + Drop, S: Spool + Drop>(
     is_busy: bool,
     second: u64,
 ) -> Result<Now, Ended>
+    requires idle { is_busy ≡ false → IsIdle S.size host.now }
     ensures vacant { IfOk result (λ next. IsOffer host.now next.vacancy) }
+    ensures idle { IfOk result (λ next. next.is_busy ≡ false → IsIdle S.size host.now) }
     ensures end { result ≢ Err Ended.Events }
     ensures unspent { result ≢ Err Ended.Spent }
     ensures shut { (cause : Cause) → result ≡ Err (Ended.Shut cause)

@@ -1,5 +1,5 @@
 -- Which part of the bytes that a connection holds arrives, and what its intake then keeps.
-use Rattle.std.proofs.Common.{◌≡◌, ◌≢◌, ◌⊎◌, ℕ, ◌≤◌, Bool, true, false, List, [], ◌∷◌, ◌++◌, Some, IsTrue, refl, sym, ap, subst, ◌∙◌, append_assoc, arith}
+use Rattle.std.proofs.Common.{◌≡◌, ◌≢◌, ◌⊎◌, ℕ, ◌≤◌, Bool, true, List, [], ◌∷◌, ◌++◌, Some, IsTrue, refl, sym, ap, subst, ◌∙◌, arith}
 use Rattle.std.proofs.lemmas.List.{append-nil}
 use Rattle.std.specs.Io.KnownBytes.{Appends}
 use Rattle.dep_types.specs.State.{State}
@@ -17,19 +17,10 @@ use Rattle.dep_hub.specs.Standing.{IsKeptAs}
 use Rattle.dep_hub.specs.Holding.{fed, IsHeldAs, Outcome, ArrivesAs, items_answered}
 use Rattle.dep_hub.specs.declared.arrived.Arrived.{Arrived}
 use Rattle.dep_hub.specs.declared.arrived.Arrived.TheVariants as came
-use Rattle.dep_hub.specs.declared.sending.Answered.TheVariants.{Sent, GaveUp, CutShort}
-use Rattle.dep_hub.proofs.HubLemmas.{beyond}
-use Rattle.dep_hub.proofs.Endings.{ending}
+use Rattle.dep_hub.proofs.HubLemmas.{beyond, open_shut}
+use Rattle.dep_hub.proofs.Endings.{ending, place_nothing}
 
 -- ---- places
-
-pub place_nothing : (p : Place) → place_with p [] ≡ p
-place_nothing (Open continued rest) = ap (λ bytes. Open continued bytes) (append-nil rest)
-place_nothing Shut = refl
-
-pub place_twice : (p : Place) (a b : List ℕ) → place_with (place_with p a) b ≡ place_with p (a ++ b)
-place_twice (Open continued rest) a b = ap (λ bytes. Open continued bytes) (append_assoc rest a b)
-place_twice Shut a b = refl
 
 open_with : (p : Place) (bytes : List ℕ) → IsOpen p → IsOpen (place_with p bytes)
 open_with (Open continued rest) bytes o = tt
@@ -39,29 +30,11 @@ was_open : (p : Place) (bytes : List ℕ) → IsOpen (place_with p bytes) → Is
 was_open (Open continued rest) bytes o = tt
 was_open Shut bytes o = absurd o
 
-pub shut_open : (p : Place) → IsOpen p → p ≡ Shut → ⊥
-shut_open p o e = subst (λ q. IsOpen q) e o
-
 pub no_bytes : (p : Place) → HasBytes p → p ≡ Shut → ⊥
 no_bytes p b e = subst (λ q. HasBytes q) e b
 
-pub true_false : ◌≡◌ {A = Bool} true false → ⊥
-true_false e = cc
-
-pub open_closed : came.Open ≢ came.Closed
-open_closed e = cc
-
-pub open_cut : came.Open ≢ came.Cut
-open_cut e = cc
-
 pub closed_cut : came.Closed ≢ came.Cut
 closed_cut e = cc
-
-pub gave_up_sent : GaveUp ≢ Sent
-gave_up_sent e = cc
-
-pub cut_short_sent : CutShort ≢ Sent
-cut_short_sent e = cc
 
 pub none_of_one : 0 ≤ 1
 none_of_one = omega arith
@@ -132,7 +105,7 @@ module _ (limit : ℕ) (offered : List ℕ) (reading : Reading) where
 
   pub keeps_dead : (line : Line) → Keeps limit line offered reading → IsDeadIfShut reading
   keeps_dead Absent k = absurd k.keeps
-  keeps_dead (Live stream) k = λ shut. absurd (shut_open reading.place (live_open stream k) shut)
+  keeps_dead (Live stream) k = λ shut. absurd (open_shut reading.place (live_open stream k) shut)
   keeps_dead ShutLine k = λ _. ended_dead k
 
   -- the first item of the bytes is that of what the line keeps, with those that were offered

@@ -24,8 +24,9 @@ use Rattle.dep_hub.proofs.Leaving.{Settles, stays_as, leaves_wider, leaves_befor
 use Rattle.dep_hub.proofs.ConnectionLemmas.{index_some, intake_set, intake_push, absent_above}
 use Rattle.dep_hub.proofs.HubLemmas.{kept_fresh, stopped_run}
 use Rattle.dep_hub.proofs.ShutLemmas.{ends_sent}
-use Rattle.dep_hub.proofs.HeldLemmas.{place_nothing, place_twice, open_closed, open_cut, Keeps, NextOver}
+use Rattle.dep_hub.proofs.HeldLemmas.{Keeps, NextOver}
 use Rattle.dep_hub.proofs.PartLemmas.{over_next, over_out}
+use Rattle.dep_hub.proofs.Endings.{place_nothing, place_twice}
 
 -- ---- lines, and what is held of them
 
@@ -199,8 +200,8 @@ module _ {A : Type 0} (condition : A → Condition) (old new : Hub A) (n i : ℕ
     pub refuses : (piece : List ℕ) (answer : Arrived) → RunsOut (place_with c.intake.place piece) Before After answer → answer ≢ came.NoSuch → now ≡ shut_reading c.intake
         → OffersTo condition taken takes failures failures_after old new n piece answer
     refuses piece came.Open o there shut = absurd (ends_sent want_of_memory o.sent o.sends)
-    refuses piece came.Closed o there shut = refused piece came.Closed o (λ e. open_closed (sym e)) shut
-    refuses piece came.Cut o there shut = refused piece came.Cut o (λ e. open_cut (sym e)) shut
+    refuses piece came.Closed o there shut = refused piece came.Closed o (λ e. cc) shut
+    refuses piece came.Cut o there shut = refused piece came.Cut o (λ e. cc) shut
     refuses piece came.NoSuch o there shut = absurd (there refl)
 
 -- ---- connections that are opened and closed

@@ -1,6 +1,5 @@
 -- What a hub stands for, after each of its calls.
 use Rattle.std.proofs.Common.{◌≡◌, ◌≢◌, ◌⊎◌, ℕ, ◌==◌, Bool, true, false, List, [], ◌∷◌, ◌++◌, get_or, set, Option, Some, None, if◌then◌else◌, IsTrue, refl, sym, ap, subst, ◌∙◌, append_assoc, arith, inl, inr}
-use Rattle.std.specs.Io.KnownBytes.{Keeps}
 use Rattle.std.specs.Prelude.{IsSome}
 use Rattle.std.proofs.lemmas.Bool.{eqb-true, eq-eqb}
 use Rattle.dep_types.specs.State.{State, empty_state}
@@ -78,7 +77,7 @@ serves_rest p (step_fails items item at r x) o = absurd o
 serves_rest p (gives_up items at r b x) o = absurd o
 
 -- what is open is not shut
-open_shut : (at : Place) → IsOpen at → at ≡ Shut → ⊥
+pub open_shut : (at : Place) → IsOpen at → at ≡ Shut → ⊥
 open_shut (Open continued rest) o e = cc
 open_shut Shut o e = o
 
@@ -359,10 +358,6 @@ module _ {A : Type 0} (condition : A → Condition) (old new : Hub A) (n i : ℕ
   comes_to Closed there v = over Closed v
   comes_to Cut there v = over Cut v
   comes_to NoSuch there v = absurd (there refl)
-
-pub keeps_same : (held : Option (List ℕ)) → Keeps held held
-keeps_same None = tt
-keeps_same (Some bytes) = refl
 
 -- a connection that is not there is as good as closed
 absent_if : (n m : ℕ) (cs : List Connection) (b : Bool) → b ≡ (m == n) → intake_of cs n ≡ None → intake_of cs m ≡ (if b then None else intake_of cs m)

@@ -10,7 +10,7 @@ use Rattle.dep_message.specs.Stream.{Item, FirstAt, Waits}
 use Rattle.dep_message.specs.Giving.{Takes}
 use Rattle.dep_hub.specs.Machine.{state_after, answer_at_place, SendsUpTo, want_of_memory}
 use Rattle.dep_hub.specs.Sending.{Outside, Passes, outside}
-use Rattle.dep_hub.specs.Serving.{Arrival, Answers, IsDeadIfShut, Progress, ServesOver, answer_after}
+use Rattle.dep_hub.specs.Serving.{KeepsIntake, Arrival, Answers, IsDeadIfShut, Progress, ServesOver, answer_after}
 use Rattle.dep_hub.specs.Nexts.{Stays, Rests, RunsOut, IsLast, IsDead, Ends, GoesOn, IsWaiting, AnswersNext, TakesNext, ended_as, next_behind, reading_behind}
 use Rattle.dep_hub.specs.Shut.{EndsFixed, waits, has_ended}
 use Rattle.dep_hub.specs.declared.arrived.Arrived.{Arrived}
@@ -24,6 +24,10 @@ use Rattle.dep_hub.proofs.Leaving.{Settles}
 use Rattle.dep_hub.proofs.SendingLemmas.{passes_none, passes_both, passes_at}
 use Rattle.dep_hub.proofs.ShutLemmas.{leaves_same, leaves_both, ends_sent, there_sent}
 use Rattle.dep_hub.proofs.ServingLemmas.{served_more, serves_waiting, serves_last, serves_gives_up, first_at, answer_open}
+
+-- what an intake keeps it keeps over two stretches
+pub keeps_on : (old mid new : Reading) → KeepsIntake old mid → KeepsIntake mid new → KeepsIntake old new
+keeps_on old mid new h k = record { limit = k.limit ∙ h.limit; dead = λ dead. k.dead (h.dead dead) }
 
 pub closed_more : next.Closed ≢ More
 closed_more e = cc
@@ -39,12 +43,6 @@ closed_there e = cc
 
 pub cut_there : Cut ≢ NoSuch
 cut_there e = cc
-
-open_cut : StaysOpen ≢ Cut
-open_cut e = cc
-
-closed_cut : Closed ≢ Cut
-closed_cut e = cc
 
 pub waiting_more : next.Waiting ≢ More
 waiting_more e = cc
@@ -163,14 +161,14 @@ module _ (config : Config) (came : Arrival) (old mid new : Outside) (reading : R
   pub serves_wait : (next : Place) → Settles new.store → (IsDeadIfShut came.reading → IsDeadIfShut reading) → IsWaiting reading mid new next
       → ServesOver config came old new next StaysOpen
   serves_wait next settles dead w =
-      serves_waiting config came old new reading.place (served_stays v w.rests) settles next w.same StaysOpen (λ d. answer_open reading (dead d) w.lives) open_cut waits
+      serves_waiting config came old new reading.place (served_stays v w.rests) settles next w.same StaysOpen (λ d. answer_open reading (dead d) w.lives) (λ e. cc) waits
       (λ same. subst (λ n. Waits n reading.place) (limit ∙ same) w.waits)
 
   -- nothing is read any more
   serves_dead : (answer : Arrived) (p : Place) → Settles new.store → p ≡ Shut → IsDead reading mid new answer → ServesOver config came old new p answer
   serves_dead answer p settles e d =
       serves_waiting config came old new reading.place (served_stays v d.rests) settles p (e ∙ sym d.shut) answer
-      (λ _. d.answer_is ∙ ap answer_at_place (sym d.shut)) (λ c. closed_cut (sym d.answer_is ∙ c)) (subst (λ a. EndsFixed [] a) (sym d.answer_is) has_ended)
+      (λ _. d.answer_is ∙ ap answer_at_place (sym d.shut)) (λ c. let bad : Closed ≡ Cut = sym d.answer_is ∙ c in cc) (subst (λ a. EndsFixed [] a) (sym d.answer_is) has_ended)
       (λ same. subst (λ q. Waits config.max_upload q) (sym d.shut) tt)
 
   serves_by : (answer : Arrived) (p : Place) → Settles new.store → p ≡ Shut

@@ -1,5 +1,5 @@
 -- What arrives of the bytes that a connection holds, as its next item is answered.
-use Rattle.std.proofs.Common.{◌≡◌, ◌≢◌, ◌⊎◌, inl, inr, ℕ, List, [], ◌∷◌, ◌++◌, length, IsTrue, refl, sym, subst, ◌∙◌}
+use Rattle.std.proofs.Common.{true, false, ◌≡◌, ◌≢◌, ◌⊎◌, inl, inr, ℕ, List, [], ◌∷◌, ◌++◌, length, IsTrue, refl, sym, subst, ◌∙◌}
 use Rattle.std.proofs.lemmas.List.{append-nil}
 use Rattle.dep_types.specs.State.{State}
 use Rattle.dep_types.specs.Writing.{HasRisen}
@@ -27,8 +27,9 @@ use Rattle.dep_hub.specs.declared.sending.Answered.TheVariants.{Sent, GaveUp, Cu
 use Rattle.dep_hub.proofs.Leaving.{Settles, stays_as}
 use Rattle.dep_hub.proofs.ShutLemmas.{continues_more, ends_fixed, sends_behind, sends_no_more}
 use Rattle.dep_hub.proofs.ServingLemmas.{still_more, fails_still}
-use Rattle.dep_hub.proofs.HubLemmas.{beyond}
-use Rattle.dep_hub.proofs.HeldLemmas.{place_nothing, shut_open, no_bytes, true_false, open_closed, open_cut, closed_cut, gave_up_sent, cut_short_sent, none_of_one, one_of_one, NextPart, StillPart, Keeps, NextOver, keeps_limit, ended_limit, keeps_place, ended_place, live_open, ended_dead, keeps_dead, first_of, no_first, Reaches, reaches_next, reaches_none}
+use Rattle.dep_hub.proofs.HubLemmas.{beyond, open_shut}
+use Rattle.dep_hub.proofs.HeldLemmas.{no_bytes, closed_cut, none_of_one, one_of_one, NextPart, StillPart, Keeps, NextOver, keeps_limit, ended_limit, keeps_place, ended_place, live_open, ended_dead, keeps_dead, first_of, no_first, Reaches, reaches_next, reaches_none}
+use Rattle.dep_hub.proofs.Endings.{place_nothing}
 
 module _ (config : Config) (moment : ℕ) (old new : Outside) (now : Reading) (settles : Settles new.store) (outcome : Outcome) where
   -- the items are answered, and the connection stays open
@@ -50,7 +51,7 @@ module _ (config : Config) (moment : ℕ) (old new : Outside) (now : Reading) (s
         stays_clean = λ _. new.store.open_if_kept (state_after config s items moment) stands;
         kept = r.kept;
         stop = stays_as new.store (state_after config s items moment) settles stands;
-        cause = λ c. absurd (open_cut c);
+        cause = λ c. cc;
       })
 
   still_live : (stream offered : List ℕ) (items : List Item) (sent : List ℕ) (r : Reaches config.max_upload stream offered items now)
@@ -160,14 +161,14 @@ module _ (config : Config) (moment : ℕ) (old new : Outside) (reading now : Rea
       parts (Live stream) s offered k stands =
           let r = reaches_none config.max_upload stream offered reading now k same w.same w.waits in
           part_live config moment old new now settles (IsNext Waiting) stream offered s [] [] r.0 (refl, r.1, refl) refl (w.rests.stays.state s stands)
-      parts ShutLine s offered k stands = absurd (true_false (sym (ended_dead config.max_upload offered reading k) ∙ w.lives))
+      parts ShutLine s offered k stands = absurd (let bad : true ≡ false = sym (ended_dead config.max_upload offered reading k) ∙ w.lives in cc)
 
       still : (line : Line) (offered : List ℕ) → Keeps config.max_upload line offered reading → StillPart config offered moment line [] now came.Open (IsNext Waiting)
       still Absent offered k = absurd k.keeps
       still (Live stream) offered k =
           let r = reaches_none config.max_upload stream offered reading now k same w.same w.waits in
           still_live config moment old new now settles (IsNext Waiting) stream offered [] [] r.0 (λ s. (refl, r.1, refl)) (λ s. (refl, refl))
-      still ShutLine offered k = absurd (true_false (sym (ended_dead config.max_upload offered reading k) ∙ w.lives))
+      still ShutLine offered k = absurd (let bad : true ≡ false = sym (ended_dead config.max_upload offered reading k) ∙ w.lives in cc)
 
   -- ---- memory ran out
   pub over_out : (answer : Arrived) (outcome : Outcome) (o : RunsOut reading.place old new answer) → outcome 0 [] o.sent → answer ≢ came.Open → now.place ≡ Shut
@@ -218,14 +219,14 @@ module _ (config : Config) (moment : ℕ) (old new : Outside) (reading now : Rea
       parts : (line : Line) (s : State) (offered : List ℕ) → Keeps config.max_upload line offered reading → StandsFor old.store s
           → NextPart config offered moment line s [] old new now came.Closed (IsNext Closed)
       parts Absent s offered k stands = absurd k.keeps
-      parts (Live stream) s offered k stands = absurd (shut_open reading.place (live_open config.max_upload offered reading stream k) d.shut)
+      parts (Live stream) s offered k stands = absurd (open_shut reading.place (live_open config.max_upload offered reading stream k) d.shut)
       parts ShutLine s offered k stands =
-          part_shut config moment old new now settles (IsNext Closed) ShutLine offered s s [] came.Closed at_shut_line (none_of_one, refl) (λ e. open_closed (sym e))
+          part_shut config moment old new now settles (IsNext Closed) ShutLine offered s s [] came.Closed at_shut_line (none_of_one, refl) (λ e. cc)
           (λ _. d.rests.stays.state s stands) (ended_shut offered k shut) (stays_as new.store s settles (d.rests.stays.state s stands)) (λ c. absurd (closed_cut c))
 
       still : (line : Line) (offered : List ℕ) → Keeps config.max_upload line offered reading → StillPart config offered moment line [] now came.Closed (IsNext Closed)
       still Absent offered k = absurd k.keeps
-      still (Live stream) offered k = absurd (shut_open reading.place (live_open config.max_upload offered reading stream k) d.shut)
+      still (Live stream) offered k = absurd (open_shut reading.place (live_open config.max_upload offered reading stream k) d.shut)
       still ShutLine offered k =
           still_shut config moment old new now settles (IsNext Closed) ShutLine offered [] came.Closed (λ s. (at_shut_line, (none_of_one, refl))) (ended_shut offered k shut)
 
@@ -252,7 +253,7 @@ module _ (config : Config) (moment : ℕ) (old new : Outside) (reading now : Rea
           let x = a.steps disk s stands in
           subst (λ bytes. NextPart config offered moment (Live stream) s bytes old new now came.Closed (IsNext Closed)) (append-nil (sent_by (step config s item moment)) ∙ sym x.whole)
           (part_shut config moment old new now settles (IsNext Closed) (Live stream) offered s (step config s item moment).state (replies config s (item ∷ []) moment) came.Closed
-          (at_live (serves_all (item ∷ []) {at = Shut} (reads stream offered k) tt)) (one_of_one, refl) (λ e. open_closed (sym e)) (λ _. x.stands) (live_shut stream offered k shut)
+          (at_live (serves_all (item ∷ []) {at = Shut} (reads stream offered k) tt)) (one_of_one, refl) (λ e. cc) (λ _. x.stands) (live_shut stream offered k shut)
           (stays_as new.store (step config s item moment).state settles x.stands) (λ c. absurd (closed_cut c)))
       parts disk ShutLine s offered k stands = absurd (no_first config.max_upload offered reading item next k f)
 
@@ -305,25 +306,25 @@ module _ (config : Config) (moment : ℕ) (old new : Outside) (reading now : Rea
   closed_by : (item : Item) (next : Place) (how : Answered) → FirstAt reading.limit reading.place item next → (how ≡ Sent → next ≡ Shut)
       → Answers config old new item moment how → came.Closed ≡ answer_after how → now.place ≡ Shut → NextOver config reading now moment old new came.Closed (IsNext Closed)
   closed_by item next Sent f ends a e shut = over_sent item next f (ends refl) a shut
-  closed_by item next GaveUp f ends a e shut = over_failed item next GaveUp (IsNext Closed) f gave_up_sent a (one_of_one, refl) (λ o. open_closed (sym o)) shut a.steps
+  closed_by item next GaveUp f ends a e shut = over_failed item next GaveUp (IsNext Closed) f (λ e. cc) a (one_of_one, refl) (λ o. cc) shut a.steps
   closed_by item next CutShort f ends a e shut = absurd (closed_cut e)
 
   cut_by : (item : Item) (next : Place) (how : Answered) → FirstAt reading.limit reading.place item next
       → Answers config old new item moment how → came.Cut ≡ answer_after how → now.place ≡ Shut → NextOver config reading now moment old new came.Cut (IsNext Cut)
   cut_by item next Sent f a e shut = absurd (closed_cut (sym e))
   cut_by item next GaveUp f a e shut = absurd (closed_cut (sym e))
-  cut_by item next CutShort f a e shut = over_failed item next CutShort (IsNext Cut) f cut_short_sent a (one_of_one, refl) (λ o. open_cut (sym o)) shut a.steps
+  cut_by item next CutShort f a e shut = over_failed item next CutShort (IsNext Cut) f (λ e. cc) a (one_of_one, refl) (λ o. cc) shut a.steps
 
   over_closed : now.place ≡ Shut → IsLast config reading moment old new came.Closed ⊎ (RunsOut reading.place old new came.Closed ⊎ IsDead reading old new came.Closed)
       → NextOver config reading now moment old new came.Closed (IsNext Closed)
   over_closed shut (inl l) = closed_by l.item l.next l.how l.first l.closes l.answers l.answer_is shut
-  over_closed shut (inr (inl o)) = over_out came.Closed (IsNext Closed) o (none_of_one, refl) (λ e. open_closed (sym e)) shut
+  over_closed shut (inr (inl o)) = over_out came.Closed (IsNext Closed) o (none_of_one, refl) (λ e. cc) shut
   over_closed shut (inr (inr d)) = over_dead d shut
 
   over_cut : now.place ≡ Shut → IsLast config reading moment old new came.Cut ⊎ (RunsOut reading.place old new came.Cut ⊎ IsDead reading old new came.Cut)
       → NextOver config reading now moment old new came.Cut (IsNext Cut)
   over_cut shut (inl l) = cut_by l.item l.next l.how l.first l.answers l.answer_is shut
-  over_cut shut (inr (inl o)) = over_out came.Cut (IsNext Cut) o (none_of_one, refl) (λ e. open_cut (sym e)) shut
+  over_cut shut (inr (inl o)) = over_out came.Cut (IsNext Cut) o (none_of_one, refl) (λ e. cc) shut
   over_cut shut (inr (inr d)) = absurd (closed_cut (sym d.answer_is))
 
   -- ---- whatever it was

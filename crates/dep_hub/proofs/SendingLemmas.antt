@@ -18,25 +18,16 @@ use Rattle.dep_hub.specs.Sending.{SendsReply, Outside, Passes, SendsReady}
 use Rattle.dep_hub.specs.declared.sending.Answered.{Answered}
 use Rattle.dep_hub.specs.declared.sending.Answered.TheVariants.{Sent, GaveUp, CutShort}
 use Rattle.dep_hub.proofs.Leaving.{Settles, stays_as}
+use Rattle.std.proofs.KnownBytes.{Appends-nil, Appends-trans}
 
 -- ---- what was sent, in parts
 
-pub appends_none : (held : Option (List ℕ)) → Appends held held []
-appends_none None = tt
-appends_none (Some bytes) = sym (append-nil bytes)
-
-pub appends_both : (a b c : Option (List ℕ)) (xs ys : List ℕ) → Appends a b xs → Appends b c ys → Appends a c (xs ++ ys)
-appends_both None b c xs ys h k = tt
-appends_both (Some xs') None c xs ys h k = absurd h
-appends_both (Some xs') (Some bs) None xs ys h k = absurd k
-appends_both (Some xs') (Some bs) (Some cs) xs ys h k = k ∙ (ap (λ l. l ++ ys) h ∙ append_assoc xs' xs ys)
-
 pub passes_none : (at : Outside) → Passes at at []
-passes_none at = record { appends = appends_none at.taken; honest = λ h. h; clean = λ h. h }
+passes_none at = record { appends = Appends-nil at.taken; honest = λ h. h; clean = λ h. h }
 
 pub passes_both : {a b c : Outside} {xs ys : List ℕ} → Passes a b xs → Passes b c ys → Passes a c (xs ++ ys)
 passes_both {a} {b} {c} {xs} {ys} p q = record {
-  appends = appends_both a.taken b.taken c.taken xs ys p.appends q.appends;
+  appends = Appends-trans a.taken b.taken c.taken xs ys p.appends q.appends;
   honest = λ h. p.honest (q.honest h);
   clean = λ h. p.clean (q.clean h);
 }
@@ -111,7 +102,7 @@ module _ (old mid new : Outside) (p : Performed) (id : StoredFile) (is : p.store
   some_stored stepped perf = perf.ready.not_empty (subst IsSome (sym is) refl)
 
   passes : (sent : List ℕ) → Appends mid.taken new.taken sent → Passes old new (first.0 ++ sent)
-  passes sent a = record { appends = appends_both old.taken mid.taken new.taken first.0 sent first.1 a; honest = honest; clean = clean }
+  passes sent a = record { appends = Appends-trans old.taken mid.taken new.taken first.0 sent first.1 a; honest = honest; clean = clean }
 
   pub ready_all : (x : (sent : List ℕ) × Appends mid.taken new.taken sent
       × (HasCleanDisk new.store → (s : State) → StandsFor old.store s → HasContent s id.file sent))

@@ -202,9 +202,6 @@ answers_reply config held holds before after store item moment CutShort reply se
   shut = λ disk none. (asks x.0 x.2, leaves_same store);
 }
 
-true_false : ◌≡◌ {A = Bool} true false → ⊥
-true_false e = cc
-
 pub never_open : (continued : Bool) (rest : List ℕ) → Open continued rest ≡ Shut → ⊥
 never_open continued rest e = cc
 
@@ -214,7 +211,7 @@ answer_open reading dead lives = by_place reading.place dead
   where
     by_place : (at : Place) → (at ≡ Shut → reading.is_dead ≡ true) → StaysOpen ≡ answer_at_place at
     by_place (Open continued rest) d = refl
-    by_place Shut d = absurd (true_false (sym (d refl) ∙ lives))
+    by_place Shut d = absurd (let bad : true ≡ false = sym (d refl) ∙ lives in cc)
 
 module _ (config : Config) (came : Arrival) (old now : Outside) (at : Place) (v : Progress config came old now at) where
   -- no item is complete any more

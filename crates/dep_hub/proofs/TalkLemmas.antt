@@ -1,8 +1,7 @@
 -- How a conversation goes on, and how it ends.
 use Rattle.std.proofs.Common.{IsTrue, arith, ◌+◌, ◌<◌, ◌≤◌, ◌⊎◌, inl, inr, zero, suc, length, ◌≡◌, ℕ, List, [], ◌∷◌, ◌++◌, Option, Some, None, map, refl, sym, ap, subst, ◌∙◌, append_assoc}
-use Rattle.std.proofs.lemmas.List.{append-nil}
+use Rattle.std.proofs.lemmas.List.{append-nil, length-append}
 use Rattle.std.specs.List.{flat_map, FoldsTo}
-use Rattle.std.specs.Io.KnownBytes.{Appends, Consumes, Keeps}
 use Rattle.dep_types.specs.State.{State}
 use Rattle.dep_types.specs.declared.config.Config.{Config}
 use Rattle.dep_types.specs.Conditions.{Condition, HasCleanDisk, Leaves}
@@ -14,8 +13,6 @@ use Rattle.dep_hub.specs.declared.hub.Hub.{Hub}
 use Rattle.dep_hub.specs.declared.arrived.Arrived.{Arrived}
 use Rattle.dep_hub.specs.declared.arrived.Arrived.TheVariants.{Open as StaysOpen, Closed as HasClosed, Cut}
 use Rattle.dep_hub.proofs.Leaving.{Settles, leaves_wider}
-use Rattle.dep_hub.proofs.SendingLemmas.{appends_none, appends_both}
-use Rattle.dep_hub.proofs.HubLemmas.{keeps_same}
 use Rattle.dep_hub.proofs.ExchangeLemmas.{last_more, exchanges_run, exchanged_along, talks_exchange, talks_stop}
 use Rattle.dep_hub.proofs.ShutLemmas.{conversation_shut}
 use Rattle.dep_hub.proofs.TurnLemmas.{goes_same, goes_then}
@@ -23,14 +20,11 @@ use Rattle.dep_hub.specs.Turns.{Turn, pieces_of, replies_of, record_of, records_
 use Rattle.dep_hub.specs.Conversation.{Wire, Session, session, Transfers, GivesNothing, Clocks, Converses, IsAnswered, IsUnserved, ConversesOver, next_after, AddsAll, StopsAll, Talk, OneTurn, OpenTurn, NoTurn, TurnsTo, TalksUntil, Talks, silent, turn, ahead}
 use Rattle.dep_hub.specs.declared.connection.Served.{Served}
 use Rattle.dep_hub.specs.declared.connection.Served.TheVariants.{Ended, Closed, Unserved, ReadFault, WriteFault, Bound}
+use Rattle.std.proofs.KnownBytes.{Keeps-refl, Appends-nil, Appends-trans, Appends-kept, Consumes-nil, Consumes-trans, Consumes-kept}
+use Rattle.std.proofs.lemmas.Grind.{flat_map-append}
 
-pieces_more : (turns : List Turn) (t : Turn) → flat_map (λ (u : Turn). u.piece) (turns ++ t ∷ []) ≡ flat_map (λ (u : Turn). u.piece) turns ++ t.piece
-pieces_more [] t = append-nil t.piece
-pieces_more (u ∷ turns) t = ap (λ l. u.piece ++ l) (pieces_more turns t) ∙ sym (append_assoc u.piece (flat_map (λ (v : Turn). v.piece) turns) t.piece)
-
-sent_more : (turns : List Turn) (t : Turn) → flat_map (λ (u : Turn). u.sent) (turns ++ t ∷ []) ≡ flat_map (λ (u : Turn). u.sent) turns ++ t.sent
-sent_more [] t = append-nil t.sent
-sent_more (u ∷ turns) t = ap (λ l. u.sent ++ l) (sent_more turns t) ∙ sym (append_assoc u.sent (flat_map (λ (v : Turn). v.sent) turns) t.sent)
+sent_more : (f : Turn → List ℕ) (turns : List Turn) (t : Turn) → flat_map f (turns ++ t ∷ []) ≡ flat_map f turns ++ f t
+sent_more f turns t = flat_map-append f turns (t ∷ []) ∙ ap (λ l. flat_map f turns ++ l) (append-nil (f t))
 
 folds_more : {C A : Type 0} (r : C → A → C → Type 0) (a : C) (xs : List A) (b c : C) (x : A) → FoldsTo r a xs b → r b x c → FoldsTo r a (xs ++ x ∷ []) c
 folds_more r a [] b c x f s = (c, subst (λ d. r d x c) (sym f) s, refl)
@@ -42,42 +36,21 @@ pub clocks_keep : {C : Type 0} (ticks : C → ℕ → C → Type 0) (P : C → T
 clocks_keep ticks P keeps a [] b f p = subst P f p
 clocks_keep ticks P keeps a (t ∷ turns) b f p = clocks_keep ticks P keeps f.0 turns b f.2 (keeps a t.moment f.0 f.1 p)
 
-consumes_both : (a b c : Option (List ℕ)) (xs ys : List ℕ) → Consumes a b xs → Consumes b c ys → Consumes a c (xs ++ ys)
-consumes_both None b c xs ys h k = tt
-consumes_both (Some as') None c xs ys h k = absurd h
-consumes_both (Some as') (Some bs) None xs ys h k = absurd k
-consumes_both (Some as') (Some bs) (Some cs) xs ys h k = h ∙ (ap (λ l. xs ++ l) k ∙ sym (append_assoc xs ys cs))
-
-consumes_none : (a : Option (List ℕ)) → Consumes a a []
-consumes_none None = tt
-consumes_none (Some xs) = refl
-
-keeps_consumes : (a b : Option (List ℕ)) → Keeps a b → Consumes a b []
-keeps_consumes None b k = tt
-keeps_consumes (Some xs) None k = absurd k
-keeps_consumes (Some xs) (Some ys) k = sym k
-
-keeps_appends : (a b : Option (List ℕ)) → Keeps a b → Appends a b []
-keeps_appends None b k = tt
-keeps_appends (Some xs) None k = absurd k
-keeps_appends (Some xs) (Some ys) k = k ∙ sym (append-nil xs)
-
-length_more : (turns : List Turn) (t : Turn) → length (turns ++ t ∷ []) ≡ length turns + 1
-length_more [] t = refl
-length_more (u ∷ turns) t = omega (arith, length_more turns t)
-
 all_more : (turns : List Turn) (t : Turn) → ArePieces turns → IsPiece t → ArePieces (turns ++ t ∷ [])
 all_more [] t a p = (p, tt)
 all_more (u ∷ turns) t a p = (a.0, all_more turns t a.1 p)
 
 transfers_both : (a b c : Wire) (xs ys us vs : List ℕ) → Transfers a b xs us → Transfers b c ys vs → Transfers a c (xs ++ ys) (us ++ vs)
 transfers_both a b c xs ys us vs t u = record {
-  pieces = consumes_both a.unread b.unread c.unread xs ys t.pieces u.pieces;
-  replies = appends_both a.taken b.taken c.taken us vs t.replies u.replies;
+  pieces = Consumes-trans a.unread b.unread c.unread xs ys t.pieces u.pieces;
+  replies = Appends-trans a.taken b.taken c.taken us vs t.replies u.replies;
 }
 
 rests_transfers : (a b : Wire) → GivesNothing a b → Transfers a b [] []
-rests_transfers a b r = record { pieces = keeps_consumes a.unread b.unread r.pieces; replies = keeps_appends a.taken b.taken r.replies }
+rests_transfers a b r = record {
+  pieces = Consumes-kept a.unread a.unread b.unread [] (Consumes-nil a.unread) r.pieces;
+  replies = Appends-kept a.taken a.taken b.taken [] (Appends-nil a.taken) r.replies;
+}
 
 -- ---- the reads
 
@@ -118,7 +91,7 @@ module _ {A : Type 0} (condition : A → Condition) where
     counted = refl;
     sizes = tt;
     talks = silent;
-    transfers = record { pieces = consumes_none at.wire.unread; replies = appends_none at.wire.taken };
+    transfers = record { pieces = Consumes-nil at.wire.unread; replies = Appends-nil at.wire.taken };
     moments = refl;
     answered = refl;
     goes = goes_same condition at.hub;
@@ -132,11 +105,11 @@ module _ {A : Type 0} (condition : A → Condition) where
       let u : Turn = record { piece = o.piece; moment = o.moment; sent = o.sent; answer = answer } in
       record {
         turns = t.turns ++ u ∷ [];
-        counted = length_more t.turns u ∙ ap (λ m. m + 1) t.counted;
+        counted = length-append t.turns (u ∷ []) ∙ ap (λ m. m + 1) t.counted;
         sizes = all_more t.turns u t.sizes (o.some, o.small);
         talks = turn u t.talks t.answered t.goes.config o.arrives;
-        transfers = subst (λ l. Transfers old.wire new.wire l (replies_of (t.turns ++ u ∷ []))) (sym (pieces_more t.turns u))
-            (subst (λ l. Transfers old.wire new.wire (pieces_of t.turns ++ o.piece) l) (sym (sent_more t.turns u))
+        transfers = subst (λ l. Transfers old.wire new.wire l (replies_of (t.turns ++ u ∷ []))) (sym (sent_more (λ (v : Turn). v.piece) t.turns u))
+            (subst (λ l. Transfers old.wire new.wire (pieces_of t.turns ++ o.piece) l) (sym (sent_more (λ (v : Turn). v.sent) t.turns u))
             (transfers_both old.wire mid.wire new.wire (pieces_of t.turns) o.piece (replies_of t.turns) o.sent t.transfers o.transfers));
         moments = folds_more (λ before (v : Turn) after. ticks before v.moment after) old.clock t.turns mid.clock new.clock u t.moments o.ticked;
         answered = last_more t.turns u;
@@ -391,6 +364,6 @@ module _ {A : Type 0} (condition : A → Condition) where
     same_store = store;
     stays = stays;
     adds = λ clean first records h. subst (λ rs. StandsAfter condition new first rs) (sym (append-nil records)) (same first records h);
-    rests = record { pieces = keeps_same wire.unread; reads = refl; last = refl; replies = keeps_same wire.taken; failures = refl };
+    rests = record { pieces = Keeps-refl wire.unread; reads = refl; last = refl; replies = Keeps-refl wire.taken; failures = refl };
     same_clock = refl;
   }

@@ -8,8 +8,8 @@ use Rattle.dep_types.specs.declared.store_fault.StoreFault.TheVariants.{Store, M
 pub data Errand : Type 0 where
   -- whether it is open, and what it answered
   Asked : (answer : Result Bool StoreFault) → Errand
-  -- to work ahead
-  WorkedAhead : Errand
+  -- to work ahead, and whether it returned that more is left
+  WorkedAhead : (is_left : Bool) → Errand
 
 -- what an archive shows of these, and of what may keep it from answering
 pub record Account : Type 0 where

@@ -64,9 +64,9 @@ pub trait Archive {
 
     /// Does a bounded part of the work that a later request would have to wait for, and returns whether
     /// more is left. It changes nothing that is kept, which it may commit once more, but a fault may shut
-    /// it, which `is_open` returns. What it returns is about time alone, so no clause speaks of it.
+    /// it, which `is_open` returns. What it returns is about time alone, and noted among what it was asked for.
     fn work_ahead(&mut self) -> bool
-        ensures asked { Runs WorkedAhead (account self.old) (account self.new) }
+        ensures asked { Runs (WorkedAhead result) (account self.old) (account self.new) }
         ensures rests { KeepsEachState (condition self.old) (condition self.new) };
 
     // An open archive has an honest disk.

@@ -221,7 +221,8 @@ impl<A: Archive> Hub<A> {
     /// Does a part of the work that a later request would have to wait for, and returns whether more is
     /// left (`Archive::work_ahead`). No connection has a part in it, so it is no event of a run.
     pub fn work_ahead(&mut self) -> bool
-        ensures asked { Runs WorkedAhead (A.account self.old.store) (A.account self.new.store) }
+        ensures asked { Runs (WorkedAhead result) (A.account self.old.store)
+            (A.account self.new.store) }
         ensures rests { RestsOn A.condition KeepsEachState self.old self.new }
     {
         self.store.work_ahead()

@@ -4,7 +4,6 @@ use Rattle.sha2.specs.Sha256.{sha256}
 use Rattle.sha2.specs.Sha512.{sha512}
 use Rattle.hex.specs.Hex.{IsBytes, encode_lower}
 use Rattle.dep_types.specs.Sinks.{Entry}
-use Rattle.dep_fixity.specs.declared.hasher.Digests.{Digests}
 use Rattle.dep_manifest.specs.declared.algorithm.Algorithm.{Algorithm}
 use Rattle.dep_manifest.specs.declared.algorithm.Algorithm.TheVariants.{Sha256, Sha512}
 
@@ -32,11 +31,6 @@ abbrev pub digest_by : Algorithm → Digest
 digest_by Sha256 = sha256_digest
 digest_by Sha512 = sha512_digest
 
--- the one by this algorithm among the digests of a message
-abbrev pub digest_in : Algorithm → Digests → List ℕ
-digest_in Sha256 digests = digests.sha256
-digest_in Sha512 digests = digests.sha512
-
 -- a byte as a manifest writes it: the percent sign, and what breaks a line, by their codes
 abbrev pub encoded_byte : ℕ → List ℕ
 encoded_byte b =
@@ -58,13 +52,13 @@ pub record Checksum : Type 0 where
 abbrev pub checksum_of : Digest → Entry → Checksum
 checksum_of d file = record { path = file.0; value = d.of file.1 }
 
--- what stands at a path whose bytes have these digests, by an algorithm
-abbrev pub checksum_in : Algorithm → (path : List ℕ) → Digests → Checksum
-checksum_in a path digests = record { path = path; value = digest_in a digests }
+-- its line, by the digits of its digest
+abbrev pub line_of : (digits path : List ℕ) → List ℕ
+line_of digits path = digits ++ codes "  " ++ encoded_path path ++ codes "\n"
 
--- its line
+-- the same by the digest
 abbrev pub manifest_line : Checksum → List ℕ
-manifest_line c = encode_lower c.value ++ codes "  " ++ encoded_path c.path ++ codes "\n"
+manifest_line c = line_of (encode_lower c.value) c.path
 
 -- a line for each of these
 abbrev pub manifest : List Checksum → List ℕ

@@ -1,12 +1,12 @@
 -- The tag files of an object's bag, by a view of the object.
 use Rattle.std.specs.Prelude.{◌≡◌, ℕ, List, [], ◌∷◌, ◌++◌, length, map, sum_by, codes}
+use Rattle.std.specs.List.{zip}
 use Rattle.dep_types.specs.BagPaths.{payload_path}
 use Rattle.dep_types.specs.declared.rows.FileRow.{FileRow}
 use Rattle.dep_types.specs.declared.rows.ObjectView.{ObjectView}
 use Rattle.dep_types.specs.Sinks.{Entry}
-use Rattle.dep_fixity.specs.declared.hasher.Digests.{Digests}
 use Rattle.dep_docs_out.specs.Documents.{bag_metadata_document}
-use Rattle.dep_manifest.specs.Manifest.{Checksum, checksum_in, checksum_of, digest_by, manifest, manifest_line, manifest_of}
+use Rattle.dep_manifest.specs.Manifest.{Checksum, checksum_of, digest_by, manifest, manifest_line, manifest_of}
 use Rattle.dep_manifest.specs.TagFiles.{bagit_text, oxum_text, info_text, manifest_path}
 use Rattle.dep_manifest.specs.declared.algorithm.Algorithm.{Algorithm}
 use Rattle.dep_manifest.specs.declared.algorithm.Algorithm.TheVariants.{Sha256, Sha512}
@@ -16,13 +16,14 @@ use Rattle.dep_manifest.specs.declared.tag_manifests.TagManifests.{TagManifests}
 abbrev pub row_path : FileRow → List ℕ
 row_path row = payload_path row.file row.name
 
--- the digests that a row keeps
-abbrev pub row_digests : FileRow → Digests
-row_digests row = record { sha256 = row.sha256; sha512 = row.sha512 }
+-- the checksum of a row's file in a manifest, by its digest
+abbrev pub row_checksum : FileRow → (value : List ℕ) → Checksum
+row_checksum row value = record { path = row_path row; value = value }
 
--- the checksum of a row's file in a manifest
-abbrev pub row_checksum : Algorithm → FileRow → Checksum
-row_checksum a row = checksum_in a (row_path row) (row_digests row)
+-- those of the files of some rows, whose SHA-512 values stand beside them
+abbrev pub row_checksums : Algorithm → List FileRow → (sha512s : List (List ℕ)) → List Checksum
+row_checksums Sha256 rows values = map (λ row. row_checksum row row.sha256) rows
+row_checksums Sha512 rows values = map (λ e. row_checksum e.0 e.1) (zip rows values)
 
 -- how many bytes and files the payload has, as `bag-info.txt` says it
 abbrev pub told_oxum : List FileRow → List ℕ
@@ -34,7 +35,7 @@ told_info view = info_text view.object.changed (told_oxum view.files)
 
 -- the text of the payload's manifest by an algorithm
 abbrev pub told_manifest : Algorithm → ObjectView → List ℕ
-told_manifest a view = manifest (map (row_checksum a) view.files)
+told_manifest a view = manifest (row_checksums a view.files view.sha512s)
 
 -- the files that a tag manifest names
 abbrev pub told_listed : ObjectView → List Entry

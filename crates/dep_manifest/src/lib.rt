@@ -13,7 +13,6 @@ mod tag_manifests;
 
 pub use algorithm::Algorithm;
 pub use damaged::{KeptDigests, note_damaged};
-pub use lines::add_line;
 pub use paths::{
     BAG_INFO, BAGIT, MANIFEST_SHA256, MANIFEST_SHA512, METADATA, TAG_MANIFEST_SHA256,
     TAG_MANIFEST_SHA512, payload_path,

@@ -1,17 +1,19 @@
 //! The manifest of an object's files (RFC 8493, section 2.1.3).
-ghost use Rattle.std.specs.Prelude.{◌≡◌};
+ghost use Rattle.std.specs.Prelude.{[]};
 ghost use Rattle.dep_docs_out.specs.Made.{Makes};
-ghost use Rattle.dep_manifest.specs.Told.{row_digests, told_manifest};
+ghost use Rattle.dep_manifest.specs.Manifest.{manifest};
+ghost use Rattle.dep_manifest.specs.Told.{row_checksums, told_manifest};
+ghost use Rattle.dep_manifest.specs.declared.algorithm.Algorithm.TheVariants.{Sha256, Sha512};
 
 use crate::algorithm::Algorithm;
 use crate::lines::add_line;
 use crate::paths::payload_path;
-use dep_fixity::Digests;
+use dep_fixity::{to_hex, to_hex512};
 use dep_types::{FileRow, ObjectView};
 use std::alloc::{AllocError, Global};
 
-/// Returns the manifest of an object's files, in their order. Their digests are those of the rows: no content
-/// is read.
+/// Returns the manifest of an object's files, in their order. Their digests are those that the view has: no
+/// content is read.
 pub fn payload_manifest(
     alloc: Global,
     view: &ObjectView,
@@ -19,20 +21,37 @@ pub fn payload_manifest(
 ) -> Result<Vec<u8>, AllocError>
     ensures { Makes result (told_manifest algorithm view.now) }
 {
+    let rows = view.files.as_slice();
+    match algorithm {
+        Algorithm::Sha256 => sha256_lines(alloc, rows),
+        Algorithm::Sha512 => sha512_lines(alloc, rows, view.sha512s.as_slice()),
+    }
+}
+
+fn sha256_lines(alloc: Global, rows: &[FileRow]) -> Result<Vec<u8>, AllocError>
+    ensures { Makes result (manifest (row_checksums Sha256 rows.now [])) }
+{
     let mut text = Vec::new(alloc);
-    for row in view.files.as_slice() {
+    for row in rows {
         let path = payload_path(alloc, row)?;
-        let digests = row_digests(row);
-        add_line(&mut text, path.as_str().as_bytes(), algorithm, &digests)?;
+        add_line(&mut text, path.as_str().as_bytes(), &to_hex(&row.sha256))?;
     }
     Ok(text)
 }
 
-fn row_digests(row: &FileRow) -> Digests
-    ensures { result ≡ row_digests row.now }
+// Each file's value stands at its place.
+fn sha512_lines(alloc: Global, rows: &[FileRow], values: &[[u8; 64]]) -> Result<Vec<u8>, AllocError>
+    ensures { Makes result (manifest (row_checksums Sha512 rows.now values.now)) }
 {
-    Digests {
-        sha256: row.sha256,
-        sha512: row.sha512,
+    let mut text = Vec::new(alloc);
+    let mut left = values;
+    for row in rows {
+        let Some((value, more)) = left.split_first() else {
+            return Ok(text);
+        };
+        let path = payload_path(alloc, row)?;
+        add_line(&mut text, path.as_str().as_bytes(), &to_hex512(value))?;
+        left = more;
     }
+    Ok(text)
 }

@@ -9,7 +9,7 @@ use crate::paths::{BAG_INFO, BAGIT, MANIFEST_SHA256, MANIFEST_SHA512, METADATA};
 use crate::payload::payload_manifest;
 use crate::tag_files::{declaration, information};
 use dep_docs_out::bag_metadata_doc;
-use dep_fixity::Hasher;
+use dep_fixity::{Hasher, to_hex, to_hex512};
 use dep_types::ObjectView;
 use std::alloc::{AllocError, Global};
 
@@ -37,8 +37,8 @@ impl TagManifests {
         hasher.update(bytes.as_slice());
         let digests = hasher.finish();
         let path = path.as_bytes();
-        add_line(&mut self.sha256, path, Algorithm::Sha256, &digests)?;
-        add_line(&mut self.sha512, path, Algorithm::Sha512, &digests)
+        add_line(&mut self.sha256, path, &to_hex(&digests.sha256))?;
+        add_line(&mut self.sha512, path, &to_hex512(&digests.sha512))
     }
 
     // Adds the lines of each file that a tag manifest names. Each is made once, hashed once for both, and dropped before

@@ -1,5 +1,5 @@
 -- A head, and the body behind it.
-use Rattle.std.proofs.Common.{◌≡◌, ℕ, ◌<◌, ◌&&◌, not, Bool, true, false, List, [], ◌++◌, length, take, drop, Ok, refl, sym, ap, ◌∙◌, append_assoc, append-nil, arith, inr}
+use Rattle.std.proofs.Common.{◌≡◌, ℕ, ◌<◌, ◌&&◌, not, Bool, true, false, List, [], ◌++◌, length, take, drop, Ok, refl, sym, ap, ◌∙◌, append_assoc, append-nil, length-append, arith, inr}
 use Rattle.std.proofs.lemmas.List.{take-append-drop}
 use Rattle.dep_head.specs.Head.{HeadParts, IsHeadText}
 use Rattle.dep_head.proofs.HeadEnd.{end_within}
@@ -8,10 +8,12 @@ use Rattle.dep_body.specs.Body.{IsBodyText, IsBodyFault, IsPartOfBody}
 use Rattle.dep_body.specs.declared.frame.Framing.{Framing}
 use Rattle.dep_body.specs.declared.frame.FrameFault.{FrameFault}
 use Rattle.dep_message.specs.Heads.{is_due, is_bare}
-use Rattle.dep_message.specs.Places.{Open}
+use Rattle.dep_message.specs.Places.{Open, HasBytes}
 use Rattle.dep_message.specs.Stream.{HasHead, IsFaultText, bad_body, IsRequestText, IsContinueText, Waits, refusal_of}
-use Rattle.dep_message.specs.Working.{IsBegun, Begins}
+use Rattle.dep_message.specs.Giving.{Begins, BeginsWithHead}
+use Rattle.dep_message.specs.Working.{IsBegun}
 use Rattle.dep_message.specs.declared.message.Message.{Message}
+use Rattle.dep_message.proofs.Reading.{has_bytes}
 
 -- what is awaited and wasn't told is due
 pub due_now : (continued awaits : Bool) → continued ≡ false → awaits ≡ true → (not continued && awaits) ≡ true
@@ -56,6 +58,18 @@ body_fault limit continued front text behind head frame fault b is_fault = (
 -- a head has some bytes
 pub head_size : (limit : ℕ) (continued : Bool) (front : List ℕ) (head : HeadParts) (frame : Framing) → IsBegun limit continued front head frame → 0 < length front
 head_size limit continued front head frame b = let four = (end_within front (length front) b.is_head.ends).0 in omega arith
+
+-- a good head is one but for its target
+pub begins_with_head : (limit : ℕ) (continued : Bool) (front body : List ℕ) (head : HeadParts) (frame : Framing)
+    → IsBegun limit continued front head frame → BeginsWithHead (front ++ body)
+begins_with_head limit continued front body head frame b =
+    let h = b.is_head in
+    (front, body, refl, (h.head, record { ends = h.ends; small = h.small; reads = h.reads; room = h.room; hosts = rw (h.minor_is, h.fields_are) at h.hosts }))
+
+-- and a head has some bytes
+pub head_bytes : (continued : Bool) (bytes : List ℕ) → BeginsWithHead bytes → HasBytes (Open continued bytes)
+head_bytes continued bytes b =
+    let four = (end_within b.0 (length b.0) b.3.1.ends).0 in has_bytes continued bytes (omega (arith, four, ap length b.2, length-append b.0 b.1))
 
 pub whole_request : (limit : ℕ) (continued : Bool) (front body : List ℕ) (m : Message) (frame : Framing)
     → IsBegun limit continued front m.head frame → IsBodyText limit frame body m.content → IsRequestText limit continued (front ++ body) m

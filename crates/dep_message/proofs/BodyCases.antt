@@ -1,9 +1,8 @@
 -- Bytes begin with a whole body or a fault of one, or are a part of a body.
-use Rattle.std.proofs.Common.{◌≡◌, ℕ, suc, zero, ◌+◌, ◌<◌, ◌≤◌, Bool, true, false, nat_eq, List, [], ◌∷◌, ◌++◌, length, take, drop, All, Option, Some, None, bytes_eq, if◌then◌else◌, refl, sym, ap, subst, ◌∙◌, arith, append_assoc, length-append, length-take, length-drop, inl, inr}
-use Rattle.std.specs.List.{starts_with, list_all}
-use Rattle.std.specs.Option.{option_map}
+use Rattle.std.proofs.Common.{◌≡◌, ℕ, suc, zero, ◌+◌, ◌<◌, ◌≤◌, Bool, true, false, List, [], ◌∷◌, ◌++◌, length, take, drop, All, Option, Some, None, bytes_eq, refl, sym, ap, subst, ◌∙◌, arith, append_assoc, length-append, length-take, length-drop, inl, inr}
+use Rattle.std.proofs.lemmas.List.Elements.{All-cons, All-nil}
+use Rattle.std.specs.List.{list_all}
 use Rattle.std.proofs.lemmas.Bool.{cases_lt}
-use Rattle.std.proofs.lemmas.Bool.Decides.{nat_tests}
 use Rattle.std.proofs.lemmas.List.{take-append-drop, length-take-le, take_all}
 use Rattle.std.proofs.lemmas.Slice.Eq.{bytes_eq-Decides}
 use Rattle.dep_body.specs.Lines.{crlf, line_text, line_end, line_size, IsLine, is_trailer_line}
@@ -12,7 +11,8 @@ use Rattle.dep_body.specs.declared.frame.Framing.{Framing}
 use Rattle.dep_body.specs.declared.frame.Framing.TheVariants.{Empty, Length, Chunked}
 use Rattle.dep_body.specs.declared.frame.FrameFault.{FrameFault}
 use Rattle.dep_body.specs.declared.frame.FrameFault.TheVariants.{Bad, TooLarge}
-use Rattle.dep_body.proofs.LineEnds.{end_nil, end_one, end_within, end_front}
+use Rattle.dep_head.proofs.MarkEnds.{end_within, ends_by}
+use Rattle.dep_body.proofs.LineEnds.{end_nil, end_front}
 use Rattle.dep_body.proofs.Splits.{text_length}
 use Rattle.dep_body.proofs.ChunkLemmas.{chunks_none, chunks_more, chunks_join}
 
@@ -24,29 +24,17 @@ record FirstLine (bytes : List ℕ) (k : ℕ) : Type 0 where
   pub whole : bytes ≡ line_text line ++ behind
   pub size : k ≡ length line + 2
 
-begins_two : (a b : ℕ) (bytes : List ℕ) → starts_with nat_eq (a ∷ b ∷ bytes) crlf ≡ true → (a ≡ 13) × (b ≡ 10)
-begins_two a b bytes e = (grind (arith, nat_tests), grind (arith, nat_tests))
-
-by_test : (t : Bool) (a b : ℕ) (bytes : List ℕ) (k : ℕ) → t ≡ starts_with nat_eq (a ∷ b ∷ bytes) crlf
-    → (if t then Some 2 else option_map suc (line_end (b ∷ bytes))) ≡ Some k
-    → ((m : ℕ) → line_end (b ∷ bytes) ≡ Some m → FirstLine (b ∷ bytes) m) → FirstLine (a ∷ b ∷ bytes) k
-by_test true a b bytes k t e f =
-    let two = begins_two a b bytes (sym t) in
-    record { line = []; behind = bytes; whole = λ i. two.0 i ∷ two.1 i ∷ bytes; size = cc }
-by_test false a b bytes k t e f = later (line_end (b ∷ bytes)) refl e
-  where
-    later : (o : Option ℕ) → o ≡ line_end (b ∷ bytes) → option_map suc o ≡ Some k → FirstLine (a ∷ b ∷ bytes) k
-    later None is h = cc
-    later (Some m) is h =
-        let l = f m (sym is) in
-        let same : suc m ≡ k = cc in
-        record { line = a ∷ l.line; behind = l.behind; whole = ap (λ t. a ∷ t) l.whole; size = omega (arith, l.size, same) }
-
 first_line : (bytes : List ℕ) (k : ℕ) → line_end bytes ≡ Some k → FirstLine bytes k
-unfolding line_end
 first_line [] k e = let n = end_nil in cc
-first_line (a ∷ []) k e = let n = end_one a in cc
-first_line (a ∷ b ∷ bytes) k e = by_test (starts_with nat_eq (a ∷ b ∷ bytes) crlf) a b bytes k refl e (first_line (b ∷ bytes))
+first_line (a ∷ bytes) k e =
+    elim (ends_by crlf a k bytes e) [
+      | inl h ↦
+          let same : crlf ≡ take 2 (a ∷ bytes) = (bytes_eq-Decides crlf (take 2 (a ∷ bytes))).0 h.0 in
+          record { line = []; behind = drop 2 (a ∷ bytes); whole = sym (take-append-drop 2 (a ∷ bytes)) ∙ ap (λ t. t ++ drop 2 (a ∷ bytes)) (sym same); size = h.1 }
+      | inr h ↦
+          let l = first_line bytes h.0 h.2 in
+          record { line = a ∷ l.line; behind = l.behind; whole = ap (λ t. a ∷ t) l.whole; size = omega (arith, l.size, h.3) }
+    ]
 
 line_is : (bytes : List ℕ) (k : ℕ) → line_end bytes ≡ Some k → (l : FirstLine bytes k) → IsLine l.line
 line_is bytes k e l =
@@ -59,34 +47,27 @@ data Lines (bytes : List ℕ) : Type 0 where
   ended : (lines : List (List ℕ)) (behind : List ℕ) → All IsTrailer lines → bytes ≡ lines_text lines ++ (crlf ++ behind) → Lines bytes
   goes_on : IsBegunSection bytes → Lines bytes
 
-none_yet : All IsTrailer []
-none_yet k d below = absurd (omega arith)
-
-one_more : (line : List ℕ) (lines : List (List ℕ)) → IsTrailer line → All IsTrailer lines → All IsTrailer (line ∷ lines)
-one_more line lines h all zero d below = h
-one_more line lines h all (suc k) d below = all k d (omega arith)
-
 line_before : (line behind bytes : List ℕ) → bytes ≡ line_text line ++ behind → IsTrailer line → Lines behind → Lines bytes
 line_before line behind bytes whole h (ended lines after all is) =
-    ended (line ∷ lines) after (one_more line lines h all)
+    ended (line ∷ lines) after (All-cons IsTrailer line lines h all)
     (whole ∙ (ap (λ t. line_text line ++ t) is ∙ sym (append_assoc (line_text line) (lines_text lines) (crlf ++ after))))
 line_before line behind bytes whole h (goes_on s) = goes_on (record {
   lines = line ∷ s.lines;
   last = s.last;
-  are = one_more line s.lines h s.are;
+  are = All-cons IsTrailer line s.lines h s.are;
   text_is = whole ∙ (ap (λ t. line_text line ++ t) s.text_is ∙ sym (append_assoc (line_text line) (lines_text s.lines) s.last));
   no_end = s.no_end;
 })
 
 by_line : (n : ℕ) (line behind bytes : List ℕ) → bytes ≡ line_text line ++ behind → IsLine line → length bytes ≤ n
     → ((b : List ℕ) → length b < n → Lines b) → Lines bytes
-by_line n [] behind bytes whole h l f = ended [] behind none_yet whole
+by_line n [] behind bytes whole h l f = ended [] behind (All-nil IsTrailer) whole
 by_line n (x ∷ line) behind bytes whole h l f =
     let size : length bytes ≡ length (x ∷ line) + 2 + length behind = ap length whole ∙ (length-append (line_text (x ∷ line)) behind ∙ ap (λ k. k + length behind) (text_length (x ∷ line))) in
     line_before (x ∷ line) behind bytes whole (h, omega arith) (f behind (omega (arith, size)))
 
 by_end : (n : ℕ) (bytes : List ℕ) (o : Option ℕ) → line_end bytes ≡ o → length bytes ≤ n → ((b : List ℕ) → length b < n → Lines b) → Lines bytes
-by_end n bytes None e l f = goes_on (record { lines = []; last = bytes; are = none_yet; text_is = refl; no_end = e })
+by_end n bytes None e l f = goes_on (record { lines = []; last = bytes; are = All-nil IsTrailer; text_is = refl; no_end = e })
 by_end n bytes (Some k) e l f =
     let first = first_line bytes k e in
     by_line n first.line first.behind bytes first.whole (line_is bytes k e first) l f
@@ -197,7 +178,7 @@ line_cases limit taken rest None e = elim (cases_lt (length rest) line_limit) [
 line_cases limit taken rest (Some k) e =
     let front : List ℕ = take line_limit rest in
     let first = first_line front k e in
-    let within : k ≤ length front = (end_within front k e).1 in
+    let within : k ≤ length front = (end_within crlf front k e).1 in
     let whole : rest ≡ line_text first.line ++ (first.behind ++ drop line_limit rest) =
     sym (take-append-drop line_limit rest) ∙ (ap (λ t. t ++ drop line_limit rest) first.whole ∙ append_assoc (line_text first.line) first.behind (drop line_limit rest)) in
     said_cases limit taken rest first.line (first.behind ++ drop line_limit rest) whole (line_is front k e first)

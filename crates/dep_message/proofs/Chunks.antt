@@ -11,16 +11,16 @@ use Rattle.dep_body.specs.declared.frame.FrameFault.{FrameFault}
 use Rattle.dep_body.proofs.ChunkLemmas.{chunks_none}
 use Rattle.dep_body.proofs.LineEnds.{end_nil}
 use Rattle.dep_body.proofs.OneBody.{body_no_part}
+use Rattle.dep_message.specs.Giving.{Begins, BeginsWithHead}
 use Rattle.dep_message.specs.Heads.{is_bare}
-use Rattle.dep_message.specs.Places.{Open, HasBytes}
+use Rattle.dep_message.specs.Places.{Open}
 use Rattle.dep_message.specs.Stream.{IsFaultText, Waits, refusal_of}
-use Rattle.dep_message.specs.Working.{IsBegun, Begins, Finds, Keeps, ReadsChunks}
+use Rattle.dep_message.specs.Working.{IsBegun, Finds, Keeps, ReadsChunks}
 use Rattle.dep_message.specs.declared.progress.ChunkedRequest.{ChunkedRequest}
 use Rattle.dep_message.specs.declared.used.UsedBytes.{UsedBytes}
 use Rattle.dep_message.specs.declared.work.Found.TheVariants as F
 use Rattle.dep_message.specs.declared.work.Work.{Work}
-use Rattle.dep_message.proofs.Bodies.{body_fault, head_size, waits_for_body, whole_request}
-use Rattle.dep_message.proofs.Reading.{has_bytes}
+use Rattle.dep_message.proofs.Bodies.{begins_with_head, body_fault, head_size, waits_for_body, whole_request}
 
 -- nothing is a part of a body
 pub nothing_is_part : (limit : ℕ) → IsPartOfBody limit InChunks []
@@ -64,13 +64,11 @@ whole_is : (limit : ℕ) (continued : Bool) (request : ChunkedRequest) (piece bu
 whole_is limit continued request piece buffer r same =
     ap (λ l. l ++ buffer) r.used_is ∙ (append_assoc r.front r.fed buffer ∙ ap (λ l. r.front ++ (r.fed ++ l)) (sym same))
 
--- some byte was there
+-- the head stands first
 pub used_bytes : (limit : ℕ) (continued : Bool) (request : ChunkedRequest) (buffer : List ℕ) → ReadsChunks limit continued request
-    → HasBytes (Open continued (request.used.items ++ buffer))
+    → BeginsWithHead (request.used.items ++ buffer)
 used_bytes limit continued request buffer r =
-    let some : 0 < length r.front = head_size limit continued r.front request.head InChunks r.begun in
-    let whole = whole_is limit continued request buffer buffer r refl in
-    has_bytes continued (request.used.items ++ buffer) (omega (arith, some, ap length whole, length-append r.front (r.fed ++ buffer)))
+    subst BeginsWithHead (sym (whole_is limit continued request buffer buffer r refl)) (begins_with_head limit continued r.front (r.fed ++ buffer) request.head InChunks r.begun)
 
 module _ (limit : ℕ) (continued : Bool) (request : ChunkedRequest) (piece buffer : List ℕ) (r : ReadsChunks limit continued request) (same : piece ≡ buffer)
     (l : ℕ) (content : List ℕ) (same_limit : l ≡ limit) where

@@ -11,7 +11,8 @@ use Rattle.dep_body.specs.declared.frame.FrameFault.{FrameFault}
 use Rattle.dep_message.specs.Heads.{is_bare, closes, is_due, awaits_continue}
 use Rattle.dep_message.specs.Places.{Place, Open, Shut, left_to_read}
 use Rattle.dep_message.specs.Stream.{Item, Fault, Continue, Request, after_item, IsItemText, First, Reads, Waits, Spells, no_head, bad_framing, refusal_of}
-use Rattle.dep_message.specs.Working.{IsBegun, Begins}
+use Rattle.dep_message.specs.Giving.{Begins}
+use Rattle.dep_message.specs.Working.{IsBegun}
 use Rattle.dep_message.specs.declared.message.Message.{Message}
 use Rattle.dep_message.proofs.BodyCases.{BodyCase, is_whole, is_faulty, is_part, body_cases}
 use Rattle.dep_message.proofs.Bodies.{waiting_head, body_fault, whole_request}

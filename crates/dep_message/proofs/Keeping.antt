@@ -4,7 +4,8 @@ use Rattle.std.proofs.lemmas.List.{length-take-le, take-append-drop}
 use Rattle.std.proofs.Math.Seq.{take-add, drop-append_seam}
 use Rattle.dep_head.specs.Head.{HeadParts}
 use Rattle.dep_body.specs.declared.frame.Framing.{Framing}
-use Rattle.dep_message.specs.Places.{Reading, Place, Open, HasBytes, place_with}
+use Rattle.dep_message.specs.Giving.{BeginsWithHead}
+use Rattle.dep_message.specs.Places.{Reading, Open}
 use Rattle.dep_message.specs.Working.{IsFresh, IsKnown, IsAtHead, IsBegun, ReadsChunks, Keeps, Finds, bytes_with, kept_bytes, reading_of}
 use Rattle.dep_message.specs.Stream.{Waits}
 use Rattle.dep_message.specs.declared.intake.Standing.{Standing}
@@ -18,8 +19,7 @@ use Rattle.dep_message.specs.declared.progress.Progress.TheVariants.{Sized, Chun
 use Rattle.dep_message.specs.declared.progress.SizedRequest.{SizedRequest}
 use Rattle.dep_message.specs.declared.progress.ChunkedRequest.{ChunkedRequest}
 use Rattle.dep_message.specs.declared.work.Work.{Work}
-use Rattle.dep_message.proofs.Bodies.{head_size, whole_request, waits_for_body}
-use Rattle.dep_message.proofs.Reading.{has_bytes}
+use Rattle.dep_message.proofs.Bodies.{begins_with_head, head_size, whole_request, waits_for_body}
 use Rattle.dep_message.proofs.Slices.{rest_is}
 use Rattle.dep_message.proofs.SearchOn.{searched_none}
 
@@ -56,20 +56,12 @@ pub keeps_used : (work : Work) (request : ChunkedRequest) (bytes : List ℕ) →
 keeps_used work request bytes reads same =
     record { limit_is = refl; continued_is = refl; bytes_are = append-nil request.used.items ∙ same; known = reads }
 
--- a buffer that begins with a head has some bytes
-pub begun_bytes : (limit : ℕ) (continued : Bool) (buffer : List ℕ) (n : ℕ) (head : HeadParts) (frame : Framing) → n ≤ length buffer
-    → IsBegun limit continued (take n buffer) head frame → HasBytes (Open continued buffer)
-begun_bytes limit continued buffer n head frame within begun =
-    let some : 0 < length (take n buffer) = head_size limit continued (take n buffer) head frame begun in
-    let size : length (take n buffer) ≡ n = length-take-le n buffer within in
-    has_bytes continued buffer (omega arith)
-
 -- where memory is refused behind a head, nothing changes
 pub unchanged : (work : Work) (n : ℕ) (head : HeadParts) (frame : Framing) → IsAtHead work n head frame
-    → Keeps work.limit work.continued work.buffer work × HasBytes (Open work.continued work.buffer)
+    → Keeps work.limit work.continued work.buffer work × BeginsWithHead work.buffer
 unchanged work n head frame at = (
   keeps_fresh work.limit work.continued work.buffer work at.fresh refl refl refl,
-  begun_bytes work.limit work.continued work.buffer n head frame at.within at.begun,
+  subst BeginsWithHead (take-append-drop n work.buffer) (begins_with_head work.limit work.continued (take n work.buffer) (drop n work.buffer) head frame at.begun),
 )
 
 -- a whole request goes with its bytes
@@ -124,16 +116,12 @@ pub left_of : (front behind all : List ℕ) (n size : ℕ) → n ≡ length fron
 left_of front behind all n size whole all_is =
     ap (λ k. drop k all) whole ∙ (ap (drop (length front)) (all_is ∙ ap (λ l. front ++ l) (rest_is size behind)) ∙ drop-append_seam front (drop size behind))
 
--- where memory is refused for a piece, the reading stands where it stood
-pub stands_still : (work new : Work) (standing : Standing) (reading : Reading) (piece : List ℕ) → standing ≡ Live
-    → reading_of standing work ≡ reading → 0 < length piece → Keeps work.limit work.continued (kept_bytes work) new
-    → (reading_of standing new ≡ reading) × HasBytes (place_with reading.place piece)
-stands_still work new standing reading piece is_live was some keeps =
+-- where memory is refused, the reading stands where it stood
+pub stands_still : (work new : Work) (standing : Standing) (reading : Reading) → standing ≡ Live → reading_of standing work ≡ reading
+    → Keeps work.limit work.continued (kept_bytes work) new
+    → (reading_of standing new ≡ reading) × (Open work.continued (kept_bytes work) ≡ reading.place)
+stands_still work new standing reading is_live was keeps =
     let is : reading_of Live work ≡ reading = ap (λ (s : Standing). reading_of s work) (sym is_live) ∙ was in
-    let place : Open work.continued (kept_bytes work) ≡ reading.place = ap (λ (r : Reading). r.place) is in
     let new_is : reading_of Live new ≡ reading_of Live work =
-    λ i. record { limit = keeps.limit_is i; place = Open (keeps.continued_is i) (keeps.bytes_are i); is_dead = false } in (
-      ap (λ (s : Standing). reading_of s new) is_live ∙ (new_is ∙ is),
-      subst (λ (p : Place). HasBytes (place_with p piece)) place
-          (has_bytes work.continued (kept_bytes work ++ piece) (omega (arith, length-append (kept_bytes work) piece))),
-    )
+    λ i. record { limit = keeps.limit_is i; place = Open (keeps.continued_is i) (keeps.bytes_are i); is_dead = false } in
+    (ap (λ (s : Standing). reading_of s new) is_live ∙ (new_is ∙ is), ap (λ (r : Reading). r.place) is)

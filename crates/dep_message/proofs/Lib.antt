@@ -6,6 +6,6 @@ pub mod Bodies
 pub mod SearchOn
 pub mod Keeping
 pub mod Chunks
-pub mod Taking
 pub mod BodyCases
 pub mod EverySpelling
+pub mod Taking

@@ -1,7 +1,6 @@
 -- A stream spells one list of items.
-use Rattle.std.proofs.Common.{◌≡◌, ℕ, ◌+◌, ◌<◌, ◌≤◌, Bool, true, false, List, [], ◌∷◌, ◌++◌, take, drop, length, Some, None, Result, Ok, Err, refl, sym, ap, subst, ◌∙◌, append_assoc, arith, length-append, inl, inr}
+use Rattle.std.proofs.Common.{◌≡◌, ℕ, ◌+◌, ◌<◌, ◌≤◌, Bool, true, false, List, [], ◌∷◌, ◌++◌, length, Some, None, Err, refl, sym, ap, subst, ◌∙◌, append_assoc, arith, length-append, inl, inr}
 use Rattle.std.proofs.lemmas.List.{append-nil}
-use Rattle.std.proofs.Math.Seq.{take-append_seam, drop-append_seam}
 use Rattle.dep_head.specs.Head.{HeadParts, IsHeadText, EndsOnce, head_end, head_limit}
 use Rattle.dep_head.proofs.HeadEnd.{end_more, end_front}
 use Rattle.dep_head.proofs.OneHead.{one_head}
@@ -10,34 +9,16 @@ use Rattle.dep_body.specs.Framing.{framing}
 use Rattle.dep_body.specs.Body.{IsBodyText, IsBodyFault, IsPartOfBody}
 use Rattle.dep_body.specs.declared.frame.Framing.{Framing}
 use Rattle.dep_body.specs.declared.frame.FrameFault.{FrameFault}
+use Rattle.dep_body.proofs.Splits.{fronts_same, backs_same}
 use Rattle.dep_body.proofs.OneBody.{one_body, one_fault as one_body_fault, body_no_fault, body_no_part, fault_no_part}
 use Rattle.dep_message.specs.Heads.{is_bare, is_due}
 use Rattle.dep_message.specs.Places.{Place, Open, Shut}
 use Rattle.dep_message.specs.Stream.{Item, Fault, Continue, Request, after_item, refusal_of, HasHead, IsNoHead, IsFaultText, no_head, bad_framing, bad_body, IsContinueText, IsRequestText, IsItemText, FirstAt, Reads, HasPartOfBody, Waits, Spells}
 use Rattle.dep_message.specs.declared.message.Message.{Message}
 
-some_same : {m n : ℕ} → Some m ≡ Some n → m ≡ n
-some_same e = cc
-
-none_some : (m : ℕ) → None ≡ Some m → ⊥
-none_some m c = cc
-
-ok_same : {i j : Framing} → ◌≡◌ {A = Result Framing FrameFault} (Ok i) (Ok j) → i ≡ j
-ok_same e = cc
-
-err_ok : {f : FrameFault} {j : Framing} → ◌≡◌ {A = Result Framing FrameFault} (Err f) (Ok j) → ⊥
-err_ok e = cc
-
-err_same : {f g : FrameFault} → ◌≡◌ {A = Result Framing FrameFault} (Err f) (Err g) → f ≡ g
-err_same e = cc
-
-true_false : {b c : Bool} → b ≡ c → b ≡ true → c ≡ false → ⊥
-true_false e t f = cc
-
 -- what is behind equal fronts is equal
 behind_same : (a b x y : List ℕ) → a ++ x ≡ b ++ y → a ≡ b → x ≡ y
-behind_same a b x y e same =
-    sym (drop-append_seam a x) ∙ (ap (λ i. drop i (a ++ x)) (ap length same) ∙ (ap (drop (length b)) e ∙ drop-append_seam b y))
+behind_same a b x y e same = backs_same a b x y (ap length same) e
 
 -- two fronts of the same bytes that end once are one
 fronts : (a b x y : List ℕ) → a ++ x ≡ b ++ y → EndsOnce a → EndsOnce b → a ≡ b
@@ -46,7 +27,7 @@ fronts a b x y e f g =
     let q : head_end (b ++ y) ≡ Some (length b) = end_more b y (length b) g in
     let r : head_end (a ++ x) ≡ head_end (b ++ y) = ap head_end e in
     let same : length a ≡ length b = cc in
-    sym (take-append_seam a x) ∙ (ap (λ n. take n (a ++ x)) same ∙ (ap (take (length b)) e ∙ take-append_seam b y))
+    fronts_same a b x y same e
 
 -- two heads of the same bytes are one
 record SameHead (h k : HeadParts) (x y : List ℕ) : Type 0 where
@@ -72,7 +53,7 @@ no_head_first a b x y h e n t =
         let small : length b ≤ head_limit = t.small in
         let front : length b ≤ length a = omega arith in
         let some : head_end a ≡ Some (length b) = end_front a x (length b) q front in
-        none_some (length b) (sym none ∙ some)
+        cc (sym none ∙ some)
 
 -- two good heads of the same bytes: one head, one framing, the same bytes behind them, and both wait or neither
 record SameHeads (h k : HeadParts) (f g : Framing) (x y : List ℕ) (due also : Bool) : Type 0 where
@@ -87,7 +68,7 @@ good_heads limit continued due also a b x y c d h k f g e p q =
     let s : p.front ++ (c ++ x) ≡ q.front ++ (d ++ y) =
     sym (append_assoc p.front c x) ∙ (ap (λ l. l ++ x) (sym p.whole) ∙ (e ∙ (ap (λ l. l ++ y) q.whole ∙ append_assoc q.front d y))) in
     let same = heads p.front q.front (c ++ x) (d ++ y) h k s p.is_head q.is_head in
-    let frame : f ≡ g = ok_same (sym p.framed ∙ (ap (framing limit) same.head ∙ q.framed)) in
+    let frame : f ≡ g = cc (sym p.framed ∙ (ap (framing limit) same.head ∙ q.framed)) in
     record {
       head = same.head;
       frame = frame;
@@ -101,7 +82,7 @@ good_or_bad : {fault : FrameFault} (limit : ℕ) (continued due : Bool) (a b x y
 good_or_bad limit continued due a b x y d h k g e p bad q =
     let s : a ++ x ≡ q.front ++ (d ++ y) = e ∙ (ap (λ l. l ++ y) q.whole ∙ append_assoc q.front d y) in
     let same = heads a q.front x (d ++ y) h k s p q.is_head in
-    err_ok (sym bad ∙ (ap (framing limit) same.head ∙ q.framed))
+    cc (sym bad ∙ (ap (framing limit) same.head ∙ q.framed))
 
 good_or_none : (limit : ℕ) (continued due : Bool) (a b x y d : List ℕ) (k : HeadParts) (g : Framing) → a ++ x ≡ b ++ y
     → IsNoHead a → HasHead limit continued due b k g d → ⊥
@@ -132,7 +113,7 @@ continue_request : (limit : ℕ) (continued : Bool) (a b x y : List ℕ) (k : Me
     → IsContinueText limit continued a → IsRequestText limit continued b k → ⊥
 continue_request limit continued a b x y k e f g =
     let same = good_heads limit continued true false a b x y [] g.body f.head k.head f.frame g.frame e f.has_head g.has_head in
-    true_false same.due_same refl refl
+    cc (same.due_same)
 
 continue_fault : {r : Refusal} {c : Bool} (limit : ℕ) (continued : Bool) (a b x y : List ℕ) → a ++ x ≡ b ++ y
     → IsContinueText limit continued a → IsFaultText limit continued b r c → ⊥
@@ -140,7 +121,7 @@ continue_fault limit continued a b x y e f (no_head n) = good_or_none limit cont
 continue_fault limit continued a b x y e f (bad_framing {head} fault t bad) = good_or_bad limit continued true b a y x [] head f.head f.frame (sym e) t bad f.has_head
 continue_fault limit continued a b x y e f (bad_body {head} {frame} {body} fault p bad) =
     let same = good_heads limit continued true false a b x y [] body f.head head f.frame frame e f.has_head p in
-    true_false same.due_same refl refl
+    cc (same.due_same)
 
 -- faulty bytes have one fault
 one_fault : {r s : Refusal} {c d : Bool} (limit : ℕ) (continued : Bool) (a b x y : List ℕ) → a ++ x ≡ b ++ y
@@ -151,7 +132,7 @@ one_fault limit continued a b x y e (no_head n) (bad_body {head} {frame} {body} 
 one_fault limit continued a b x y e (bad_framing {head} fault t bad) (no_head m) = absurd (no_head_first b a y x head (sym e) m t)
 one_fault limit continued a b x y e (bad_framing {head} fault t bad) (bad_framing {head = other} second u worse) =
     let same = heads a b x y head other e t u in
-    (ap refusal_of (err_same (sym bad ∙ (ap (framing limit) same.head ∙ worse))), ap is_bare same.head)
+    (ap refusal_of (cc (sym bad ∙ (ap (framing limit) same.head ∙ worse))), ap is_bare same.head)
 one_fault limit continued a b x y e (bad_framing {head} fault t bad) (bad_body {head = other} {frame} {body} second p worse) =
     absurd (good_or_bad limit continued false a b x y body head other frame e t bad p)
 one_fault limit continued a b x y e (bad_body {head} {frame} {body} fault p bad) (no_head m) = absurd (good_or_none limit continued false b a y x body head frame (sym e) m p)
@@ -191,7 +172,7 @@ head_ends : {due : Bool} (limit : ℕ) (continued : Bool) (text behind body : Li
 head_ends limit continued text behind body head frame h none =
     let some : head_end (text ++ behind) ≡ Some (length h.front) =
     ap head_end (ap (λ l. l ++ behind) h.whole ∙ append_assoc h.front body behind) ∙ end_more h.front (body ++ behind) (length h.front) h.is_head.ends in
-    none_some (length h.front) (sym none ∙ some)
+    cc (sym none ∙ some)
 
 text_ends : (limit : ℕ) (continued : Bool) (i : Item) (text behind : List ℕ) → IsItemText limit continued text i → head_end (text ++ behind) ≡ None → head_limit ≤ length text
 text_ends limit continued (Request m) text behind t none = absurd (head_ends limit continued text behind t.body m.head t.frame t.has_head none)
@@ -199,9 +180,9 @@ text_ends limit continued Continue text behind t none = absurd (head_ends limit 
 text_ends limit continued (Fault r c) text behind t none = of_fault t
   where
     of_fault : {r' : Refusal} {c' : Bool} → IsFaultText limit continued text r' c' → head_limit ≤ length text
-    of_fault (no_head (inl k)) = absurd (none_some (length text) (sym none ∙ end_more text behind (length text) k.0))
+    of_fault (no_head (inl k)) = absurd (cc (sym none ∙ end_more text behind (length text) k.0))
     of_fault (no_head (inr k)) = omega (arith, k.1)
-    of_fault (bad_framing fault u bad) = absurd (none_some (length text) (sym none ∙ end_more text behind (length text) u.ends))
+    of_fault (bad_framing fault u bad) = absurd (cc (sym none ∙ end_more text behind (length text) u.ends))
     of_fault (bad_body {head} {frame} {body} fault p bad) = absurd (head_ends limit continued text behind body head frame p none)
 
 -- where a body is a part, no item stands first
@@ -224,7 +205,7 @@ text_whole limit continued i text behind p t = of_item i t
     of_item (Fault r c) u = of_fault u
     of_item Continue u =
         let same = good_heads limit continued true false text (text ++ behind) behind [] [] p.behind u.head p.head u.frame p.frame same_bytes u.has_head p.has_head in
-        true_false same.due_same refl refl
+        cc (same.due_same)
     of_item (Request m) u =
         let same = good_heads limit continued false false text (text ++ behind) behind [] u.body p.behind m.head p.head u.frame p.frame same_bytes u.has_head p.has_head in
         let rest : p.behind ≡ u.body ++ behind = sym (same.rest ∙ append-nil p.behind) in

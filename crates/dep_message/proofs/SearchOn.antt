@@ -1,36 +1,22 @@
 -- The search for the end of a head goes on where it left off.
-use Rattle.std.proofs.Common.{◌≡◌, ℕ, suc, zero, ◌+◌, ◌-◌, Bool, true, false, List, [], ◌∷◌, take, drop, length, Option, Some, None, if◌then◌else◌, nat_eq, refl, sym, ap, subst, ◌∙◌, arith, zero-add}
+use Rattle.std.proofs.Common.{◌≡◌, ℕ, suc, zero, ◌+◌, ◌-◌, Bool, true, false, List, [], ◌∷◌, take, drop, length, Option, Some, None, nat_eq, refl, sym, ap, subst, ◌∙◌, arith, zero-add}
 use Rattle.std.specs.List.{starts_with}
 use Rattle.std.specs.Option.{option_map}
 use Rattle.dep_head.specs.Head.{head_end, empty_line}
+use Rattle.dep_head.specs.Marks.{mark_end}
+use Rattle.dep_head.proofs.EndFinds.{end_nil}
+use Rattle.dep_head.proofs.HeadEnd.{as_mark}
+use Rattle.dep_head.proofs.MarkEnds.{end_if, end_is, none_suc}
 use Rattle.dep_message.specs.Working.{IsSearched}
 use Rattle.dep_message.proofs.Slices.{rest_is}
 
-begins : List ℕ → Bool
-begins bytes = starts_with nat_eq bytes empty_line
-
-end_if : Bool → List ℕ → Option ℕ
-end_if b bytes = if b then Some 4 else option_map suc (head_end bytes)
-
-end_is : (x : ℕ) (bytes : List ℕ) → head_end (x ∷ bytes) ≡ end_if (begins (x ∷ bytes)) bytes
-unfolding head_end begins end_if
-end_is x bytes = refl
-
-pub end_nil : head_end [] ≡ None
-unfolding head_end
-end_nil = refl
-
 -- four bytes decide it
-begins_front : (k x : ℕ) (bytes : List ℕ) → begins (x ∷ take (suc (suc (suc k))) bytes) ≡ begins (x ∷ bytes)
-unfolding begins
+begins_front : (k x : ℕ) (bytes : List ℕ)
+    → starts_with nat_eq (x ∷ take (suc (suc (suc k))) bytes) empty_line ≡ starts_with nat_eq (x ∷ bytes) empty_line
 begins_front k x [] = refl
 begins_front k x (a ∷ []) = refl
 begins_front k x (a ∷ b ∷ []) = refl
 begins_front k x (a ∷ b ∷ c ∷ bytes) = refl
-
-map_none : (o : Option ℕ) → option_map suc o ≡ None → o ≡ None
-map_none None e = refl
-map_none (Some m) e = cc
 
 map_zero : (o : Option ℕ) → o ≡ option_map (λ m. 0 + m) o
 map_zero None = refl
@@ -40,21 +26,22 @@ map_suc : (k : ℕ) (o : Option ℕ) → option_map suc (option_map (λ m. k + m
 map_suc k None = refl
 map_suc k (Some m) = ap (λ n. Some n) (omega arith)
 
-by_test : (t : Bool) (k : ℕ) (front bytes : List ℕ) (o : Option ℕ) → end_if t front ≡ None
-    → (head_end front ≡ None → head_end bytes ≡ option_map (λ m. k + m) o) → end_if t bytes ≡ option_map (λ m. suc k + m) o
+by_test : (t : Bool) (k : ℕ) (front bytes : List ℕ) (o : Option ℕ) → end_if t empty_line front ≡ None
+    → (mark_end empty_line front ≡ None → mark_end empty_line bytes ≡ option_map (λ m. k + m) o) → end_if t empty_line bytes ≡ option_map (λ m. suc k + m) o
 unfolding end_if
 by_test true k front bytes o e f = cc
-by_test false k front bytes o e f = ap (option_map suc) (f (map_none (head_end front) e)) ∙ map_suc k o
+by_test false k front bytes o e f = ap (option_map suc) (f (none_suc (mark_end empty_line front) e)) ∙ map_suc k o
 
 -- where the first k + 3 bytes hold no end, it is that of the bytes behind the first k
-pub end_behind : (k : ℕ) (bytes : List ℕ) → head_end (take (suc (suc (suc k))) bytes) ≡ None
-    → head_end bytes ≡ option_map (λ m. k + m) (head_end (drop k bytes))
-end_behind zero bytes e = map_zero (head_end bytes)
-end_behind (suc k) [] e = end_nil ∙ sym (ap (option_map (λ m. suc k + m)) end_nil)
+end_behind : (k : ℕ) (bytes : List ℕ) → mark_end empty_line (take (suc (suc (suc k))) bytes) ≡ None
+    → mark_end empty_line bytes ≡ option_map (λ m. k + m) (mark_end empty_line (drop k bytes))
+unfolding mark_end
+end_behind zero bytes e = map_zero (mark_end empty_line bytes)
+end_behind (suc k) [] e = refl
 end_behind (suc k) (x ∷ bytes) e =
-    end_is x bytes
-    ∙ by_test (begins (x ∷ bytes)) k (take (suc (suc (suc k))) bytes) bytes (head_end (drop k bytes))
-    (ap (λ t. end_if t (take (suc (suc (suc k))) bytes)) (sym (begins_front k x bytes)) ∙ (sym (end_is x (take (suc (suc (suc k))) bytes)) ∙ e))
+    end_is empty_line x bytes
+    ∙ by_test (starts_with nat_eq (x ∷ bytes) empty_line) k (take (suc (suc (suc k))) bytes) bytes (mark_end empty_line (drop k bytes))
+    (ap (λ t. end_if t empty_line (take (suc (suc (suc k))) bytes)) (sym (begins_front k x bytes)) ∙ (sym (end_is empty_line x (take (suc (suc (suc k))) bytes)) ∙ e))
     (end_behind k bytes)
 
 -- the end, found from three bytes before those that were not searched
@@ -65,7 +52,8 @@ end_from (suc zero) bytes s = map_zero (head_end bytes)
 end_from (suc (suc zero)) bytes s = map_zero (head_end bytes)
 end_from (suc (suc (suc k))) bytes s =
     let same : k ≡ suc (suc (suc k)) - 3 = omega arith in
-    subst (λ n. head_end bytes ≡ option_map (λ m. n + m) (head_end (drop n bytes))) same (end_behind k bytes s.no_end)
+    subst (λ n. head_end bytes ≡ option_map (λ m. n + m) (head_end (drop n bytes))) same
+    (as_mark bytes ∙ end_behind k bytes (sym (as_mark (take (suc (suc (suc k))) bytes)) ∙ s.no_end) ∙ ap (option_map (λ m. k + m)) (sym (as_mark (drop k bytes))))
 
 -- the same of a slice
 pub end_found : (searched from : ℕ) (bytes : List ℕ) (found : Option ℕ) → IsSearched searched bytes → from ≡ searched - 3

@@ -1,10 +1,24 @@
 -- What an intake gives.
-use Rattle.std.specs.Prelude.{◌≡◌, ◌<◌, Bool, true, false}
+use Rattle.std.specs.Prelude.{◌≡◌, ◌<◌, ℕ, List, ◌++◌, Bool, true, false}
+use Rattle.dep_head.specs.Head.{IsHeadOfAnyTarget}
 use Rattle.dep_message.specs.Heads.{closes}
-use Rattle.dep_message.specs.Places.{Shut, Reading, left_to_read}
+use Rattle.dep_message.specs.Places.{Place, Open, Shut, Reading, left_to_read}
 use Rattle.dep_message.specs.Stream.{Item, Fault, Continue, Request, FirstAt, Waits}
 use Rattle.dep_message.specs.declared.intake.Step.{Step}
 use Rattle.dep_message.specs.declared.intake.Step.TheVariants.{Continue100, Message, Refused, NeedMore, Dead}
+
+-- the bytes begin with a text of this kind
+abbrev pub Begins : (List ℕ → Type 0) → List ℕ → Type 0
+Begins IsText bytes = (text : List ℕ) × (behind : List ℕ) × (bytes ≡ text ++ behind) × IsText text
+
+-- a head stands first, but perhaps for its target
+abbrev pub BeginsWithHead : List ℕ → Type 0
+BeginsWithHead bytes = Begins IsHeadOfAnyTarget bytes
+
+-- so memory may be wanted, since a head is copied
+abbrev pub HasFirstHead : Place → Type 0
+HasFirstHead (Open continued bytes) = BeginsWithHead bytes
+HasFirstHead Shut = ⊥
 
 -- behind a fault the intake is dead, and behind a request it never is
 abbrev pub is_fault : Item → Bool

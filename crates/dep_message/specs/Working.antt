@@ -7,8 +7,9 @@ use Rattle.dep_body.specs.Body.{IsPartOfBody}
 use Rattle.dep_body.specs.Feeding.{HasFed}
 use Rattle.dep_body.specs.declared.frame.Framing.{Framing}
 use Rattle.dep_body.specs.declared.frame.Framing.TheVariants.{Length, Chunked as InChunks}
+use Rattle.dep_message.specs.Giving.{Begins, BeginsWithHead}
 use Rattle.dep_message.specs.Heads.{is_due}
-use Rattle.dep_message.specs.Places.{Reading, Open, Shut, HasBytes}
+use Rattle.dep_message.specs.Places.{Reading, Open, Shut}
 use Rattle.dep_message.specs.Stream.{IsContinueText, IsFaultText, IsRequestText, Waits}
 use Rattle.dep_message.specs.declared.first.FirstHead.{FirstHead}
 use Rattle.dep_message.specs.declared.first.FirstHead.TheVariants as H
@@ -94,10 +95,6 @@ pub record Keeps (limit : ℕ) (continued : Bool) (bytes : List ℕ) (work : Wor
   pub bytes_are : kept_bytes work ≡ bytes
   pub known : IsWorking work
 
--- the bytes begin with a text of this kind
-abbrev pub Begins : (List ℕ → Type 0) → List ℕ → Type 0
-Begins IsText bytes = (text : List ℕ) × (behind : List ℕ) × (bytes ≡ text ++ behind) × IsText text
-
 -- the head that stands first in the bytes
 abbrev pub FindsHead : ℕ → Bool → List ℕ → FirstHead → Type 0
 FindsHead limit continued bytes (H.Head first) =
@@ -121,8 +118,8 @@ Finds limit continued bytes new (F.Fault refusal bare) =
 Finds limit continued bytes new F.Nothing =
     Waits limit (Open continued bytes) × Keeps limit continued bytes new
 
--- what is found over these bytes: for want of memory nothing changes, and some byte was there
+-- what is found over these bytes: for want of memory nothing changes, and a head is there to be copied
 abbrev pub FindsNext : (old : Work) (bytes : List ℕ) (new : Work) → Result Found AllocError → Type 0
 FindsNext old bytes new result =
     MatchResult result (Finds old.limit old.continued bytes new)
-    (λ _. Keeps old.limit old.continued bytes new × HasBytes (Open old.continued bytes))
+    (λ _. Keeps old.limit old.continued bytes new × BeginsWithHead bytes)

@@ -1,7 +1,7 @@
 //! The head that stands first in bytes.
 ghost use Rattle.std.specs.Prelude.{◌≡◌, ◌≤◌, length, take, MatchResult};
 ghost use Rattle.dep_head.specs.Head.{IsHeadText, head_end};
-ghost use Rattle.dep_message.specs.Places.{Open, HasBytes};
+ghost use Rattle.dep_message.specs.Giving.{BeginsWithHead};
 ghost use Rattle.dep_message.specs.Stream.{refusal_of};
 ghost use Rattle.dep_message.specs.Working.{IsSearched, FindsHead};
 
@@ -49,7 +49,7 @@ pub(crate) fn first_head(
     front: SearchedBytes<'_>,
 ) -> Result<FirstHead, AllocError>
     ensures { MatchResult result (FindsHead limit continued front.entry.bytes.now)
-        (λ _. HasBytes (Open continued front.entry.bytes.now)) }
+        (λ _. BeginsWithHead front.entry.bytes.now) }
 {
     let bytes = front.bytes;
     let Some(end) = find_end_from(front) else {

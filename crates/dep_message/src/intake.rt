@@ -1,7 +1,7 @@
 //! Takes the items of a connection's bytes, in whatever pieces these come.
-ghost use Rattle.std.specs.Prelude.{◌≡◌, [], false, MatchResult, OnOk, OnErr};
+ghost use Rattle.std.specs.Prelude.{◌≡◌, ◌<◌, [], length, false, MatchResult, OnOk, OnErr};
 ghost use Rattle.dep_message.specs.Places.{Reading, Open, Shut, place_with, shut_reading, HasBytes};
-ghost use Rattle.dep_message.specs.Giving.{Gives};
+ghost use Rattle.dep_message.specs.Giving.{Gives, HasFirstHead};
 
 use crate::heads::closes;
 use crate::message::Message;
@@ -73,6 +73,7 @@ impl Intake {
             (self.new ≡ record self.old { place = place_with self.old.place piece.now }) }
         ensures err { OnErr result
             ((self.new ≡ self.old) × HasBytes (place_with self.old.place piece.now)) }
+        ensures copied { OnErr result (0 < length piece.now) }
     {
         match self.standing {
             Standing::Live if !piece.is_empty() => self.work.feed(piece),
@@ -106,7 +107,7 @@ impl Intake {
     /// and it returns `NeedMore`.
     pub fn next(&mut self) -> Result<Step, AllocError>
         ensures { MatchResult result (Gives self.old self.new)
-            (λ _. (self.new ≡ self.old) × HasBytes self.old.place) }
+            (λ _. (self.new ≡ self.old) × HasBytes self.old.place × HasFirstHead self.old.place) }
     {
         match self.standing {
             Standing::Live => {}

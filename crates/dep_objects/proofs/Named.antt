@@ -1,7 +1,6 @@
 -- Texts that are gathered name by name.
-use Rattle.std.proofs.Common.{◌≡◌, ℕ, cond, List, [], ◌∷◌, ◌++◌, Some, refl, sym, ap, ◌∙◌, Ordering, Less, Equal, Greater, is_eq, nat_cmp, false, Result, Ok, Err}
-use Rattle.std.specs.Prelude.{unwrap_or, if◌then◌else◌}
-use Rattle.std.specs.Result.{is_ok, is_err}
+use Rattle.std.proofs.Common.{◌≡◌, ℕ, cond, List, [], ◌∷◌, ◌++◌, Some, refl, sym, ap, ◌∙◌, Ordering, Less, Equal, Greater, is_eq, nat_cmp}
+use Rattle.std.specs.Prelude.{unwrap_or}
 use Rattle.std.proofs.lemmas.Cmp.{nat_list_cmp_total, tied_itself}
 use Rattle.std.specs.Cmp.Lexicographic.{slice_cmp}
 use Rattle.std.specs.FinMap as finmap
@@ -30,8 +29,3 @@ pub one_more : (m : Texts) (name key : List ℕ) (texts more : List (List ℕ)) 
 one_more m name key texts more value same grown =
     ap (finmap.insert m name) grown ∙ sym (insert_over m name texts (texts ++ value ∷ [])) ∙ ap (λ ts. finmap.insert (finmap.insert m name texts) name (ts ++ value ∷ [])) (sym (texts_now m name texts))
     ∙ ap (λ k. added (finmap.insert m name texts) (k, value)) same
-
--- what a push leaves that had room
-pub pushed : {A E X : Type 0} (r : Result A E) (new grown old : X) → is_err r ≡ false → new ≡ if is_ok r then grown else old → new ≡ grown
-pushed (Ok x) new grown old fine is = is
-pushed (Err e) new grown old fine is = absurd (cc)

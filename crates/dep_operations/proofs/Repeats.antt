@@ -19,10 +19,8 @@ any_either p u [] = refl
 any_either p u (k ∷ us) = ap (λ b. (p k || u == k) || b) (any_either p u us) ∙ shuffled (p k) (u == k) (list_any p us) (list_any (nat_eq u) us)
   where
     shuffled : (a b c d : Bool) → ((a || b) || (c || d)) ≡ ((a || c) || (b || d))
-    shuffled true b c d = refl
     shuffled false true true d = refl
-    shuffled false true false d = refl
-    shuffled false false c d = refl
+    shuffled _ _ _ _ = refl
 
 again_is : (p : ℕ → Bool) (us : List ℕ) → stands_again p us ≡ (list_any p us || stands_twice us)
 unfolding stands_again stands_twice
@@ -32,9 +30,8 @@ again_is p (u ∷ us) =
     ∙ joined (p u) (list_any p us) (list_any (nat_eq u) us) (stands_twice us)
   where
     joined : (a b c d : Bool) → (a || ((b || c) || d)) ≡ ((a || b) || (c || d))
-    joined true b c d = refl
     joined false true c d = refl
-    joined false false c d = refl
+    joined _ _ _ _ = refl
 
 nothing_before : (us : List ℕ) → list_any (λ k. false) us ≡ false
 nothing_before [] = refl
@@ -55,9 +52,8 @@ again_found p u us held = ap (λ b. b || stands_again (λ k. p k || u == k) us) 
 
 one_more : (a b c : Bool) → c ≡ cond a true b → c ≡ (b || a)
 one_more true true c e = e
-one_more true false c e = e
-one_more false true c e = e
-one_more false false c e = e
+one_more _ true c e = e
+one_more _ _ c e = e
 
 pub again_more : (p q : ℕ → Bool) (u : ℕ) (us : List ℕ) → p u ≡ false → ((k : ℕ) → q k ≡ cond (is_eq (nat_cmp u k)) true (p k))
     → stands_again p (u ∷ us) ≡ stands_again q us

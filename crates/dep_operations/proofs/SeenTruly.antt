@@ -16,7 +16,7 @@ use Rattle.dep_types.specs.declared.rows.FileRow.{FileRow}
 use Rattle.dep_types.specs.declared.refusal.Refusal.{Refusal}
 use Rattle.dep_types.specs.declared.refusal.Refusal.TheVariants.{BadRequest, DigestMismatch, NotFound, StoreFull}
 use Rattle.dep_types.specs.declared.target.Resource.{Resource}
-use Rattle.dep_types.specs.declared.target.Resource.TheVariants.{Service, Object, Metadata, FileSet, File, Staging, Upload, BagList, BagFile}
+use Rattle.dep_types.specs.declared.target.Resource.TheVariants.{Service, Object, Metadata, FileSet, File, Upload, BagList, BagFile}
 use Rattle.dep_fields.specs.declared.kind.Kind.{Kind}
 use Rattle.dep_fields.specs.declared.kind.Kind.TheVariants as of
 use Rattle.dep_docs_in.specs.declared.reference.Reference.{Reference}
@@ -57,31 +57,22 @@ abbrev shown : (hashed by_reference : Bool) → ℕ → Option state.Upload → 
 shown hashed by u o b = with_digests hashed (option_map_or (λ upload. Live (live_upload by u upload)) o (if b then TimedOut else Unknown))
 
 missing_is : (hashed by : Bool) (u : ℕ) (o : Option state.Upload) (b : Bool) → missing_refusal (live_in (shown hashed by u o b)) (is_timed_out (shown hashed by u o b)) ≡ missing_refusal o b
-missing_is true by u (Some x) b = refl
 missing_is true by u None true = refl
-missing_is true by u None false = refl
-missing_is false by u (Some x) b = refl
-missing_is false by u None true = refl
-missing_is false by u None false = refl
+missing_is _ by u None true = refl
+missing_is _ by u _ _ = refl
 
 passes_is : (test : LiveUpload → Bool) (hashed by : Bool) (u : ℕ) (o : Option state.Upload) (b : Bool)
     → option_map_or test (live_in (shown hashed by u o b)) true ≡ option_map_or (λ x. test (live_with hashed by u x)) o true
-passes_is test true by u (Some x) b = refl
 passes_is test true by u None true = refl
-passes_is test true by u None false = refl
-passes_is test false by u (Some x) b = refl
-passes_is test false by u None true = refl
-passes_is test false by u None false = refl
+passes_is test _ by u None true = refl
+passes_is test _ by u _ _ = refl
 
 segment_is : (hashed by : Bool) (u : ℕ) (o : Option state.Upload) (b : Bool) (k : ℕ) (bytes : List ℕ)
     → option_and_then (λ (l : LiveUpload). segment_by l.row.count (row_length l.row k) (o >>= (λ x. repeats x k bytes)) k bytes) (live_in (shown hashed by u o b))
     ≡ option_and_then (λ x. segment_refusal x k bytes) o
-segment_is true by u (Some x) b k bytes = refl
 segment_is true by u None true k bytes = refl
-segment_is true by u None false k bytes = refl
-segment_is false by u (Some x) b k bytes = refl
-segment_is false by u None true k bytes = refl
-segment_is false by u None false k bytes = refl
+segment_is _ by u None true k bytes = refl
+segment_is _ by u _ _ k bytes = refl
 
 has_row : {X Y : Type 0} (row : X → Y) (o : Option X) → is_some (option_map row o) ≡ is_some o
 has_row row None = refl
@@ -167,7 +158,6 @@ module _ (hashed : Bool) (config : Config) (s : State) (op : Operation) where
       ∙ ap (λ b. unless b NotFound) (has_row (object_row n) (finmap.get s.objects n))
 
   presence_is : (resource : Resource) → op.target.resource ≡ resource → presence_refusal (in_view view_seen) resource ≡ presence_refusal (looked_up hashed s) resource
-  presence_is Service at = refl
   presence_is (Object n) at = object_is n (ap object_in at)
   presence_is (Metadata n) at = object_is n (ap object_in at)
   presence_is (FileSet n) at = object_is n (ap object_in at)
@@ -175,15 +165,14 @@ module _ (hashed : Bool) (config : Config) (s : State) (op : Operation) where
   presence_is (File n f) at =
       ap (λ r. unless (is_some (object_in r >>= (λ n. file_in r >>= (λ f. option_map (file_row n f) (file_at s n f))))) NotFound) at
       ∙ ap (λ b. unless b NotFound) (has_row (file_row n f) (file_at s n f))
-  presence_is Staging at = refl
   presence_is (Upload u) at =
       ap (λ r. let state = upload_in (map (seen hashed s (is_some (references_in config op))) (uploads_in r (references_in config op))) in missing_refusal (live_in state) (is_timed_out state)) at
       ∙ missing_is hashed (is_some (references_in config op)) u (finmap.get s.uploads u) (set.contains s.timed_out u)
   presence_is (BagFile n path) at =
       ap (λ r. unless (option_map_or (λ n. option_map_or (has_bag_path s n) (path_in r) false) (object_in r) false) NotFound) at
+  presence_is _ at = refl
 
   tag_is : (resource : Resource) → op.target.resource ≡ resource → tag_seen view_seen resource ≡ tag_at s resource
-  tag_is Service at = refl
   tag_is (Object n) at =
       ap (λ r. option_map (λ (row : ObjectRow). row.object_tag) (object_in r >>= (λ n. option_map (object_row n) (finmap.get s.objects n)))) at
       ∙ tag_of (object_row n) (λ (row : ObjectRow). row.object_tag) (finmap.get s.objects n)
@@ -196,10 +185,7 @@ module _ (hashed : Bool) (config : Config) (s : State) (op : Operation) where
   tag_is (File n f) at =
       ap (λ r. option_map (λ (row : FileRow). row.tag) (object_in r >>= (λ n. file_in r >>= (λ f. option_map (file_row n f) (file_at s n f))))) at
       ∙ tag_of (file_row n f) (λ (row : FileRow). row.tag) (file_at s n f)
-  tag_is Staging at = refl
-  tag_is (Upload u) at = refl
-  tag_is (BagList n) at = refl
-  tag_is (BagFile n path) at = refl
+  tag_is _ at = refl
 
   abbrev repeat_in : Resource → Option Kind → Option Bool
   repeat_in resource kind = segment_in resource kind >>= (λ id. finmap.get s.uploads id.upload >>= (λ x. repeats x id.number op.content))
@@ -210,32 +196,17 @@ module _ (hashed : Bool) (config : Config) (s : State) (op : Operation) where
       (λ i. option_and_then (λ (l : LiveUpload). segment_by l.row.count (row_length l.row k) (repeat_in (at i) (for i)) k op.content)
       (live_in (upload_in (map (seen hashed s (is_some (references_in config op))) (uploads_in (at i) (references_in config op))))))
       ∙ segment_is hashed (is_some (references_in config op)) u (finmap.get s.uploads u) (set.contains s.timed_out u) k op.content
-  received_is Service k at for = refl
-  received_is (Object n) k at for = refl
-  received_is (Metadata n) k at for = refl
-  received_is (FileSet n) k at for = refl
-  received_is (File n f) k at for = refl
-  received_is Staging k at for = refl
-  received_is (BagList n) k at for = refl
-  received_is (BagFile n path) k at for = refl
+  received_is _ k at for = refl
 
   document_for : (o : Option Kind) → kind_of op ≡ o → option_and_then (document_refusal config (in_view view_seen) op) o ≡ option_and_then (document_refusal config (looked_up hashed s) op) o
-  document_for None is = refl
-  document_for (Some (of.File name)) is = refl
-  document_for (Some of.Metadata) is = refl
   document_for (Some of.References) is =
       references_told hashed s view_seen (references_in config op)
       (ap (map (seen hashed s (is_some (references_in config op)))) (by_reference_elsewhere config op is))
-  document_for (Some (of.Opening o)) is = refl
-  document_for (Some (of.Segment k)) is = refl
+  document_for _ is = refl
 
   size_for : (o : Option Kind) → kind_of op ≡ o → option_and_then (size_refusal config (in_view view_seen) op) o ≡ option_and_then (size_refusal config (looked_up hashed s) op) o
-  size_for None is = refl
-  size_for (Some (of.File name)) is = refl
-  size_for (Some of.Metadata) is = refl
-  size_for (Some of.References) is = refl
-  size_for (Some (of.Opening o)) is = refl
   size_for (Some (of.Segment k)) is = received_is op.target.resource k refl is
+  size_for _ is = refl
 
   access_is : access_refusal config (in_view view_seen) op ≡ access_refusal config (looked_up hashed s) op
   unfolding access_refusal presence_rule tag_rule

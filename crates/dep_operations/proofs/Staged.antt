@@ -2,9 +2,9 @@
 use Rattle.std.proofs.Common.{◌≡◌, ℕ, true, List, Option, Some, refl}
 use Rattle.dep_types.specs.declared.config.Config.{Config}
 use Rattle.dep_types.specs.declared.target.Resource.{Resource}
-use Rattle.dep_types.specs.declared.target.Resource.TheVariants.{Service, Object, Metadata, FileSet, File, Staging, Upload, BagList, BagFile}
+use Rattle.dep_types.specs.declared.target.Resource.TheVariants.{Service, Upload}
 use Rattle.dep_types.specs.declared.target.Method.{Method}
-use Rattle.dep_types.specs.declared.target.Method.TheVariants.{Get, Head, Post, Put, Delete}
+use Rattle.dep_types.specs.declared.target.Method.TheVariants.{Get}
 use Rattle.dep_fields.specs.declared.kind.Kind.TheVariants as of
 use Rattle.dep_docs_in.specs.declared.reference.Reference.{Reference}
 use Rattle.dep_decisions.specs.Decisions.{references_in}
@@ -15,22 +15,12 @@ use Rattle.dep_operations.specs.Views.{uploads_in}
 
 not_uploaded : (u : ℕ) (method : Method) → takes_kind (Upload u) method of.References ≡ true → ⊥
 not_uploaded u Get h = cc h
-not_uploaded u Head h = cc h
-not_uploaded u Post h = cc h
-not_uploaded u Put h = cc h
-not_uploaded u Delete h = cc h
+not_uploaded u _ h = cc h
 
 elsewhere : (resource : Resource) (method : Method) (refs : Option (List Reference)) → takes_kind resource method of.References ≡ true
     → uploads_in resource refs ≡ uploads_in Service refs
 elsewhere (Upload u) method refs h = absurd (not_uploaded u method h)
-elsewhere Service method refs h = refl
-elsewhere (Object n) method refs h = refl
-elsewhere (Metadata n) method refs h = refl
-elsewhere (FileSet n) method refs h = refl
-elsewhere (File n f) method refs h = refl
-elsewhere Staging method refs h = refl
-elsewhere (BagList n) method refs h = refl
-elsewhere (BagFile n path) method refs h = refl
+elsewhere _ method refs h = refl
 
 pub by_reference_elsewhere : (config : Config) (op : Operation) → kind_of op ≡ Some of.References
     → uploads_in op.target.resource (references_in config op) ≡ uploads_in Service (references_in config op)

@@ -8,8 +8,7 @@ use Rattle.std.proofs.lemmas.List.Sums.{prefix_len_stops}
 use Rattle.std.specs.List.{prefix_len}
 use Rattle.std.specs.Str.{str_eq_ignore_ascii_case}
 use Rattle.percent_encoding.specs.Percent.{percent_decode}
-use Rattle.dep_params.specs.Grammar.{DispositionValue, value_of}
-use Rattle.dep_params.specs.Names.{HasWholeEscapes, IsExtended, IsTold, IsToldName, has_no_apostrophe}
+use Rattle.dep_params.specs.Names.{HasWholeEscapes, IsExtended, has_no_apostrophe}
 use Rattle.dep_params.specs.Reading.{cut_at_apostrophe}
 use Rattle.dep_params.proofs.Runs.{prefix_len-stopped, run-passes}
 
@@ -119,18 +118,3 @@ as_extended text name first second is h k =
     let cut = cuts text name is in
     let same = cut_is text name first second cut h k in
     (ap (λ (t : List ℕ). str_eq_ignore_ascii_case t (codes "UTF-8")) same.0 ∙ cut.utf8, subst HasWholeEscapes (sym same.1) cut.whole)
-
-pub same_extended : (text a b : List ℕ) → IsExtended text a → IsExtended text b → a ≡ b
-same_extended text a b is has =
-    let left = cuts text a is in
-    let right = cuts text b has in
-    let escaped = (cut_is text b (left.charset, left.rest) (left.language, left.escaped) right left.first left.second).1 in
-    left.told ∙ ap percent_decode escaped ∙ sym right.told
-
-pub same_told : (star plain : Option (List ℕ)) (a b : List ℕ) → IsTold star plain a → IsTold star plain b → a ≡ b
-same_told (Some text) plain a b is has = same_extended text a b is has
-same_told None (Some plain) a b is has = is ∙ sym has
-same_told None None a b is has = absurd is
-
-pub same_name : (reading : DispositionValue) (a b : List ℕ) → IsToldName reading a → IsToldName reading b → a ≡ b
-same_name reading a b is has = same_told (value_of (codes "filename*") reading) (value_of (codes "filename") reading) a b is has

@@ -48,13 +48,3 @@ run-passes p (x ∷ xs) = elim (cases_Bool (p x)) [
       rw (passes, one-add, passes) later
   | inr fails ↦ rw fails refl
 ]
-
--- what follows the run begins with an octet that fails, or is empty
-pub stops_or_ends : (p : ℕ → Bool) (xs : List ℕ) → prefix_len p (drop (prefix_len p xs) xs) ≡ 0
-stops_or_ends p [] = refl
-stops_or_ends p (x ∷ xs) = elim (cases_Bool (p x)) [
-  | inl passes ↦
-      let later = stops_or_ends p xs in
-      rw (passes, one-add) later
-  | inr fails ↦ rw (fails, fails) refl
-]

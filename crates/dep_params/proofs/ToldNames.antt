@@ -7,7 +7,7 @@ use Rattle.std.specs.List.{list_all, range_with_len}
 use Rattle.std.specs.Str.{str_eq_ignore_ascii_case}
 use Rattle.percent_encoding.specs.Percent.{percent_decode}
 use Rattle.dep_params.specs.Grammar.{DispositionValue, value_of}
-use Rattle.dep_params.specs.Names.{HasTwoDigitsAfter, HasWholeEscapes, IsExtended, IsTold, IsFileName}
+use Rattle.dep_params.specs.Names.{HasTwoDigitsAfter, HasWholeEscapes, IsExtended, IsTold, IsToldName, IsFileName}
 use Rattle.dep_types.specs.Names.{if_passes, is_good_name}
 use Rattle.dep_params.specs.Reading.{cut_at_apostrophe}
 use Rattle.dep_params.specs.Told.{has_two_digits_after, is_whole_at, has_whole_escapes, name_escaped, name_behind, extended_name, told_name, file_name_of}
@@ -112,6 +112,13 @@ told-complete : (star plain : Option (List ℕ)) (name : List ℕ) → IsTold st
 told-complete (Some text) plain name is = extended-complete text name is
 told-complete None (Some plain) name is = ap Some (sym is)
 told-complete None None name is = absurd is
+
+-- so the parameters give one name at most
+pub same_name : (reading : DispositionValue) (a b : List ℕ) → IsToldName reading a → IsToldName reading b → a ≡ b
+same_name reading a b is has =
+    let star = value_of (codes "filename*") reading in
+    let plain = value_of (codes "filename") reading in
+    cc (told-complete star plain a is, told-complete star plain b has)
 
 good-sound : (star plain : Option (List ℕ)) (name : List ℕ) (o : Option (List ℕ)) → told_name star plain ≡ o → option_and_then (if_passes is_good_name) o ≡ Some name
     → IsTold star plain name × (is_good_name name ≡ true)

@@ -91,6 +91,10 @@ reading-complete text reading is =
     rw (ne_eqb (token_len text) 0 whole.named, read)
     (ap (λ (f : List ℕ). Some (let r : DispositionValue = record { form = f; parameters = reading.parameters } in r)) (sym whole.form))
 
+-- so two readings of a text are the same
+pub same_reading : (text : List ℕ) (a b : DispositionValue) → IsDisposition text a → IsDisposition text b → a ≡ b
+same_reading text a b is has = cc (reading-complete text a is, reading-complete text b has)
+
 -- ---- names that stand once
 
 apart-sound : (name : List ℕ) (names : List (List ℕ)) → list_all (λ other. not (bytes_eq name other)) names ≡ true → AllByRecursion (λ other. bytes_eq name other ≡ false) names

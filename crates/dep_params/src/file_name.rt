@@ -21,6 +21,8 @@ impl Disposition {
         ensures unnamed { result ≡ Err ParamFault.NoName →
             (name : List ℕ) → ¬ IsFileName self.now name }
         ensures faults { IfErr result IsNameFault }
+        ensures wanted { result ≡ Err ParamFault.Memory →
+            (name : List ℕ) × IsToldName self.now name }
     {
         let name = self.told_name(alloc)?;
         if !is_good_name(&name) {
@@ -38,6 +40,8 @@ impl Disposition {
         ensures untold { result ≡ Err ParamFault.NoName →
             (name : List ℕ) → ¬ IsToldName self.now name }
         ensures faults { IfErr result IsNameFault }
+        ensures wanted { result ≡ Err ParamFault.Memory →
+            (name : List ℕ) × IsToldName self.now name }
     {
         match self.parameter(b"filename*") {
             Some(text) => decoded(alloc, text),
@@ -55,6 +59,8 @@ fn decoded(alloc: Global, text: &[u8]) -> Result<Vec<u8>, ParamFault>
     ensures untold { result ≡ Err ParamFault.NoName →
         (name : List ℕ) → ¬ IsExtended text.now name }
     ensures faults { IfErr result IsNameFault }
+    ensures wanted { result ≡ Err ParamFault.Memory →
+        (name : List ℕ) × IsExtended text.now name }
 {
     let Some(escaped) = escaped_part(text) else {
         return Err(ParamFault::NoName);

@@ -1,10 +1,10 @@
 //! Reading a Content-Disposition field.
-ghost use Rattle.std.specs.Prelude.{◌≡◌, ◌≢◌, ◌⊎◌, List, not, map, bytes_eq, IfOk, IfErr};
+ghost use Rattle.std.specs.Prelude.{◌≡◌, ◌≢◌, ◌⊎◌, ◌<◌, List, not, map, bytes_eq, IfOk, IfErr};
 ghost use Rattle.std.specs.Bool.{Decides};
 ghost use Rattle.std.specs.List.{IsDistinct};
 ghost use Rattle.std.specs.Option.{option_copied};
 ghost use Rattle.dep_params.specs.Grammar.{AreParameters, HasDistinctNames, IsDisposition, NamedValue, DispositionValue};
-ghost use Rattle.dep_params.specs.Reading.{Gives, Refuses, behind_name, named, semicolon_read, value_read};
+ghost use Rattle.dep_params.specs.Reading.{Gives, Refuses, behind_name, named, semicolon_read, token_len, value_read};
 ghost use Rattle.dep_params.specs.Stored.{names_in, view, views};
 
 use crate::disposition::{Disposition, ParamFault, Parameter};
@@ -26,6 +26,9 @@ pub fn read_disposition(alloc: Global, text: &[u8]) -> Result<Disposition, Param
     ensures repeated { result ≡ Err ParamFault.Repeated →
         (reading : DispositionValue) × IsDisposition text.now reading × ¬ HasDistinctNames reading }
     ensures never_of_names { result ≢ Err ParamFault.NoName }
+
+    // What doesn't begin with a type is refused without memory.
+    ensures wanted { result ≡ Err ParamFault.Memory → 0 < token_len text.now }
 {
     let (form, rest) = split_token(text);
     if form.is_empty() {

@@ -1,7 +1,7 @@
 -- What the parser of URLs makes of a text breaks no line, so no base does.
 use Rattle.std.proofs.Common.{bytes_eq, ◌≡◌, ◌==◌, ◌&&◌, not, ◌||◌, ◌+◌, ◌-◌, ◌/◌, ◌%◌, ◌≤◌, ℕ, zero, suc, Bool, true, false, List, [], ◌∷◌, ◌++◌, take, drop, length, Option, Some, None, Ok, Err, All, codes, nat_lt, if◌then◌else◌, refl, sym, subst, ◌∙◌, arith}
 use Rattle.std.specs.Prelude.{IsTrue, decimal, slice_index, unwrap_or, is_some, option_map, flat_map}
-use Rattle.std.specs.List.{list_any, concat}
+use Rattle.std.specs.List.{list_any}
 use Rattle.std.specs.Char.{digit_char, is_ascii_alphabetic}
 use Rattle.std.specs.Result.{result_map_both}
 use Rattle.std.specs.Int.{w32, to_be_bytes}
@@ -25,7 +25,7 @@ use Rattle.url.specs.Scheme.{scheme_type, is_special, is_file, is_slash}
 use Rattle.url.specs.Host.{host_text, host_of_ascii, ascii_domain, ipv4_host, ipv6_host, parse_bracketed, parse_special_host, parse_opaque_host, parse_file_host, parse_host, without_localhost, is_forbidden_in_domain, is_forbidden_in_host}
 use Rattle.url.specs.Ipv4.{ends_in_a_number, parse_ipv4}
 use Rattle.url.specs.Path.{ends_in_space, escape_end, segment_len, dot_count, is_windows_drive_letter, is_normalized_windows_drive_letter, shorten_path, segment_text, push_segment, parse_segments, parse_path, parse_path_start}
-use Rattle.url.specs.Parts.{Parts, kind_of, has_authority, has_credentials, needs_guard, host_or_empty, pieces, serialize}
+use Rattle.url.specs.Parts.{Parts, kind_of, has_authority, has_credentials, needs_guard, host_or_empty, serialize}
 use Rattle.url.specs.Head.{scheme_only}
 use Rattle.url.specs.Parser.{Parsed, and_then, lacks_host, split_port, parse_port, parse_authority, with_path, leading_slashes, skip_slashes, after_double_slash, parse_non_special, file_with_host, after_file_double_slash, parse_file, parse_body, with_tail, before_tail, parse_by_scheme, parse_parts, parse_url}
 use Rattle.url.proofs.SetLemmas.{outside_pass, passes_from_kept}
@@ -123,16 +123,7 @@ unbroken_hex_groups segments =
 
 unbroken_ipv4 : (o : List ℕ) → Unbroken (ipv4_text o)
 unbroken_ipv4 o =
-    let a = decimal (slice_index o 0) in
-    let b = decimal (slice_index o 1) in
-    let c = decimal (slice_index o 2) in
-    unbroken_both (a ++ codes "." ++ b ++ codes "." ++ c ++ codes ".") (decimal (slice_index o 3))
-    (unbroken_both (a ++ codes "." ++ b ++ codes "." ++ c) (codes ".")
-    (unbroken_both (a ++ codes "." ++ b ++ codes ".") c
-    (unbroken_both (a ++ codes "." ++ b) (codes ".")
-    (unbroken_both (a ++ codes ".") b (unbroken_both a (codes ".") (unbroken_decimal (slice_index o 0)) refl) (unbroken_decimal (slice_index o 1))) refl)
-    (unbroken_decimal (slice_index o 2))) refl)
-    (unbroken_decimal (slice_index o 3))
+    simp (list_all-append, unbroken_decimal (slice_index o 0), unbroken_decimal (slice_index o 1), unbroken_decimal (slice_index o 2), unbroken_decimal (slice_index o 3))
 
 -- the text of the host breaks no line
 record IsPlainHost (host : Host (List ℕ)) : Type 0 where
@@ -347,60 +338,26 @@ unbroken_port : (o : Option ℕ) → Unbroken (unwrap_or (option_map decimal o) 
 unbroken_port None = refl
 unbroken_port (Some n) = unbroken_decimal n
 
-Each : List (List ℕ) → Type 0
-Each [] = Unit {0}
-Each (text ∷ texts) = Unbroken text × Each texts
-
-unbroken_concat : (texts : List (List ℕ)) → Each texts → Unbroken (concat texts)
-unfolding Each
-unbroken_concat [] p = refl
-unbroken_concat (text ∷ texts) p = unbroken_both text (concat texts) p.0 (unbroken_concat texts p.1)
-
 unbroken_text : (url : Parts) → IsClean url → Unbroken url.scheme → Unbroken (unwrap_or url.query []) → Unbroken (unwrap_or url.fragment []) → Unbroken (serialize url)
-unfolding Each
-unbroken_text url h scheme query fragment = unbroken_concat (pieces url) (
-  scheme,
-  (
-    unbroken_if (has_authority url) (codes "://") (codes ":") refl refl,
-    (
+unbroken_text url h scheme query fragment =
+    simp (
+      list_all-append,
+      scheme,
+      unbroken_if (has_authority url) (codes "://") (codes ":") refl refl,
       h.username,
-      (
-        in_when (not (is_empty url.password)) (codes ":") refl,
-        (
-          h.password,
-          (
-            in_when (has_credentials url) (codes "@") refl,
-            (
-              h.host,
-              (
-                in_when (is_some url.port) (codes ":") refl,
-                (
-                  unbroken_port url.port,
-                  (
-                    in_when (needs_guard url) (codes "/.") refl,
-                    (
-                      h.path,
-                      (
-                        in_when (is_some url.query) (codes "?") refl,
-                        (
-                          query,
-                          (
-                            in_when (is_some url.fragment) (codes "#") refl,
-                            (fragment, tt),
-                          ),
-                        ),
-                      ),
-                    ),
-                  ),
-                ),
-              ),
-            ),
-          ),
-        ),
-      ),
-    ),
-  ),
-)
+      in_when (not (is_empty url.password)) (codes ":") refl,
+      h.password,
+      in_when (has_credentials url) (codes "@") refl,
+      h.host,
+      in_when (is_some url.port) (codes ":") refl,
+      unbroken_port url.port,
+      in_when (needs_guard url) (codes "/.") refl,
+      h.path,
+      in_when (is_some url.query) (codes "?") refl,
+      query,
+      in_when (is_some url.fragment) (codes "#") refl,
+      fragment,
+    )
 
 whole_text : (scheme body : List ℕ) (query fragment : Option (List ℕ)) (url : Parts) → parse_parts scheme None body query fragment ≡ Ok url → Unbroken url.scheme → Unbroken (serialize url)
 unfolding parse_parts

@@ -9,8 +9,8 @@ use Rattle.std.proofs.lemmas.List.Folds.{list_all-append}
 use Rattle.std.proofs.lemmas.Bool.{and_parts}
 use Rattle.std.proofs.lemmas.Bool.Decides.{nat_tests}
 use Rattle.httpdate.specs.Calendar.{days_from_civil, weekday}
-use Rattle.httpdate.specs.Text.{day_name, month_name, two_digits, four_digits}
-use Rattle.dep_moment.specs.Civil.{Civil, civil_of, time_of, http_text}
+use Rattle.httpdate.specs.Text.{day_name, month_name, two_digits}
+use Rattle.dep_moment.specs.Civil.{civil_of, http_text}
 use Rattle.dep_head.specs.Head.{head_end, empty_line, EndsOnce}
 use Rattle.dep_types.specs.Names.{is_media_byte, is_media}
 use Rattle.dep_types.specs.Numbers.{quoted_tag}
@@ -84,32 +84,21 @@ unbroken_month n =
     (n - 1)
     (refl, (refl, (refl, (refl, (refl, (refl, (refl, (refl, (refl, (refl, (refl, (refl, tt))))))))))))
 
-unbroken_time : (c : Civil) → IsTrue (is_unbroken (time_of c))
-unbroken_time c =
-    let hour = two_digits c.hour in
-    let minute = two_digits c.minute in
-    unbroken_both (((hour ++ codes ":") ++ minute) ++ codes ":") (two_digits c.second)
-    (unbroken_both ((hour ++ codes ":") ++ minute) (codes ":")
-    (unbroken_both (hour ++ codes ":") minute (unbroken_both hour (codes ":") (unbroken_two c.hour) refl) (unbroken_two c.minute)) refl)
-    (unbroken_two c.second)
-
 pub unbroken_date : (secs : ℕ) → IsTrue (is_unbroken (http_text secs))
 unfolding http_text
 unbroken_date secs =
     let c = civil_of secs in
-    let day = day_name (weekday (days_from_civil c.year c.month c.day)) in
-    let date = day ++ codes ", " ++ two_digits c.day ++ codes " " ++ month_name c.month ++ codes " " ++ four_digits c.year ++ codes " " in
-    let is_date : IsTrue (is_unbroken date) =
-    unbroken_both (day ++ codes ", " ++ two_digits c.day ++ codes " " ++ month_name c.month ++ codes " " ++ four_digits c.year) (codes " ")
-    (unbroken_both (day ++ codes ", " ++ two_digits c.day ++ codes " " ++ month_name c.month ++ codes " ") (four_digits c.year)
-    (unbroken_both (day ++ codes ", " ++ two_digits c.day ++ codes " " ++ month_name c.month) (codes " ")
-    (unbroken_both (day ++ codes ", " ++ two_digits c.day ++ codes " ") (month_name c.month)
-    (unbroken_both (day ++ codes ", " ++ two_digits c.day) (codes " ")
-    (unbroken_both (day ++ codes ", ") (two_digits c.day)
-    (unbroken_both day (codes ", ") (unbroken_day (weekday (days_from_civil c.year c.month c.day))) refl)
-    (unbroken_two c.day)) refl) (unbroken_month c.month)) refl)
-    (unbroken_both (two_digits (c.year / 100)) (two_digits (c.year % 100)) (unbroken_two (c.year / 100)) (unbroken_two (c.year % 100)))) refl in
-    unbroken_both (date ++ time_of c) (codes " GMT") (unbroken_both date (time_of c) is_date (unbroken_time c)) refl
+    simp (
+      list_all-append,
+      unbroken_day (weekday (days_from_civil c.year c.month c.day)),
+      unbroken_month c.month,
+      unbroken_two c.day,
+      unbroken_two (c.year / 100),
+      unbroken_two (c.year % 100),
+      unbroken_two c.hour,
+      unbroken_two c.minute,
+      unbroken_two c.second,
+    )
 
 phrase_is_unbroken : (status : ℕ) → IsTrue (is_unbroken (phrase status))
 phrase_is_unbroken n =
@@ -118,14 +107,10 @@ phrase_is_unbroken n =
     (unbroken_if (n == 413) _ _ refl (unbroken_if (n == 415) _ _ refl (unbroken_if (n == 507) _ _ refl refl))))))))))
 
 unbroken_status : (status : ℕ) → IsTrue (is_unbroken (status_text status))
-unbroken_status n =
-    unbroken_both ((codes "HTTP/1.1 " ++ decimal n) ++ codes " ") (phrase n)
-    (unbroken_both (codes "HTTP/1.1 " ++ decimal n) (codes " ") (unbroken_both (codes "HTTP/1.1 ") (decimal n) refl (unbroken_decimal n)) refl)
-    (phrase_is_unbroken n)
+unbroken_status n = simp (list_all-append, unbroken_decimal n, phrase_is_unbroken n)
 
 unbroken_quoted : (tag : ℕ) → IsTrue (is_unbroken (quoted_tag tag))
-unbroken_quoted tag =
-    unbroken_both (codes "\"" ++ decimal tag) (codes "\"") (unbroken_both (codes "\"") (decimal tag) refl (unbroken_decimal tag)) refl
+unbroken_quoted tag = simp (list_all-append, unbroken_decimal tag)
 
 -- ---- lines that are joined
 

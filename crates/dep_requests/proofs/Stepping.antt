@@ -197,17 +197,17 @@ row_seen s next (resource.BagFile n path) m row h e = absurd (cc)
 
 -- ---- a payload file of a bag, whose row was looked at
 
-in_bag : (s : State) (n : ℕ) (row : FileRow) (k : Option ℕ) (metadata : Bool) → Some row ≡ option_and_then (λ f. option_map (file_row n f) (file_at s n f)) k → shown.File row ≡ shown_at s (subject_by n k metadata)
-in_bag s n row None metadata e = absurd (cc)
-in_bag s n row (Some f) metadata e = by_row n f row (file_at s n f) e
+in_bag : (s : State) (n : ℕ) (row : FileRow) (k : Option ℕ) (metadata sha512s : Bool) → Some row ≡ option_and_then (λ f. option_map (file_row n f) (file_at s n f)) k → shown.File row ≡ shown_at s (subject_by n k metadata sha512s)
+in_bag s n row None metadata sha512s e = absurd (cc)
+in_bag s n row (Some f) metadata sha512s e = by_row n f row (file_at s n f) e
 
 abbrev payload_looked_at : State → Resource → Option FileRow
 payload_looked_at s r = object_in r >>= (λ n. path_in r >>= file_at_path s n)
 
 payload_seen : (s : State) (next : Counters) (r : Resource) (m : Method) (row : FileRow) → IsTrue (is_safe m) → Some row ≡ payload_looked_at s r
     → shown.File row ≡ shown_at s (subject_of next r m)
-payload_seen s next (resource.BagFile n path) Get row h e = in_bag s n row _ _ e
-payload_seen s next (resource.BagFile n path) Head row h e = in_bag s n row _ _ e
+payload_seen s next (resource.BagFile n path) Get row h e = in_bag s n row _ _ _ e
+payload_seen s next (resource.BagFile n path) Head row h e = in_bag s n row _ _ _ e
 payload_seen s next (resource.BagFile n path) Post row h e = cc h
 payload_seen s next (resource.BagFile n path) Put row h e = cc h
 payload_seen s next (resource.BagFile n path) Delete row h e = cc h

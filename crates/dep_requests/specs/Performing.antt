@@ -125,6 +125,11 @@ pub record IsDone (old new : db.State) (config : Config) (op : Operation) (runni
       → db.IsUnchanged old new
   pub ours : db.HasCleanDisk new → IsTrue old.in_transaction → IsOurs old → IsOurs new
 
+-- what was hashed of uploads is what was received of them, as it was before
+abbrev pub KeepsRunning : (old new : db.State) → (before now : RunningHashes) → Type 0
+KeepsRunning old new before now =
+    FromMaps old new (λ s. IsSound s → AreRunning s before → AreRunning s now)
+
 -- what was ruled rightly is followed
 abbrev pub Follows : (old new : db.State) → Config → Operation → Ruled → Result Performed StoreFault
     → Type 0

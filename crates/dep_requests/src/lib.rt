@@ -8,4 +8,4 @@ mod showing;
 
 pub use performing::{Done, accept, answer_operation, delivery_at};
 pub use remembering::{Remembered, clock_still, read_still, recalled, still_known};
-pub use showing::{file_shown, hashes_for, show_service};
+pub use showing::{file_shown, is_plain_read, show_service};

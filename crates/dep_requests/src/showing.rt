@@ -1,6 +1,6 @@
 //! Requests that are answered by what is remembered, and what the reply to one that only reads lets be remembered.
 
-ghost use Rattle.std.specs.Prelude.{◌≡◌, false, if◌then◌else◌, Some, IsTrue, IfOk, ◌↔◌};
+ghost use Rattle.std.specs.Prelude.{◌≡◌, false, Some, IsTrue, IfOk, ◌↔◌};
 ghost use Rattle.dep_types.specs.State.{State};
 ghost use Rattle.dep_types.specs.Sound.{IsSound};
 ghost use Rattle.dep_fields.specs.Fit.{AreFit};
@@ -13,7 +13,6 @@ use dep_answers::{Performed, Service, Shown, StoredFile, refused};
 use dep_decisions::{Operation, content_purpose};
 use dep_fields::Field;
 use dep_operations::{Ruling, UploadViews, View, decide};
-use dep_staging::RunningHashes;
 use dep_types::{Resource, StoreFault};
 use std::alloc::Global;
 
@@ -82,7 +81,7 @@ pub fn show_service(
 }
 
 /// Whether the request only reads, and its head speaks of no content that would be kept.
-fn is_plain_read(operation: &Operation<'_>) -> bool
+pub fn is_plain_read(operation: &Operation<'_>) -> bool
     ensures { result ≡ is_plain_read operation.now }
 {
     operation.target.method.is_safe()
@@ -101,20 +100,5 @@ pub fn file_shown(operation: &Operation<'_>, done: &Done) -> Option<StoredFile>
         done.performed.stored
     } else {
         None
-    }
-}
-
-/// How far uploads were hashed, for a request that may need it.
-pub fn hashes_for<'a>(
-    running: &'a RunningHashes,
-    none: &'a RunningHashes,
-    operation: &Operation<'_>,
-) -> &'a RunningHashes
-    ensures { result.now ≡ (if is_plain_read operation.now then none.now else running.now) }
-{
-    if is_plain_read(operation) {
-        none
-    } else {
-        running
     }
 }

@@ -1,5 +1,5 @@
 -- Which requests an archive turns away whose reserve was given up.
-use Rattle.std.specs.Prelude.{◌≡◌, Bool, true, false, not, ◌&&◌, nat_lt, length, Option, None, Some}
+use Rattle.std.specs.Prelude.{Bool, true, false, not, ◌&&◌, nat_lt, length, Option, None, Some}
 use Rattle.dep_types.specs.declared.target.Method.{Method}
 use Rattle.dep_types.specs.declared.target.Method.TheVariants.{Get, Head, Post, Put, Delete}
 use Rattle.dep_decisions.specs.declared.operation.Operation.{Operation}
@@ -24,8 +24,3 @@ is_low is_standing (Some reserve) = not (is_standing reserve)
 -- the request is turned away
 abbrev pub turns_away : {R : Type 0} → (is_standing : R → Bool) → Option R → Operation → Bool
 turns_away is_standing reserve op = is_low is_standing reserve && brings_content op
-
--- a reserve, if there is one, does not stand
-abbrev pub IsGivenUp : {R : Type 0} → (is_standing : R → Bool) → Option R → Type 0
-IsGivenUp is_standing None = Unit {0}
-IsGivenUp is_standing (Some reserve) = is_standing reserve ≡ false

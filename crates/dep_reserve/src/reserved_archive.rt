@@ -1,11 +1,11 @@
 //! An archive that gives up its reserve where a step fails.
 
-ghost use Rattle.std.specs.Prelude.{◌≡◌, Err, IsTrue, OnOk, is_some};
+ghost use Rattle.std.specs.Prelude.{◌≡◌, ◌≢◌, Err, IsTrue, false, is_some};
 ghost use Rattle.dep_types.specs.declared.store_fault.StoreFault.TheVariants.{Store};
 ghost use Rattle.dep_fields.specs.Fit.{AreFit};
 ghost use Rattle.dep_answers.specs.Steps.{operation_step};
 ghost use Rattle.dep_hub.specs.Archives.{Ticks, MakesStep, FailsIfShut};
-ghost use Rattle.dep_reserve.specs.Reserving.{brings_content, is_low, turns_away, IsGivenUp};
+ghost use Rattle.dep_reserve.specs.Reserving.{brings_content, is_low, turns_away};
 
 use crate::reserve::Reserve;
 use dep_answers::{Performed, Service};
@@ -72,7 +72,8 @@ impl<A: Archive, R: Reserve + Drop> ReservedArchive<A, R> {
 
     fn give_up(&mut self)
         ensures archive { self.new.archive ≡ self.old.archive }
-        ensures given_up { IsGivenUp R.is_standing self.new.reserve }
+        ensures given_up { is_low R.is_standing self.new.reserve ≡ is_some self.old.reserve }
+        ensures there { is_some self.new.reserve ≡ is_some self.old.reserve }
         ensures second { self.new.second ≡ self.old.second }
     {
         if let Some(reserve) = &mut self.reserve {
@@ -84,7 +85,9 @@ impl<A: Archive, R: Reserve + Drop> ReservedArchive<A, R> {
 
     fn restore(&mut self)
         ensures archive { self.new.archive ≡ self.old.archive }
-        ensures kept { is_some self.new.reserve ≡ is_some self.old.reserve }
+        ensures there { is_some self.new.reserve ≡ is_some self.old.reserve }
+        ensures standing { is_low R.is_standing self.old.reserve ≡ false
+            → self.new.reserve ≡ self.old.reserve }
         ensures second { self.new.second ≡ self.old.second }
     {
         if let Some(reserve) = &mut self.reserve {
@@ -114,10 +117,15 @@ impl<A: Archive, R: Reserve + Drop> Archive for ReservedArchive<A, R> {
             config.now moment result }
         ensures shut { FailsIfShut (A.condition self.old.archive) (A.condition self.new.archive)
             result }
-        // It is low once the store has failed, and stays as it was through a second in which it does not.
-        ensures given_up { result ≡ Err Store → IsGivenUp R.is_standing self.new.reserve }
+        // With a reserve it is low once the store has failed. Else the reserve stays as it was, but that one which is given up
+        // may be taken anew, once in a second.
+        ensures given_up { result ≡ Err Store
+            → is_low R.is_standing self.new.reserve ≡ is_some self.old.reserve }
+        ensures there { is_some self.new.reserve ≡ is_some self.old.reserve }
         ensures seldom { self.old.second ≡ moment
-            → OnOk result (self.new.reserve ≡ self.old.reserve) }
+            → result ≢ Err Store → self.new.reserve ≡ self.old.reserve }
+        ensures standing { is_low R.is_standing self.old.reserve ≡ false
+            → result ≢ Err Store → self.new.reserve ≡ self.old.reserve }
         ensures second { self.new.second ≡ moment }
     {
         let second = moment.secs();
@@ -145,7 +153,9 @@ impl<A: Archive, R: Reserve + Drop> Archive for ReservedArchive<A, R> {
         // What is turned away is told by the fault of the store, before the archive is asked.
         ensures away { IsTrue (turns_away R.is_standing self.old.reserve operation.now)
             → (result ≡ Err Store) × (self.new ≡ self.old) }
-        ensures given_up { result ≡ Err Store → IsGivenUp R.is_standing self.new.reserve }
+        ensures given_up { result ≡ Err Store
+            → is_low R.is_standing self.new.reserve ≡ is_some self.old.reserve }
+        ensures kept { result ≢ Err Store → self.new.reserve ≡ self.old.reserve }
     {
         if self.turns_away(operation) {
             return Err(StoreFault::Store);

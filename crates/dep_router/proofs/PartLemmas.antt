@@ -1,26 +1,21 @@
 -- What the parameters of each page took from a path.
-use Rattle.std.proofs.Common.{rules, ◌≡◌, ◌∙◌, ◌<◌, ◌≤◌, ◌+◌, ◌-◌, ◌==◌, ℕ, suc, true, false, List, [], ◌∷◌, ◌++◌, length, drop, get_or, Option, Some, None, ltb, leb, codes, refl, sym, ap, subst, arith, length-append, append-nil, append_assoc}
+use Rattle.std.proofs.Common.{rules, ◌≡◌, ◌∙◌, ◌<◌, ◌≤◌, ◌+◌, ◌-◌, ◌==◌, ℕ, suc, true, false, List, [], ◌∷◌, ◌++◌, length, drop, get_or, Option, Some, None, ltb, leb, codes, refl, sym, ap, subst, arith, length-append, append-nil, append_assoc, option_and_then, option_map}
 use Rattle.std.proofs.lemmas.Bool.Decides.{nat_tests}
 use Rattle.std.specs.Str.{IsUtf8}
-use Rattle.matchit.specs.Rows.{param_token, catch_all_token}
-use Rattle.matchit.specs.Seek.{segment, has_slash}
+use Rattle.matchit.specs.Rows.{param_token, catch_all_token, RowsOf}
+use Rattle.matchit.specs.Seek.{segment, has_slash, first}
 use Rattle.matchit.specs.Level.{IsText}
-use Rattle.matchit.specs.Params.{walk, wild_from, wild_stop, part_of, after_token}
-use Rattle.std.proofs.Common.{option_and_then, option_map}
+use Rattle.matchit.specs.Params.{walk, wild_from, wild_stop, part_of, after_token, AllText}
 use Rattle.std.proofs.lemmas.Str.{IsUtf8-drop, IsUtf8-take, IsCharBoundary-after_ascii, IsCharBoundary-before_ascii}
-use Rattle.matchit.specs.Params.{AllText}
-use Rattle.matchit.specs.Rows.{RowsOf}
 use Rattle.matchit.specs.Router.{RouteOf}
-use Rattle.matchit.specs.Seek.{first}
 use Rattle.matchit.specs.declared.params.Params.{Params}
 use Rattle.dep_types.specs.Numbers.{number_in}
 use Rattle.dep_router.specs.Targets.{segments, resource_of, numbered, object_part, within_part}
-use Rattle.dep_router.proofs.SlashLemmas.{split-all}
+use Rattle.dep_router.proofs.SlashLemmas.{split-all, segment-cut, drop-past, take-front}
 use Rattle.dep_router.proofs.PathLemmas.{found_route, below_part, object_segments}
 use Rattle.dep_router.specs.declared.pages.Page.{Page}
 use Rattle.dep_router.specs.declared.pages.Page.TheVariants.{Service, Object, Metadata, FileSet, File, Staging, Upload, BagList, BagFile}
 use Rattle.dep_router.specs.Pages.{routes, parts_of, pattern_of, text_of, names_of, at_object, Found, Parts, resource_by}
-use Rattle.dep_router.proofs.SlashLemmas.{segment-cut, drop-past, take-front}
 
 -- literal bytes of a pattern, each of which stands in the path
 wild-run : (w rest : List ℕ) (len token at : ℕ) → IsText w → at + length w ≤ len → wild_from (w ++ rest) len token at ≡ wild_from rest len (token + length w) (at + length w)

@@ -1,5 +1,5 @@
 -- The path of a file in a bag is the end of the path that names it.
-use Rattle.std.proofs.Common.{◌≡◌, ◌∙◌, ◌<◌, ◌≤◌, ◌+◌, ◌-◌, ℕ, length, drop, List, [], ◌∷◌, ◌++◌, Option, Some, None, codes, sym, ap, subst, arith, length-append}
+use Rattle.std.proofs.Common.{◌≡◌, ◌∙◌, ◌<◌, ℕ, length, List, [], ◌∷◌, ◌++◌, Option, Some, None, codes, sym, ap, subst}
 use Rattle.std.proofs.lemmas.List.{append-nil}
 use Rattle.matchit.specs.Level.{IsText}
 use Rattle.matchit.specs.Params.{named, walk}
@@ -14,7 +14,6 @@ use Rattle.dep_router.specs.declared.reading.Place.TheVariants as at
 use Rattle.dep_router.specs.Pages.{routes, parts_of, at_object, Found, Parts}
 use Rattle.dep_router.specs.Places.{EndsWith, EndsWithPlace, IsPathOf}
 use Rattle.dep_router.proofs.PathLemmas.{found_route}
-use Rattle.dep_router.proofs.SlashLemmas.{drop-past}
 use Rattle.dep_router.proofs.PartLemmas.{entry_of, walk_of, walk-path, whole_front}
 
 taken_is : (n q end : List ℕ) (parts : Parts) → parts ≡ (codes "object", n) ∷ (codes "path", q) ∷ [] → named (codes "path") parts ≡ Some end → q ≡ end
@@ -45,19 +44,3 @@ found_ends router path params value (Some (at.InBag object end)) i made found sa
     ap (λ (r : RouteOf Page). walk r.pattern r.text params.path.now r.names 0 0) f.1 ∙ ap (walk_of f.0) same in
     let took : named (codes "path") (walk_of f.0 path) ≡ Some end.now = rw walked at of.1 in
     ends_so path end.now (subst (λ p. Found p path) page f.2) (subst (λ p. named (codes "path") (walk_of p path) ≡ Some end.now) page took)
-
--- the place where the end of a path begins
-pub record Begins (path end : List ℕ) : Type 0 where
-  pub within : length end ≤ length path
-  pub before : length path - length end < length path
-  pub is : drop (length path - length end) path ≡ end
-
-pub begins : (path end : List ℕ) → EndsWith path end → Begins path end
-begins path end h =
-    let long : length path ≡ length h.front + length end = ap length h.whole ∙ length-append h.front end in
-    let start : length path - length end ≡ length h.front = omega (arith, long) in
-    record {
-      within = omega (arith, long);
-      before = omega (arith, long, h.some);
-      is = ap (λ n. drop n path) start ∙ ap (drop (length h.front)) h.whole ∙ drop-past h.front end;
-    }

@@ -1,5 +1,5 @@
 -- What a look for uploads that were left alone tells of the state.
-use Rattle.std.proofs.Common.{◌≡◌, ◌⊎◌, inl, inr, ℕ, pos, T, Bool, true, false, cond, ◌&&◌, List, [], ◌∷◌, take, filter, Option, None, Some, Ordering, Less, Equal, Greater, refl, sym, ap, subst, ◌∙◌, int_cmp, nat_cmp, is_eq, is_lt, arith}
+use Rattle.std.proofs.Common.{◌≡◌, ◌⊎◌, inl, inr, ℕ, pos, T, Bool, true, false, cond, List, [], ◌∷◌, take, filter, Option, None, Some, refl, sym, ap, subst, ◌∙◌, int_cmp, nat_cmp, is_eq, is_lt, arith}
 use Rattle.std.specs.Prelude.{map as each, nat_lt}
 use Rattle.std.specs.Option.{option_map_or}
 use Rattle.std.proofs.lemmas.Bool.Decides.{nat_tests}
@@ -24,20 +24,12 @@ use Rattle.dep_row_maps.specs.Left.{was_left_before, TellsLeft, LeftBeforeRead}
 use Rattle.dep_row_maps.proofs.Files.{same_number}
 use Rattle.dep_row_maps.proofs.Lens.{tied_not}
 use Rattle.dep_row_maps.proofs.Blocks.{number_order}
+use Rattle.dep_row_maps.proofs.Spreads.{both, less}
 
 -- ---- entries of a map
 
 abbrev Entry : Type 0
 Entry = ℕ × Upload
-
-both : (a b : Bool) → T (a && b) → T a × T b
-both true b h = (tt, h)
-both false b h = absurd h
-
-less : (o : Ordering) → T (is_lt o) → o ≡ Less
-less Less h = refl
-less Equal h = absurd h
-less Greater h = absurd h
 
 passed : {X : Type 0} (q : ℕ) (e : ℕ × X) (es : List (ℕ × X)) → (q ≡ e.0 → ⊥) → entries.find nat_cmp q (e ∷ es) ≡ entries.find nat_cmp q es
 passed q e es apart = ap (λ b. cond b (Some e.1) (entries.find nat_cmp q es)) (tied_not q e.0 apart)

@@ -1,5 +1,5 @@
 -- Contents in blocks, and the segments of an upload joined.
-use Rattle.std.proofs.Common.{◌≡◌, ℕ, zero, suc, ◌+◌, ◌*◌, ◌<◌, ◌≤◌, Bool, true, false, cond, T, ◌&&◌, List, [], ◌∷◌, ◌++◌, length, take, drop, Some, None, refl, sym, ap, subst, ◌∙◌, Ordering, Less, Equal, Greater, is_eq, is_lt, nat_cmp, length-append, length-drop, arith}
+use Rattle.std.proofs.Common.{◌≡◌, ℕ, zero, suc, ◌+◌, ◌*◌, ◌<◌, ◌≤◌, cond, T, List, [], ◌∷◌, ◌++◌, length, take, drop, Some, None, refl, sym, ap, subst, ◌∙◌, Ordering, Less, Equal, Greater, is_eq, is_lt, nat_cmp, length-append, length-drop, arith}
 use Rattle.std.proofs.lemmas.List.{length-take}
 use Rattle.std.specs.Prelude.{unwrap_or}
 use Rattle.std.proofs.lemmas.List.{take-append-le, drop-append-le, take_all, drop_all, take-append-drop}
@@ -13,7 +13,7 @@ use Rattle.dep_types.specs.Uploads.{assembled}
 use Rattle.dep_row_maps.specs.Owned.{placed}
 use Rattle.dep_row_maps.specs.Stored.{pieces, blocks_of, block_size}
 use Rattle.dep_row_maps.specs.TablesAre.{joined}
-use Rattle.dep_row_maps.proofs.Spreads.{missing}
+use Rattle.dep_row_maps.proofs.Spreads.{both, missing}
 
 pub placed-append : {X Y : Type 0} (f : ℕ → X → Y) (k : ℕ) (xs ys : List X) → placed f k (xs ++ ys) ≡ placed f k xs ++ placed f (k + length xs) ys
 placed-append f k [] ys = ap (λ n. placed f n ys) (omega arith)
@@ -120,10 +120,6 @@ less_is x y h = go (nat_cmp x y) refl h
     go Less is h = grind (arith, nat_tests)
     go Equal is h = absurd h
     go Greater is h = absurd h
-
-both : (a b : Bool) → T (a && b) → T a × T b
-both true b p = (tt, p)
-both false b p = absurd p
 
 all_below : (k : ℕ) (es : List (ℕ × List ℕ)) → T (below_all nat_cmp k es) → AllByRecursion (λ e. k < e.0) es
 all_below k [] h = tt

@@ -1,39 +1,28 @@
 -- The rows of `sha512s` against the value of each owner.
-use Rattle.std.proofs.Common.{◌≡◌, ◌≢◌, ◌⊎◌, inl, inr, ℕ, ◌≤◌, not, List, [], ◌∷◌, ◌++◌, length, map, filter, Option, Some, None, option_map, option_and_then, Less, refl, sym, ap, ap₂, subst, ◌∙◌, arith}
-use Rattle.std.specs.List.{AllByRecursion, flat_map}
-use Rattle.std.proofs.lemmas.Cmp.{nat_cmp_total, on_total}
-use Rattle.std.proofs.lemmas.List.{map-append}
+use Rattle.std.proofs.Common.{◌≡◌, ◌≢◌, ◌⊎◌, inl, inr, ℕ, ◌≤◌, not, List, [], ◌∷◌, length, map, filter, Option, Some, None, option_map, option_and_then, refl, sym, ap, subst, ◌∙◌, arith}
 use Rattle.std.specs.Option.{option_to_list}
 use Rattle.std.specs.List.Sorted.{IsPermutation}
-use Rattle.std.proofs.lemmas.List.Sorted.{IsPermutation-refl, IsPermutation-sym}
+use Rattle.std.proofs.lemmas.List.Sorted.{IsPermutation-refl}
 use Rattle.std.specs.FinMap as finmap
 use Rattle.sha2.specs.Sha512.{sha512}
 use Rattle.sqlite.specs.declared.types.Value.{Value}
 use Rattle.sqlite.specs.declared.types.Value.TheVariants.{Int, Blob}
-use Rattle.sqlite_value.specs.Order.{Row, column}
-use Rattle.sqlite_value.proofs.OrderLemmas.{value_cmp_total}
-use Rattle.sqlite.specs.Query.{or_nulls}
-use Rattle.sqlite_rules.proofs.ListLemmas.{all_from}
+use Rattle.sqlite_value.specs.Order.{Row}
 use Rattle.sqlite_trees.proofs.TreeLemmas.{IsShaped-filter}
 use Rattle.sqlite_trees.specs.declared.store.Shape.TheVariants as shape
 use Rattle.dep_types.specs.Maps.{Numbered}
 use Rattle.dep_types.specs.State.{State, Object, File, Upload}
-use Rattle.dep_types.specs.Rows.{file_row}
-use Rattle.dep_statements.specs.Rows.{IsOrdered, put_next, columns_from, left_join, InOrder}
-use Rattle.dep_statements.proofs.Sorted.{short_permutation, sorted_is}
-use Rattle.dep_tables.specs.Edits.{with_sha512s}
-use Rattle.dep_tables.specs.Rows.{sha512_values, is_sha512_of, is_sha512_of_row, value_in, file_values, shown_file, by_file}
+use Rattle.dep_statements.specs.Rows.{IsOrdered, put_next}
+use Rattle.dep_statements.proofs.Sorted.{short_permutation}
+use Rattle.dep_tables.specs.Rows.{sha512_values, is_sha512_of, value_in}
 use Rattle.dep_tables.specs.Tables.{Tables}
 use Rattle.dep_tables.specs.Versions.{our_version}
 use Rattle.dep_tables.specs.declared.owner.BlockOwner.{BlockOwner}
 use Rattle.dep_tables.specs.declared.owner.BlockOwner.TheVariants as owner
-use Rattle.dep_row_maps.specs.Owned.{spread}
-use Rattle.dep_row_maps.specs.Stored.{file_stored, is_file_of, shown_sha512, sha512_rows}
+use Rattle.dep_row_maps.specs.Stored.{shown_sha512, sha512_rows}
 use Rattle.dep_row_maps.specs.TablesAre.{TablesAre, TablesAreOf, Sha512s, Sha512sAre, HasSha512, AreFilesSha512s, AreUploadsSha512s, files_at, promised_at}
 use Rattle.dep_row_maps.specs.Laws.{TellsSha512, Sha512Read}
-use Rattle.dep_row_maps.proofs.Blocks.{one_owner, same_owner, is_owner, number_below, number_order}
-use Rattle.dep_row_maps.proofs.Spreads.{spread_rises}
-use Rattle.dep_row_maps.proofs.Left.{entry_found}
+use Rattle.dep_row_maps.proofs.Blocks.{one_owner, same_owner, is_owner}
 use Rattle.dep_row_maps.proofs.Owners.{owners-put, owners-delete, with_at}
 use Rattle.dep_row_maps.proofs.Files.{same_number}
 use Rattle.dep_row_maps.proofs.FilesOwn.{own-moved, own-alike, own-put, own-removed, other_file, other_upload, no_upload, no_file}
@@ -229,52 +218,3 @@ sha512_read t s h o found is = tells o (sha512_found t.sha512s h.values h.sha512
     tells : (q : BlockOwner) → found ≡ h.values q → TellsSha512 s q found
     tells (owner.File f) its = (λ n file there. its ∙ h.files_sha512s.of_files n f file there, λ none. its ∙ h.files_sha512s.of_none f none)
     tells (owner.Upload u) its = its ∙ h.uploads_sha512s u
-
--- ---- the files of an object, with their values
-
--- the value that an owner has stands in its one row
-row_of_value : (rows : List Row) (values : Sha512s) → Sha512sAre rows values → (o : BlockOwner) (value : List ℕ) → values o ≡ Some value → map shown_sha512 (filter (is_sha512_of o) rows) ≡ (Blob value ∷ []) ∷ []
-row_of_value rows values are o value has =
-    let those = map shown_sha512 (filter (is_sha512_of o) rows) in
-    short_permutation (sha512_rows (values o)) those (one_value (values o)) (IsPermutation-sym those (sha512_rows (values o)) (are.of_each o)) ∙ ap sha512_rows has
-
-pub value_of_file : (t : Tables) (s : State) (h : TablesAre t s) (n f : ℕ) (file : File) → finmap.get (files_at s.objects n) f ≡ Some file
-    → map shown_sha512 (filter (is_sha512_of (owner.File f)) t.sha512s) ≡ (Blob (sha512 file.content) ∷ []) ∷ []
-value_of_file t s h n f file there = row_of_value t.sha512s h.values h.sha512s (owner.File f) (sha512 file.content) (h.files_sha512s.of_files n f file there)
-
--- a file's row beside the one row of its value
-pub one_beside : (row : Row) (those : List Row) (value : List ℕ) → map shown_sha512 those ≡ (Blob value ∷ []) ∷ []
-    → map shown_file (map (λ other. (row, other)) (or_nulls those)) ≡ ((column row 0 ∷ columns_from 2 9 row) ++ Blob value ∷ []) ∷ []
-one_beside row [] value is = absurd (cc)
-one_beside row (r ∷ []) value is = let same : value_in r ≡ Blob value = cc in ap (λ v. ((column row 0 ∷ columns_from 2 9 row) ++ v ∷ []) ∷ []) same
-one_beside row (r ∷ q ∷ rows) value is = absurd (cc)
-
-abbrev one_file : ℕ → ℕ → File → List Row
-one_file n f file = file_values (file_row n f file) ∷ []
-
--- each file's row beside that of its value
-files_beside : (n : ℕ) (rows : List Row) (es : List (ℕ × File)) → AllByRecursion (λ e. map shown_sha512 (filter (is_sha512_of (owner.File e.0)) rows) ≡ (Blob (sha512 e.1.content) ∷ []) ∷ []) es
-    → map shown_file (left_join is_sha512_of_row (map (λ e. file_stored n e.0 e.1) es) rows) ≡ flat_map (λ e. one_file n e.0 e.1) es
-files_beside n rows [] each = refl
-files_beside n rows (e ∷ es) each =
-    let file = file_stored n e.0 e.1 in
-    let those = filter (is_sha512_of (owner.File e.0)) rows in
-    map-append shown_file (map (λ row. (file, row)) (or_nulls those)) (left_join is_sha512_of_row (map (λ x. file_stored n x.0 x.1) es) rows)
-    ∙ ap₂ ◌++◌ (one_beside file those (sha512 e.1.content) each.0) (files_beside n rows es each.1)
-
-module _ (t : Tables) (s : State) (h : TablesAre t s) (n : ℕ) where
-  abbrev files : List (ℕ × File)
-  files = finmap.entries (files_at s.objects n)
-
-  each_has : AllByRecursion (λ e. map shown_sha512 (filter (is_sha512_of (owner.File e.0)) t.sha512s) ≡ (Blob (sha512 e.1.content) ∷ []) ∷ []) files
-  each_has = all_from _ files (λ e there.
-      value_of_file t s h n e.0 e.1 (finmap.get-entries (files_at s.objects n) e.0 ∙ entry_found files (finmap.entries_sorted (files_at s.objects n)) e there))
-
-  -- the answer by the number of the file is the files in their order
-  pub files-sorted : (found : List Row) → InOrder by_file (map shown_file (with_sha512s t (filter (is_file_of n) t.files))) found → found ≡ spread (one_file n) (files_at s.objects n)
-  files-sorted found read =
-      let shown : map shown_file (with_sha512s t (filter (is_file_of n) t.files)) ≡ spread (one_file n) (files_at s.objects n) =
-      ap (λ rows. map shown_file (with_sha512s t rows)) (h.common.files.of_each n) ∙ files_beside n t.sha512s files each_has in
-      sorted_is by_file (on_total (λ r. column r 0) value_cmp_total) (spread (one_file n) (files_at s.objects n)) found
-      (spread_rises nat_cmp_total finmap.nat_cmp-IsAntisymmetric (one_file n) (λ a b. by_file a b ≡ Less) (λ f file. (tt, tt)) (λ a b x y lower. ((number_below a b (number_order a b lower), tt), tt)) (files_at s.objects n))
-      (subst (λ rows. IsPermutation rows found) shown read.same) read.sorted

@@ -1,5 +1,5 @@
 -- The first rows, where our tables stand beside those of others.
-use Rattle.std.proofs.Common.{◌≡◌, IsTrue, ℕ, ◌+◌, pos, List, [], ◌∷◌, ◌++◌, if◌then◌else◌, length, slice_get, Option, None, Some, unwrap_or, option_map, option_and_then, Ok, Err, OnOk, Result, codes, refl, sym, ap, subst, ◌∙◌, arith}
+use Rattle.std.proofs.Common.{◌≡◌, inl, IsTrue, ℕ, ◌+◌, ◌<◌, pos, List, [], ◌∷◌, ◌++◌, if◌then◌else◌, length, map, drop, slice_get, Option, None, Some, unwrap_or, option_map, option_and_then, Ok, Err, OnOk, Result, codes, refl, sym, ap, subst, ◌∙◌, arith}
 use Rattle.std.specs.List.{AllByRecursion}
 use Rattle.sqlite_tied.specs.Compute.{everything}
 use Rattle.sqlite.specs.Schema.{Schema}
@@ -27,7 +27,7 @@ use Rattle.sqlite_resolve.specs.Lowering.{Checked, and_then, or_else}
 use Rattle.sqlite_resolve.specs.Compile.{compiled, first, with_command, new_rows, small}
 use Rattle.sqlite_rules.specs.Lists.{Has}
 use Rattle.sqlite_rules.specs.Edit.{with_rowid, put_all}
-use Rattle.sqlite_rules.proofs.ListLemmas.{all_from, all_has}
+use Rattle.sqlite_rules.proofs.ListLemmas.{all_from, all_has, has_right}
 use Rattle.sqlite_trees.specs.Tree.{put_row, rowid}
 use Rattle.sqlite_catalog.specs.Listing.{IsSound}
 use Rattle.sqlite_catalog.specs.Change.{created, next_tree, KeepsRows}
@@ -42,7 +42,7 @@ use Rattle.dep_tables.specs.Schema.{our_schema, our_tables, format_table, state_
 use Rattle.dep_schema.specs.Texts.{add_format_text, add_state_text}
 use Rattle.dep_tables.specs.Rows.{stored_format, stored_state}
 use Rattle.dep_schema.specs.Beside.{AreFree, with_ours, AddsIndexes}
-use Rattle.dep_schema.proofs.Placed.{ours, with_format, with_state, with_objects, with_metadata, with_files, with_uploads, with_segments, with_timed_out, with_blocks, tables_are, state_tree, objects_tree, metadata_tree, files_tree, uploads_tree, segments_tree, timed_out_tree, blocks_tree, sha512s_tree}
+use Rattle.dep_schema.proofs.Placed.{ours, with_format, with_state, tables_are, state_tree, objects_tree, metadata_tree, files_tree, uploads_tree, segments_tree, timed_out_tree, blocks_tree, sha512s_tree}
 use Rattle.dep_schema.proofs.Placed.{format_named, format_listed, state_named, state_listed, indexed_schema, indexed_rows, free_indexes}
 use Rattle.dep_tables.specs.Tables.{Tables, tables_of, tables_from}
 use Rattle.dep_tables.specs.Versions.{our_version}
@@ -127,6 +127,29 @@ all_apart : {X : Type 0} (P : X → Type 0) (xs ys : List X) → AllByRecursion 
 all_apart P [] ys all = (tt, all)
 all_apart P (x ∷ xs) ys all = let rest = all_apart P xs ys all.1 in ((all.0, rest.0), rest.1)
 
+abbrev KeepsBut : ℕ → Trees → Trees → List Table → Type 0
+KeepsBut n a b tables = AllByRecursion (λ t. (t.tree ≡ n → ⊥) → b t.tree ≡ a t.tree) tables
+
+abbrev AreEmpty : Trees → List Table → Type 0
+AreEmpty a tables = AllByRecursion (λ n. a n ≡ []) (map (λ t. t.tree) tables)
+
+still_empty : (a b : Trees) (tables : List Table) → KeepsRows tables a b → AreEmpty a tables → AreEmpty b tables
+still_empty a b [] kept none = tt
+still_empty a b (t ∷ tables) kept none = (kept.0 ∙ none.0, still_empty a b tables kept.1 none.1)
+
+-- so do tables behind two that are written to
+empty_behind : (a b c : Trees) (m n : ℕ) → m < n → (tables : List Table) → KeepsBut m a b tables → KeepsBut n b c tables → AllByRecursion (λ k. n < k) (map (λ t. t.tree) tables) → AreEmpty a tables → AreEmpty c tables
+empty_behind a b c m n low [] first second above none = tt
+empty_behind a b c m n low (t ∷ tables) first second above none =
+    (second.0 (λ e. omega (arith, e, above.0)) ∙ first.0 (λ e. omega (arith, e, low, above.0)) ∙ none.0, empty_behind a b c m n low tables first.1 second.1 above.1 none.1)
+
+-- each table takes trees above those that were there
+trees_above : (k : ℕ) (tables : List Table) (s : Schema) → k < next_tree s → AllByRecursion (λ n. k < n) (trees_for tables s)
+trees_above k [] s low = tt
+trees_above k (t ∷ tables) s low =
+    let new = record t { tree = next_tree s } in
+    (low, trees_above k tables (created s t) (omega (arith, low, table_below (created s t) new (has_right s.tables (new ∷ []) new (inl refl)))))
+
 plainly_made : (old mid : Database) → HasCounters old.schema → AddsAll our_tables old mid → AllMade our_tables old mid
 plainly_made old mid has added = made_all our_tables old mid (refl, (refl, (refl, (refl, (refl, (refl, (refl, (refl, (refl, (refl, tt)))))))))) has added
 
@@ -138,9 +161,6 @@ module _ (old mid named next new : Database) (added : AddsAll our_tables old mid
   made : AllMade our_tables old mid
   made = plainly_made old mid has added
 
-  abbrev KeepsBut : ℕ → Trees → Trees → List Table → Type 0
-  KeepsBut n a b tables = AllByRecursion (λ t. (t.tree ≡ n → ⊥) → b t.tree ≡ a t.tree) tables
-
   named_schema : named.schema ≡ with_ours schema
   named_schema = indexed_schema schema (free_all our_tables old mid added).0 mid named made.schema both
 
@@ -149,30 +169,7 @@ module _ (old mid named next new : Database) (added : AddsAll our_tables old mid
   indexes_kept = all_apart _ schema.tables (ours schema) (subst (λ ts. KeepsRows ts mid.trees named.trees) (tables_are schema) (indexed_rows schema (free_all our_tables old mid added).0 mid named made.schema both))
 
   empty_at : AllByRecursion (λ n. named.trees n ≡ []) (trees_for our_tables schema)
-  empty_at =
-      let kept = indexes_kept.1 in
-      let none = made.empty in (
-        kept.0 ∙ none.0,
-        (
-          kept.1.0 ∙ none.1.0,
-          (
-            kept.1.1.0 ∙ none.1.1.0,
-            (
-              kept.1.1.1.0 ∙ none.1.1.1.0,
-              (
-                kept.1.1.1.1.0 ∙ none.1.1.1.1.0,
-                (
-                  kept.1.1.1.1.1.0 ∙ none.1.1.1.1.1.0,
-                  (
-                    kept.1.1.1.1.1.1.0 ∙ none.1.1.1.1.1.1.0,
-                    (kept.1.1.1.1.1.1.1.0 ∙ none.1.1.1.1.1.1.1.0, (kept.1.1.1.1.1.1.1.1.0 ∙ none.1.1.1.1.1.1.1.1.0, (kept.1.1.1.1.1.1.1.1.1.0 ∙ none.1.1.1.1.1.1.1.1.1.0, tt))),
-                  ),
-                ),
-              ),
-            ),
-          ),
-        ),
-      )
+  empty_at = still_empty mid.trees named.trees (ours schema) indexes_kept.1 made.empty
 
   listed_named : named.schema.tables ≡ schema.tables ++ ours schema
   listed_named = ap (λ (s : Schema). s.tables) named_schema ∙ tables_are schema
@@ -195,42 +192,23 @@ module _ (old mid named next new : Database) (added : AddsAll our_tables old mid
   state_rows : new.trees (next_tree (with_format schema)) ≡ stored_state first_state ∷ []
   state_rows = state_put.rows ∙ ap (put_row (stored_state first_state)) (first_kept.1.1.0 (λ e. omega (arith, e, state_tree schema)) ∙ empty_at.1.0)
 
-  objects_rows : new.trees (next_tree (with_state schema)) ≡ []
-  objects_rows = second_kept.1.1.1.0 (λ e. omega (arith, e, state_tree schema, objects_tree schema)) ∙ first_kept.1.1.1.0 (λ e. omega (arith, e, objects_tree schema)) ∙ empty_at.1.1.0
-
-  metadata_rows : new.trees (next_tree (with_objects schema)) ≡ []
-  metadata_rows = second_kept.1.1.1.1.0 (λ e. omega (arith, e, state_tree schema, metadata_tree schema)) ∙ first_kept.1.1.1.1.0 (λ e. omega (arith, e, metadata_tree schema)) ∙ empty_at.1.1.1.0
-
-  files_rows : new.trees (next_tree (with_metadata schema)) ≡ []
-  files_rows = second_kept.1.1.1.1.1.0 (λ e. omega (arith, e, state_tree schema, files_tree schema)) ∙ first_kept.1.1.1.1.1.0 (λ e. omega (arith, e, files_tree schema)) ∙ empty_at.1.1.1.1.0
-
-  uploads_rows : new.trees (next_tree (with_files schema)) ≡ []
-  uploads_rows = second_kept.1.1.1.1.1.1.0 (λ e. omega (arith, e, state_tree schema, uploads_tree schema)) ∙ first_kept.1.1.1.1.1.1.0 (λ e. omega (arith, e, uploads_tree schema)) ∙ empty_at.1.1.1.1.1.0
-
-  segments_rows : new.trees (next_tree (with_uploads schema)) ≡ []
-  segments_rows = second_kept.1.1.1.1.1.1.1.0 (λ e. omega (arith, e, state_tree schema, segments_tree schema)) ∙ first_kept.1.1.1.1.1.1.1.0 (λ e. omega (arith, e, segments_tree schema)) ∙ empty_at.1.1.1.1.1.1.0
-
-  timed_out_rows : new.trees (next_tree (with_segments schema)) ≡ []
-  timed_out_rows = second_kept.1.1.1.1.1.1.1.1.0 (λ e. omega (arith, e, state_tree schema, timed_out_tree schema)) ∙ first_kept.1.1.1.1.1.1.1.1.0 (λ e. omega (arith, e, timed_out_tree schema)) ∙ empty_at.1.1.1.1.1.1.1.0
-
-  blocks_rows : new.trees (next_tree (with_timed_out schema)) ≡ []
-  blocks_rows = second_kept.1.1.1.1.1.1.1.1.1.0 (λ e. omega (arith, e, state_tree schema, blocks_tree schema)) ∙ first_kept.1.1.1.1.1.1.1.1.1.0 (λ e. omega (arith, e, blocks_tree schema)) ∙ empty_at.1.1.1.1.1.1.1.1.0
-
-  sha512s_rows : new.trees (next_tree (with_blocks schema)) ≡ []
-  sha512s_rows = second_kept.1.1.1.1.1.1.1.1.1.1.0 (λ e. omega (arith, e, state_tree schema, sha512s_tree schema)) ∙ first_kept.1.1.1.1.1.1.1.1.1.1.0 (λ e. omega (arith, e, sha512s_tree schema)) ∙ empty_at.1.1.1.1.1.1.1.1.1.0
+  -- the tables behind the first two are still empty once these have their rows
+  later_empty : AllByRecursion (λ n. new.trees n ≡ []) (trees_for (drop 2 our_tables) (with_state schema))
+  later_empty = empty_behind named.trees next.trees new.trees (next_tree schema) (next_tree (with_format schema)) (omega (arith, state_tree schema)) (drop 2 (ours schema)) first_kept.1.1.1 second_kept.1.1.1
+      (trees_above (next_tree (with_format schema)) (drop 2 our_tables) (with_state schema) (omega (arith, state_tree schema, objects_tree schema))) empty_at.1.1
 
   rows_are : tables_from (next_tree schema) new.trees ≡ first_tables
   rows_are = λ i. record {
     format = format_rows i;
     state = (ap new.trees (sym (state_tree schema)) ∙ state_rows) i;
-    objects = (ap new.trees (sym (objects_tree schema)) ∙ objects_rows) i;
-    metadata = (ap new.trees (sym (metadata_tree schema)) ∙ metadata_rows) i;
-    files = (ap new.trees (sym (files_tree schema)) ∙ files_rows) i;
-    uploads = (ap new.trees (sym (uploads_tree schema)) ∙ uploads_rows) i;
-    segments = (ap new.trees (sym (segments_tree schema)) ∙ segments_rows) i;
-    timed_out = (ap new.trees (sym (timed_out_tree schema)) ∙ timed_out_rows) i;
-    blocks = (ap new.trees (sym (blocks_tree schema)) ∙ blocks_rows) i;
-    sha512s = (ap new.trees (sym (sha512s_tree schema)) ∙ sha512s_rows) i;
+    objects = (ap new.trees (sym (objects_tree schema)) ∙ later_empty.0) i;
+    metadata = (ap new.trees (sym (metadata_tree schema)) ∙ later_empty.1.0) i;
+    files = (ap new.trees (sym (files_tree schema)) ∙ later_empty.1.1.0) i;
+    uploads = (ap new.trees (sym (uploads_tree schema)) ∙ later_empty.1.1.1.0) i;
+    segments = (ap new.trees (sym (segments_tree schema)) ∙ later_empty.1.1.1.1.0) i;
+    timed_out = (ap new.trees (sym (timed_out_tree schema)) ∙ later_empty.1.1.1.1.1.0) i;
+    blocks = (ap new.trees (sym (blocks_tree schema)) ∙ later_empty.1.1.1.1.1.1.0) i;
+    sha512s = (ap new.trees (sym (sha512s_tree schema)) ∙ later_empty.1.1.1.1.1.1.1.0) i;
   }
 
   each_kept : (t : Table) → Has schema.tables t → new.trees t.tree ≡ old.trees t.tree

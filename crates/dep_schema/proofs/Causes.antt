@@ -1,19 +1,24 @@
 -- A failure behind calls that committed nothing.
-use Rattle.std.proofs.Common.{◌≡◌, Result, Ok, Err, IfErr, IsErrAnd, subst, sym}
+use Rattle.std.proofs.Common.{◌≡◌, Result, Ok, Err, IfErr, IsErr, IsErrAnd, IsTrue, subst, sym}
 use Rattle.sqlite.specs.State as db
-use Rattle.sqlite.specs.State.{Survives}
+use Rattle.sqlite.specs.State.{HasCleanDisk, Survives}
 use Rattle.sqlite.proofs.StateLemmas.{survives_then}
 use Rattle.dep_types.specs.declared.store_fault.StoreFault.{StoreFault}
+use Rattle.dep_tables.specs.Clauses.{StaysWithin}
+use Rattle.dep_tables.proofs.Chains.{stays_err}
 use Rattle.dep_schema.specs.Causes.{FailsSince}
-
-pub if_err_then : {A : Type 0} {P Q : StoreFault → Type 0} (r : Result A StoreFault) → IfErr r P → ((fault : StoreFault) → P fault → Q fault) → IfErr r Q
-if_err_then (Ok x) p f = tt
-if_err_then (Err e) p f = f e p
+use Rattle.dep_schema.specs.Standing.{WorksWithin}
 
 -- a fault that is passed on
-pub if_err_is : {A : Type 0} (P : StoreFault → Type 0) (r : Result A StoreFault) (fault : StoreFault) → IsErrAnd r (λ e. e ≡ fault) → P fault → IfErr r P
+pub if_err_is : {A E : Type 0} (P : E → Type 0) (r : Result A E) (fault : E) → IsErrAnd r (λ e. e ≡ fault) → P fault → IfErr r P
 if_err_is P (Ok x) fault is p = tt
 if_err_is P (Err e) fault is p = subst P (sym is) p
+
+-- and what is owed where it is
+pub works_failed : {T L A B : Type 0} {lenders : T → L} {state : T → db.State} {old new : T} {Fails : StoreFault → Type 0} (r : Result A StoreFault) (fault : StoreFault)
+    → IsErr r → IsErrAnd r (λ e. e ≡ fault) → StaysWithin {A = B} {E = StoreFault} lenders state old new (Err fault)
+    → (HasCleanDisk (state new) → IsTrue (state old).in_transaction → Fails fault) → WorksWithin lenders state old new r Fails
+works_failed r fault is_err is stays cause = record { cause = λ clean inside. if_err_is _ r fault is (cause clean inside); stays = stays_err is_err stays }
 
 module _ {T : Type 0} (state : T → db.State) (old mid new : T) (since : Survives (state old) (state mid) (λ _. ⊥)) where
   -- a statement fails at once

@@ -59,10 +59,8 @@ record Creates (schema : Schema) (def : Definition) (made : Command) : Type 0 wh
   free : is_used schema def.name ≡ false
 
 unused : (t i v : Option ℕ) → is_some (option_or t v) ≡ false → is_some i ≡ false → (is_some t || is_some i || is_some v) ≡ false
-unused (Some t) i v other same = absurd (cc)
-unused None (Some i) v other same = absurd (cc)
-unused None None (Some v) other same = absurd (cc)
 unused None None None other same = refl
+unused _ _ _ other same = absurd (cc)
 
 was_new : (name : List ℕ) (same other : Option ℕ) (is_new : Bool) → creates false name same other ≡ Ok is_new → (is_new ≡ true) × (is_some other ≡ false) × (is_some same ≡ false)
 unfolding creates

@@ -61,13 +61,9 @@ abbrev Makes : List ℕ → Checked Parsed → Type 0
 Makes text read = and_then read (λ p. Ok (text_of text (making_of p))) ≡ Ok text
 
 only_makes : (text : List ℕ) (read : Checked Parsed) (listed : Checked Compiled) → Makes text read → (a : Bool) (t v i : Option ℕ) (c : Compiled) → understood_by (having a t v i) read listed ≡ Ok c → IsMakingText text (understood_by (having a t v i) read listed)
-only_makes text (Err e) listed makes a t v i c h = absurd (cc)
-only_makes text (Ok p) listed makes true t v i c h = absurd (cc)
-only_makes text (Ok p) listed makes false (Some t) v (Some i) c h = absurd (cc)
-only_makes text (Ok p) listed makes false None v (Some i) c h = absurd (cc)
-only_makes text (Ok p) listed makes false (Some t) v None c h = absurd (cc)
-only_makes text (Ok p) listed makes false None (Some v) None c h = absurd (cc)
 only_makes text (Ok p) listed makes false None None None c h = (refl, (refl, refl), cc)
+only_makes text _ listed makes _ _ _ (Some i) c h = absurd (cc)
+only_makes text _ listed makes _ _ _ _ c h = absurd (cc)
 
 -- the text makes this table, wherever nothing is in its way
 record MakesTable (text : List ℕ) (table : Table) : Type 0 where

@@ -1,5 +1,5 @@
 -- Where our tables and their indexes stand beside the tables of others.
-use Rattle.std.proofs.Common.{◌≡◌, ◌+◌, List, [], ◌∷◌, ◌++◌, length, slice_get, Some, false, codes, refl, sym, ap, subst, ◌∙◌, arith, append_assoc}
+use Rattle.std.proofs.Common.{◌≡◌, ◌+◌, List, [], ◌∷◌, ◌++◌, length, slice_get, Some, false, codes, sym, ap, subst, ◌∙◌, arith, append-nil, append_assoc}
 use Rattle.std.specs.List.{position_from}
 use Rattle.sqlite.specs.Schema.{Schema}
 use Rattle.sqlite.specs.Table.{Table}
@@ -8,15 +8,24 @@ use Rattle.sqlite.specs.Effect.{Database, IsDatabase}
 use Rattle.sqlite_schema.specs.Names.{table_named, same_name}
 use Rattle.sqlite_catalog.specs.Change.{created, indexed, next_tree, is_used, KeepsRows}
 use Rattle.sqlite_catalog.proofs.StepLemmas.{no_table}
-use Rattle.dep_statements.specs.Adding.{AreFreeFor}
+use Rattle.dep_statements.specs.Adding.{AreFreeFor, created_all}
 use Rattle.dep_statements.specs.Indexes.{Indexes}
 use Rattle.dep_statements.proofs.Adding.{placed_after, got_after, next_created}
-use Rattle.dep_tables.specs.Schema.{our_tables, format_table, state_table, objects_table, metadata_table, files_table, uploads_table, segments_table, timed_out_table, blocks_table, sha512s_table, files_index, uploads_index}
+use Rattle.dep_tables.specs.Schema.{our_tables, format_table, state_table, objects_table, metadata_table, files_table, uploads_table, segments_table, timed_out_table, blocks_table, files_index, uploads_index}
 use Rattle.dep_schema.specs.Beside.{with_tables, with_files_index, with_ours, AddsIndexes}
 
-keeps_then : (tables : List Table) (a b c : Trees) → KeepsRows tables a b → KeepsRows tables b c → KeepsRows tables a c
+pub keeps_then : (tables : List Table) (a b c : Trees) → KeepsRows tables a b → KeepsRows tables b c → KeepsRows tables a c
 keeps_then [] a b c p q = tt
 keeps_then (t ∷ tables) a b c p q = (q.0 ∙ p.0, keeps_then tables a b c p.1 q.1)
+
+-- as they are listed behind those of a schema
+abbrev pub listed_for : List Table → Schema → List Table
+listed_for [] schema = []
+listed_for (t ∷ tables) schema = record t { tree = next_tree schema } ∷ listed_for tables (created schema t)
+
+all_listed : (tables : List Table) (schema : Schema) → (created_all tables schema).tables ≡ schema.tables ++ listed_for tables schema
+all_listed [] schema = sym (append-nil schema.tables)
+all_listed (t ∷ tables) schema = all_listed tables (created schema t) ∙ append_assoc schema.tables (record t { tree = next_tree schema } ∷ []) (listed_for tables (created schema t))
 
 module _ (schema : Schema) where
   abbrev pub with_format : Schema
@@ -47,26 +56,10 @@ module _ (schema : Schema) where
   with_blocks = created with_timed_out blocks_table
 
   abbrev pub ours : List Table
-  ours =
-      record format_table { tree = next_tree schema }
-      ∷ record state_table { tree = next_tree with_format }
-      ∷ record objects_table { tree = next_tree with_state }
-      ∷ record metadata_table { tree = next_tree with_objects }
-      ∷ record files_table { tree = next_tree with_metadata }
-      ∷ record uploads_table { tree = next_tree with_files }
-      ∷ record segments_table { tree = next_tree with_uploads }
-      ∷ record timed_out_table { tree = next_tree with_segments }
-      ∷ record blocks_table { tree = next_tree with_timed_out }
-      ∷ record sha512s_table { tree = next_tree with_blocks } ∷ []
-
-  -- one more behind them
-  one_more : (s : Schema) (t : Table) (ys : List Table) → s.tables ≡ schema.tables ++ ys → (created s t).tables ≡ schema.tables ++ (ys ++ record t { tree = next_tree s } ∷ [])
-  one_more s t ys h = ap (λ l. l ++ record t { tree = next_tree s } ∷ []) h ∙ append_assoc schema.tables ys (record t { tree = next_tree s } ∷ [])
+  ours = listed_for our_tables schema
 
   pub tables_are : (with_tables schema).tables ≡ schema.tables ++ ours
-  tables_are =
-      one_more with_blocks sha512s_table _ (one_more with_timed_out blocks_table _ (one_more with_segments timed_out_table _ (one_more with_uploads segments_table _ (one_more with_files uploads_table _
-      (one_more with_metadata files_table _ (one_more with_objects metadata_table _ (one_more with_state objects_table _ (one_more with_format state_table (record format_table { tree = next_tree schema } ∷ []) refl))))))))
+  tables_are = all_listed our_tables schema
 
   pub state_tree : next_tree with_format ≡ next_tree schema + 1
   state_tree = next_created schema format_table

@@ -1,5 +1,5 @@
 -- Why nothing is opened.
-use Rattle.std.proofs.Common.{◌≡◌, ◌≢◌, ◌⊎◌, inl, inr, ℕ, ◌≤◌, Bool, true, false, List, [], length, IsTrue, IsSome, Option, Some, None, IfSome, Result, Ok, Err, OnOk, IfOk, IfErr, IsErrAnd, MatchOption, MatchResult, refl, sym, ap, subst, subst₂, ◌∙◌, arith}
+use Rattle.std.proofs.Common.{◌≡◌, ◌≢◌, ◌⊎◌, inl, inr, ℕ, ◌≤◌, Bool, true, false, List, [], length, IsTrue, IsSome, Option, Some, None, IfSome, Result, Ok, Err, OnOk, IfOk, IsErrAnd, MatchOption, MatchResult, refl, sym, ap, subst, subst₂, ◌∙◌, arith}
 use Rattle.std.proofs.lemmas.Bool.{both_ways}
 use Rattle.sqlite_tied.specs.Compute.{everything}
 use Rattle.sqlite.specs.Order.{Row}
@@ -65,14 +65,6 @@ matched_none P Q o is p = subst (λ x. MatchOption x P Q) is p
 pub match_err : {A E : Type 0} (P : A → Type 0) (Q : E → Type 0) (r : Result A E) (fault : E) → IsErrAnd r (λ e. e ≡ fault) → Q fault → MatchResult r P Q
 match_err P Q (Ok x) fault is q = absurd is
 match_err P Q (Err e) fault is q = subst Q (sym is) q
-
-pub if_err_told : {A E : Type 0} (Q : E → Type 0) (r : Result A E) (fault : E) → IsErrAnd r (λ e. e ≡ fault) → Q fault → IfErr r Q
-if_err_told Q (Ok x) fault is q = tt
-if_err_told Q (Err e) fault is q = subst Q (sym is) q
-
-pub if_err_then : {A E : Type 0} {P Q : E → Type 0} (r : Result A E) → IfErr r P → ((e : E) → P e → Q e) → IfErr r Q
-if_err_then (Ok x) p f = tt
-if_err_then (Err e) p f = f e p
 
 -- ---- an error of the query for the version
 

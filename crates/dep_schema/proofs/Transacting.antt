@@ -16,6 +16,7 @@ use Rattle.dep_types.specs.State.{State}
 use Rattle.dep_types.specs.declared.store_fault.StoreFault.{StoreFault}
 use Rattle.dep_tables.specs.Tables.{Tables, tables_in, tables_of, AreOf, HasTablesOf, HasOurTables, IsOf}
 use Rattle.dep_tables.specs.Clauses.{CommitsNothing, StaysInside}
+use Rattle.dep_tables.proofs.Results.{if_failed, if_then}
 use Rattle.dep_schema.specs.Standing.{Holds, HoldsOf, Stands, StandsOf, EndsTransaction, StaysOn}
 use Rattle.dep_schema.specs.declared.lending.Lent.{Lent}
 use Rattle.sqlite.proofs.Callers.{survives_begin}
@@ -271,14 +272,9 @@ module _ {A E : Type 0} (old new : db.State) (result : Result A E) (Makes : Tabl
 
   pub ok_over_states : Transacts old new result Makes → HasCleanDisk new → (s : State) → IsOver s → StandsFor old s
       → IfOk result (λ answer. told s answer × StandsFor new (next s))
-  ok_over_states it clean s over stands = each result (it.ok clean stands.tables stands.stands)
-    where
-      each : (r : Result A E) → IfOk r (λ answer. (after : Tables) × Stands new after × Makes stands.tables answer after)
-          → IfOk r (λ answer. told s answer × StandsFor new (next s))
-      each (Ok answer) (after, stand, makes) =
-          let made = over stands.tables answer after makes stands.means in
-          (made.0, record { tables = after; stands = stand; means = made.1 })
-      each (Err e) h = tt
+  ok_over_states it clean s over stands = if_then result (it.ok clean stands.tables stands.stands) (λ answer does.
+      let made = over stands.tables answer does.0 does.2 stands.means in
+      (made.0, record { tables = does.0; stands = does.1; means = made.1 }))
 
   pub stop_over_states : Transacts old new result Makes → HasCleanDisk new → (s : State) → IsOver s → StandsFor old s
       → Leaves new (λ left. (left ≡ s) ⊎ (left ≡ next s))
@@ -296,44 +292,31 @@ module _ {A E : Type 0} (old new : db.State) (result : Result A E) (Makes : Tabl
 -- the connection is as it was
 pub unmoved : {A E : Type 0} (d : db.State) (result : Result A E) (Makes : Tables → A → Tables → Type 0) → (IsTrue d.is_open → IsSettled d)
     → ((t : Tables) → Stands d t → IfOk result (λ answer. Makes t answer t)) → Transacts d d result Makes
-unmoved {A} {E} d result Makes settled made = record {
-  ok = λ clean t stands. each result t stands (made t stands);
-  err = λ is_open t stands. kept result t stands;
+unmoved d result Makes settled made = record {
+  ok = λ clean t stands. if_then result (made t stands) (λ answer it. (t, stands, it));
+  err = λ is_open t stands. if_failed result stands;
   honest = λ clean. clean;
   was_open = λ is_open. is_open;
   stop = λ clean t stands trees h. inl (left_as_was d t (settled stands.is_open) stands trees h);
 }
-  where
-    each : (r : Result A E) (t : Tables) → Stands d t → IfOk r (λ answer. Makes t answer t) → IfOk r (λ answer. (after : Tables) × Stands d after × Makes t answer after)
-    each (Ok answer) t stands it = (t, stands, it)
-    each (Err e) t stands it = tt
-
-    kept : (r : Result A E) (t : Tables) → Stands d t → OnErr r (Stands d t)
-    kept (Ok answer) t stands = tt
-    kept (Err e) t stands = stands
-
--- all was given back before it
-pub after_back : {A E : Type 0} (old mid new : db.State) (result : Result A E) (Makes : Tables → A → Tables → Type 0) → (IsTrue old.is_open → IsSettled old)
-    → (IsTrue mid.is_open → HasCleanDisk mid) → IsBackAt old mid → Survives old mid (λ _. ⊥) → (HasCleanDisk mid → IsTrue mid.is_open)
-    → Transacts mid new result Makes → Transacts old new result Makes
-after_back old mid new result Makes settled shut back survives opened it = record {
-  ok = λ clean t stands. it.ok clean t (stands_mid (opened (it.honest clean)) t stands);
-  err = λ is_open t stands. it.err is_open t (stands_mid (it.was_open is_open) t stands);
-  honest = λ clean. let before = it.honest clean in omega (arith, before, survives.clean);
-  was_open = λ is_open. (back (it.was_open is_open)).0;
-  stop = λ clean t stands trees h. it.stop clean t (stands_mid (opened (it.honest clean)) t stands) trees h;
-}
-  where
-    stands_mid : IsTrue mid.is_open → (t : Tables) → Stands old t → Stands mid t
-    stands_mid is_open t stands =
-        let it = back is_open in
-        stands_left old mid t stands is_open it.3 (it.1 ∙ stands.committed) it.2
 
 -- all was given back, and the store is open
 pub tables_back : {its : Schema} (old new : db.State) (t : Tables) → IsBackAt old new → IsTrue new.is_open → StandsOf its old t → StandsOf its new t
 tables_back old new t back is_open stands =
     let it = back is_open in
     stands_left old new t stands is_open it.3 (it.1 ∙ stands.committed) it.2
+
+-- all was given back before it
+pub after_back : {A E : Type 0} (old mid new : db.State) (result : Result A E) (Makes : Tables → A → Tables → Type 0) → (IsTrue old.is_open → IsSettled old)
+    → (IsTrue mid.is_open → HasCleanDisk mid) → IsBackAt old mid → Survives old mid (λ _. ⊥) → (HasCleanDisk mid → IsTrue mid.is_open)
+    → Transacts mid new result Makes → Transacts old new result Makes
+after_back old mid new result Makes settled shut back survives opened it = record {
+  ok = λ clean t stands. it.ok clean t (tables_back old mid t back (opened (it.honest clean)) stands);
+  err = λ is_open t stands. it.err is_open t (tables_back old mid t back (it.was_open is_open) stands);
+  honest = λ clean. let before = it.honest clean in omega (arith, before, survives.clean);
+  was_open = λ is_open. (back (it.was_open is_open)).0;
+  stop = λ clean t stands trees h. it.stop clean t (tables_back old mid t back (opened (it.honest clean)) stands) trees h;
+}
 
 -- it failed, and all was given back
 pub fails_back : {its : Schema} {A E : Type 0} (old new : db.State) (r : Result A E) (Makes : Tables → A → Tables → Type 0) → IsErr r → (IsTrue old.is_open → IsSettled old)
@@ -411,11 +394,7 @@ not_run old new sql params e (inr fails) = inr fails.3
 module _ {A E : Type 0} (old new : db.State) (result : Result A E) (told : Tables → A → Type 0) where
   pub ok_tells : Transacts old new result (OnlyTells told) → HasCleanDisk new → (t : Tables) → Stands old t
       → IfOk result (λ answer. told t answer × Stands new t)
-  ok_tells it clean t stands = each result (it.ok clean t stands)
-    where
-      each : (r : Result A E) → IfOk r (λ answer. (after : Tables) × Stands new after × OnlyTells told t answer after) → IfOk r (λ answer. told t answer × Stands new t)
-      each (Ok answer) (after, stand, made) = (made.0, subst (Stands new) made.1 stand)
-      each (Err e) h = tt
+  ok_tells it clean t stands = if_then result (it.ok clean t stands) (λ answer does. (does.2.0, subst (Stands new) does.2.1 does.1))
 
   pub still_tells : Transacts old new result (OnlyTells told) → (IsTrue new.is_open → HasCleanDisk new) → IsTrue new.is_open
       → (t : Tables) → Stands old t → Stands new t

@@ -1,12 +1,14 @@
 -- What the statements of an upgrade make of the tables of version 1.
 use Rattle.std.proofs.Common.{◌≡◌, inl, inr, ◌<◌, ◌+◌, ◌^◌, ℕ, true, false, IsTrue, List, [], ◌∷◌, ◌++◌, take, get_or, length, Result, Ok, Err, IfErr, refl, sym, ap, subst, ◌∙◌}
 use Rattle.std.specs.Prelude.{⊤, OnOk, OnErr}
+use Rattle.std.specs.List.{AllByRecursion}
 use Rattle.std.proofs.Math.Decide.{dec_lt}
 use Rattle.std.proofs.lemmas.List.{take_more, map-append}
 use Rattle.std.proofs.lemmas.List.Elements.{Contains-get_or}
 use Rattle.sqlite_tied.specs.Compute.{everything}
 use Rattle.sqlite.specs.Order.{Row}
 use Rattle.sqlite.specs.Schema.{Schema}
+use Rattle.sqlite.specs.Table.{Table}
 use Rattle.sqlite.specs.Effect.{Database}
 use Rattle.sqlite.specs.State.{State, HasCleanDisk, IsRolledBack, Survives, Commits}
 use Rattle.sqlite.specs.Tree.{Trees}
@@ -17,8 +19,9 @@ use Rattle.sqlite.proofs.StateLemmas.{survives_then}
 use Rattle.sqlite_trees.specs.declared.store.Store.{Ghosts}
 use Rattle.sqlite_catalog.specs.Listing.{IsSound}
 use Rattle.sqlite_catalog.specs.Change.{created, next_tree, KeepsRows}
-use Rattle.dep_statements.specs.Rows.{IsOrdered, put_next}
+use Rattle.dep_statements.specs.Rows.{AreOrdered, IsOrdered, put_next}
 use Rattle.dep_statements.specs.Adding.{HasCounters, AreFreeFor, Adds}
+use Rattle.dep_statements.proofs.Adding.{all_front}
 use Rattle.dep_tables.specs.Schema.{our_schema, our_tables, older_schema, sha512s_table, files_index, uploads_index}
 use Rattle.dep_tables.specs.Rows.{sha512_values}
 use Rattle.dep_tables.specs.Texts.{insert_sha512_text}
@@ -44,7 +47,7 @@ use Rattle.dep_schema.proofs.Prepared.{left as back}
 use Rattle.dep_schema.proofs.Refusing.{failed_only, clean_last}
 use Rattle.dep_schema.proofs.Transacting.{still_inside, Works, undone_by_commit, committed, uncommitted}
 use Rattle.dep_schema.proofs.Transactions.{commits}
-use Rattle.dep_schema.proofs.Placed.{indexed_schema, indexed_sound, indexed_rows, free_indexes}
+use Rattle.dep_schema.proofs.Placed.{indexed_schema, indexed_sound, indexed_rows, free_indexes, keeps_then}
 use Rattle.dep_schema.proofs.BesideRows.{empty_ours}
 
 -- with `sha512s` behind them, the tables of version 1 are those of version 2, which have no index yet
@@ -55,6 +58,14 @@ one_later = refl
 none_used : AreFreeFor our_tables no_schema
 none_used = (refl, (refl, (refl, (refl, (refl, (refl, (refl, (refl, (refl, (refl, tt))))))))))
 
+keep_ordered : (a b : Trees) (tables : List Table) → KeepsRows tables a b → AreOrdered tables a → AreOrdered tables b
+keep_ordered a b [] kept up = tt
+keep_ordered a b (t ∷ tables) kept up = (subst IsOrdered (sym kept.0) up.0, keep_ordered a b tables kept.1 up.1)
+
+all_more : (P : Table → Type 0) (tables : List Table) (t : Table) → AllByRecursion P tables → P t → AllByRecursion P (tables ++ t ∷ [])
+all_more P [] t all one = (one, tt)
+all_more P (u ∷ tables) t all one = (all.0, all_more P tables t all.1 one)
+
 -- the table and the indexes are made, and the other tables keep their rows
 pub extends : (old mid new : State) → IsOlder old → Adds sha512s_table old.now mid.now → AddsIndexes mid.now new.now → Sees new (with_no_sha512s (tables_of old))
 extends old mid new older added both =
@@ -62,56 +73,29 @@ extends old mid new older added both =
     let here : mid.now.schema ≡ with_tables no_schema = made.schema ∙ ap (λ s. created s sha512s_table) older.schema ∙ one_later in
     let schema : new.now.schema ≡ our_schema = indexed_schema no_schema none_used mid.now new.now here both ∙ empty_ours in
     let first = subst (λ (s : Schema). KeepsRows s.tables old.now.trees mid.now.trees) older.schema made.others in
-    let last = indexed_rows no_schema none_used mid.now new.now here both in
+    let last = all_front (λ t. new.now.trees t.tree ≡ mid.now.trees t.tree) older_schema.tables (record sha512s_table { tree = 12 }) (indexed_rows no_schema none_used mid.now new.now here both) in
+    let kept = keeps_then older_schema.tables old.now.trees mid.now.trees new.now.trees first last.0 in
     let none : mid.now.trees 12 ≡ [] = subst (λ (s : Schema). mid.now.trees (next_tree s) ≡ []) older.schema made.empty in
-    let empty : new.now.trees 12 ≡ [] = last.1.1.1.1.1.1.1.1.1.0 ∙ none in
-    let up = older.trees.ordered in
-    let keep : (n : ℕ) → new.now.trees n ≡ old.now.trees n → IsOrdered (old.now.trees n) → IsOrdered (new.now.trees n) = λ n is. subst IsOrdered (sym is) in
+    let empty : new.now.trees 12 ≡ [] = last.1 ∙ none in
     record {
       ours = record {
         schema = schema;
         trees = record {
           sound = subst (λ s. IsSound s new.now.trees) schema (indexed_sound no_schema none_used mid.now new.now here both);
-          ordered = (
-            keep 0 (last.0 ∙ first.0) up.0,
-            (
-              keep 1 (last.1.0 ∙ first.1.0) up.1.0,
-              (
-                keep 2 (last.1.1.0 ∙ first.1.1.0) up.1.1.0,
-                (
-                  keep 3 (last.1.1.1.0 ∙ first.1.1.1.0) up.1.1.1.0,
-                  (
-                    keep 5 (last.1.1.1.1.0 ∙ first.1.1.1.1.0) up.1.1.1.1.0,
-                    (
-                      keep 6 (last.1.1.1.1.1.0 ∙ first.1.1.1.1.1.0) up.1.1.1.1.1.0,
-                      (
-                        keep 7 (last.1.1.1.1.1.1.0 ∙ first.1.1.1.1.1.1.0) up.1.1.1.1.1.1.0,
-                        (
-                          keep 9 (last.1.1.1.1.1.1.1.0 ∙ first.1.1.1.1.1.1.1.0) up.1.1.1.1.1.1.1.0,
-                          (
-                            keep 10 (last.1.1.1.1.1.1.1.1.0 ∙ first.1.1.1.1.1.1.1.1.0) up.1.1.1.1.1.1.1.1.0,
-                            (subst IsOrdered (sym empty) (tt, tt), tt),
-                          ),
-                        ),
-                      ),
-                    ),
-                  ),
-                ),
-              ),
-            ),
-          );
+          ordered = all_more (λ t. IsOrdered (new.now.trees t.tree)) older_schema.tables (record sha512s_table { tree = 12 })
+              (keep_ordered old.now.trees new.now.trees older_schema.tables kept older.trees.ordered) (subst IsOrdered (sym empty) (tt, tt));
         };
       };
       rows = λ i. record {
-        format = (last.0 ∙ first.0) i;
-        state = (last.1.0 ∙ first.1.0) i;
-        objects = (last.1.1.0 ∙ first.1.1.0) i;
-        metadata = (last.1.1.1.0 ∙ first.1.1.1.0) i;
-        files = (last.1.1.1.1.0 ∙ first.1.1.1.1.0) i;
-        uploads = (last.1.1.1.1.1.0 ∙ first.1.1.1.1.1.0) i;
-        segments = (last.1.1.1.1.1.1.0 ∙ first.1.1.1.1.1.1.0) i;
-        timed_out = (last.1.1.1.1.1.1.1.0 ∙ first.1.1.1.1.1.1.1.0) i;
-        blocks = (last.1.1.1.1.1.1.1.1.0 ∙ first.1.1.1.1.1.1.1.1.0) i;
+        format = kept.0 i;
+        state = kept.1.0 i;
+        objects = kept.1.1.0 i;
+        metadata = kept.1.1.1.0 i;
+        files = kept.1.1.1.1.0 i;
+        uploads = kept.1.1.1.1.1.0 i;
+        segments = kept.1.1.1.1.1.1.0 i;
+        timed_out = kept.1.1.1.1.1.1.1.0 i;
+        blocks = kept.1.1.1.1.1.1.1.1.0 i;
         sha512s = empty i;
       };
     }

@@ -1,5 +1,5 @@
 -- What is made of a request over the tables.
-use Rattle.std.specs.Prelude.{◌≡◌, ◌↔◌, false, Result, IfOk, OnOk}
+use Rattle.std.specs.Prelude.{◌≡◌, ◌↔◌, false, IsTrue, Result, IfOk, OnOk}
 use Rattle.sqlite.specs.State as db
 use Rattle.dep_types.specs.State.{State}
 use Rattle.dep_types.specs.declared.config.Config.{Config}
@@ -37,6 +37,12 @@ module _ (old new : db.State) (result : Result Done StoreFault) where
   -- where nothing was changed the transaction was given back
   abbrev pub IsBackUnchanged : Type 0
   IsBackUnchanged = IfOk result (λ done. done.has_changes ≡ false → IsGivenBack old new)
+
+-- What was hashed of uploads is what was received of them, as it was before, in each state for which
+-- it stood, while it is open.
+abbrev pub KeepsRunning : (old new : db.State) → (running_before running : RunningHashes) → Type 0
+KeepsRunning old new running_before running = IsTrue new.is_open
+    → (s : State) → StandsFor old s → AreRunning s running_before → AreRunning s running
 
 -- what is refused, and what only shows, commits nothing and leaves the database as it was
 abbrev pub IsKeptUnchanged : {A : Type 0} → (old new : db.State) → Result A StoreFault

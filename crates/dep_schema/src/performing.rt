@@ -3,8 +3,9 @@
 ghost use Rattle.std.specs.Prelude.{◌≡◌, false, IfOk};
 ghost use Rattle.sqlite.specs.Held.{state};
 ghost use Rattle.dep_requests.specs.Performing.{IsDone};
+ghost use Rattle.dep_requests.specs.Performing as within;
 ghost use Rattle.dep_schema.specs.Standing.{StaysOn};
-ghost use Rattle.dep_schema.specs.Performing.{StepsOver, TellsChanges, IsBackUnchanged};
+ghost use Rattle.dep_schema.specs.Performing.{KeepsRunning, StepsOver, TellsChanges, IsBackUnchanged};
 ghost use Rattle.dep_schema.specs.Transactions.{Transacts};
 
 use crate::committing::commit;
@@ -22,31 +23,36 @@ use std::alloc::Global;
 fn answer_within<S: Alter>(
     tx: &mut Transaction<'_, S>,
     alloc: Global,
-    running: &RunningHashes,
+    running: &mut RunningHashes,
     service: &Service,
     operation: &Operation<'_>,
 ) -> Result<Done, StoreFault>
     ensures does { IfOk result (IsDone (state S.Store tx.old.conn.now) (state S.Store tx.new.conn.now)
-        service.now operation.now running.now) }
+        service.now operation.now running.old) }
+    ensures running { within.KeepsRunning (state S.Store tx.old.conn.now)
+        (state S.Store tx.new.conn.now) running.old running.new }
     ensures stays { StaysOn S.Store tx.old.conn tx.new.conn result }
 {
     answer_operation(&mut Lent { tx }, alloc, running, service, operation)
 }
 
 /// Does what a request asks for. The reply is made before the commit. Where nothing was changed the transaction is given back.
-/// A fault of the store, also of the commit, and want of memory leave the tables as they were.
+/// A fault of the store, also of the commit, and want of memory leave the tables as they were. What was hashed for it stays
+/// known, whatever is returned.
 pub fn perform_request<S: Alter>(
     connection: &mut Connection<S>,
     alloc: Global,
-    running: &RunningHashes,
+    running: &mut RunningHashes,
     service: &Service,
     operation: &Operation<'_>,
 ) -> Result<Done, StoreFault>
     requires settled { (state S.Store connection.old).in_transaction ≡ false }
     ensures transacts { Transacts (state S.Store connection.old) (state S.Store connection.new) result
-        (StepsOver service.now operation.now running.now) }
+        (StepsOver service.now operation.now running.old) }
     ensures changes { TellsChanges (state S.Store connection.old) (state S.Store connection.new) result
-        service.now operation.now running.now }
+        service.now operation.now running.old }
+    ensures running { KeepsRunning (state S.Store connection.old) (state S.Store connection.new)
+        running.old running.new }
     ensures back { IsBackUnchanged (state S.Store connection.old) (state S.Store connection.new) result }
 {
     let _between = connection.is_autocommit();

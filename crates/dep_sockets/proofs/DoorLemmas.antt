@@ -1,17 +1,18 @@
 -- What a host makes of the hub that it serves from.
-use Rattle.std.proofs.Common.{◌≡◌, ℕ, Bool, true, false, List, [], append-nil, IsTrue, refl, sym, subst, ◌∙◌}
+use Rattle.std.proofs.Common.{◌≡◌, ℕ, Bool, true, false, List, [], append-nil, IsTrue, refl, sym, subst}
 use Rattle.std.specs.Prelude.{Option}
 use Rattle.dep_types.specs.State.{State}
-use Rattle.dep_types.specs.Conditions.{Condition, HasCleanDisk as HasCleanArchive}
+use Rattle.dep_types.specs.Conditions.{Condition}
 use Rattle.dep_hub.specs.Records.{World, Record}
-use Rattle.dep_hub.specs.Standing.{StandsAt, StandsAfter, IsClean, IsHonest}
+use Rattle.dep_hub.specs.Standing.{StandsAt, StandsAfter, IsClean}
 use Rattle.dep_hub.specs.Holding.{StandsHolding, StandsHoldingAfter}
 use Rattle.dep_hub.specs.declared.hub.Hub.{Hub}
 use Rattle.dep_host.specs.declared.ending.Cause.TheVariants as cause
 use Rattle.dep_host.specs.declared.serving.Ended.{Ended}
 use Rattle.dep_host.specs.declared.serving.Ended.TheVariants as ended
-use Rattle.dep_host.specs.Hosting.{Position, position, Deed, Step, refused, asks, comes, rests, offers, refuses, answers, leaves, Steps, begins, goes_on}
+use Rattle.dep_host.specs.Hosting.{Position, position, Deed, comes, Steps, begins}
 use Rattle.dep_host.specs.Runs.{StandsBehind}
+use Rattle.dep_host.proofs.CloseLemmas.{steps_serve}
 use Rattle.dep_host.specs.Runs as runs
 use Rattle.dep_program.specs.declared.outcome.Outcome.{Outcome}
 use Rattle.dep_sockets.specs.Outcomes.{outcome_at}
@@ -24,38 +25,6 @@ use Rattle.dep_hub.specs.Errands.{Account}
 use Rattle.dep_sockets.specs.Doors.{Doorway, ServesFrom, EndsHub, served, shut, stopped, broken_off, spent, not_begun, not_let_in, WentOn}
 
 module _ {A R K S : Type 0} (condition : A → Condition) (unread : R → Option (List ℕ)) (taken : K → Option (List ℕ)) (held : S → Option (List ℕ)) where
-  same_honest : (old new : Hub A) → new.store ≡ old.store → IsHonest condition new → IsHonest condition old
-  same_honest old new same honest = subst (λ (s : A). HasCleanArchive (condition s)) same honest
-
-  honest_before : {p q : Position A R K S} {more : List Deed} → Step condition unread taken held p q more → IsHonest condition q.hub → IsHonest condition p.hub
-  honest_before {p = p} {q = q} (refused r) honest = same_honest p.hub q.hub r.same_store honest
-  honest_before {p = p} {q = q} (asks r) honest = r.hub.honest honest
-  honest_before {p = p} {q = q} (comes r) honest = same_honest p.hub q.hub r.same_store honest
-  honest_before {p = p} {q = q} (rests t r) honest = t.hub.honest honest
-  honest_before {p = p} {q = q} (offers t o) honest = t.hub.honest honest
-  honest_before {p = p} {q = q} (refuses t r) honest = t.hub.honest honest
-  honest_before {p = p} {q = q} (answers t a) honest = t.hub.honest honest
-  honest_before {p = p} {q = q} (leaves r) honest = same_honest p.hub q.hub r.same_store honest
-
-  same_config : {p q : Position A R K S} {more : List Deed} → Step condition unread taken held p q more → q.hub.config ≡ p.hub.config
-  same_config (refused r) = r.same_config
-  same_config (asks r) = r.hub.same_config
-  same_config (comes r) = r.same_config
-  same_config (rests t r) = t.hub.same_config
-  same_config (offers t o) = t.hub.same_config
-  same_config (refuses t r) = t.hub.same_config
-  same_config (answers t a) = t.hub.same_config
-  same_config (leaves r) = r.same_config
-
-  -- a disk that tells no lie told none before
-  honest_first : {p q : Position A R K S} {deeds : List Deed} → Steps condition unread taken held p deeds q → IsHonest condition q.hub → IsHonest condition p.hub
-  honest_first begins honest = honest
-  honest_first (goes_on steps step) honest = honest_first steps (honest_before step honest)
-
-  config_first : {p q : Position A R K S} {deeds : List Deed} → Steps condition unread taken held p deeds q → q.hub.config ≡ p.hub.config
-  config_first begins = refl
-  config_first (goes_on steps step) = same_config step ∙ config_first steps
-
   -- what a host makes: behind all records that its hub stood for, it stands for those of its deeds
   abbrev MakesRuns : Type 0
   MakesRuns = (p q : Position A R K S) (deeds : List Deed) (first : State) (records : List Record) (kept : ℕ → List ℕ) → Steps condition unread taken held p deeds q
@@ -70,11 +39,12 @@ module _ {A R K S : Type 0} (condition : A → Condition) (unread : R → Option
 
   went_from : (old : Hub A) (store : A) {deeds : List Deed} (p q : Position A R K S) → p.hub ≡ old → store ≡ q.hub.store → Steps condition unread taken held p deeds q → MakesRuns → HoldsNothing → WentOn condition old store deeds
   went_from old store {deeds = deeds} p q over left steps makes none =
+      let kept = steps_serve condition unread taken held steps in
       subst (λ (h : Hub A). WentOn condition h store deeds) over (record {
         new = q.hub;
         over = left;
-        same_config = config_first steps;
-        honest = honest_first steps;
+        same_config = kept.config;
+        honest = kept.honest;
         behind = λ is_clean first records at. makes p q deeds first records (λ n. []) steps (holding none p.hub first records at) is_clean;
       })
 

@@ -62,7 +62,10 @@ impl<'a, R: Files + Net + Clock> SocketDoor<'a, R> {
         rt: &'a R,
         spools: &'a Spools<'a, R>,
         entrance: Entrance<'a>,
-    ) -> SocketDoor<'a, R> {
+    ) -> SocketDoor<'a, R>
+        ensures spools { result.spools.now ≡ spools.now }
+        ensures entrance { result.entrance ≡ entrance.entry }
+    {
         SocketDoor {
             alloc,
             rt,

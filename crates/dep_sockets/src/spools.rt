@@ -39,7 +39,10 @@ impl<'a, R: Files> Spools<'a, R> {
         folder: &'a str,
         process: u32,
         most: u64,
-    ) -> Spools<'a, R> {
+    ) -> Spools<'a, R>
+        ensures folder { result.folder.now ≡ folder.now }
+        ensures most { result.most ≡ most }
+    {
         Spools {
             alloc,
             files,

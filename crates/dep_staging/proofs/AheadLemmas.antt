@@ -1,24 +1,25 @@
 -- Uploads that are hashed while their segments come.
-use Rattle.std.proofs.Common.{◌≡◌, ◌≢◌, ◌⊎◌, inl, inr, ℕ, zero, suc, ◌+◌, ◌<◌, ◌≤◌, min, Bool, T, List, [], ◌∷◌, ◌++◌, length, get_or, take, cond, unwrap_or, Option, Some, None, refl, sym, ap, subst, ◌∙◌, nat_cmp, is_eq, append-nil, append_assoc, arith}
+use Rattle.std.proofs.Common.{◌≡◌, ◌≢◌, ◌⊎◌, inl, inr, ℕ, zero, suc, ◌+◌, ◌<◌, ◌≤◌, Bool, List, [], ◌++◌, unwrap_or, Option, Some, None, refl, sym, ap, subst, ◌∙◌, nat_cmp, append-nil, append_assoc, arith}
 use Rattle.std.specs.Prelude.{slice_get}
 use Rattle.std.specs.List.{flat_map, range_with_len}
 use Rattle.std.specs.Option.{option_map_or}
 use Rattle.std.specs.FinMap as finmap
-use Rattle.std.specs.FinMap.Entries as entries
-use Rattle.std.proofs.lemmas.Cmp.{nat_cmp_total, tied_itself}
 use Rattle.std.proofs.lemmas.Bool.{cases_lt}
-use Rattle.dep_fixity.specs.Fixity.{Holds}
+use Rattle.dep_fixity.specs.Fixity.{Holds, digests_of}
+use Rattle.dep_fixity.specs.declared.hasher.Digests.{Digests}
 use Rattle.dep_types.specs.Maps.{Numbered}
 use Rattle.dep_types.specs.Sound.{IsSound}
 use Rattle.dep_types.specs.State.{State, Upload}
-use Rattle.dep_objects.proofs.Cuts.{one_block_more, all_blocks}
+use Rattle.dep_types.specs.Uploads.{assembled}
+use Rattle.dep_types.specs.declared.rows.UploadRow.{UploadRow}
+use Rattle.dep_files.proofs.Cuts.{one_block_more, all_blocks}
 use Rattle.dep_row_maps.specs.Laws.{HasSegmentsWithin}
 use Rattle.dep_row_maps.specs.Stored.{blocks_of}
 use Rattle.dep_row_maps.proofs.Whole.{segments_there}
 use Rattle.dep_staging.specs.Comparing.{stored_bytes}
+use Rattle.dep_staging.specs.Hashing.{AreDigestsOf}
 use Rattle.dep_staging.specs.HashedAhead.{bytes_of, bytes_from, first_blocks, WasReceived, HasHashed, IsFresh, IsRunning}
 use Rattle.dep_staging.specs.declared.running.RunningHash.{RunningHash}
-use Rattle.dep_staging.proofs.Entries.{both, passed, above_at}
 use Rattle.dep_staging.proofs.StoredBlocks.{got_by, past_by, within_by}
 
 -- ---- segments, one after another
@@ -37,63 +38,6 @@ same_from g h first (suc n) same =
     let here = same first (omega arith) (omega arith) in
     let rest = same_from g h (first + 1) n (λ k low high. same k (omega (arith, low)) (omega (arith, high))) in
     λ i. here i ++ rest i
-
--- ---- the first segments are the first entries of a map
-
-pub record AreFirst (first n : ℕ) (es : List (ℕ × List ℕ)) : Type 0 where
-  pub joined : flat_map (λ e. e.1) (take n es) ≡ flat_map (λ k. unwrap_or (entries.find nat_cmp k es) []) (range_with_len first n)
-  pub within : n ≤ length es
-  pub next : (bytes : List ℕ) → entries.find nat_cmp (first + n) es ≡ Some bytes → get_or es n (0, []) ≡ (first + n, bytes)
-
--- the least number that is there is that of the first entry
-first_entry : (first : ℕ) (bytes : List ℕ) (es : List (ℕ × List ℕ)) → T (entries.is_sorted nat_cmp es) → ((k : ℕ) (x : List ℕ) → entries.find nat_cmp k es ≡ Some x → first ≤ k)
-    → entries.find nat_cmp first es ≡ Some bytes → get_or es 0 (0, []) ≡ (first, bytes)
-first_entry first bytes [] sorted least found = absurd (cc found)
-first_entry first bytes (e ∷ es) sorted least found = go (cases_lt first e.0)
-  where
-    parts : T (entries.below_all nat_cmp e.0 es) × T (entries.is_sorted nat_cmp es)
-    parts = both (entries.below_all nat_cmp e.0 es) (entries.is_sorted nat_cmp es) sorted
-
-    itself : entries.find nat_cmp e.0 (e ∷ es) ≡ Some e.1
-    itself = ap (λ b. cond b (Some e.1) (entries.find nat_cmp e.0 es)) (ap is_eq (tied_itself nat_cmp_total e.0))
-
-    go : (first < e.0) ⊎ (e.0 ≤ first) → e ≡ (first, bytes)
-    go (inl above) =
-        let later = above_at e.0 first bytes es parts.0 (sym (passed first e.0 e.1 es (λ same. omega (arith, above, same))) ∙ found) in
-        absurd (omega (arith, above, later))
-    go (inr low) =
-        let low' = least e.0 e.1 itself in
-        let same : e.0 ≡ first = omega (arith, low, low') in
-        let its : Some e.1 ≡ Some bytes = sym itself ∙ ap (λ k. entries.find nat_cmp k (e ∷ es)) same ∙ found in
-        let of : e.1 ≡ bytes = cc its in
-        (λ i. (same i, of i))
-
-pub are_first : (first n : ℕ) (es : List (ℕ × List ℕ)) → T (entries.is_sorted nat_cmp es) → ((k : ℕ) (x : List ℕ) → entries.find nat_cmp k es ≡ Some x → first ≤ k)
-    → ((k : ℕ) → first ≤ k → k < first + n → (bytes : List ℕ) × (entries.find nat_cmp k es ≡ Some bytes)) → AreFirst first n es
-are_first first zero es sorted least there = record {
-  joined = refl;
-  within = omega arith;
-  next = λ bytes found. first_entry first bytes es sorted least (ap (λ k. entries.find nat_cmp k es) (omega arith) ∙ found) ∙ ap (λ k. (k, bytes)) (omega arith);
-}
-are_first first (suc n) [] sorted least there = let it = there first (omega arith) (omega arith) in absurd (let none = it.1 in cc none)
-are_first first (suc n) (e ∷ es) sorted least there =
-    let parts = both (entries.below_all nat_cmp e.0 es) (entries.is_sorted nat_cmp es) sorted in
-    let here = there first (omega arith) (omega arith) in
-    let is = first_entry first here.0 (e ∷ es) sorted least here.1 in
-    let number : e.0 ≡ first = ap (λ (x : ℕ × List ℕ). x.0) is in
-    let behind : (k : ℕ) → first + 1 ≤ k → entries.find nat_cmp k (e ∷ es) ≡ entries.find nat_cmp k es = λ k above. passed k e.0 e.1 es (λ same. omega (arith, above, same, number)) in
-    let rest = are_first (first + 1) n es parts.1
-    (λ k x found. let later = above_at e.0 k x es parts.0 found in omega (arith, later, number))
-    (λ k low high. let it = there k (omega (arith, low)) (omega (arith, high)) in (it.0, sym (behind k low) ∙ it.1)) in
-    let next : first + 1 + n ≡ first + suc n = omega arith in
-    record {
-      joined =
-          let head : e.1 ≡ unwrap_or (entries.find nat_cmp first (e ∷ es)) [] = ap (λ (x : ℕ × List ℕ). x.1) is ∙ ap (λ o. unwrap_or o []) (sym here.1) in
-          let tail = rest.joined ∙ same_from (λ k. unwrap_or (entries.find nat_cmp k es) []) (λ k. unwrap_or (entries.find nat_cmp k (e ∷ es)) []) (first + 1) n (λ k low high. ap (λ o. unwrap_or o []) (sym (behind k low))) in
-          λ i. head i ++ tail i;
-      within = let more = rest.within in omega (arith, more);
-      next = λ bytes found. rest.next bytes (sym (behind (first + 1 + n) (omega arith)) ∙ ap (λ k. entries.find nat_cmp k (e ∷ es)) next ∙ found) ∙ ap (λ k. (k, bytes)) next;
-    }
 
 -- ---- what was hashed
 
@@ -226,33 +170,17 @@ unfolding blocks_of
 no_first_blocks zero = refl
 no_first_blocks (suc n) = refl
 
--- what was hashed is the first entries, and a part of the next one
-pub front_hashed : (it : Upload) (run : RunningHash) (whole : ℕ) → HasSegmentsWithin it → HasHashed it.segments run → whole ≡ min (length (finmap.entries it.segments)) run.segments
-    → Holds run.hasher (flat_map (λ e. e.1) (take whole (finmap.entries it.segments)) ++ first_blocks run.blocks (get_or (finmap.entries it.segments) whole (0, [])).1)
-front_hashed it run whole within h is =
-    subst (Holds run.hasher) (sym (λ i. front i ++ part run.blocks refl i)) h.holds
+-- all its segments were hashed
+pub whole_hashed : (it : Upload) (run : RunningHash) → HasSegmentsWithin it → HasHashed it.segments run → run.segments ≡ it.count → Holds run.hasher (assembled it)
+whole_hashed it run within h all =
+    subst (Holds run.hasher) (ap (λ l. bytes_from it.segments 1 run.segments ++ l) (behind (finmap.get it.segments (run.segments + 1)) refl) ∙ append-nil (bytes_from it.segments 1 run.segments) ∙ ap (bytes_from it.segments 1) all) h.holds
   where
-    es : List (ℕ × List ℕ)
-    es = finmap.entries it.segments
+    behind : (o : Option (List ℕ)) → finmap.get it.segments (run.segments + 1) ≡ o → first_blocks run.blocks (unwrap_or o []) ≡ []
+    behind None none = no_first_blocks run.blocks
+    behind (Some bytes) there = absurd (let few = (within (run.segments + 1) bytes there).1 in omega (arith, few, all))
 
-    first : AreFirst 1 run.segments es
-    first = are_first 1 run.segments es (finmap.entries_sorted it.segments)
-        (λ k x found. (within k x (finmap.get-entries it.segments k ∙ found)).0)
-        (λ k low high. let got = h.whole k low (omega (arith, high)) in (got.0, sym (finmap.get-entries it.segments k) ∙ got.1))
-
-    count : whole ≡ run.segments
-    count = let few = first.within in omega (arith, is, few)
-
-    front : flat_map (λ (e : ℕ × List ℕ). e.1) (take whole es) ≡ bytes_from it.segments 1 run.segments
-    front = ap (λ n. flat_map (λ (e : ℕ × List ℕ). e.1) (take n es)) count ∙ first.joined
-        ∙ same_from (λ k. unwrap_or (entries.find nat_cmp k es) []) (bytes_of it.segments) 1 run.segments (λ k low high. ap (λ o. unwrap_or o []) (sym (finmap.get-entries it.segments k)))
-
-    next : 1 + run.segments ≡ run.segments + 1
-    next = omega arith
-
-    part : (n : ℕ) → run.blocks ≡ n → first_blocks n (get_or es whole (0, [])).1 ≡ first_blocks n (bytes_of it.segments (run.segments + 1))
-    part zero of = refl
-    part (suc n) of =
-        let got = h.begun (λ none. let no = sym of ∙ none in cc no) in
-        let entry = first.next got.0 (ap (λ k. entries.find nat_cmp k es) next ∙ sym (finmap.get-entries it.segments (run.segments + 1)) ∙ got.1) in
-        ap (first_blocks (suc n)) (ap (λ k. (get_or es k (0, [])).1) count ∙ ap (λ (e : ℕ × List ℕ). e.1) entry ∙ sym (ap (λ o. unwrap_or o []) got.1))
+pub digests_told : (s : State) (row : UploadRow) (run : RunningHash) (digests : Digests) → IsSound s → IsRunning s run → run.upload ≡ row.upload → run.segments ≡ row.count
+    → ((message : List ℕ) → Holds run.hasher message → digests ≡ digests_of message) → AreDigestsOf s row digests
+digests_told s row run digests sound running its whole told it there same =
+    let at = ap (finmap.get s.uploads) its ∙ there in
+    told (assembled it) (whole_hashed it run (λ k bytes found. let w = (sound.uploads run.upload it at).segments k bytes found in (w.0, w.1)) (running_at s run it running at) (whole ∙ same))

@@ -1,6 +1,7 @@
 -- What the calls that change an upload make of a state, where their rows are true of it.
 use Rattle.std.specs.Prelude.{◌≡◌, ℕ, List, length, Some, None}
 use Rattle.std.specs.FinMap as map
+use Rattle.sha2.specs.Sha512.{sha512}
 use Rattle.sqlite.specs.State as db
 use Rattle.dep_types.specs.State.{State, Object, File, Upload, tick}
 use Rattle.dep_types.specs.Rows.{upload_row, file_row}
@@ -34,13 +35,14 @@ module _ (row : UploadRow) where
       → it.segments ≡ map.insert was.segments segment.number bytes → it.sha512 ≡ was.sha512
       → becomes (with_upload s row.upload it)
 
-  -- where the rows are those of an upload with all its segments and of the file that they make, the state
-  -- with the file in its place is so
-  abbrev pub Assembles : FileRow → State → (becomes : State → Type 0) → Type 0
-  Assembles made s becomes = (o : Object) (it : Upload) (file : File)
+  -- where the rows are those of an upload with all its segments and of the file that they make, whose
+  -- SHA-512 this is, the state with the file in its place is so
+  abbrev pub Assembles : FileRow → (value : List ℕ) → State → (becomes : State → Type 0) → Type 0
+  Assembles made value s becomes = (o : Object) (it : Upload) (file : File)
       → map.get s.objects made.object ≡ Some o → map.get s.uploads row.upload ≡ Some it
       → HasItsSegments it → row ≡ upload_row row.upload it
-      → made ≡ file_row made.object made.file file → file.content ≡ assembled it
+      → made ≡ file_row made.object made.file file → value ≡ sha512 file.content
+      → file.content ≡ assembled it
       → becomes (deposited s made.object o made.file file row.upload)
 
 -- the clock and the tables after a tick

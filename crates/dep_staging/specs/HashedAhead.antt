@@ -3,6 +3,7 @@ use Rattle.std.specs.Prelude.{◌≡◌, ◌≢◌, ◌⊎◌, ℕ, ◌+◌, ◌
 use Rattle.std.specs.List.{All, flat_map, range_with_len}
 use Rattle.std.specs.FinMap as map
 use Rattle.dep_types.specs.Maps.{Numbered}
+use Rattle.dep_types.specs.Sound.{IsSound}
 use Rattle.dep_types.specs.State.{State, Upload}
 use Rattle.dep_fixity.specs.Fixity.{Holds}
 use Rattle.dep_row_maps.specs.Stored.{blocks_of}
@@ -46,6 +47,14 @@ pub record IsBegun (s : State) (run : RunningHash) : Type 0 where
 abbrev pub IsRunning : State → RunningHash → Type 0
 IsRunning s run = IsFresh run ⊎ IsBegun s run
 
+-- so it is still of the same upload
+abbrev pub HasGoneOn : State → (before now : RunningHash) → Type 0
+HasGoneOn s before now = IsRunning s now × (now.upload ≡ before.upload)
+
 -- so it is of each of them
 abbrev pub AreRunning : State → RunningHashes → Type 0
 AreRunning s runs = All (IsRunning s) runs.uploads.items
+
+-- so it stays, and this holds too
+abbrev pub Hashes : State → (before now : RunningHashes) → (told : Type 0) → Type 0
+Hashes s before now told = IsSound s → AreRunning s before → AreRunning s now × told

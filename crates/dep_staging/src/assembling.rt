@@ -42,13 +42,15 @@ pub fn assemble<T: Statements>(
     tx: &mut T,
     upload: &UploadRow,
     row: &FileRow,
+    sha512: &[u8; 64],
 ) -> Result<(), StoreFault>
-    ensures does { ChangesMaps T.lenders T.state tx.old tx.new result (Assembles upload.now row.now) }
+    ensures does { ChangesMaps T.lenders T.state tx.old tx.new result
+        (Assembles upload.now row.now sha512.now) }
     ensures free { FromMaps (T.state tx.old) (T.state tx.new)
         (λ s. OnOk result ((n : ℕ) → file_at s n row.now.file ≡ None)) }
 {
     move_content(tx, upload.upload, row.file)?;
     forget_upload(tx, upload.upload)?;
-    insert_sha512(tx, BlockOwner::File(row.file), &row.sha512)?;
+    insert_sha512(tx, BlockOwner::File(row.file), sha512)?;
     insert_file(tx, row)
 }

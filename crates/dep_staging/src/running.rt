@@ -39,18 +39,6 @@ impl RunningHash {
         }
     }
 
-    fn copied(&self) -> RunningHash
-        ensures { result ≡ self.now }
-    {
-        RunningHash {
-            upload: self.upload,
-            hasher: self.hasher.copied(),
-            segments: self.segments,
-            blocks: self.blocks,
-            is_due: self.is_due,
-        }
-    }
-
     // Has it go on.
     fn resume(&mut self)
         ensures { (s : State) → IsRunning s self.old → IsRunning s self.new }
@@ -108,10 +96,7 @@ impl RunningHashes {
     {
         match self.place_of(upload) {
             Some(at) => self.uploads[at].resume(),
-            None => {
-                self.make_room();
-                self.put(RunningHash::new(upload));
-            }
+            None => self.put(RunningHash::new(upload)),
         }
     }
 
@@ -124,13 +109,14 @@ impl RunningHashes {
         }
     }
 
-    /// How far the upload was hashed.
-    pub(crate) fn found(&self, upload: u64) -> RunningHash
-        ensures running { (s : State) → AreRunning s self.now → IsRunning s result }
+    /// Takes out how far the upload was hashed.
+    pub(crate) fn take(&mut self, upload: u64) -> RunningHash
+        ensures others { (s : State) → AreRunning s self.old → AreRunning s self.new }
+        ensures taken { (s : State) → AreRunning s self.old → IsRunning s result }
         ensures upload { result.upload ≡ upload }
     {
         match self.place_of(upload) {
-            Some(at) => self.uploads[at].copied(),
+            Some(at) => self.uploads.remove(at),
             None => RunningHash::new(upload),
         }
     }
@@ -148,10 +134,12 @@ impl RunningHashes {
         None
     }
 
-    /// Puts one behind the others, or drops it where memory is refused.
+    /// Puts one behind the others, of which the first gives way where there are too many, or drops it where memory is
+    /// refused.
     pub(crate) fn put(&mut self, run: RunningHash)
         ensures { (s : State) → AreRunning s self.old → IsRunning s run → AreRunning s self.new }
     {
+        self.make_room();
         let _ = self.uploads.push(run);
     }
 

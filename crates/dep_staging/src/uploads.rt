@@ -7,7 +7,7 @@ ghost use Rattle.dep_row_maps.specs.Clauses.{ChangesMaps, ChangesTables, FromMap
 ghost use Rattle.dep_row_maps.specs.Laws.{without_upload_rows};
 ghost use Rattle.dep_staging.specs.Changing.{Opens};
 
-use dep_objects::delete_blocks;
+use dep_files::delete_blocks;
 use dep_tables::{
     BlockOwner, Statements, UploadColumns, delete_segments, delete_sha512, delete_upload,
     insert_sha512, insert_upload,

@@ -20,7 +20,7 @@ use Rattle.sqlite_rules.specs.Lists.{Has}
 use Rattle.sqlite_rules.proofs.ListLemmas.{all_has, all_from}
 use Rattle.dep_statements.proofs.Members.{mapped_from, permuted_from}
 use Rattle.dep_statements.specs.Query.{one_table, no_limit, rising}
-use Rattle.dep_statements.proofs.Asking.{PicksBy, Picks, both_beside}
+use Rattle.dep_statements.proofs.Asking.{PicksBy, Picks}
 use Rattle.dep_statements.proofs.Sorted.{short_permutation, sorted_is}
 
 pub drop-none : {X : Type 0} (xs : List X) → drop 0 xs ≡ xs
@@ -60,12 +60,9 @@ module _ {X : Type 0} (q : Query) (params : Row) (env : X → Env) (found : List
         (sorted_from_ascending cmp total (map (λ (o : Output). o.1) h.ordered)
         (rises h.ordered (λ o k. permuted_from (map out found) h.ordered o h.same k) (ascending_from_sorted (output_cmp q) (output_cmp_total q) h.ordered h.sorted)))
 
--- what the query shows of a row, and of a row beside another
+-- what the query shows of a row
 abbrev pub shown_of : Row → List Term → Row → Row
 shown_of params shows row = eval_all shows (params ∷ row ∷ [])
-
-abbrev pub shown_of_both : Row → List Term → Row × Row → Row
-shown_of_both params shows e = eval_all shows (both_beside params e)
 
 module _ (tree : ℕ) (tests shows : List Term) (order : List (Term × Key)) (params : Row) (found rows : List Row) where
   abbrev all : Query

@@ -1,17 +1,15 @@
--- What a query of one table answers, or of two.
-use Rattle.std.proofs.Common.{◌≡◌, ℕ, List, [], ◌∷◌, ◌++◌, map, filter, flat_map, Bool, true, false, if◌then◌else◌, refl, sym, ap, ap₂, subst, ◌∙◌}
-use Rattle.std.proofs.lemmas.List.{map-append}
+-- What a query of one table answers.
+use Rattle.std.proofs.Common.{◌≡◌, ℕ, List, [], ◌∷◌, ◌++◌, map, filter, flat_map, Bool, true, false, if◌then◌else◌, refl, ap, subst, ◌∙◌}
 use Rattle.std.specs.List.Sorted.{IsPermutation, IsSorted}
 use Rattle.sqlite.specs.declared.types.Value.TheVariants.{Null}
 use Rattle.sqlite_value.specs.declared.keys.Key.{Key}
 use Rattle.sqlite.specs.Order.{Row}
 use Rattle.sqlite.specs.Tree.{Trees}
 use Rattle.sqlite.specs.Term.{Term, Env}
-use Rattle.sqlite.specs.Query.{Query, Join, IsAnswer, matches, inner, left, end, output, output_cmp, page, Output}
-use Rattle.sqlite.specs.Query.{or_nulls}
+use Rattle.sqlite.specs.Query.{Query, Join, IsAnswer, matches, inner, end, output, output_cmp, page, Output}
 use Rattle.sqlite.specs.Program.{overlay}
 use Rattle.sqlite.specs.Effect.{Database, Answers}
-use Rattle.dep_statements.specs.Query.{plain_query, one_table, left_tables, plainly, passes, pass_together}
+use Rattle.dep_statements.specs.Query.{plain_query, one_table, plainly, passes}
 
 -- What is found, each as an environment: it is put in an order that ORDER BY allows, shown and cut.
 pub record PicksBy {X : Type 0} (q : Query) (params : Row) (env : X → Env) (found : List X) (rows : List Row) : Type 0 where
@@ -20,19 +18,9 @@ pub record PicksBy {X : Type 0} (q : Query) (params : Row) (env : X → Env) (fo
   pub sorted : IsSorted (output_cmp q) ordered
   pub shown : rows ≡ page q params (map (λ o. o.1) ordered)
 
--- rows of one table, each beside the parameters; pairs of rows of two
+-- rows of one table, each beside the parameters
 abbrev beside : Row → Row → Env
 beside params r = params ∷ r ∷ []
-
-abbrev pub both_beside : Row → Row × Row → Env
-both_beside params e = params ∷ e.0 ∷ e.1 ∷ []
-
-abbrev pub passing_pairs : Row → List Term → (Row → List Row) → List Row → List (Row × Row)
-passing_pairs params tests those firsts = flat_map (λ r. map (λ s. (r, s)) (filter (pass_together params tests r) (those r))) firsts
-
--- those that LEFT JOIN puts beside a row
-abbrev pub joined_to : Row → List Term → List Row → Row → List Row
-joined_to params on seconds r = or_nulls (filter (pass_together params on r) seconds)
 
 abbrev pub Picks : Query → Row → List Row → List Row → Type 0
 Picks q params = PicksBy q params (beside params)
@@ -50,16 +38,6 @@ chosen p f (x ∷ xs) = go (p x) (chosen p f xs)
         → (if b then f x ∷ [] else []) ++ flat_map (λ y. if p y then f y ∷ [] else []) xs ≡ map f (if b then x ∷ filter p xs else filter p xs)
     go true e = ap (λ ys. f x ∷ ys) e
     go false e = e
-
-module _ (params : Row) (tests : List Term) (those : Row → List Row) where
-  -- each row of the first table, with those of its own that pass beside it
-  pairs : (firsts : List Row) → flat_map (λ r. flat_map (λ s. if pass_together params tests r s then (params ∷ r ∷ s ∷ []) ∷ [] else []) (those r)) firsts
-      ≡ map (both_beside params) (passing_pairs params tests those firsts)
-  pairs [] = refl
-  pairs (r ∷ firsts) =
-      let passing = filter (pass_together params tests r) (those r) in
-      ap₂ ◌++◌ (chosen (pass_together params tests r) (λ s. params ∷ r ∷ s ∷ []) (those r) ∙ sym (map_map (λ s. (r, s)) (both_beside params) passing)) (pairs firsts)
-      ∙ sym (map-append (both_beside params) (map (λ s. (r, s)) passing) (passing_pairs params tests those firsts))
 
 module _ (from : Join) (tests shows : List Term) (order : List (Term × Key)) (limit : Term) where
   abbrev plain : Query
@@ -81,15 +59,3 @@ module _ (tree : ℕ) (tests shows : List Term) (order : List (Term × Key)) (li
 
   pub answers : (db : Database) (params : Row) (rows : List Row) → overlay db.trees [] tree ≡ db.trees tree → Answers db (plainly q) params rows → Picks q params (filter (passes params tests) (db.trees tree)) rows
   answers db params rows own h = picks db.trees params rows own (h.answer Null)
-
--- of two tables
-module _ (first second : ℕ) (on tests shows : List Term) (order : List (Term × Key)) (limit : Term) where
-  abbrev both : Query
-  both = left_tables first second on tests shows order limit
-
-  pub answers_both : (db : Database) (params : Row) (rows : List Row) → overlay db.trees [] first ≡ db.trees first → overlay db.trees [] second ≡ db.trees second → Answers db (plainly both) params rows
-      → PicksBy both params (both_beside params) (passing_pairs params tests (joined_to params on (db.trees second)) (db.trees first)) rows
-  answers_both db params rows own other h =
-      picks_by (inner first (left second on end)) tests shows order limit (both_beside params) (passing_pairs params tests (joined_to params on (db.trees second)) (db.trees first)) (overlay db.trees []) params rows
-      (pairs params tests (joined_to params on (overlay db.trees [] second)) (overlay db.trees [] first)
-      ∙ ap₂ (λ ones others. map (both_beside params) (passing_pairs params tests (joined_to params on others) ones)) own other) (h.answer Null)

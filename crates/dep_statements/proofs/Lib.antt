@@ -18,5 +18,4 @@ pub mod Indexed
 pub mod Unique
 pub mod Written
 pub mod Selected
-pub mod Joined
 pub mod Typed

@@ -1,5 +1,5 @@
 -- Rows that a query by a key, or by the next greater key, finds.
-use Rattle.std.proofs.Common.{◌≡◌, inl, inr, ℕ, ℤ, pos, ◌≤◌, Bool, true, false, not, if◌then◌else◌, length, List, [], ◌∷◌, map, take, filter, find, Option, Some, None, refl, sym, ap, subst, ◌∙◌, is_eq, is_lt, Ordering, Less, Equal, Greater, arith}
+use Rattle.std.proofs.Common.{◌≡◌, inl, inr, ℕ, ℤ, pos, ◌≤◌, Bool, true, false, not, if◌then◌else◌, length, List, [], ◌∷◌, map, take, filter, find, Option, Some, None, refl, sym, ap, ◌∙◌, is_eq, is_lt, Ordering, Less, Equal, Greater, arith}
 use Rattle.std.specs.Option.{option_to_list}
 use Rattle.std.specs.List.{AllByRecursion}
 use Rattle.sqlite.specs.Order.{Row}
@@ -14,8 +14,7 @@ use Rattle.dep_statements.specs.Query.{one_table, no_limit, passes}
 use Rattle.dep_statements.specs.Rows.{IsOrdered, replaced}
 use Rattle.dep_statements.proofs.Asking.{Picks}
 use Rattle.dep_statements.proofs.Answered.{shown_of, of_few, in_key_order, first_in_key_order, by_rowid}
-use Rattle.dep_statements.proofs.Keys.{found_row, find_none, find_head, row_key}
-use Rattle.dep_statements.proofs.Edits.{changed_ordered}
+use Rattle.dep_statements.proofs.Keys.{found_row, find_none, find_head}
 
 pub same_filter : (p q : Row → Bool) (rows : List Row) → ((r : Row) → p r ≡ q r) → filter p rows ≡ filter q rows
 same_filter p q rows h = filter_same p q rows (all_from _ rows (λ r k. h r))
@@ -77,10 +76,6 @@ without_key id p rows test = same_filter _ (λ r. not (has_rowid id r)) rows (λ
 
 pub without_passing : (p q : Row → Bool) (rows : List Row) → ((r : Row) → p r ≡ q r) → filter (λ r. not (p r)) rows ≡ filter (λ r. not (q r)) rows
 without_passing p q rows test = same_filter _ (λ r. not (q r)) rows (λ r. ap not (test r))
-
-pub replaced_ordered : (id : ℤ) (new : Row) (rows : List Row) → rowid new ≡ Int id → IsOrdered rows → IsOrdered (replaced new rows)
-replaced_ordered id new rows keyed up =
-    changed_ordered (λ r. is_eq (value_cmp (rowid r) (rowid new))) (λ r. new) rows up (λ r h tied. keyed ∙ sym (row_key rows r id up h (subst (λ v. is_eq (value_cmp (rowid r) v) ≡ true) keyed tied)))
 
 -- no row that does not tie is replaced
 kept_rows : (new : Row) (rows : List Row) → AllByRecursion (λ r. is_eq (value_cmp (rowid r) (rowid new)) ≡ false) rows → replaced new rows ≡ rows

@@ -1,5 +1,5 @@
 -- What the calls make of the state that the tables stand for.
-use Rattle.std.proofs.Common.{◌≡◌, ℕ, ◌≤◌, min, Option, Some, None, Result, Ok, Err, IfOk, OnOk, OnErr, inl, inr, IsTrue, true, refl, sym, ap, subst, ◌∙◌, arith}
+use Rattle.std.proofs.Common.{◌≡◌, ℕ, ◌≤◌, min, Option, Some, None, Result, Ok, Err, IfOk, OnOk, OnErr, inl, IsTrue, true, refl, sym, ap, subst, arith}
 use Rattle.std.specs.FinMap as map
 use Rattle.sqlite.specs.State as db
 use Rattle.sqlite.specs.State.{HasCleanDisk, IsUnchanged}
@@ -16,15 +16,15 @@ use Rattle.dep_tables.specs.Schema.{our_schema}
 use Rattle.dep_tables.specs.Tables.{Tables, tables_in, tables_of, HasOurTables, IsOurs}
 use Rattle.dep_row_maps.specs.TablesAre.{TablesAre}
 use Rattle.dep_row_maps.specs.Clauses.{FromMaps}
-use Rattle.dep_streams.specs.Reading.{IsKept}
+use Rattle.dep_files.specs.Reading.{IsKept}
 use Rattle.dep_tables.specs.Clauses.{ReadsWithin}
 use Rattle.dep_schema.specs.Standing.{Stands}
-use Rattle.dep_schema.proofs.Transactions.{stands_left}
 use Rattle.dep_schema.proofs.Transacting.{IsMade}
 use Rattle.dep_schema.specs.States.{StandsFor}
 use Rattle.dep_schema.specs.Transactions.{OnlyTells, OverStates}
 use Rattle.dep_store.specs.Glancing.{TellsFrom}
 use Rattle.dep_store.specs.Tasks.{Makes}
+use Rattle.dep_store.proofs.Migrated.{stands_same, tables_kept}
 
 -- no upload of a sound state has the number 0
 pub none_at_0 : (s : State) → IsSound s → map.get s.uploads 0 ≡ None
@@ -95,12 +95,11 @@ made_inside g old begun inside last makes answer is left made =
 
 -- ---- what reads alone, outside a transaction
 
-pub tables_kept : (old new : db.State) (t : Tables) → Stands old t → IsTrue new.is_open → IsKept old new → Stands new t
-tables_kept old new t stands is_open kept =
-    elim (kept is_open) [
-      | inl still ↦ stands_left old new t stands is_open (still.0.mode ∙ stands.settled) (still.0.now_is ∙ stands.committed) still.0.committed_is
-      | inr back ↦ stands_left old new t stands is_open back.autocommit (back.undone is_open).0 (back.undone is_open).1
-    ]
+-- it told this of the tables
+pub ok_told : {A E : Type 0} (old new : db.State) (r : Result A E) (told : Tables → A → Type 0) (t : Tables) → Stands old t → OnOk r (IsUnchanged old new) → IfOk r (told (tables_of old))
+    → IfOk r (λ answer. told t answer × Stands new t)
+ok_told old new (Ok answer) told t stands still its = (subst (λ (now : Tables). told now answer) stands.rows its, stands_same old new t stands still)
+ok_told old new (Err e) told t stands still its = tt
 
 pub stands_kept : (old new : db.State) (s : State) → StandsFor old s → IsTrue new.is_open → IsKept old new → StandsFor new s
 stands_kept old new s stands is_open kept =

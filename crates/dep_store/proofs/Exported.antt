@@ -5,7 +5,7 @@ use Rattle.dep_bag.specs.Exports.{IsExported}
 use Rattle.dep_bag.specs.Giving.{IsCausedBy}
 use Rattle.dep_bag.specs.declared.export_fault.ExportFault.{ExportFault}
 use Rattle.dep_bag.specs.declared.export_fault.ExportFault.TheVariants as fault
-use Rattle.dep_program.specs.declared.outcome.Outcome.TheVariants.{Done, NoSuchObject, StoreFault, TransferFault}
+use Rattle.dep_program.specs.declared.outcome.Outcome.TheVariants.{Done, NoSuchObject, StoreFault}
 use Rattle.dep_store.specs.Exports.{Exports, outcome_of_export}
 use Rattle.dep_store.specs.Reporting.{BlamesTransfer}
 use Rattle.dep_store.proofs.ReportLemmas.{no_transfer}
@@ -28,14 +28,8 @@ never_done fault.Sink said = cc said
 never_done fault.Store said = cc said
 never_done fault.Memory said = cc said
 
-absent_transfers : NoSuchObject ≡ TransferFault → ⊥
-absent_transfers said = cc said
-
-failed_transfers : StoreFault ≡ TransferFault → ⊥
-failed_transfers said = cc said
-
 pub blames : (failures failures_after : ℕ) (its : ExportFault) → IsCausedBy its failures failures_after → BlamesTransfer failures failures_after (outcome_of_export its)
-blames failures failures_after fault.NoSuchObject it = no_transfer _ _ NoSuchObject absent_transfers it
+blames failures failures_after fault.NoSuchObject it = no_transfer _ _ NoSuchObject tt it
 blames failures failures_after fault.Sink it = record { count = λ other. absurd (other refl); cause = λ said. it }
-blames failures failures_after fault.Store it = no_transfer _ _ StoreFault failed_transfers it
-blames failures failures_after fault.Memory it = no_transfer _ _ StoreFault failed_transfers it
+blames failures failures_after fault.Store it = no_transfer _ _ StoreFault tt it
+blames failures failures_after fault.Memory it = no_transfer _ _ StoreFault tt it

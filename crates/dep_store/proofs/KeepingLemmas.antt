@@ -16,6 +16,7 @@ use Rattle.dep_staging.specs.HashedAhead.{AreRunning, IsRunning}
 use Rattle.dep_staging.specs.declared.running.RunningHash.{RunningHash}
 use Rattle.dep_staging.specs.declared.running.RunningHashes.{RunningHashes}
 use Rattle.dep_staging.proofs.AheadLemmas.{still_hashed}
+use Rattle.dep_schema.specs.Performing.{KeepsRunning}
 use Rattle.dep_schema.specs.States.{StandsFor}
 use Rattle.dep_types.specs.Conditions.{Condition, StandsFor as StandsAs, HasCleanDisk}
 use Rattle.dep_hub.specs.Archives.{TriesTo, KeepsState, KeepsAll, KeepsEachState, FailsIfShut}
@@ -42,19 +43,19 @@ are_running_still s t runs keeps are k d within = still_running s t (get_or runs
 module _ (d d' : db.State) (runs runs' : RunningHashes) where
   -- a call of the store, from each state for which that holds
   pub tries_hashed : {A E : Type 0} (holds given : State → Type 0) (told : State → A → Type 0) (next : State → State) (r : Result A E)
-      → ((s : State) → given s → AreRunning s runs → holds s) → ((s : State) → AreRunning s runs → AreRunning s runs') → ((s : State) → AreRunning s runs → AreRunning (next s) runs')
+      → ((s : State) → given s → AreRunning s runs → holds s) → KeepsRunning d d' runs runs' → ((s : State) → AreRunning s runs' → AreRunning (next s) runs')
       → TriesTo (store.shown_by d) (store.shown_by d') holds told next r → TriesTo (shown_by d runs) (shown_by d' runs') given told next r
   tries_hashed {A} {E} holds given told next r knows stay go it = record {
     ok = λ clean s keeps its. IfOk-weaker r (λ answer. told s answer × StandsFor d' (next s)) (λ answer. told s answer × Keeps d' runs' (next s))
-        (λ answer h. (h.0, record { stands = h.1; hashed = go s keeps.hashed })) (it.ok clean s keeps.stands (knows s its keeps.hashed));
-    err = λ is_open s keeps. on_err_weaker r (λ (stands : StandsFor d' s). record { stands = stands; hashed = stay s keeps.hashed }) (it.err is_open s keeps.stands);
+        (λ answer h. (h.0, record { stands = h.1; hashed = go s (stay h.1.stands.is_open s keeps.stands keeps.hashed) })) (it.ok clean s keeps.stands (knows s its keeps.hashed));
+    err = λ is_open s keeps. on_err_weaker r (λ (stands : StandsFor d' s). record { stands = stands; hashed = stay is_open s keeps.stands keeps.hashed }) (it.err is_open s keeps.stands);
     honest = it.honest;
     was_open = it.was_open;
     stop = λ clean s keeps its. it.stop clean s keeps.stands (knows s its keeps.hashed);
   }
 
   -- a call that asks for nothing that the store keeps
-  pub keeps_hashed : (IsTrue d'.is_open → (s : State) → StandsFor d s → AreRunning s runs → AreRunning s runs') → KeepsAll (store.shown_by d) (store.shown_by d')
+  pub keeps_hashed : KeepsRunning d d' runs runs' → KeepsAll (store.shown_by d) (store.shown_by d')
       → KeepsAll (shown_by d runs) (shown_by d' runs')
   keeps_hashed hashed it = record {
     kept = λ is_open s keeps. record { stands = it.kept is_open s keeps.stands; hashed = hashed is_open s keeps.stands keeps.hashed };

@@ -1,5 +1,5 @@
 -- The file whose content a reply has: that it is there with its size, and what is sent of it then.
-use Rattle.std.proofs.Common.{◌≡◌, ◌≢◌, ◌∙◌, inl, inr, ℕ, List, [], length, Bool, true, false, not, ◌&&◌, if◌then◌else◌, Option, Some, None, Result, IfOk, IsTrue, refl, sym, ap, subst}
+use Rattle.std.proofs.Common.{◌≡◌, ◌≢◌, ◌∙◌, inl, inr, ℕ, List, [], length, Bool, true, false, not, ◌&&◌, Option, Some, None, Result, Ok, IfOk, IsTrue, refl, sym, ap}
 use Rattle.std.specs.Prelude.{IsSome, IfSome}
 use Rattle.std.specs.Option.{option_map_or}
 use Rattle.std.proofs.lemmas.Result.{IfOk-weaker}
@@ -24,12 +24,15 @@ use Rattle.dep_requests.specs.declared.performing.Done.{Done}
 use Rattle.dep_staging.specs.HashedAhead.{AreRunning}
 use Rattle.dep_staging.specs.declared.running.RunningHashes.{RunningHashes}
 use Rattle.dep_tables.specs.Tables.{Tables}
-use Rattle.dep_schema.specs.Performing.{StepsOver}
+use Rattle.dep_schema.specs.Performing.{KeepsRunning, StepsOver, TellsChanges, IsBackUnchanged}
 use Rattle.dep_schema.specs.States.{StandsFor}
-use Rattle.dep_schema.specs.Transactions.{Transacts}
-use Rattle.dep_streams.proofs.Streams.{IsSized}
+use Rattle.dep_schema.specs.Transactions.{FindsOpen, Transacts}
+use Rattle.dep_schema.proofs.Transacting.{IsSettled, after_back, given_back_then}
+use Rattle.dep_files.proofs.Streams.{IsSized}
 use Rattle.dep_requests.specs.Remembering.{has_value, is_plain_read}
-use Rattle.dep_store.specs.Remembering.{IsOfSize}
+use Rattle.dep_store.specs.Remembering.{IsOfSize, ShowsFile}
+use Rattle.dep_store.specs.Shut.{PerformsIfOpen}
+use Rattle.dep_store.proofs.ShutLemmas.{state_back, was_open_then}
 
 -- ---- a request that only reads, and tells of no content
 
@@ -84,17 +87,7 @@ shows_file old new config op running result any plain it clean s stands =
     (λ (done : Done) made. ready_sized s (operation_step config s op) done.performed (step_stays config s op reads.0) (made.2 reads.1 s stands.means (any s)).0)
     (it.ok clean stands.tables stands.stands)
 
--- ---- of what was hashed ahead, such a request needs nothing
-
-pub need_of : (plain : Bool) (none running needed : RunningHashes) → needed ≡ (if plain then none else running) → ((s : State) → AreRunning s none)
-    → (s : State) → AreRunning s running → AreRunning s needed
-need_of true none running needed is any s are = subst (λ (runs : RunningHashes). AreRunning s runs) (sym is) (any s)
-need_of false none running needed is any s are = subst (λ (runs : RunningHashes). AreRunning s runs) (sym is) are
-
-pub none_needed : (plain : Bool) (none running needed : RunningHashes) → needed ≡ (if plain then none else running) → ((s : State) → AreRunning s none)
-    → IsTrue plain → (s : State) → AreRunning s needed
-none_needed true none running needed is any h s = subst (λ (runs : RunningHashes). AreRunning s runs) (sym is) (any s)
-none_needed false none running needed is any h s = cc h
+-- ---- of what was hashed, such a request needs nothing
 
 -- where less is needed, it is done all the more
 pub transacts_with : (old new : db.State) (config : Config) (op : Operation) (needed running : RunningHashes) (result : Result Done StoreFault)
@@ -112,6 +105,25 @@ transacts_with old new config op needed running result need it = record {
   where
     wider : (t : Tables) (done : Done) (after : Tables) → StepsOver config op needed t done after → StepsOver config op running t done after
     wider t done after made = λ fit s means are. made fit s means (need s are)
+
+-- a request that is performed once the store was found open
+pub performs : (old mid new : db.State) (config : Config) (op : Operation) (needed running later : RunningHashes) (result : Result Done StoreFault)
+    → (IsTrue old.is_open → IsSettled old) → (IsTrue mid.is_open → HasCleanDisk mid) → FindsOpen {A = Unit {0}} {E = StoreFault} old mid (Ok tt)
+    → ((s : State) → AreRunning s running → AreRunning s needed) → KeepsRunning mid new running later → ShowsFile mid new result op
+    → Transacts mid new result (StepsOver config op needed) → TellsChanges mid new result config op needed → IsBackUnchanged mid new result
+    → PerformsIfOpen old new result config op running later
+performs old mid new config op needed running later result settled shut found need keeps shows does changes unchanged =
+    let back = found.restored.back in
+    let opened = λ (clean : HasCleanDisk new). found.opened (does.honest clean) in
+    let stands = λ (clean : HasCleanDisk new) (s : State) (was : StandsFor old s). state_back old mid s back (opened clean) was in
+    record {
+      shut = was_open_then old new result (λ clean. (back (opened clean)).0);
+      transacts = after_back old mid new result _ settled shut back found.restored.survives found.opened (transacts_with mid new config op needed running result need does);
+      changes = λ clean s was are. changes clean s (stands clean s was) (need s are);
+      hashed = λ is_open s was. keeps is_open s (state_back old mid s back (does.was_open is_open) was);
+      back = IfOk-weaker result _ _ (λ (answer : Done) given same. given_back_then old mid new back found.restored.survives (given same)) unchanged;
+      shows = λ plain clean s was. shows plain clean s (stands clean s was);
+    }
 
 -- ---- what is sent of it
 

@@ -3,9 +3,7 @@ pub mod Older
 pub mod Opened
 pub mod Sources
 pub mod Carrying
-pub mod Audited
 pub mod Remembered
-pub mod WalkLemmas
 pub mod ReportLemmas
 pub mod LineLemmas
 pub mod ShutLemmas

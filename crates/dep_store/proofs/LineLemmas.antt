@@ -6,7 +6,8 @@ use Rattle.std.proofs.lemmas.Grind.{flat_map-append}
 use Rattle.dep_tables.proofs.Results.{if_ok}
 use Rattle.dep_types.specs.Sinks.{IsFront}
 use Rattle.dep_types.specs.Writing.{HasRisen}
-use Rattle.dep_store.specs.Reporting.{IsWritten, BlamesWriter, WritesTo}
+use Rattle.dep_files.specs.Faults.{BlamesOutlet}
+use Rattle.dep_store.specs.Reporting.{IsWritten, WritesTo}
 use Rattle.dep_store.specs.declared.audit_fault.AuditFault.{AuditFault}
 use Rattle.dep_store.specs.declared.audit_fault.AuditFault.TheVariants.{Store, Writer}
 
@@ -44,17 +45,17 @@ line_fails line files i d less written part so_far front fault (Err e) err = lin
 -- ---- the failures of the writer
 
 -- it didn't fail, and that is not told
-pub blame_none : {X : Type 0} (before after : ℕ) (r : Result X AuditFault) → after ≡ before → r ≢ Err Writer → BlamesWriter before after r
-blame_none before after r same other = record { count = if_ok r same; quiet = λ is. same; cause = λ is. absurd (other is) }
+pub blame_none : {X : Type 0} (before after : ℕ) (r : Result X AuditFault) → after ≡ before → r ≢ Err Writer → BlamesOutlet Writer before after r
+blame_none before after r same other = record { kept = if_ok r same; cause = λ is. absurd (other is); others = λ is. same }
 
 -- a fault is passed on, before which it didn't fail
-pub blame_passed : {X Y : Type 0} (before mid after : ℕ) → mid ≡ before → (fault : AuditFault) → BlamesWriter {X = X} mid after (Err fault)
-    → (r : Result Y AuditFault) → IsErrAnd r (λ x. x ≡ fault) → BlamesWriter before after r
+pub blame_passed : {X Y : Type 0} (before mid after : ℕ) → mid ≡ before → (fault : AuditFault) → BlamesOutlet {A = X} Writer mid after (Err fault)
+    → (r : Result Y AuditFault) → IsErrAnd r (λ x. x ≡ fault) → BlamesOutlet Writer before after r
 blame_passed before mid after same fault it (Ok y) err = absurd err
 blame_passed before mid after same fault it (Err e) err = record {
-  count = tt;
-  quiet = λ is. let told : e ≡ Store = cc is in it.quiet (ap Err (sym err ∙ told)) ∙ same;
+  kept = tt;
   cause = λ is. let told : e ≡ Writer = cc is in subst (λ n. HasRisen n after) same (it.cause (ap Err (sym err ∙ told)));
+  others = λ other. it.others (λ is. let told : fault ≡ Writer = cc is in other (ap Err (err ∙ told))) ∙ same;
 }
 
 -- it was not asked for anything
@@ -64,8 +65,8 @@ none_written taken failures out whole (Ok x) err = absurd err
 none_written taken failures out whole (Err e) err = record {
   writes = ([], Appends-nil (taken out), record { rest = whole; joined = refl });
   blames = record {
-    count = tt;
-    quiet = λ is. refl;
+    kept = tt;
     cause = λ is. let told : e ≡ Writer = cc is in absurd (let other = sym err ∙ told in cc other);
+    others = λ other. refl;
   };
 }

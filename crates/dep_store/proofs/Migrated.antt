@@ -14,9 +14,9 @@ use Rattle.dep_schema.specs.Standing.{IsBack, Stands, StandsOf, StandsOlder}
 use Rattle.dep_schema.specs.Transactions.{TransactsTo}
 use Rattle.dep_schema.proofs.Transactions.{stands_left}
 use Rattle.dep_schema.proofs.Transacting.{IsSettled, left_still}
-use Rattle.dep_streams.specs.Reading.{IsKept}
-use Rattle.dep_streams.specs.Sha512s.{AreValuesOf}
-use Rattle.dep_streams.proofs.Upgraded.{stand_upgraded}
+use Rattle.dep_files.specs.Reading.{IsKept}
+use Rattle.dep_files.specs.Sha512s.{AreValuesOf}
+use Rattle.dep_files.proofs.Upgraded.{stand_upgraded}
 use Rattle.dep_schema.specs.States.{TablesStandFor, OlderTablesStandFor, StandsFor, OlderStandsFor, IsLeftAs}
 use Rattle.dep_store.specs.Migrating.{IsUpgraded, Migrates}
 
@@ -34,8 +34,8 @@ stands_same {its} a b t stands same = record {
 }
 
 -- a call that only reads has left all as it was, or has ended no transaction
-pub stands_kept : {its : Schema} (a b : db.State) (t : Tables) → StandsOf its a t → IsKept a b → IsTrue b.is_open → StandsOf its b t
-stands_kept a b t stands kept is_open =
+pub tables_kept : {its : Schema} (a b : db.State) (t : Tables) → StandsOf its a t → IsTrue b.is_open → IsKept a b → StandsOf its b t
+tables_kept a b t stands is_open kept =
     elim (kept is_open) [
       | inl same ↦ stands_same a b t stands same
       | inr back ↦ stands_left a b t stands is_open back.autocommit (back.undone is_open).0 (back.undone is_open).1
@@ -47,7 +47,7 @@ module _ (old new : db.State) (settled : IsTrue old.is_open → IsSettled old) (
       → (HasCleanDisk new → IsKnown old → Survives old new (λ _. ⊥)) → Migrates {A = A} old new (Err e)
   not_computed e kept clean survives = record {
     ok = λ late t stands. tt;
-    err = λ is_open t stands. stands_kept old new t stands (kept (shut is_open) (known_older old t stands)) is_open;
+    err = λ is_open t stands. tables_kept old new t stands is_open (kept (shut is_open) (known_older old t stands));
     honest = clean;
     stop = λ late t stands trees h. inl (left_still old new t (settled stands.is_open) stands (survives late (known_older old t stands)) late trees h);
   }

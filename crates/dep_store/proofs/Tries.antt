@@ -9,7 +9,7 @@ use Rattle.dep_types.specs.declared.stream_fault.StreamFault.{StreamFault}
 use Rattle.dep_types.specs.declared.stream_fault.StreamFault.TheVariants.{Writer, Store as StoreFails}
 use Rattle.dep_tables.specs.Tables.{Tables}
 use Rattle.dep_staging.specs.declared.running.RunningHashes.{RunningHashes}
-use Rattle.dep_streams.specs.Faults.{BlamesOutlet}
+use Rattle.dep_files.specs.Faults.{BlamesOutlet}
 use Rattle.dep_schema.specs.Standing.{Stands}
 use Rattle.dep_schema.specs.States.{TablesStandFor, StandsFor, Leaves}
 use Rattle.dep_schema.specs.Transactions.{Transacts, OnlyTells, OverStates, IsBackAt, IsGivenBack, IsRestored}
@@ -17,7 +17,8 @@ use Rattle.dep_schema.proofs.Transacting.{IsSettled, IsOver, ok_over_states, err
 use Rattle.dep_hub.specs.Archives.{TriesTo, Ticks, Tells, KeepsState, KeepsAll, Always, CountsFailures}
 use Rattle.dep_store.specs.Archive.{shown_by}
 use Rattle.dep_store.specs.Shut.{FailsIfShut, SendsFile}
-use Rattle.dep_store.specs.Staying.{TellsTables, KeepsTables, KeepsRunning, LeavesOnly, HashesOn}
+use Rattle.dep_schema.specs.Performing.{KeepsRunning}
+use Rattle.dep_store.specs.Staying.{TellsTables, KeepsTables, LeavesOnly, HashesOn}
 use Rattle.dep_store.proofs.ShutLemmas.{state_back}
 use Rattle.dep_store.proofs.ReportLemmas.{leaves_held, stands_still}
 

@@ -6,8 +6,8 @@ use Rattle.sqlite_trees.specs.Tree.{rowid}
 use Rattle.dep_statements.specs.Rows.{is_after}
 use Rattle.dep_tables.specs.Tables.{Tables}
 use Rattle.dep_types.specs.Sinks.{IsFront}
-use Rattle.dep_streams.specs.declared.auditing.Audit.{Audit}
-use Rattle.dep_store.specs.Auditing.{IsObjectAudited}
+use Rattle.dep_files.specs.declared.auditing.Audit.{Audit}
+use Rattle.dep_files.specs.Fixity.{IsAudited}
 use Rattle.dep_program.specs.declared.outcome.Outcome.{Outcome}
 use Rattle.dep_program.specs.declared.outcome.Outcome.TheVariants.{Done, Usage, NoSuchObject, StoreFault, TransferFault, Damaged}
 
@@ -19,7 +19,7 @@ pub record Audited : Type 0 where
 -- these are the objects of the rows, each with its audit
 pub record AreAudits (t : Tables) (rows : List Row) (found : List Audited) : Type 0 where
   pub objects : map (λ a. Int (pos a.object)) found ≡ map rowid rows
-  pub audits : All (λ a. IsObjectAudited t a.object a.audit) found
+  pub audits : All (λ a. IsAudited t a.object a.audit) found
 
 -- the rows of the objects, whose numbers rise from 1 on
 abbrev pub object_rows : Tables → List Row

@@ -12,8 +12,8 @@ use Rattle.dep_schema.specs.OpenFaults.{open_fault_for, begun, FailsToOpen, Show
 use Rattle.dep_schema.specs.Standing.{IsStill}
 use Rattle.dep_schema.specs.Upgrading.{FailsToUpgrade}
 use Rattle.dep_schema.specs.declared.opening.OpenFault.{OpenFault}
-use Rattle.dep_streams.specs.Causes.{FailsToHashFiles}
-use Rattle.dep_streams.specs.Sha512s.{AreValuesOf}
+use Rattle.dep_files.specs.Causes.{FailsToHashFiles}
+use Rattle.dep_files.specs.Sha512s.{AreValuesOf}
 
 module _ {S : Type 0} (g : Ghosts S) (old : Held S) where
   -- The names that version 2 has beside version 1 were free once the values were computed. To compute them changes nothing

@@ -1,6 +1,5 @@
 pub mod Causes
 pub mod Migrating
-pub mod Auditing
 pub mod Remembering
 pub mod Shut
 pub mod Staying

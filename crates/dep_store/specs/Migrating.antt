@@ -15,7 +15,7 @@ use Rattle.dep_schema.specs.Standing.{Holds, HoldsOlder, HoldsNone, Stands, Stan
 use Rattle.dep_schema.specs.States.{StandsFor, OlderStandsFor, IsLeftAs, Leaves}
 use Rattle.dep_schema.specs.declared.opening.OpenFault.{OpenFault}
 use Rattle.dep_schema.specs.declared.opening.OpenFault.TheVariants.{UnknownVersion}
-use Rattle.dep_streams.specs.Sha512s.{AreValuesOf}
+use Rattle.dep_files.specs.Sha512s.{AreValuesOf}
 
 -- version 2, with the values of the files as their bytes stand
 pub record IsUpgraded (t after : Tables) : Type 0 where

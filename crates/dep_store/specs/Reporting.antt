@@ -1,5 +1,5 @@
 -- What is to be written so far, and how far it was written.
-use Rattle.std.specs.Prelude.{◌≡◌, ◌≢◌, ◌⊎◌, ℕ, List, [], ◌++◌, length, filter, Option, Result, Ok, Err, OnOk}
+use Rattle.std.specs.Prelude.{◌≡◌, ◌≢◌, ◌⊎◌, ℕ, ◌≤◌, ◌-◌, ◌^◌, List, [], ◌++◌, length, filter, Option, Some, None, Result, Ok, Err}
 use Rattle.std.specs.Io.KnownBytes.{Appends}
 use Rattle.sqlite.specs.State as db
 use Rattle.sqlite.specs.Order.{Row}
@@ -8,7 +8,9 @@ use Rattle.dep_tables.specs.Tables.{Tables}
 use Rattle.dep_types.specs.Sinks.{IsFront}
 use Rattle.dep_schema.specs.Standing.{Stands}
 use Rattle.dep_types.specs.Writing.{HasRisen}
-use Rattle.dep_store.specs.Auditing.{IsObjectAudited}
+use Rattle.dep_files.specs.Faults.{BlamesOutlet}
+use Rattle.dep_files.specs.Fixity.{IsAudited}
+use Rattle.dep_files.specs.declared.auditing.Audit.{Audit}
 use Rattle.dep_store.specs.Staying.{KeepsTables}
 use Rattle.dep_store.specs.Audits.{Audited, AreAudits, object_rows, damaged_lines, lines_of, checked_in, damaged_in, IsBegun}
 use Rattle.dep_store.specs.declared.audit_fault.AuditFault.{AuditFault}
@@ -39,26 +41,11 @@ abbrev pub WritesOf : (old new : db.State) → (taken takes : Option (List ℕ))
 WritesOf old new taken takes told = (written : List ℕ) × Appends taken takes written
     × (db.HasCleanDisk new → (t : Tables) → Stands old t → told t written)
 
--- a fault of the writer comes only where its count of failures rose
-abbrev pub HasCause : {X : Type 0} → Result X AuditFault → (failures failures_after : ℕ) → Type 0
-HasCause result failures failures_after = result ≡ Err Writer → HasRisen failures failures_after
-
--- a fault of the store leaves the writer's count of failures
-abbrev pub IsQuiet : {X : Type 0} → Result X AuditFault → (failures failures_after : ℕ) → Type 0
-IsQuiet result failures failures_after = result ≡ Err Store → failures_after ≡ failures
-
--- the writer failed where that is returned, and nowhere else
-pub record BlamesWriter {X : Type 0} (failures failures_after : ℕ) (result : Result X AuditFault)
-    : Type 0 where
-  pub count : OnOk result (failures_after ≡ failures)
-  pub quiet : IsQuiet result failures failures_after
-  pub cause : HasCause result failures failures_after
-
 -- a text was written so far as the result says, and the writer failed where that is returned, and nowhere else
 pub record WritesTo {W X : Type 0} (taken : W → Option (List ℕ)) (failures : W → ℕ) (before after : W)
     (whole : List ℕ) (result : Result X AuditFault) : Type 0 where
   pub writes : Writes (taken before) (taken after) whole result
-  pub blames : BlamesWriter (failures before) (failures after) result
+  pub blames : BlamesOutlet Writer (failures before) (failures after) result
 
 -- so is what was written of the tables that the store has, which stay
 pub record Reports {W X : Type 0} (old new : db.State) (taken : W → Option (List ℕ))
@@ -66,32 +53,26 @@ pub record Reports {W X : Type 0} (old new : db.State) (taken : W → Option (Li
     (told : Tables → (written : List ℕ) → Result X AuditFault → Type 0) : Type 0 where
   pub writes : WritesOf old new (taken before) (taken after) (λ t written. told t written result)
   pub stays : KeepsTables old new
-  pub blames : BlamesWriter (failures before) (failures after) result
+  pub blames : BlamesOutlet Writer (failures before) (failures after) result
 
 -- the same by what the program says: the transfer failed
 pub record BlamesTransfer (failures failures_after : ℕ) (outcome : Outcome) : Type 0 where
   pub count : outcome ≢ TransferFault → failures_after ≡ failures
   pub cause : outcome ≡ TransferFault → HasRisen failures failures_after
 
--- how many files an audit checked, and how many are damaged
-pub record IsTallyOf (a : Audited) (tally : Tally) : Type 0 where
-  pub checked : tally.checked ≡ a.audit.checked
-  pub damaged : tally.damaged ≡ length a.audit.damaged.items
-
 -- the lines of an object were written
 pub record IsReportedObject (t : Tables) (object : ℕ) (written : List ℕ) (tally : Tally) : Type 0 where
-  pub told : Audited
-  pub its : told.object ≡ object
-  pub audited : IsObjectAudited t told.object told.audit
-  pub lines : written ≡ damaged_lines told
-  pub counts : IsTallyOf told tally
+  pub audit : Audit
+  pub audited : IsAudited t object audit
+  pub lines : written ≡ damaged_lines (record { object = object; audit = audit })
+  pub checked : tally.checked ≡ audit.checked
+  pub damaged : tally.damaged ≡ length audit.damaged.items
 
 -- a front of them was
 pub record IsPartOfObject (t : Tables) (object : ℕ) (written : List ℕ) : Type 0 where
-  pub told : Audited
-  pub its : told.object ≡ object
-  pub audited : IsObjectAudited t told.object told.audit
-  pub front : IsFront written (damaged_lines told)
+  pub audit : Audit
+  pub audited : IsAudited t object audit
+  pub front : IsFront written (damaged_lines (record { object = object; audit = audit }))
 
 abbrev pub ReportsObject : Tables → (object : ℕ) → (written : List ℕ) → Result Tally AuditFault → Type 0
 ReportsObject t object written (Ok tally) = IsReportedObject t object written tally
@@ -110,6 +91,12 @@ pub record IsReportedTo (t : Tables) (after : ℕ) (written : List ℕ) (tally :
   pub first : object_rows t ≡ rows ++ filter (is_after after) t.objects
   pub told : IsReported t rows written tally
 
-abbrev pub ReportsObjects : Tables → (written : List ℕ) → Result Tally AuditFault → Type 0
-ReportsObjects t written (Ok tally) = IsReported t (object_rows t) written tally
+-- so many objects, or files of them, that 64 bits don't count them
+abbrev pub IsUncounted : {t : Tables} {written : List ℕ} → IsBegun t written → Type 0
+IsUncounted begun = (2 ^ 64 - 1 ≤ length begun.rows)
+    ⊎ ((2 ^ 64 ≤ checked_in begun.found) ⊎ (2 ^ 64 ≤ damaged_in begun.found))
+
+abbrev pub ReportsObjects : Tables → (written : List ℕ) → Result (Option Tally) AuditFault → Type 0
+ReportsObjects t written (Ok (Some tally)) = IsReported t (object_rows t) written tally
+ReportsObjects t written (Ok None) = (begun : IsBegun t written) × IsUncounted begun
 ReportsObjects t written (Err fault) = IsBegun t written

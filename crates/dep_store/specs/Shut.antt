@@ -13,7 +13,7 @@ use Rattle.dep_tables.specs.Faults.{fault_for}
 use Rattle.dep_decisions.specs.declared.operation.Operation.{Operation}
 use Rattle.dep_staging.specs.declared.running.RunningHashes.{RunningHashes}
 use Rattle.dep_requests.specs.declared.performing.Done.{Done}
-use Rattle.dep_schema.specs.Performing.{StepsOver, TellsChanges, IsBackUnchanged}
+use Rattle.dep_schema.specs.Performing.{KeepsRunning, StepsOver, TellsChanges, IsBackUnchanged}
 use Rattle.dep_schema.specs.Transactions.{IsBackAt, IsRestored, Transacts}
 use Rattle.dep_hub.specs.Archives.{Ticks, Streams, KeepsState, CountsFailures}
 use Rattle.dep_hub.specs.Shut.{TellsOpen}
@@ -53,10 +53,11 @@ pub record SendsFile {A : Type 0} (old new : db.State) (taken takes : Option (Li
 
 -- so a request fails, which is else one transaction, given back where nothing was changed, and shows a file that is there
 pub record PerformsIfOpen (old new : db.State) (result : Result Done StoreFault) (config : Config)
-    (op : Operation) (running : RunningHashes) : Type 0 where
+    (op : Operation) (running later : RunningHashes) : Type 0 where
   pub shut : FailsIfShut old new result
   pub transacts : Transacts old new result (StepsOver config op running)
   pub changes : TellsChanges old new result config op running
+  pub hashed : KeepsRunning old new running later
   pub back : IsBackUnchanged old new result
   pub shows : ShowsFile old new result op
 

@@ -5,9 +5,9 @@ use Rattle.sqlite.specs.Tree.{Trees}
 use Rattle.dep_types.specs.State.{State}
 use Rattle.dep_tables.specs.Tables.{Tables}
 use Rattle.dep_hub.specs.Archives.{KeepsAll}
-use Rattle.dep_staging.specs.HashedAhead.{AreRunning}
 use Rattle.dep_staging.specs.declared.running.RunningHashes.{RunningHashes}
 use Rattle.dep_schema.specs.Standing.{Holds, Stands}
+use Rattle.dep_schema.specs.Performing.{KeepsRunning}
 use Rattle.dep_schema.specs.States.{StandsFor, Leaves}
 use Rattle.dep_store.specs.Archive.{shown_by}
 
@@ -20,13 +20,7 @@ abbrev pub LeavesOnly : (old new : db.State) → Type 0
 LeavesOnly old new = db.HasCleanDisk new → (trees : Trees) → new.may_leave trees
     → old.may_leave trees
 
--- What was hashed of uploads is what was received of them, as it was before, in each state for which
--- it stood, while it is open.
-abbrev pub KeepsRunning : (old new : db.State) → (running_before running : RunningHashes) → Type 0
-KeepsRunning old new running_before running = IsTrue new.is_open
-    → (s : State) → StandsFor old s → AreRunning s running_before → AreRunning s running
-
--- so it is, and nothing that is kept changes
+-- what was hashed of uploads is what was received of them still, and nothing that is kept changes
 pub record HashesOn (old new : db.State) (before after : RunningHashes) : Type 0 where
   pub running : KeepsRunning old new before after
   pub rests : KeepsAll (shown_by old) (shown_by new)

@@ -61,7 +61,7 @@ impl<S: Alter> HashingStore<S> {
 
     /// Notes the upload to which the request sent a segment, if it sent one that is large enough, and it was kept.
     fn note(&mut self, operation: &Operation<'_>, performed: &Performed)
-        ensures { NotesUpload self.old self.new }
+        ensures { NotesUpload self.old self.new performed.now.refusal }
     {
         let is_small = operation.content.as_slice().len() < LEAST_SEGMENT;
         if is_small || performed.refusal.is_some() {
@@ -91,7 +91,7 @@ impl<S: Alter> Archive for HashingStore<S> {
         service: &Service,
         operation: &Operation<'_>,
     ) -> Result<Performed, StoreFault> {
-        let performed = self.store.perform(&self.running, service, operation)?;
+        let performed = self.store.perform(&mut self.running, service, operation)?;
         self.note(operation, &performed);
         self.log_copy.note(operation, &performed);
         Ok(performed)

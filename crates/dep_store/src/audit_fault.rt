@@ -1,6 +1,5 @@
 //! Why an audit ended before its last line.
 use dep_types::{StoreFault, WriteFailed};
-use std::alloc::AllocError;
 
 /// Why an audit ended before its last line.
 #[derive(Clone, Copy)]
@@ -18,17 +17,6 @@ impl From<StoreFault> for AuditFault {
     ghost from_gives = { λ _ fault. fault ≡ Store };
 
     fn from(_fault: StoreFault) -> AuditFault {
-        AuditFault::Store
-    }
-}
-
-impl From<AllocError> for AuditFault {
-    ghost use Rattle.std.specs.Prelude.{◌≡◌};
-    ghost use Rattle.dep_store.specs.declared.audit_fault.AuditFault.TheVariants.{Store};
-
-    ghost from_gives = { λ _ fault. fault ≡ Store };
-
-    fn from(_error: AllocError) -> AuditFault {
         AuditFault::Store
     }
 }

@@ -25,7 +25,7 @@ mod ticking;
 mod working;
 
 pub use archive::HashingStore;
-pub use dep_streams::{Unwatched, Watch};
+pub use dep_files::{Unwatched, Watch};
 pub use exporting::export_object;
 pub use reporting::audit_all;
 pub use starting::{StartFault, close_hub, open_hub};

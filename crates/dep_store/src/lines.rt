@@ -5,9 +5,9 @@ ghost use Rattle.dep_store.specs.Reporting.{WritesTo};
 
 use crate::audit_fault::AuditFault;
 use crate::tally::Tally;
-use dep_types::Outlet;
+use dep_types::{Outlet, StoreFault};
 use itoa::Buffer;
-use std::alloc::{AllocError, Global};
+use std::alloc::Global;
 
 /// A line of two numbers, each behind a text.
 #[derive(Clone, Copy)]
@@ -67,18 +67,19 @@ fn write_line<W: Outlet>(alloc: Global, line: &Line<'_>, out: &mut W) -> Result<
     Ok(())
 }
 
-fn spell(alloc: Global, line: &Line<'_>) -> Result<String, AllocError>
+fn spell(alloc: Global, line: &Line<'_>) -> Result<String, StoreFault>
     ensures { IfOk result (λ text. string_bytes text
         ≡ two_numbers line.now.before.now line.now.first line.now.between.now line.now.second) }
 {
     let mut first = Buffer::new();
     let mut second = Buffer::new();
-    [
+    let text = [
         line.before,
         first.format(line.first),
         line.between,
         second.format(line.second),
         "\n",
     ]
-    .concat(alloc)
+    .concat(alloc)?;
+    Ok(text)
 }

@@ -6,8 +6,8 @@ ghost use Rattle.sqlite.specs.Held.{state};
 ghost use Rattle.dep_store.specs.Causes.{FailsMigrating, MigratesToFree, OpensFor, RefusesFor};
 ghost use Rattle.dep_store.specs.Migrating.{FallsBack, FindsOlder, FindsState, FindsTables, KeepsState, KeepsTables, Migrates, OfEither, OpenLeaves, RefusesNone, RefusesNoState, StartsEmpty};
 
+use dep_files::{Watch, hash_files};
 use dep_schema::{OpenFault, Schema, upgrade};
-use dep_streams::{Watch, hash_files};
 use dep_types::StoreFault;
 use sqlite::{Alter, Connection};
 use std::alloc::Global;

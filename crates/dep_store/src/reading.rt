@@ -1,7 +1,7 @@
 //! What is read of the archive, each in a transaction of its own.
 
 use crate::tasks::Task;
-use dep_tables::{FileSha256, Statements, next_object, sha256s_of};
+use dep_tables::{Statements, next_object};
 use dep_types::{ObjectView, StoreFault};
 use dep_views::load_object_view;
 use std::alloc::Global;
@@ -46,25 +46,5 @@ impl Task for NextObject {
 
     fn run<T: Statements>(&self, tx: &mut T) -> Result<Option<u64>, StoreFault> {
         next_object(tx, self.after)
-    }
-}
-
-/// The files of an object by ascending number, each with the SHA-256 that its row keeps.
-#[derive(Clone, Copy)]
-pub(crate) struct ListFiles {
-    pub(crate) alloc: Global,
-    pub(crate) object: u64,
-}
-
-impl Task for ListFiles {
-    ghost use Rattle.dep_tables.specs.Edits.{AreSha256sOf};
-    ghost use Rattle.dep_schema.specs.Transactions.{OnlyTells};
-
-    type Answer = Vec<FileSha256>;
-
-    ghost makes = { λ asked. OnlyTells (λ t found. AreSha256sOf asked.object t found.items) };
-
-    fn run<T: Statements>(&self, tx: &mut T) -> Result<Vec<FileSha256>, StoreFault> {
-        sha256s_of(tx, self.alloc, self.object)
     }
 }

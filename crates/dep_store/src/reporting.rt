@@ -12,13 +12,13 @@ use crate::audit_fault::AuditFault;
 use crate::lines::{write_count, write_damaged};
 use crate::store::Store;
 use crate::tally::Tally;
+use dep_files::Watch;
 use dep_program::Outcome;
-use dep_streams::Watch;
 use dep_types::Outlet;
 use sqlite::Alter;
 use std::alloc::Global;
 
-/// Checks all files of all objects by their SHA-256, in the order of the objects' numbers and then of the files'. It
+/// Checks all files of all objects by both digests, in the order of the objects' numbers and then of the files'. It
 /// writes a line for each damaged one, once its object was checked, and at last a line of how many were checked and
 /// how many are damaged. The watch is told of each block that is read.
 pub fn audit_all<S: Alter, W: Outlet, P: Watch>(
@@ -33,7 +33,8 @@ pub fn audit_all<S: Alter, W: Outlet, P: Watch>(
     ensures blames { BlamesTransfer (W.failures out.old) (W.failures out.new) result }
 {
     let tally = match report_objects(alloc, store, out, watch) {
-        Ok(tally) => tally,
+        Ok(Some(tally)) => tally,
+        Ok(None) => return Outcome::StoreFault,
         Err(fault) => return outcome_of(fault),
     };
     match write_count(alloc, tally, out) {
@@ -52,13 +53,13 @@ fn outcome_of(fault: AuditFault) -> Outcome
     }
 }
 
-// Writes the lines of all objects.
+// Writes the lines of all objects. It gives up where more are checked than 64 bits count.
 fn report_objects<S: Alter, W: Outlet, P: Watch>(
     alloc: Global,
     store: &mut Store<S>,
     out: &mut W,
     watch: &mut P,
-) -> Result<Tally, AuditFault>
+) -> Result<Option<Tally>, AuditFault>
     ensures { Reports (state S.Store store.old) (state S.Store store.new)
         W.taken W.failures out.old out.new result ReportsObjects }
 {
@@ -69,13 +70,16 @@ fn report_objects<S: Alter, W: Outlet, P: Watch>(
     let mut after = 0;
     'objects: for _ in 0..u64::MAX {
         let Some(object) = store.next_object(after)? else {
-            return Ok(tally);
+            return Ok(Some(tally));
         };
         let more = report_object(alloc, store, object, out, watch)?;
-        tally = tally.plus(more)?;
+        let Some(sum) = tally.plus(more) else {
+            return Ok(None);
+        };
+        tally = sum;
         after = object;
     }
-    Err(AuditFault::Store)
+    Ok(None)
 }
 
 // Writes the lines of an object.

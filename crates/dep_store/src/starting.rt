@@ -5,6 +5,7 @@ ghost use Rattle.sqlite.specs.State.{HasCleanDisk};
 ghost use Rattle.dep_types.specs.State.{empty_state};
 ghost use Rattle.dep_types.specs.Config.{IsChecked};
 ghost use Rattle.dep_schema.specs.Standing.{HoldsNone, IsOpenable};
+ghost use Rattle.dep_store.specs.Causes.{FailsToOpenTables};
 ghost use Rattle.dep_store.specs.Migrating.{Keeps};
 ghost use Rattle.dep_store.specs.Starting.{GoesOnFromStop, IsStore, OpeningLeaves, outcome_of_start};
 ghost use Rattle.dep_hub.specs.Standing.{StandsAfter, IsClean, IsHonest};
@@ -12,10 +13,10 @@ ghost use Rattle.dep_store.specs.HashingStores.{condition_of};
 
 use crate::archive::HashingStore;
 use crate::store::Store;
+use dep_files::Watch;
 use dep_hub::{Hub, HubFault};
 use dep_program::Outcome;
 use dep_schema::OpenFault;
-use dep_streams::Watch;
 use dep_types::Config;
 use sqlite::{Alter, Connection};
 use std::alloc::Global;
@@ -77,6 +78,10 @@ pub fn open_hub<S: Alter, W: Watch>(
     ensures left { IfErr result (λ e. (fault : OpenFault) → e.0 ≡ StartFault.Open fault
         → IsTrue (state S.Store e.1).is_open
         → Keeps (state S.Store connection) (state S.Store e.1)) }
+    // It says why the database was not opened.
+    ensures told { IfErr result (λ e. (fault : OpenFault) → e.0 ≡ StartFault.Open fault
+        → HasCleanDisk (state S.Store e.1)
+        → FailsToOpenTables S.Store connection e.1 fault) }
     // What a store left is opened, and never refused as of a version that is not known.
     ensures known { IfErr result (λ e. HasCleanDisk (state S.Store e.1)
         → e.0 ≡ StartFault.Open OpenFault.UnknownVersion → IsOpenable (state S.Store connection)

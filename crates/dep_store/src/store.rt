@@ -14,20 +14,20 @@ ghost use Rattle.dep_tables.specs.Versions.{our_version, HasVersion};
 ghost use Rattle.dep_staging.specs.HashedAhead.{AreRunning};
 ghost use Rattle.dep_schema.specs.Standing.{Holds, HoldsOlder, HoldsNone, IsOpenable, Stands};
 ghost use Rattle.dep_schema.specs.States.{StandsFor, IsLeftAs, Leaves};
-ghost use Rattle.dep_schema.specs.Performing.{IsKeptUnchanged};
-ghost use Rattle.dep_store.specs.Causes.{FailsToOpenTables, FindsOrUpgrades};
-ghost use Rattle.dep_store.specs.Migrating.{Keeps, OpenLeaves, OpensOlder, Stood};
+ghost use Rattle.dep_schema.specs.Performing.{IsKeptUnchanged, KeepsRunning};
+ghost use Rattle.dep_store.specs.Causes.{OpensFor, RefusesFor};
+ghost use Rattle.dep_store.specs.Migrating.{FindsOlder, FindsState, FindsTables, KeepsState, KeepsTables, OfEither, OpenLeaves, RefusesNoState, RefusesNone, StartsEmpty};
 ghost use Rattle.dep_hub.specs.Shut.{TellsOpen};
 ghost use Rattle.dep_hub.specs.Archives.{MakesStep, Tells, KeepsAll};
+ghost use Rattle.dep_files.specs.Fixity.{IsAudited};
 ghost use Rattle.dep_store.specs.Archive.{condition_of};
-ghost use Rattle.dep_store.specs.Auditing.{IsObjectAudited};
 ghost use Rattle.dep_store.specs.Copying.{CopiesLog};
 ghost use Rattle.dep_store.specs.Shut.{FailsIfShut, FailsToTell, SendsFile, TicksIfOpen};
 ghost use Rattle.dep_store.specs.Staying.{TablesStay, TellsTables, LeavesOnly, HashesOn};
 
 use crate::glancing::glance_at;
 use crate::opening::open_tables;
-use crate::reading::{ListFiles, NextObject, ViewObject};
+use crate::reading::{NextObject, ViewObject};
 use crate::remembering::{look, tell_open};
 use crate::sending::stream_known;
 use crate::showing::perform_if_open;
@@ -35,11 +35,11 @@ use crate::tasks::transact;
 use crate::ticking::{MoveClock, WriteClock};
 use dep_answers::{Performed, Service, StoredFile};
 use dep_decisions::Operation;
+use dep_files::{Audit, Watch, audit_files};
 use dep_moment::Moment;
 use dep_requests::{Remembered, clock_still, file_shown, recalled, show_service, still_known};
 use dep_schema::{OpenFault, check_open};
 use dep_staging::RunningHashes;
-use dep_streams::{Audit, Watch, audit_files};
 use dep_types::{Config, ObjectView, Outlet, StoreFault, StreamFault};
 use sqlite::{Alter, Connection};
 use std::alloc::Global;
@@ -80,51 +80,29 @@ impl<S: Alter> Store<S> {
         watch: &mut W,
     ) -> Result<Store<S>, (OpenFault, Connection<S>)>
         requires settled { (state S.Store connection).in_transaction ≡ false }
-        ensures fresh { IfOk result (λ store. HasCleanDisk (state S.Store store)
-            → HoldsNone (state S.Store connection).now.trees
-            → StandsFor (state S.Store store) empty_state) }
+        ensures fresh { IfOk result (StartsEmpty S.Store connection) }
         // What a store left, in either version, stands for the same state.
-        ensures found { IfOk result (λ store. HasCleanDisk (state S.Store store)
-            → (s : State) → IsLeftAs (state S.Store connection).now.trees s
-            → StandsFor (state S.Store store) s) }
-        ensures refused { IfErr result (λ e. HasCleanDisk (state S.Store e.1)
-            → e.0 ≡ OpenFault.UnknownVersion → IsOpenable (state S.Store connection) → ⊥) }
+        ensures found { IfOk result (FindsState S.Store connection) }
+        ensures refused { IfErr result (RefusesNone S.Store connection) }
         // So it is of tables that stand for no state, whatever version their row has: those of version 2 stay, and those
         // of version 1 get the SHA-512 of each file's bytes as they stand.
-        ensures tables { IfOk result (λ store. HasCleanDisk (state S.Store store)
-            → (t : Tables) → Holds (state S.Store connection).now.trees t
-            → HasVersion our_version t × Stands (state S.Store store) t) }
-        ensures older { IfOk result (λ store. HasCleanDisk (state S.Store store)
-            → (t : Tables) → HoldsOlder (state S.Store connection).now.trees t
-            → OpensOlder t (state S.Store store)) }
+        ensures tables { IfOk result (FindsTables S.Store connection) }
+        ensures older { IfOk result (FindsOlder S.Store connection) }
         // An Ok has a cause, and so has a fault.
-        ensures told { MatchResult result
-            (λ store. HasCleanDisk (state S.Store store) → FindsOrUpgrades S.Store connection)
-            (λ e. HasCleanDisk (state S.Store e.1) → FailsToOpenTables S.Store connection e.1 e.0) }
+        ensures told { MatchResult result (OpensFor S.Store connection) (RefusesFor S.Store connection) }
         // What a store left is never of a version that is not known.
-        ensures known { IfErr result (λ e. HasCleanDisk (state S.Store e.1)
-            → IsTrue (state S.Store connection).is_open
-            → (s : State) → IsLeftAs (state S.Store connection).now.trees s
-            → e.0 ≡ OpenFault.UnknownVersion → ⊥) }
+        ensures known { IfErr result (RefusesNoState S.Store connection) }
         // A fault that leaves the store open leaves tables of ours as they were, in the version that they had, and any others
         // of which version 1 is not shown.
-        ensures left { IfErr result (λ e. IsTrue (state S.Store e.1).is_open
-            → Keeps (state S.Store connection) (state S.Store e.1)) }
-        ensures stood { IfErr result (λ e. IsTrue (state S.Store e.1).is_open
-            → (s : State) → IsLeftAs (state S.Store connection).now.trees s
-            → Stood (state S.Store e.1) s) }
-        ensures mode { MatchResult result
-            (λ store. (state S.Store store).in_transaction ≡ false)
-            (λ e. (state S.Store e.1).in_transaction ≡ false) }
-        ensures honest { MatchResult result
-            (λ store. HasCleanDisk (state S.Store store) → HasCleanDisk (state S.Store connection))
-            (λ e. HasCleanDisk (state S.Store e.1) → HasCleanDisk (state S.Store connection)) }
-        ensures open { MatchResult result
-            (λ store. IsTrue (state S.Store store).is_open → IsTrue (state S.Store connection).is_open)
-            (λ e. IsTrue (state S.Store e.1).is_open → IsTrue (state S.Store connection).is_open) }
-        ensures stop { MatchResult result
-            (λ store. OpenLeaves (state S.Store connection) (state S.Store store))
-            (λ e. OpenLeaves (state S.Store connection) (state S.Store e.1)) }
+        ensures left { IfErr result (KeepsTables S.Store connection) }
+        ensures stood { IfErr result (KeepsState S.Store connection) }
+        ensures mode { OfEither result (λ left. (state S.Store left).in_transaction ≡ false) }
+        ensures honest { OfEither result
+            (λ left. HasCleanDisk (state S.Store left) → HasCleanDisk (state S.Store connection)) }
+        ensures open { OfEither result
+            (λ left. IsTrue (state S.Store left).is_open → IsTrue (state S.Store connection).is_open) }
+        ensures stop { OfEither result
+            (λ left. OpenLeaves (state S.Store connection) (state S.Store left)) }
     {
         match open_tables(alloc, connection, watch) {
             Ok(connection) => Ok(Store {
@@ -173,19 +151,22 @@ impl<S: Alter> Store<S> {
 
     /// Does what a request asks for, once the clock has gone on, in one transaction: what reads the
     /// service document, by what is remembered. The reply is made before the commit, so an `Err` changes
-    /// nothing. Segments that were hashed ahead aren't hashed again.
+    /// nothing. Segments that were hashed before aren't hashed again, and what is hashed for the request stays known.
     pub fn perform(
         &mut self,
-        running: &RunningHashes,
+        running: &mut RunningHashes,
         service: &Service,
         operation: &Operation<'_>,
     ) -> Result<Performed, StoreFault>
         ensures does { MakesStep (condition_of S.Store self.old) (condition_of S.Store self.new)
-            (λ s. AreFit operation.now.fields × AreRunning s running.now)
+            (λ s. AreFit operation.now.fields × AreRunning s running.old)
             (λ s. operation_step service.now s operation.now) result }
         // What is refused, and what only shows, commits nothing and leaves the database as it was.
         ensures unchanged { IsKeptUnchanged (state S.Store self.old) (state S.Store self.new) result
-            service.now operation.now running.now }
+            service.now operation.now running.old }
+        // What was hashed stays what was received, also where the request is refused or fails.
+        ensures running { KeepsRunning (state S.Store self.old) (state S.Store self.new)
+            running.old running.new }
         // On a store that was shut it fails, and a crash leaves what it could leave before.
         ensures shut { FailsIfShut (state S.Store self.old) (state S.Store self.new) result }
     {
@@ -261,6 +242,8 @@ impl<S: Alter> Store<S> {
         ensures does { Tells (condition_of S.Store self.old) (condition_of S.Store self.new)
             (λ s found. found ≡ view_at s object) result }
         ensures still { TablesStay (state S.Store self.old) (state S.Store self.new) }
+        ensures opened { HasCleanDisk (state S.Store self.new)
+            → OnOk result (IsTrue (state S.Store self.old).is_open) }
     {
         self.remembered = None;
         self.shown = None;
@@ -286,21 +269,17 @@ impl<S: Alter> Store<S> {
         transact(&mut self.connection, &NextObject { after })
     }
 
-    /// Checks the files of this object by the SHA-256 of the bytes that stand in the tables, also where
-    /// the rows stand for no state. Each block is read once, and one is held at a time: the
-    /// watch is told of it.
+    /// Checks the files of this object by the SHA-256 and the SHA-512 of the bytes that stand in the tables, also where
+    /// the rows stand for no state. Each block is read once, and one is held at a time: the watch is told of it.
     pub fn audit<W: Watch>(&mut self, object: u64, watch: &mut W) -> Result<Audit, StoreFault>
-        ensures { TellsTables (state S.Store self.old) (state S.Store self.new)
-            (λ t audit. IsObjectAudited t object audit) result }
+        ensures does { TellsTables (state S.Store self.old) (state S.Store self.new)
+            (λ t. IsAudited t object) result }
+        // On a store that was shut it fails, and a crash leaves what it could leave before.
+        ensures shut { FailsIfShut (state S.Store self.old) (state S.Store self.new) result }
     {
         self.remembered = None;
         self.shown = None;
-        let task = ListFiles {
-            alloc: self.alloc,
-            object,
-        };
-        let files = transact(&mut self.connection, &task)?;
-        audit_files(&mut self.connection, self.alloc, files.as_slice(), watch)
+        audit_files(&mut self.connection, self.alloc, object, watch)
     }
 
     /// Whether the store is open, as far as that can be known: `false` where a fault has shut it, for good.

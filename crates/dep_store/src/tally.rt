@@ -1,7 +1,5 @@
 //! How many files were checked.
-ghost use Rattle.std.specs.Prelude.{◌≡◌, ◌+◌, IfOk, OnErr, Err, ◌≢◌};
-
-use crate::audit_fault::AuditFault;
+ghost use Rattle.std.specs.Prelude.{◌≡◌, ◌⊎◌, ◌+◌, ◌≤◌, ◌^◌, IfSome, None};
 
 /// How many files were checked, and how many of them are damaged.
 #[derive(Clone, Copy)]
@@ -11,18 +9,16 @@ pub(crate) struct Tally {
 }
 
 impl Tally {
-    /// The sums of both. It is a fault of the store where one passes 64 bits.
-    pub fn plus(self, other: Tally) -> Result<Tally, AuditFault>
-        ensures checked { IfOk result (λ sum. sum.checked ≡ self.checked + other.checked) }
-        ensures damaged { IfOk result (λ sum. sum.damaged ≡ self.damaged + other.damaged) }
-        ensures fault { result ≢ Err AuditFault.Writer }
+    /// The sums of both, if neither passes 64 bits.
+    pub fn plus(self, other: Tally) -> Option<Tally>
+        ensures checked { IfSome result (λ sum. sum.checked ≡ self.checked + other.checked) }
+        ensures damaged { IfSome result (λ sum. sum.damaged ≡ self.damaged + other.damaged) }
+        ensures none { result ≡ None → (2 ^ 64 ≤ self.checked + other.checked)
+            ⊎ (2 ^ 64 ≤ self.damaged + other.damaged) }
     {
-        match (
-            self.checked.checked_add(other.checked),
-            self.damaged.checked_add(other.damaged),
-        ) {
-            (Some(checked), Some(damaged)) => Ok(Tally { checked, damaged }),
-            _ => Err(AuditFault::Store),
-        }
+        Some(Tally {
+            checked: self.checked.checked_add(other.checked)?,
+            damaged: self.damaged.checked_add(other.damaged)?,
+        })
     }
 }

@@ -35,13 +35,6 @@ module _ {R S : Type 0} (values : R → Row) (width : ℕ) (see : S → Row) (wh
   pub read_in_order : (cmp : Row → Row → Ordering) (stored : List S) (rows : List Row) (read : List R) → InOrder cmp (map see stored) rows → map values read ≡ map (columns_from 0 width) rows → InOrder cmp (map see stored) (map values read)
   read_in_order cmp stored rows read h is = subst (InOrder cmp (map see stored)) (sym (is ∙ no_wider stored rows h.same)) h
 
-  -- at most one was read, so at most one was there
-  pub read_at_most : (found : Option R) (stored : List S) (rows : List Row) → IsPermutation (map see stored) rows → map values (option_to_list found) ≡ map (columns_from 0 width) rows → map values (option_to_list found) ≡ map see stored
-  read_at_most found stored rows same is =
-      let all : map values (option_to_list found) ≡ rows = is ∙ no_wider stored rows same in
-      let few : length rows ≤ 1 = omega (arith, ap length all, length-map (option_to_list found) values, at_most found) in
-      all ∙ sym (short_permutation rows (map see stored) few (IsPermutation-sym (map see stored) rows same))
-
   each_whole : (stored : List S) → map (columns_from 0 width) (map see stored) ≡ map see stored
   each_whole [] = refl
   each_whole (r ∷ stored) = rw (whole r, each_whole stored) refl

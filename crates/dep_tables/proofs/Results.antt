@@ -33,6 +33,3 @@ err_then (Err e) p f = f e p
 -- what follows where a test has told otherwise
 pub not_storable : {P Q : Type 0} (told : Bool) → told ≡ false → (P → IsTrue told) → P → Q
 not_storable told is_false known storable = let never : false ≡ true = sym is_false ∙ known storable in absurd (cc)
-
-pub is_storable : {P Q : Type 0} (told : Bool) → told ≡ true → (IsTrue told → P) → (P → ⊥) → Q
-is_storable told is_true known refuses = absurd (refuses (known is_true))

@@ -4,21 +4,19 @@ use Rattle.std.specs.List.{list_any}
 use Rattle.std.specs.Option.{option_to_list}
 use Rattle.sqlite.specs.declared.types.Value.{Value}
 use Rattle.sqlite.specs.declared.types.Value.TheVariants.{Int}
-use Rattle.sqlite.specs.Order.{Row}
 use Rattle.sqlite_trees.specs.Tree.{put_row, without_rowid, rowid}
-use Rattle.dep_statements.specs.Rows.{row_at, replaced, is_after, is_below_number, has_number, put_next, left_join, InOrder, IsFirst}
+use Rattle.dep_statements.specs.Rows.{row_at, replaced, is_after, is_below_number, has_number, put_next, InOrder, IsFirst}
 use Rattle.dep_types.specs.declared.rows.ObjectRow.{ObjectRow}
 use Rattle.dep_types.specs.declared.rows.FileRow.{FileRow}
 use Rattle.dep_tables.specs.declared.state.StateRow.{StateRow}
 use Rattle.dep_tables.specs.declared.metadata.MetadataRow.{MetadataRow}
-use Rattle.dep_tables.specs.declared.sha256s.FileSha256.{FileSha256}
 use Rattle.dep_tables.specs.declared.segments.SegmentRow.{SegmentRow}
 use Rattle.dep_tables.specs.declared.uploads.LeftUpload.{LeftUpload}
 use Rattle.dep_tables.specs.declared.uploads.UploadColumns.{UploadColumns}
 use Rattle.dep_tables.specs.declared.owner.BlockOwner.{BlockOwner}
 use Rattle.dep_tables.specs.declared.owner.BlockKey.{BlockKey}
 use Rattle.dep_tables.specs.declared.owner.BlockPlace.{BlockPlace}
-use Rattle.dep_tables.specs.Rows.{stored_format, sha512_values, is_sha512_of, is_sha512_of_row, value_in, stored_state, state_values, shown_state, stored_object, object_values, shown_object, metadata_values, shown_metadata, has_metadata_key, by_name_and_place, stored_file, file_values, shown_file, sha256_values, shown_sha256, by_file, stored_upload, upload_values, shown_upload, segment_values, shown_segment, has_segment_key, by_number, stored_number, block_values, bytes_in, shown_place, place_values, is_block, is_block_of, is_earlier_block, moved_to, by_part_and_place, left_values, shown_left, by_last_and_upload}
+use Rattle.dep_tables.specs.Rows.{stored_format, sha512_values, is_sha512_of, value_in, stored_state, state_values, shown_state, stored_object, object_values, shown_object, metadata_values, shown_metadata, has_metadata_key, by_name_and_place, stored_file, file_values, shown_file, stored_upload, upload_values, shown_upload, segment_values, shown_segment, has_segment_key, by_number, stored_number, block_values, bytes_in, shown_place, place_values, is_block, is_block_of, is_earlier_block, moved_to, by_part_and_place, left_values, shown_left, by_last_and_upload}
 use Rattle.dep_tables.specs.Tables.{Tables}
 use Rattle.dep_tables.specs.Versions.{our_version}
 
@@ -105,26 +103,15 @@ without_file_rows object t = record t { files = filter (λ r. not (has_number 2 
 abbrev pub LacksFileRow : ℕ → Tables → Type 0
 LacksFileRow file t = row_at t.files file ≡ None
 
--- rows of `files`, each beside the row of its SHA-512
-abbrev pub with_sha512s : Tables → List Row → List (Row × Row)
-with_sha512s t files = left_join is_sha512_of_row files t.sha512s
-
--- the row of the file of this number was found, with its SHA-512, or none where it has no row
+-- the row of the file of this number was found, or none where it has no row
 abbrev pub IsFileRowAt : ℕ → Tables → Option FileRow → Type 0
 IsFileRowAt file t found =
-    map file_values (option_to_list found)
-    ≡ map shown_file (with_sha512s t (option_to_list (row_at t.files file)))
+    option_map file_values found ≡ option_map shown_file (row_at t.files file)
 
--- the rows of all files of this object were found, by number, each with its SHA-512
+-- the rows of all files of this object were found, by number
 abbrev pub AreFileRowsOf : ℕ → Tables → List FileRow → Type 0
 AreFileRowsOf object t found =
-    InOrder by_file (map shown_file (with_sha512s t (filter (has_number 2 object) t.files)))
-    (map file_values found)
-
--- the SHA-256 that the row of each of its files keeps
-abbrev pub AreSha256sOf : (object : ℕ) → Tables → List FileSha256 → Type 0
-AreSha256sOf object t found =
-    map sha256_values found ≡ map shown_sha256 (filter (has_number 2 object) t.files)
+    map file_values found ≡ map shown_file (filter (has_number 2 object) t.files)
 
 -- ---- uploads
 

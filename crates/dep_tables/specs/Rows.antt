@@ -1,6 +1,6 @@
 -- Rows of the tables as they are stored, where the column of a key is NULL, and as they are given and shown.
 -- Is..Row says that a row, as a query shows it, has the columns of one that was given.
-use Rattle.std.specs.Prelude.{◌≡◌, ◌⊎◌, ℕ, ◌<◌, ◌^◌, pos, Bool, if◌then◌else◌, ◌&&◌, List, [], ◌∷◌, ◌++◌, length, get_or, IsUtf8}
+use Rattle.std.specs.Prelude.{◌≡◌, ◌⊎◌, ℕ, ◌<◌, ◌^◌, pos, Bool, if◌then◌else◌, ◌&&◌, List, [], ◌∷◌, length, get_or, IsUtf8}
 use Rattle.std.specs.declared.cmp.Ordering.{Ordering}
 use Rattle.std.specs.Ordering.{ordering_then, is_eq}
 use Rattle.sqlite.specs.declared.types.Value.{Value}
@@ -17,7 +17,6 @@ use Rattle.dep_tables.specs.declared.columns.ColumnKind.{ColumnKind}
 use Rattle.dep_tables.specs.declared.columns.ColumnKind.TheVariants as kind
 use Rattle.dep_tables.specs.declared.state.StateRow.{StateRow}
 use Rattle.dep_tables.specs.declared.metadata.MetadataRow.{MetadataRow}
-use Rattle.dep_tables.specs.declared.sha256s.FileSha256.{FileSha256}
 use Rattle.dep_tables.specs.declared.segments.SegmentRow.{SegmentRow}
 use Rattle.dep_tables.specs.declared.uploads.LeftUpload.{LeftUpload}
 use Rattle.dep_tables.specs.declared.uploads.UploadColumns.{UploadColumns}
@@ -189,25 +188,17 @@ file_columns r =
     Int (pos r.object) ∷ Text r.name ∷ Text r.media ∷ Int (pos r.size) ∷ Int (pos r.tag)
     ∷ Int (pos r.deposited) ∷ or_null Text r.behalf ∷ flag r.by_reference ∷ Blob r.sha256 ∷ []
 
--- what a file's row is given
-abbrev pub file_row_values : FileRow → Row
-file_row_values r = Int (pos r.file) ∷ file_columns r
-
--- what is read of a file, with the SHA-512 beside its row
+-- what a file's row is given, and what is read of it
 abbrev pub file_values : FileRow → Row
-file_values r = file_row_values r ++ Blob r.sha512 ∷ []
+file_values r = Int (pos r.file) ∷ file_columns r
 
 -- a file's row in its tree: the rowid is its number, whose own column is NULL
 abbrev pub stored_file : FileRow → Row
 stored_file r = Int (pos r.file) ∷ Null ∷ file_columns r
 
--- the value in a row of `sha512s`
-abbrev pub value_in : Row → Value
-value_in stored = column stored 3
-
--- of a stored row and the stored row of its SHA-512
-abbrev pub shown_file : Row × Row → Row
-shown_file both = (column both.0 0 ∷ columns_from 2 9 both.0) ++ value_in both.1 ∷ []
+-- what a query shows of a stored row
+abbrev pub shown_file : Row → Row
+shown_file stored = column stored 0 ∷ columns_from 2 9 stored
 
 -- each number of the file's row is one of SQL's
 pub record IsStorableFile (r : FileRow) : Type 0 where
@@ -217,35 +208,19 @@ pub record IsStorableFile (r : FileRow) : Type 0 where
   pub tag : r.tag < 2 ^ 63
   pub deposited : r.deposited < 2 ^ 63
 
--- the columns of a file's row, and its SHA-512
+-- the columns of a file's row
 abbrev pub file_kinds : List ColumnKind
 file_kinds =
     kind.Number ∷ kind.Number ∷ kind.Text ∷ kind.Text ∷ kind.Number ∷ kind.Number ∷ kind.Number
-    ∷ kind.TextOrNull ∷ kind.Flag ∷ kind.Sha256 ∷ kind.Sha512 ∷ []
+    ∷ kind.TextOrNull ∷ kind.Flag ∷ kind.Sha256 ∷ []
 
--- what a query for a file shows, its SHA-512 at the end
+-- what a query for a file shows
 abbrev pub IsFileRow : Row → Type 0
 IsFileRow = HasKinds file_kinds
 
--- a file with the SHA-256 that its row keeps
-abbrev pub sha256_values : FileSha256 → Row
-sha256_values r = Int (pos r.file) ∷ Blob r.value ∷ []
-
--- what a query shows of a stored row: the number and the SHA-256
+-- what a query for the SHA-256 of files shows of a stored row: the number and the SHA-256
 abbrev pub shown_sha256 : Row → Row
 shown_sha256 stored = column stored 0 ∷ column stored 10 ∷ []
-
--- the number of a file and its SHA-256
-abbrev pub sha256_kinds : List ColumnKind
-sha256_kinds = kind.Number ∷ kind.Sha256 ∷ []
-
--- what a query for the SHA-256 of files shows
-abbrev pub IsSha256Row : Row → Type 0
-IsSha256Row = HasKinds sha256_kinds
-
--- by number, of rows as they are shown
-abbrev pub by_file : Row → Row → Ordering
-by_file a b = value_cmp (column a 0) (column b 0)
 
 -- ---- uploads
 
@@ -474,11 +449,6 @@ sha512_values o value = Int (pos (kind_of o)) ∷ Int (pos (number_of o)) ∷ Bl
 abbrev pub is_sha512_of : BlockOwner → Row → Bool
 is_sha512_of o stored = has_number 1 (kind_of o) stored && has_number 2 (number_of o) stored
 
--- that of the file of a row of `files`
-abbrev pub is_sha512_of_row : Row → Row → Bool
-is_sha512_of_row file stored =
-    has_number 1 0 stored && is_eq (value_cmp (column stored 2) (rowid file))
-
 -- a SHA-512 alone
 abbrev pub sha512_kinds : List ColumnKind
 sha512_kinds = kind.Sha512 ∷ []
@@ -486,3 +456,7 @@ sha512_kinds = kind.Sha512 ∷ []
 -- what a query for the SHA-512 of an owner shows
 abbrev pub IsSha512Row : Row → Type 0
 IsSha512Row = HasKinds sha512_kinds
+
+-- the value in a row of `sha512s`
+abbrev pub value_in : Row → Value
+value_in stored = column stored 3

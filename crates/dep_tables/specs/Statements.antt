@@ -2,21 +2,43 @@
 use Rattle.std.specs.Prelude.{◌≡◌, ◌<◌, ◌^◌, ⊤, ℕ, Bool, pos, List, [], ◌∷◌, All, Option, Vec}
 use Rattle.std.specs.Option.{option_to_list, option_map}
 use Rattle.sqlite.specs.declared.types.Value.TheVariants.{Int, Blob}
+use Rattle.sqlite.specs.Order.{Row}
 use Rattle.dep_types.specs.declared.rows.ObjectRow.{ObjectRow}
 use Rattle.dep_types.specs.declared.rows.FileRow.{FileRow}
 use Rattle.dep_tables.specs.declared.state.StateRow.{StateRow}
 use Rattle.dep_tables.specs.declared.metadata.MetadataRow.{MetadataRow}
-use Rattle.dep_tables.specs.declared.sha256s.FileSha256.{FileSha256}
 use Rattle.dep_tables.specs.declared.segments.SegmentRow.{SegmentRow}
 use Rattle.dep_tables.specs.declared.uploads.LeftUpload.{LeftUpload}
 use Rattle.dep_tables.specs.declared.uploads.UploadColumns.{UploadColumns}
 use Rattle.dep_tables.specs.declared.owner.BlockOwner.{BlockOwner}
 use Rattle.dep_tables.specs.declared.owner.BlockKey.{BlockKey}
 use Rattle.dep_tables.specs.declared.owner.BlockPlace.{BlockPlace}
-use Rattle.dep_tables.specs.Rows.{IsStorableState, state_values, IsStateRow, IsStorableObject, object_values, IsObjectRow, IsNumberRow, IsStorableMetadata, metadata_values, IsMetadataRow, IsStorableFile, file_row_values, IsFileRow, IsSha256Row, IsStorableUpload, upload_values, IsUploadRow, IsLeftRow, IsStorableSegment, segment_values, IsSegmentRow, IsStorableOwner, owner_values, IsStorableKey, key_values, block_values, move_values, move_run_values, IsBytesRow, IsPlaceRow, sha512_values, IsSha512Row}
-use Rattle.dep_tables.specs.Edits.{with_our_version, with_state_row, HasStateRow, with_new_object_row, with_object_row, without_object_row, IsObjectRowAt, IsObjectAfter, with_new_metadata_row, without_metadata_rows, AreMetadataRowsOf, with_new_file_row, without_file_row, without_file_rows, IsFileRowAt, AreFileRowsOf, AreSha256sOf, with_new_upload_row, with_upload_row, without_upload_row, IsUploadRowAt, IsLeftBefore, with_new_segment_row, without_segment_rows, AreSegmentRowsOf, with_timed_out, has_timed_out, with_new_block, without_blocks_of, without_run, with_blocks_moved, with_run_moved, AreBytesAt, IsFirstBlock, with_new_sha512, without_sha512, IsSha512Of}
+use Rattle.dep_tables.specs.Rows.{IsStorableState, state_values, IsStateRow, IsStorableObject, object_values, IsObjectRow, IsNumberRow, IsStorableMetadata, metadata_values, IsMetadataRow, IsStorableFile, file_values, IsFileRow, IsStorableUpload, upload_values, IsUploadRow, IsLeftRow, IsStorableSegment, segment_values, IsSegmentRow, IsStorableOwner, owner_values, IsStorableKey, key_values, block_values, move_values, move_run_values, IsBytesRow, IsPlaceRow, sha512_values, IsSha512Row}
+use Rattle.dep_tables.specs.Edits.{with_our_version, with_state_row, HasStateRow, with_new_object_row, with_object_row, without_object_row, IsObjectRowAt, IsObjectAfter, with_new_metadata_row, without_metadata_rows, AreMetadataRowsOf, with_new_file_row, without_file_row, without_file_rows, IsFileRowAt, AreFileRowsOf, with_new_upload_row, with_upload_row, without_upload_row, IsUploadRowAt, IsLeftBefore, with_new_segment_row, without_segment_rows, AreSegmentRowsOf, with_timed_out, has_timed_out, with_new_block, without_blocks_of, without_run, with_blocks_moved, with_run_moved, AreBytesAt, IsFirstBlock, with_new_sha512, without_sha512, IsSha512Of}
+use Rattle.dep_tables.specs.Tables.{Tables}
 use Rattle.dep_tables.specs.Clauses.{Statement, Query, AtMostOne, JustOne}
 use Rattle.dep_tables.specs.Texts as text
+
+-- a statement whose one parameter is a key
+abbrev pub by_key : (sql : List ℕ) → (key : ℕ) → (Tables → Tables) → Statement
+by_key sql key change = record {
+  storable = key < 2 ^ 63;
+  text = sql;
+  values = Int (pos key) ∷ [];
+  change = change;
+}
+
+-- the same of a query
+abbrev pub key_query : {A : Type 0} → (sql : List ℕ) → (key : ℕ) → (are_ours : List Row → Type 0)
+    → (copies : Type 0) → (told : Tables → A → Type 0) → Query A
+key_query sql key are_ours copies told = record {
+  storable = key < 2 ^ 63;
+  text = sql;
+  values = Int (pos key) ∷ [];
+  are_ours = are_ours;
+  copies = copies;
+  told = told;
+}
 
 -- ---- format
 
@@ -73,34 +95,17 @@ update_of_object row = record {
 
 -- the row of an object is deleted
 abbrev pub deletion_of_object : (object : ℕ) → Statement
-deletion_of_object object = record {
-  storable = object < 2 ^ 63;
-  text = text.delete_object_text;
-  values = Int (pos object) ∷ [];
-  change = without_object_row object;
-}
+deletion_of_object object = by_key text.delete_object_text object (without_object_row object)
 
 -- the row of an object is read
 abbrev pub query_of_object : (object : ℕ) → Query (Option ObjectRow)
-query_of_object object = record {
-  storable = object < 2 ^ 63;
-  text = text.find_object_text;
-  values = Int (pos object) ∷ [];
-  are_ours = AtMostOne IsObjectRow;
-  copies = ⊥;
-  told = IsObjectRowAt object;
-}
+query_of_object object =
+    key_query text.find_object_text object (AtMostOne IsObjectRow) ⊥ (IsObjectRowAt object)
 
 -- the next number of an object is read
 abbrev pub query_of_next_object : (after : ℕ) → Query (Option ℕ)
-query_of_next_object after = record {
-  storable = after < 2 ^ 63;
-  text = text.next_object_text;
-  values = Int (pos after) ∷ [];
-  are_ours = AtMostOne IsNumberRow;
-  copies = ⊥;
-  told = IsObjectAfter after;
-}
+query_of_next_object after =
+    key_query text.next_object_text after (AtMostOne IsNumberRow) ⊥ (IsObjectAfter after)
 
 -- ---- metadata
 
@@ -115,23 +120,12 @@ insertion_of_metadata row = record {
 
 -- the metadata of an object are deleted
 abbrev pub deletion_of_metadata : (object : ℕ) → Statement
-deletion_of_metadata object = record {
-  storable = object < 2 ^ 63;
-  text = text.delete_metadata_text;
-  values = Int (pos object) ∷ [];
-  change = without_metadata_rows object;
-}
+deletion_of_metadata object = by_key text.delete_metadata_text object (without_metadata_rows object)
 
 -- the metadata of an object are read
 abbrev pub query_of_metadata : {Z : Type 0} → (object : ℕ) → Query (Vec MetadataRow Z)
-query_of_metadata object = record {
-  storable = object < 2 ^ 63;
-  text = text.metadata_of_text;
-  values = Int (pos object) ∷ [];
-  are_ours = All IsMetadataRow;
-  copies = ⊤;
-  told = λ t found. AreMetadataRowsOf object t found.items;
-}
+query_of_metadata object =
+    key_query text.metadata_of_text object (All IsMetadataRow) ⊤ (λ t found. AreMetadataRowsOf object t found.items)
 
 -- ---- files
 
@@ -140,60 +134,26 @@ abbrev pub insertion_of_file : FileRow → Statement
 insertion_of_file row = record {
   storable = IsStorableFile row;
   text = text.insert_file_text;
-  values = file_row_values row;
+  values = file_values row;
   change = with_new_file_row row;
 }
 
 -- the row of a file is deleted
 abbrev pub deletion_of_file : (file : ℕ) → Statement
-deletion_of_file file = record {
-  storable = file < 2 ^ 63;
-  text = text.delete_file_text;
-  values = Int (pos file) ∷ [];
-  change = without_file_row file;
-}
+deletion_of_file file = by_key text.delete_file_text file (without_file_row file)
 
 -- the rows of an object's files are deleted
 abbrev pub deletion_of_files : (object : ℕ) → Statement
-deletion_of_files object = record {
-  storable = object < 2 ^ 63;
-  text = text.delete_files_text;
-  values = Int (pos object) ∷ [];
-  change = without_file_rows object;
-}
+deletion_of_files object = by_key text.delete_files_text object (without_file_rows object)
 
--- the row of a file is read, with its SHA-512
+-- the row of a file is read
 abbrev pub query_of_file : (file : ℕ) → Query (Option FileRow)
-query_of_file file = record {
-  storable = file < 2 ^ 63;
-  text = text.find_file_text;
-  values = Int (pos file) ∷ [];
-  are_ours = AtMostOne IsFileRow;
-  copies = ⊤;
-  told = IsFileRowAt file;
-}
+query_of_file file = key_query text.find_file_text file (AtMostOne IsFileRow) ⊤ (IsFileRowAt file)
 
--- the rows of an object's files are read, each with its SHA-512
+-- the rows of an object's files are read
 abbrev pub query_of_files : {Z : Type 0} → (object : ℕ) → Query (Vec FileRow Z)
-query_of_files object = record {
-  storable = object < 2 ^ 63;
-  text = text.files_of_text;
-  values = Int (pos object) ∷ [];
-  are_ours = All IsFileRow;
-  copies = ⊤;
-  told = λ t found. AreFileRowsOf object t found.items;
-}
-
--- the SHA-256 of each of an object's files is read
-abbrev pub query_of_sha256s : {Z : Type 0} → (object : ℕ) → Query (Vec FileSha256 Z)
-query_of_sha256s object = record {
-  storable = object < 2 ^ 63;
-  text = text.sha256s_of_text;
-  values = Int (pos object) ∷ [];
-  are_ours = All IsSha256Row;
-  copies = ⊤;
-  told = λ t found. AreSha256sOf object t found.items;
-}
+query_of_files object =
+    key_query text.files_of_text object (All IsFileRow) ⊤ (λ t found. AreFileRowsOf object t found.items)
 
 -- ---- uploads
 
@@ -217,34 +177,17 @@ update_of_upload row = record {
 
 -- the row of an upload is deleted
 abbrev pub deletion_of_upload : (upload : ℕ) → Statement
-deletion_of_upload upload = record {
-  storable = upload < 2 ^ 63;
-  text = text.delete_upload_text;
-  values = Int (pos upload) ∷ [];
-  change = without_upload_row upload;
-}
+deletion_of_upload upload = by_key text.delete_upload_text upload (without_upload_row upload)
 
 -- the row of an upload is read
 abbrev pub query_of_upload : (upload : ℕ) → Query (Option UploadColumns)
-query_of_upload upload = record {
-  storable = upload < 2 ^ 63;
-  text = text.find_upload_text;
-  values = Int (pos upload) ∷ [];
-  are_ours = AtMostOne IsUploadRow;
-  copies = ⊥;
-  told = IsUploadRowAt upload;
-}
+query_of_upload upload =
+    key_query text.find_upload_text upload (AtMostOne IsUploadRow) ⊥ (IsUploadRowAt upload)
 
 -- the upload is read that was left the longest, before a moment
 abbrev pub query_of_left_upload : (moment : ℕ) → Query (Option LeftUpload)
-query_of_left_upload moment = record {
-  storable = moment < 2 ^ 63;
-  text = text.left_before_text;
-  values = Int (pos moment) ∷ [];
-  are_ours = AtMostOne IsLeftRow;
-  copies = ⊥;
-  told = IsLeftBefore moment;
-}
+query_of_left_upload moment =
+    key_query text.left_before_text moment (AtMostOne IsLeftRow) ⊥ (IsLeftBefore moment)
 
 -- ---- segments
 
@@ -259,45 +202,23 @@ insertion_of_segment row = record {
 
 -- the rows of an upload's segments are deleted
 abbrev pub deletion_of_segments : (upload : ℕ) → Statement
-deletion_of_segments upload = record {
-  storable = upload < 2 ^ 63;
-  text = text.delete_segments_text;
-  values = Int (pos upload) ∷ [];
-  change = without_segment_rows upload;
-}
+deletion_of_segments upload = by_key text.delete_segments_text upload (without_segment_rows upload)
 
 -- the rows of an upload's segments are read
 abbrev pub query_of_segments : {Z : Type 0} → (upload : ℕ) → Query (Vec SegmentRow Z)
-query_of_segments upload = record {
-  storable = upload < 2 ^ 63;
-  text = text.segments_of_text;
-  values = Int (pos upload) ∷ [];
-  are_ours = All IsSegmentRow;
-  copies = ⊤;
-  told = λ t found. AreSegmentRowsOf upload t found.items;
-}
+query_of_segments upload =
+    key_query text.segments_of_text upload (All IsSegmentRow) ⊤ (λ t found. AreSegmentRowsOf upload t found.items)
 
 -- ---- timed_out
 
 -- the number of an upload that timed out is added
 abbrev pub insertion_of_timed_out : (upload : ℕ) → Statement
-insertion_of_timed_out upload = record {
-  storable = upload < 2 ^ 63;
-  text = text.insert_timed_out_text;
-  values = Int (pos upload) ∷ [];
-  change = with_timed_out upload;
-}
+insertion_of_timed_out upload = by_key text.insert_timed_out_text upload (with_timed_out upload)
 
 -- whether an upload timed out is read, as this of what was found
 abbrev pub query_of_timed_out : {A : Type 0} → (A → Bool) → (upload : ℕ) → Query A
-query_of_timed_out is_there upload = record {
-  storable = upload < 2 ^ 63;
-  text = text.find_timed_out_text;
-  values = Int (pos upload) ∷ [];
-  are_ours = AtMostOne IsNumberRow;
-  copies = ⊥;
-  told = λ t found. is_there found ≡ has_timed_out upload t;
-}
+query_of_timed_out is_there upload =
+    key_query text.find_timed_out_text upload (AtMostOne IsNumberRow) ⊥ (λ t found. is_there found ≡ has_timed_out upload t)
 
 -- ---- blocks
 

@@ -60,10 +60,6 @@ pub record HasTablesOf (its : Schema) (db : Database) : Type 0 where
 abbrev pub IsOf : Schema → State → Type 0
 IsOf its s = HasTablesOf its s.now
 
--- the trees list our schema and obey it
-abbrev pub AreOurs : Trees → Type 0
-AreOurs = AreOf our_schema
-
 -- the database has our schema, and its trees list it and obey it
 abbrev pub HasOurTables : Database → Type 0
 HasOurTables = HasTablesOf our_schema

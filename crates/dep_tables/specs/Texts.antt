@@ -57,17 +57,17 @@ delete_file_text = codes "DELETE FROM files WHERE file = ?1"
 abbrev pub delete_files_text : List ℕ
 delete_files_text = codes "DELETE FROM files WHERE object = ?1"
 
--- the text that asks for the row of a file by its number, with its SHA-512
+-- the text that asks for the row of a file by its number
 abbrev pub find_file_text : List ℕ
-find_file_text = codes "SELECT file, object, name, media, size, tag, deposited, behalf, by_reference, sha256, value FROM files LEFT JOIN sha512s ON kind = 0 AND owner = file WHERE file = ?1"
+find_file_text = codes "SELECT file, object, name, media, size, tag, deposited, behalf, by_reference, sha256 FROM files WHERE file = ?1"
 
 -- the text that asks for the SHA-256 of each file of an object, by number
 abbrev pub sha256s_of_text : List ℕ
 sha256s_of_text = codes "SELECT file, sha256 FROM files WHERE object = ?1 ORDER BY file"
 
--- the text that asks for the rows of the files of an object, by number, each with its SHA-512
+-- the text that asks for the rows of the files of an object, by number
 abbrev pub files_of_text : List ℕ
-files_of_text = codes "SELECT file, object, name, media, size, tag, deposited, behalf, by_reference, sha256, value FROM files LEFT JOIN sha512s ON kind = 0 AND owner = file WHERE object = ?1 ORDER BY file"
+files_of_text = codes "SELECT file, object, name, media, size, tag, deposited, behalf, by_reference, sha256 FROM files WHERE object = ?1 ORDER BY file"
 
 -- the text that inserts the row of a new upload
 abbrev pub insert_upload_text : List ℕ

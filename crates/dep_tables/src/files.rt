@@ -2,13 +2,13 @@
 
 ghost use Rattle.std.specs.Prelude.{◌≡◌, ◌↔◌, IsTrue};
 ghost use Rattle.sqlite.specs.Values.{bound};
-ghost use Rattle.dep_tables.specs.Rows.{IsStorableFile, file_row_values};
+ghost use Rattle.dep_tables.specs.Rows.{IsStorableFile, file_values};
 ghost use Rattle.dep_tables.specs.Edits.{LacksFileRow};
 ghost use Rattle.dep_tables.specs.Clauses.{Shows, Writes, Queries};
 ghost use Rattle.dep_tables.specs.Statements.{insertion_of_file, deletion_of_file, deletion_of_files, query_of_file, query_of_files};
 
 use crate::calls::Statements;
-use crate::columns::ColumnKind::{self, Flag, Number, Sha256, Sha512, Text, TextOrNull};
+use crate::columns::ColumnKind::{self, Flag, Number, Sha256, Text, TextOrNull};
 use crate::numbers::{LIMIT, flag_at, flag_number, key_param, number, number_at};
 use crate::reading::{FromRow, ask_all, ask_one};
 use crate::texts::{digest_at, text_at, text_or_null, text_or_null_at, text_value};
@@ -29,7 +29,7 @@ fn is_storable_file(row: &FileRow) -> bool
 
 fn file_params(row: &FileRow) -> [ValueRef<'_>; 10]
     requires { IsStorableFile row.now }
-    ensures { bound result ≡ file_row_values row.now }
+    ensures { bound result ≡ file_values row.now }
 {
     [
         ValueRef::Int(number(row.file)),
@@ -84,7 +84,7 @@ impl FromRow for FileRow {
     ghost use Rattle.dep_tables.specs.Rows.{file_values, file_kinds};
     ghost use Rattle.std.specs.Prelude.{⊤};
 
-    ghost width = { 11 };
+    ghost width = { 10 };
 
     ghost values = { file_values };
 
@@ -94,7 +94,7 @@ impl FromRow for FileRow {
 
     fn kinds() -> &'static [ColumnKind] {
         &[
-            Number, Number, Text, Text, Number, Number, Number, TextOrNull, Flag, Sha256, Sha512,
+            Number, Number, Text, Text, Number, Number, Number, TextOrNull, Flag, Sha256,
         ]
     }
 
@@ -108,7 +108,6 @@ impl FromRow for FileRow {
             deposited: number_at(row, 6)?,
             by_reference: flag_at(row, 8)?,
             sha256: digest_at(row, 9)?,
-            sha512: digest_at(row, 10)?,
             name: text_at(row, 2)?,
             media: text_at(row, 3)?,
             behalf: text_or_null_at(row, 7)?,
@@ -116,9 +115,8 @@ impl FromRow for FileRow {
     }
 }
 
-/// Returns the row of this key, if there is one, with the SHA-512 of the file. It is a fault of the store
-/// where the row is not one that `insert_file` writes, where the file has no SHA-512, and for a number of
-/// 2^63 or more.
+/// Returns the row of this key, if there is one. It is a fault of the store where the row is not one that
+/// `insert_file` writes, and for a number of 2^63 or more.
 pub fn find_file<T: Statements>(tx: &mut T, file: u64) -> Result<Option<FileRow>, StoreFault>
     ensures does { Queries T.lenders T.state tx.old tx.new result (query_of_file file) }
 {
@@ -127,14 +125,13 @@ pub fn find_file<T: Statements>(tx: &mut T, file: u64) -> Result<Option<FileRow>
     }
     ask_one(
         tx,
-        "SELECT file, object, name, media, size, tag, deposited, behalf, by_reference, sha256, value FROM files LEFT JOIN sha512s ON kind = 0 AND owner = file WHERE file = ?1",
+        "SELECT file, object, name, media, size, tag, deposited, behalf, by_reference, sha256 FROM files WHERE file = ?1",
         &key_param(file),
     )
 }
 
-/// Returns the rows of an object, by ascending key, each with the SHA-512 of its file. It is a fault of the
-/// store where one is not one that `insert_file` writes, where a file has no SHA-512, and for a number of
-/// 2^63 or more.
+/// Returns the rows of an object, by ascending key. It is a fault of the store where one is not one that
+/// `insert_file` writes, and for a number of 2^63 or more.
 pub fn files_of<T: Statements>(
     tx: &mut T,
     alloc: Global,
@@ -148,7 +145,7 @@ pub fn files_of<T: Statements>(
     ask_all(
         tx,
         alloc,
-        "SELECT file, object, name, media, size, tag, deposited, behalf, by_reference, sha256, value FROM files LEFT JOIN sha512s ON kind = 0 AND owner = file WHERE object = ?1 ORDER BY file",
+        "SELECT file, object, name, media, size, tag, deposited, behalf, by_reference, sha256 FROM files WHERE object = ?1 ORDER BY file",
         &key_param(object),
     )
 }

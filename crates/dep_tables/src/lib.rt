@@ -15,7 +15,6 @@ mod objects;
 mod owner;
 mod reading;
 mod segments;
-mod sha256s;
 mod sha512s;
 mod state;
 mod texts;
@@ -37,7 +36,6 @@ pub use owner::{
     BlockKey, BlockOwner, BlockPlace, RUN_LENGTH, is_storable_owner, owner_params, run_end,
 };
 pub use segments::{SegmentRow, delete_segments, insert_segment, segments_of};
-pub use sha256s::{FileSha256, sha256s_of};
 pub use sha512s::{FileSha512, delete_sha512, find_sha512, insert_sha512};
 pub use state::{StateRow, read_state, write_state};
 pub use timed_out::{find_timed_out, insert_timed_out};

@@ -1,8 +1,9 @@
 -- What rows and views show of an object.
-use Rattle.std.specs.Prelude.{ℕ, length, map}
+use Rattle.std.specs.Prelude.{ℕ, List, length, map}
 use Rattle.std.specs.FinMap as finmap
 use Rattle.sha2.specs.Sha256.{sha256}
 use Rattle.sha2.specs.Sha512.{sha512}
+use Rattle.dep_types.specs.Maps.{Numbered}
 use Rattle.dep_types.specs.State.{Object, File, Upload}
 use Rattle.dep_types.specs.declared.rows.ObjectRow.{ObjectRow}
 use Rattle.dep_types.specs.declared.rows.FileRow.{FileRow}
@@ -20,7 +21,7 @@ object_row n o = record {
   changed = o.changed;
 }
 
--- the file of this object and number, with the digest of its bytes in their place
+-- the file of this object and number, with the SHA-256 of its bytes in their place
 abbrev pub file_row : (n f : ℕ) → File → FileRow
 file_row n f file = record {
   file = f;
@@ -33,8 +34,11 @@ file_row n f file = record {
   behalf = file.behalf;
   by_reference = file.by_reference;
   sha256 = sha256 file.content;
-  sha512 = sha512 file.content;
 }
+
+-- the SHA-512 of each of these files, by ascending number
+abbrev pub sha512s_of : Numbered File → List (List ℕ)
+sha512s_of files = map (λ e. sha512 e.1.content) (finmap.entries files)
 
 -- the object of this number, with its metadata and its files by ascending number
 abbrev pub object_view : ℕ → Object → ObjectView
@@ -42,6 +46,7 @@ object_view n o = record {
   object = object_row n o;
   metadata = o.metadata;
   files = map (λ e. file_row n e.0 e.1) (finmap.entries o.files);
+  sha512s = sha512s_of o.files;
 }
 
 -- the upload of this number, without its segments

@@ -35,7 +35,7 @@ pub use octets::Octets;
 pub use outlet::{Outlet, WriteFailed};
 pub use reader_inlet::ReaderInlet;
 pub use refusal::Refusal;
-pub use rows::{FileRow, FileRows, ObjectRow, ObjectView, UploadRow};
+pub use rows::{FileRow, FileRows, ObjectRow, ObjectView, Sha512s, UploadRow};
 pub use store_fault::StoreFault;
 pub use stream_fault::StreamFault;
 pub use target::{Method, Resource, Target};

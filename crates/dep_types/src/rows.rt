@@ -45,8 +45,6 @@ pub struct FileRow {
     pub by_reference: bool,
     /// The SHA-256 of its bytes (FIPS 180-4).
     pub sha256: [u8; 32],
-    /// The SHA-512 of its bytes (FIPS 180-4).
-    pub sha512: [u8; 64],
 }
 
 /// A staged upload, without its segments.
@@ -99,6 +97,36 @@ impl FileRows {
     }
 }
 
+/// SHA-512 values (FIPS 180-4), which contracts see as their list.
+#[derive(Drop)]
+pub struct Sha512s {
+    values: Vec<[u8; 64]>,
+}
+
+impl Model for Sha512s {
+    ghost use Rattle.std.specs.Prelude.{ℕ, List};
+
+    ghost Value = { List (List ℕ) };
+
+    ghost view = { λ s. s.values.items };
+}
+
+impl Sha512s {
+    /// Takes the values over without a copy.
+    pub fn new(values: Vec<[u8; 64]>) -> Sha512s
+        ensures { result ≡ values.items }
+    {
+        Sha512s { values }
+    }
+
+    /// The values, in their order.
+    pub fn as_slice(&self) -> &[[u8; 64]]
+        ensures { result.now ≡ self.now }
+    {
+        self.values.as_slice()
+    }
+}
+
 /// An object as it is shown: its row, its metadata, and its files by ascending number.
 #[derive(Drop)]
 pub struct ObjectView {
@@ -108,4 +136,6 @@ pub struct ObjectView {
     pub metadata: Metadata,
     /// Its files.
     pub files: FileRows,
+    /// The SHA-512 of each file, in their order, which stand in a table of their own.
+    pub sha512s: Sha512s,
 }

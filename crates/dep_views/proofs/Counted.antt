@@ -1,5 +1,5 @@
 -- An upload misses no segment where it has as many as it comes in.
-use Rattle.std.proofs.Common.{◌≡◌, ◌⊎◌, inl, inr, ℕ, Ordering, Less, Equal, Greater, is_lt, zero, suc, ◌+◌, ◌<◌, ◌≤◌, Bool, true, false, T, ◌&&◌, cond, List, [], ◌∷◌, length, nat_eq, nat_cmp, is_eq, is_some, Some, refl, sym, ap, subst, ◌∙◌, arith}
+use Rattle.std.proofs.Common.{◌≡◌, ◌⊎◌, inl, inr, ℕ, is_lt, zero, suc, ◌+◌, ◌<◌, ◌≤◌, Bool, true, false, T, ◌&&◌, cond, List, [], ◌∷◌, length, nat_eq, nat_cmp, is_eq, is_some, Some, refl, sym, ap, subst, ◌∙◌, arith}
 use Rattle.std.specs.List.{AllByRecursion, list_all, range_with_len}
 use Rattle.std.specs.FinMap as finmap
 use Rattle.std.specs.FinMap.Entries as entries
@@ -15,6 +15,7 @@ use Rattle.dep_row_maps.proofs.Blocks.{number_order}
 use Rattle.dep_row_maps.proofs.Pieces.{all_found}
 use Rattle.dep_staging.specs.Found.{segment_rows_of}
 use Rattle.dep_staging.proofs.Entries.{both, passed, none_below}
+use Rattle.dep_row_maps.proofs.Spreads.{less}
 
 abbrev Parts : Type 0
 Parts = List (ℕ × List ℕ)
@@ -24,11 +25,6 @@ is_there es k = is_some (entries.find nat_cmp k es)
 
 abbrev AreFrom : (a b : ℕ) → Parts → Type 0
 AreFrom a b es = AllByRecursion (λ e. (a ≤ e.0) × (e.0 < b)) es
-
-less : (o : Ordering) → T (is_lt o) → o ≡ Less
-less Less h = refl
-less Equal h = absurd h
-less Greater h = absurd h
 
 -- behind an entry the numbers are above it
 later : (a b k : ℕ) (es : Parts) → T (entries.below_all nat_cmp k es) → AreFrom a b es → AreFrom (k + 1) b es

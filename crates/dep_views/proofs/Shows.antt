@@ -1,17 +1,18 @@
 -- What a reply shows, from what was found.
-use Rattle.std.proofs.Common.{◌≡◌, ℕ, List, map, Option, Some, None, Result, IsErr, refl, sym, ap, subst, ◌∙◌}
-use Rattle.std.specs.Prelude.{option_map}
+use Rattle.std.proofs.Common.{◌≡◌, ℕ, List, map, Option, Some, None, Result, Ok, IfOk, IsErr, refl, sym, ap, subst, ◌∙◌}
+use Rattle.std.specs.Prelude.{⊤, option_map}
 use Rattle.std.specs.Option.{option_map_or}
 use Rattle.std.proofs.lemmas.Result.{IfOk-from_err}
 use Rattle.std.specs.FinMap as finmap
 use Rattle.sqlite.specs.State as db
 use Rattle.dep_types.specs.State.{State, File, Object, Upload as Staged}
+use Rattle.dep_types.specs.Maps.{Numbered}
 use Rattle.dep_types.specs.Rows.{file_row, object_row, upload_row}
 use Rattle.dep_types.specs.declared.rows.FileRow.{FileRow}
 use Rattle.dep_types.specs.declared.rows.ObjectRow.{ObjectRow}
 use Rattle.dep_types.specs.declared.rows.UploadRow.{UploadRow}
 use Rattle.dep_types.specs.declared.store_fault.StoreFault.{StoreFault}
-use Rattle.dep_answers.specs.Subjects.{files_view, shown_at}
+use Rattle.dep_answers.specs.Subjects.{payload_view, shown_at}
 use Rattle.dep_answers.specs.declared.subject.Shown.{Shown}
 use Rattle.dep_answers.specs.declared.subject.Subject.{Subject}
 use Rattle.dep_answers.specs.declared.subject.Subject.TheVariants as subject
@@ -21,11 +22,14 @@ use Rattle.dep_staging.specs.declared.loading.FoundRow.{FoundRow}
 use Rattle.dep_staging.specs.declared.loading.FoundRow.TheVariants as by_row
 use Rattle.dep_staging.specs.declared.loading.FoundUpload.TheVariants as found
 use Rattle.dep_staging.specs.declared.loading.StagedUpload.{StagedUpload}
+use Rattle.dep_row_maps.specs.Clauses.{ReadsMaps}
 use Rattle.dep_row_maps.specs.TablesAre.{files_at}
 use Rattle.dep_objects.specs.Objects.{HasRow}
+use Rattle.dep_objects.proofs.Puts.{has_row, its_number}
 use Rattle.dep_tables.specs.Clauses.{ReadsWithin}
-use Rattle.dep_tables.proofs.Chains.{may_read}
+use Rattle.dep_tables.proofs.Chains.{clean_before, may_read, reads_then, still_ours}
 use Rattle.dep_tables.proofs.Results.{ok_then}
+use Rattle.dep_views.proofs.Chains.{still_seen}
 use Rattle.dep_views.proofs.Found.{numbers_are}
 use Rattle.dep_views.specs.Shown.{MayReadShown, ReadsShown}
 
@@ -59,23 +63,41 @@ module _ (s : State) (u : ℕ) where
 
 -- ---- an object with its files
 
--- what is read of it is what is shown
-pub listed_shown : (s : State) (row : ObjectRow) (files : List FileRow) → HasRow s row → files ≡ map (λ e. file_row row.object e.0 e.1) (finmap.entries (files_at s.objects row.object))
-    → shown.Files (record { object = row; metadata = finmap.empty; files = files }) ≡ shown_at s (subject.Files row.object)
-listed_shown s row files has are = go (finmap.get s.objects row.object) refl
+-- what is read of it is what is shown, with these values beside the files
+pub listed_shown : (values_of : Numbered File → List (List ℕ)) (s : State) (row : ObjectRow) (files : List FileRow) → HasRow s row
+    → files ≡ map (λ e. file_row row.object e.0 e.1) (finmap.entries (files_at s.objects row.object))
+    → shown.Files (record { object = row; metadata = finmap.empty; files = files; sha512s = values_of (files_at s.objects row.object) })
+    ≡ option_map_or (λ o. shown.Files (record (payload_view row.object o) { sha512s = values_of o.files })) (finmap.get s.objects row.object) shown.Nothing
+listed_shown values_of s row files has are = go (finmap.get s.objects row.object) has are
   where
-    row_by : Option Object → Option ObjectRow
-    row_by x = option_map (object_row row.object) x
+    files_by : Option Object → Numbered File
+    files_by x = option_map_or (λ (o : Object). o.files) x finmap.empty
 
-    go : (o : Option Object) → finmap.get s.objects row.object ≡ o → shown.Files (record { object = row; metadata = finmap.empty; files = files }) ≡ shown_at s (subject.Files row.object)
-    go None is = let none : Some row ≡ None = has ∙ ap row_by is in absurd (cc)
-    go (Some o) is =
-        let some : Some row ≡ Some (object_row row.object o) = has ∙ ap row_by is in
+    go : (x : Option Object) → Some row ≡ option_map (object_row row.object) x → files ≡ map (λ e. file_row row.object e.0 e.1) (finmap.entries (files_by x))
+        → shown.Files (record { object = row; metadata = finmap.empty; files = files; sha512s = values_of (files_by x) })
+        ≡ option_map_or (λ o. shown.Files (record (payload_view row.object o) { sha512s = values_of o.files })) x shown.Nothing
+    go None has are = absurd (cc)
+    go (Some o) has are =
         let its : row ≡ object_row row.object o = cc in
-        let rows : files ≡ map (λ e. file_row row.object e.0 e.1) (finmap.entries o.files) =
-        are ∙ ap (λ x. map (λ (e : ℕ × File). file_row row.object e.0 e.1) (finmap.entries (option_map_or (λ (y : Object). y.files) x finmap.empty))) is in
-        (λ i. shown.Files (record { object = its i; metadata = finmap.empty; files = rows i }))
-        ∙ sym (ap (λ x. option_map_or (λ (y : Object). shown.Files (files_view row.object y)) x shown.Nothing) is)
+        λ i. shown.Files (record { object = its i; metadata = finmap.empty; files = are i; sha512s = values_of o.files })
+
+-- what is shown by the row that was found is what is shown of the object
+pub shown_behind : {T L : Type 0} {lenders : T → L} {state : T → db.State} {old mid new : T} {r : Result Shown StoreFault} {found : Option ObjectRow}
+    (by_number : ℕ → Subject) (n : ℕ) (row : ObjectRow) → found ≡ Some row
+    → ReadsMaps lenders state old mid (Ok found) (λ s found. found ≡ option_map (object_row n) (finmap.get s.objects n))
+    → ReadsShown lenders state mid new r (by_number row.object) (λ s. HasRow s row)
+    → ReadsShown lenders state old new r (by_number n) (λ _. ⊤)
+shown_behind {state = state} {old = old} {mid = mid} {r = r} by_number n row is first second = record {
+  map = record {
+    found = λ clean inside ours s are sound told.
+        let before = clean_before second.map.keeps.stays clean in
+        let same = first.keeps.same before ours in
+        let it = sym is ∙ first.map before ours s are in
+        subst (λ (k : ℕ). IfOk r (λ shown. shown ≡ shown_at s (by_number k))) (its_number s n row it)
+        (second.map.found clean (first.keeps.stays.inside before inside) (still_ours (state old) (state mid) same ours) s (still_seen (state old) (state mid) s same are) sound (has_row s n row it));
+    keeps = reads_then first.keeps second.map.keeps;
+  };
+}
 
 -- ---- what a reply shows of a subject
 

@@ -1,77 +1,76 @@
 //! The digests of the uploads that references name.
 
-ghost use Rattle.std.specs.Prelude.{◌≡◌, true, IfOk, IsTrue};
-ghost use Rattle.dep_types.specs.Sound.{IsSound};
+ghost use Rattle.std.specs.Prelude.{◌≡◌, ℕ, true, All, IfOk, IsTrue};
 ghost use Rattle.dep_operations.specs.Views.{upload_state};
-ghost use Rattle.dep_row_maps.specs.Clauses.{Finds, MayFind};
-ghost use Rattle.dep_staging.specs.HashedAhead.{AreRunning};
-ghost use Rattle.dep_views.specs.Referred.{TellsDigests};
-ghost use Rattle.dep_views.specs.Seen.{GetsDigests, hashed_views};
+ghost use Rattle.dep_row_maps.specs.Clauses.{MayFind};
+ghost use Rattle.dep_staging.specs.HashedAhead.{Hashes};
+ghost use Rattle.dep_views.specs.Seen.{GetsDigests, IsUndigested, TellsDigests, hashed_views, state_seen};
 
-use crate::segments::is_complete;
 use crate::view::LoadedView;
 use dep_fixity::Digests;
 use dep_operations::{LiveUpload, UploadState, UploadView, UploadViews, View};
-use dep_staging::{FoundUpload, RunningHashes, StagedUpload, hash_upload, load_upload};
+use dep_staging::{RunningHashes, hash_upload};
 use dep_tables::Statements;
 use dep_types::StoreFault;
 use std::alloc::Global;
 
-// The digests of an upload that was loaded, where no segment is missing. Its rows are not read again.
+// The digests of an upload that is there, where no segment is missing.
 fn digests_if_whole<T: Statements>(
     tx: &mut T,
-    staged: &StagedUpload,
-    running: &RunningHashes,
+    running: &mut RunningHashes,
+    live: &LiveUpload,
 ) -> Result<Option<Digests>, StoreFault>
-    ensures map { MayFind T.lenders T.state tx.old tx.new result (λ s.
-        IsTrue (T.state tx.old).is_open → TellsDigests s staged.now running.now result) }
+    ensures map { MayFind T.lenders T.state tx.old tx.new result
+        (λ s. IsTrue (T.state tx.old).is_open → Hashes s running.old running.new
+        (TellsDigests s live.now result)) }
 {
-    if !is_complete(staged) {
+    if !live.is_whole {
         return Ok(None);
     }
-    let digests = hash_upload(tx, staged, running)?;
+    let digests = hash_upload(tx, running, &live.row)?;
     Ok(Some(digests))
 }
 
-// What became of the number of an upload, which is hashed where it is whole.
+// What became of the number of an upload, which is hashed where it is whole. No row is read.
 fn hash_state<T: Statements>(
     tx: &mut T,
-    alloc: Global,
-    running: &RunningHashes,
-    upload: u64,
+    running: &mut RunningHashes,
+    state: &UploadState,
 ) -> Result<UploadState, StoreFault>
-    ensures map { Finds T.lenders T.state tx.old tx.new result
-        (λ s. IsSound s → AreRunning s running.now
-        → IfOk result (λ state. state ≡ upload_state true s upload)) }
+    ensures map { MayFind T.lenders T.state tx.old tx.new result
+        (λ s. IsTrue (T.state tx.old).is_open → Hashes s running.old running.new
+        ((u : ℕ) → state.now ≡ state_seen true s u
+        → IfOk result (λ hashed. hashed ≡ upload_state true s u))) }
 {
-    match load_upload(tx, alloc, upload)? {
-        FoundUpload::Live(staged) => {
-            let digests = digests_if_whole(tx, &staged, running)?;
+    match state {
+        UploadState::Live(live) => {
+            let digests = digests_if_whole(tx, running, live)?;
             Ok(UploadState::Live(LiveUpload {
-                row: staged.row,
-                is_whole: is_complete(&staged),
+                row: live.row,
+                is_whole: live.is_whole,
                 digests,
             }))
         }
-        FoundUpload::TimedOut => Ok(UploadState::TimedOut),
-        FoundUpload::Unknown => Ok(UploadState::Unknown),
+        UploadState::TimedOut => Ok(UploadState::TimedOut),
+        UploadState::Unknown => Ok(UploadState::Unknown),
     }
 }
 
-// The same at each of these numbers, in their order.
+// The same of each of these uploads, in their order.
 fn hash_uploads<T: Statements>(
     tx: &mut T,
     alloc: Global,
-    running: &RunningHashes,
+    running: &mut RunningHashes,
     views: &[UploadView],
 ) -> Result<UploadViews, StoreFault>
     ensures map { MayFind T.lenders T.state tx.old tx.new result
-        (λ s. IsTrue (T.state tx.old).is_open → IsSound s → AreRunning s running.now
-        → IfOk result (λ hashed. hashed ≡ hashed_views s views.now)) }
+        (λ s. IsTrue (T.state tx.old).is_open → Hashes s running.old running.new
+        (All (IsUndigested s) views.now
+        → IfOk result (λ hashed. hashed ≡ hashed_views s views.now))) }
 {
     let mut hashed = Vec::new(alloc);
     'views: for view in views {
-        let state = hash_state(tx, alloc, running, view.upload)?;
+        let state = hash_state(tx, running, &view.state)?;
         let with_digests = UploadView {
             upload: view.upload,
             state,
@@ -82,17 +81,17 @@ fn hash_uploads<T: Statements>(
 }
 
 /// What was loaded, with the digests of each upload that references name, and none of whose segments is missing.
-/// Its bytes are read, one block at a time, but for those that were hashed ahead, and once for each time that it
-/// is named, so call it where the rules let no upload be named twice. Without references nothing is read.
+/// Its bytes are read, one block at a time, but for those that were hashed before, which stay known whatever is
+/// returned. No row is read, and nothing without references.
 pub fn load_digests<T: Statements>(
     tx: &mut T,
     alloc: Global,
-    running: &RunningHashes,
+    running: &mut RunningHashes,
     loaded: LoadedView,
 ) -> Result<LoadedView, StoreFault>
     ensures map { MayFind T.lenders T.state tx.old tx.new result
-        (λ s. IsTrue (T.state tx.old).is_open → IsSound s → AreRunning s running.now
-        → IfOk result (GetsDigests s loaded)) }
+        (λ s. IsTrue (T.state tx.old).is_open → Hashes s running.old running.new
+        (IfOk result (GetsDigests s loaded))) }
 {
     let LoadedView { view, payload } = loaded;
     if view.references.is_none() {

@@ -9,7 +9,8 @@ ghost use Rattle.dep_row_maps.specs.Clauses.{Finds, FromMaps};
 ghost use Rattle.dep_objects.specs.Objects.{HasRow};
 ghost use Rattle.dep_views.specs.Shown.{IsViewOf};
 
-use dep_objects::{describe, find_object, load_files};
+use dep_files::{load_files, load_sha512s};
+use dep_objects::{describe, find_object};
 use dep_tables::Statements;
 use dep_types::{ObjectRow, ObjectView, StoreFault};
 use std::alloc::Global;
@@ -25,10 +26,12 @@ pub(crate) fn view_of<T: Statements>(
 {
     let described = describe(tx, alloc, row)?;
     let files = load_files(tx, alloc, row.object)?;
+    let sha512s = load_sha512s(tx, alloc, files.as_slice())?;
     Ok(ObjectView {
         object: described.row,
         metadata: described.metadata,
         files,
+        sha512s,
     })
 }
 

@@ -8,10 +8,11 @@ ghost use Rattle.dep_views.specs.Shown.{MayReadShown, ReadsShown};
 use crate::objects::{load_object_view, view_of};
 use crate::segments::numbers_of;
 use dep_answers::{FileId, Shown, Subject};
-use dep_objects::{describe, find_file, find_object, load_files, load_object};
+use dep_files::{find_file, load_files, load_sha512s};
+use dep_objects::{describe, find_object, load_object};
 use dep_staging::{FoundUpload, load_upload};
 use dep_tables::Statements;
-use dep_types::{Metadata, ObjectRow, ObjectView, StoreFault};
+use dep_types::{Metadata, ObjectRow, ObjectView, Sha512s, StoreFault};
 use std::alloc::Global;
 
 fn show_object<T: Statements>(tx: &mut T, alloc: Global, object: u64) -> Result<Shown, StoreFault>
@@ -38,6 +39,7 @@ fn show_listed<T: Statements>(
         object: row,
         metadata: Metadata::new(alloc),
         files,
+        sha512s: Sha512s::new(Vec::new(alloc)),
     }))
 }
 
@@ -47,6 +49,35 @@ fn show_files<T: Statements>(tx: &mut T, alloc: Global, object: u64) -> Result<S
 {
     match find_object(tx, object)? {
         Some(row) => show_listed(tx, alloc, row),
+        None => Ok(Shown::Nothing),
+    }
+}
+
+// The object of this row, with its files and their SHA-512 values.
+fn show_hashed<T: Statements>(
+    tx: &mut T,
+    alloc: Global,
+    row: ObjectRow,
+) -> Result<Shown, StoreFault>
+    ensures does { ReadsShown T.lenders T.state tx.old tx.new result
+        (subject.Payload row.object) (λ s. HasRow s row) }
+{
+    let files = load_files(tx, alloc, row.object)?;
+    let sha512s = load_sha512s(tx, alloc, files.as_slice())?;
+    Ok(Shown::Files(ObjectView {
+        object: row,
+        metadata: Metadata::new(alloc),
+        files,
+        sha512s,
+    }))
+}
+
+fn show_payload<T: Statements>(tx: &mut T, alloc: Global, object: u64) -> Result<Shown, StoreFault>
+    ensures does { ReadsShown T.lenders T.state tx.old tx.new result
+        (subject.Payload object) (λ _. ⊤) }
+{
+    match find_object(tx, object)? {
+        Some(row) => show_hashed(tx, alloc, row),
         None => Ok(Shown::Nothing),
     }
 }
@@ -108,6 +139,7 @@ fn read_shown<T: Statements>(
     match *subject {
         Subject::Nothing => Ok(Shown::Nothing),
         Subject::Object(object) => show_object(tx, alloc, object),
+        Subject::Payload(object) => show_payload(tx, alloc, object),
         Subject::Files(object) => show_files(tx, alloc, object),
         Subject::ObjectRow(object) => show_row(tx, object),
         Subject::Metadata(object) => show_metadata(tx, alloc, object),
@@ -151,6 +183,9 @@ pub fn load_shown<T: Statements>(
     match (*subject, known) {
         (Subject::Object(object), Some(row)) if row.object == object => {
             show_rest(tx, alloc, row)
+        }
+        (Subject::Payload(object), Some(row)) if row.object == object => {
+            show_hashed(tx, alloc, row)
         }
         (Subject::Files(object), Some(row)) if row.object == object => {
             show_listed(tx, alloc, row)

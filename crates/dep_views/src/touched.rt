@@ -11,7 +11,8 @@ ghost use Rattle.dep_row_maps.specs.Clauses.{MayFind};
 ghost use Rattle.dep_views.specs.Seen.{file_at_path, path_seen};
 
 use dep_bag::{file_number, has_bag_path};
-use dep_objects::{find_file, find_object};
+use dep_files::find_file;
+use dep_objects::find_object;
 use dep_operations::Touched;
 use dep_tables::Statements;
 use dep_types::{FileRow, ObjectRow, StoreFault};

@@ -2,8 +2,7 @@
 
 use crate::fate::Fate;
 use dep_host::{Bytes, Closing, HostLog, Refusal as TurnedAway};
-use dep_hub::{AccessLog, ConnId, Next};
-use dep_types::Refusal;
+use dep_hub::{ConnId, Next, NoLog};
 use std::alloc::{AllocError, Global};
 use std::net::IpAddr;
 
@@ -53,13 +52,9 @@ impl Roll {
     }
 }
 
-impl AccessLog for Roll {
-    fn request(&mut self, method: &[u8], path: &str, length: u64) {}
-
-    fn reply(&mut self, status: u16, refusal: Option<Refusal>) {}
-}
-
 impl HostLog for Roll {
+    type Item = NoLog;
+
     fn opened(&mut self, connection: ConnId, address: IpAddr) {
         self.tell_newest(Some(connection), Fate::Open);
     }
@@ -68,9 +63,11 @@ impl HostLog for Roll {
         self.tell_newest(None, Fate::Refused(refusal));
     }
 
-    fn answering(&mut self, connection: ConnId, address: IpAddr) {}
+    fn answering(&mut self, connection: ConnId, address: IpAddr) -> NoLog {
+        NoLog
+    }
 
-    fn answered(&mut self, next: Next, bytes: Bytes) {}
+    fn answered(&mut self, item: NoLog, next: Next, bytes: Bytes) {}
 
     fn closed(&mut self, connection: ConnId, address: IpAddr, closing: Closing, bytes: Bytes) {
         for entry in self.entries.iter_mut() {

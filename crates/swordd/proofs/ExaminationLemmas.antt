@@ -10,8 +10,7 @@ use Rattle.dep_tables.specs.Tables.{Tables}
 use Rattle.dep_tables.specs.Versions.{our_version, older_version, HasVersion}
 use Rattle.dep_schema.specs.Standing.{Holds, HoldsOlder, HoldsNone, Stands, first_tables}
 use Rattle.dep_schema.specs.States.{StandsFor, IsLeftAs, Leaves}
-use Rattle.dep_store.specs.Auditing.{IsObjectAudited}
-use Rattle.dep_store.specs.Audits.{Audited, Audits, IsBegun, object_rows}
+use Rattle.dep_store.specs.Audits.{Audits, IsBegun, object_rows}
 use Rattle.dep_schema.proofs.Transacting.{IsSettled, leaves_as_was}
 use Rattle.dep_schema.proofs.Version.{not_older}
 use Rattle.dep_store.proofs.Opened.{first_means, version_is}
@@ -31,7 +30,7 @@ none_begun t = record {
   others = object_rows t;
   first = refl;
   found = [];
-  are = record { objects = refl; audits = All-nil (λ (a : Audited). IsObjectAudited t a.object a.audit) };
+  are = record { objects = refl; audits = All-nil _ };
   front = inl (record { rest = []; joined = refl });
 }
 

@@ -20,7 +20,6 @@ use Rattle.dep_hub.specs.declared.faults.HubFault.{HubFault}
 use Rattle.dep_hub.specs.declared.faults.HubFault.TheVariants as refused_by
 use Rattle.dep_hub.specs.Records.{Record, Run, stops, stopped, first_world}
 use Rattle.dep_hub.specs.Records as records_of
-use Rattle.dep_hub.specs.Standing.{StandsAfter, IsHonest}
 use Rattle.dep_hub.specs.declared.hub.Hub.{Hub}
 use Rattle.dep_host.specs.Hosting.{Deed}
 use Rattle.dep_host.specs.Runs.{StandsBehind}
@@ -30,15 +29,11 @@ use Rattle.dep_host.specs.declared.limits.Limits.{Limits as Bounds}
 use Rattle.dep_sockets.specs.Doors.{Doorway, EndsHub, WentOn}
 use Rattle.swordd.specs.declared.host_log.StandardErrorLog.{StandardErrorLog}
 use Rattle.dep_configuration.specs.declared.configuration.Limits.{Limits}
-use Rattle.swordd.specs.Hosted.{account_of, condition_of, HostStore, LedBy, IsHosted, HostsDatabase, hosts, host_limits, not_checked, not_made, not_opened, unshown}
+use Rattle.swordd.specs.Hosted.{account_of, condition_of, HostStore, LedBy, IsHosted, IsOpened, HostsDatabase, hosts, host_limits, not_checked, not_made, not_opened, unshown}
 
 module _ {S : Type 0} (g : Ghosts S) (clean : (h : Held S) → IsTrue (state g h).is_open → HasCleanDisk (state g h))
     (settled : (h : Held S) → IsTrue (state g h).is_open → IsSettled (state g h)) (given : Held S) (config : Config) (opened : Hub (HostStore S))
-    (given_config : opened.config ≡ config)
-    (fresh : IsHonest (condition_of g) opened → HoldsNone (state g given).now.trees → StandsAfter (condition_of g) opened empty_state [])
-    (again : IsHonest (condition_of g) opened → (found : State) → IsLeftAs (state g given).now.trees found
-    → (first : State) (records : List Record) → Run config first records (first_world found)
-    → StandsAfter (condition_of g) opened first records) where
+    (is : IsOpened g config (state g given) opened) where
   led : (hub : Hub (HostStore S)) → hub.config ≡ config → (first : State) (records : List Record) (deeds : List Deed)
       → StandsBehind (condition_of g) hub first records (λ n. []) deeds → LedBy config (state g hub.store.archive.store) first records deeds
   led hub same first records deeds it =
@@ -58,10 +53,10 @@ module _ {S : Type 0} (g : Ghosts S) (clean : (h : Held S) → IsTrue (state g h
   hosted_by : (store : HostStore S) (deeds : List Deed) → WentOn (condition_of g) opened store deeds → IsHosted config (state g given) (state g store.archive.store) deeds
   hosted_by store deeds it =
       subst (λ (a : HostStore S). IsHosted config (state g given) (state g a.archive.store) deeds) (sym it.over) (record {
-        fresh = λ is_open none. led it.new (it.same_config ∙ given_config) empty_state [] deeds
-            (it.behind is_open empty_state [] (fresh (it.honest (clean it.new.store.archive.store is_open)) none));
-        again = λ is_open found left first records run. led it.new (it.same_config ∙ given_config) first records deeds
-            (it.behind is_open first records (again (it.honest (clean it.new.store.archive.store is_open)) found left first records run));
+        fresh = λ is_open none. led it.new (it.same_config ∙ is.configured) empty_state [] deeds
+            (it.behind is_open empty_state [] (is.fresh (it.honest (clean it.new.store.archive.store is_open)) none));
+        again = λ is_open found left first records run. led it.new (it.same_config ∙ is.configured) first records deeds
+            (it.behind is_open first records (is.again (it.honest (clean it.new.store.archive.store is_open)) found left first records run));
       })
 
   module _ {R K P : Type 0} (unread : R → Option (List ℕ)) (taken : K → Option (List ℕ)) (held : P → Option (List ℕ)) (size : P → ℕ) where
@@ -72,7 +67,7 @@ module _ {S : Type 0} (g : Ghosts S) (clean : (h : Held S) → IsTrue (state g h
     over_hub {before = before} {after = after} {limits = limits} {log_before = log_before} {log_after = log_after} store back deeds outcome same bounded it went =
         hosts opened store deeds log_before log_after
         (subst (λ (b : Bounds). EndsHub (condition_of g) (account_of g) unread taken held size unshown before after log_before log_after b opened store deeds outcome) bounded it)
-        same (subst (λ (h : Held S). IsHosted config (state g given) (state g h) deeds) (sym same) (hosted_by store deeds went))
+        is same (subst (λ (h : Held S). IsHosted config (state g given) (state g h) deeds) (sym same) (hosted_by store deeds went))
 
 -- nobody was served
 stays : (config : Config) (d : db.State) (s first : State) (records : List Record) → IsSettled d → StandsFor d s → Run config first records (first_world s) → LedBy config d first records []

@@ -15,7 +15,7 @@ use Rattle.dep_hub.specs.Records.{World, Record, Arrive, stopped, first_world, R
 use Rattle.dep_hub.specs.Standing.{StandsAt, StandsAfter, IsHonest}
 use Rattle.dep_hub.specs.Turns.{Turn, with_opened, Exchanges}
 use Rattle.dep_hub.specs.Conversation.{Wire, Session, Rests, Converses, ConversesOver}
-use Rattle.dep_hub.proofs.HubLemmas.{keeps_same}
+use Rattle.std.proofs.KnownBytes.{Keeps-refl}
 use Rattle.dep_hub.proofs.TalkLemmas.{conversation_run}
 use Rattle.dep_hub.specs.declared.connection.Served.{Served}
 use Rattle.dep_hub.specs.declared.connection.Served.TheVariants.{Ended, Closed, Unserved, ReadFault, WriteFault, Bound}
@@ -97,7 +97,7 @@ module _ {A : Type 0} (condition : A → Condition) {C : Type 0} (ticks : C → 
     comes_to Bound v = replayed Bound (replays Bound v)
 
 pub rests_same : (at : Wire) → Rests at at
-rests_same at = record { pieces = keeps_same at.unread; reads = refl; last = refl; replies = keeps_same at.taken; failures = refl }
+rests_same at = record { pieces = Keeps-refl at.unread; reads = refl; last = refl; replies = Keeps-refl at.taken; failures = refl }
 
 -- no hub was made for it: nothing was read or written
 pub not_replayed : (base : List ℕ) (moment : ℕ) (at : Wire) (why : StartFault) → (why ≡ fault.Hub hub.Config → ¬ IsChecked (program_config base))

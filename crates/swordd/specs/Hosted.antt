@@ -1,5 +1,6 @@
 -- What is made of the database of a store that many clients are served from, and why no more are.
-use Rattle.std.specs.Prelude.{◌≡◌, ℕ, List, [], ◌∷◌, ◌++◌, Option, None, IsTrue}
+use Rattle.std.specs.Prelude.{◌≡◌, ℕ, List, [], ◌∷◌, ◌++◌, Option, Some, None, IsTrue, unwrap_or}
+use Rattle.std.specs.Option.{option_map}
 use Rattle.sqlite.specs.State as db
 use Rattle.sqlite.specs.Held.{Held, state}
 use Rattle.sqlite_trees.specs.declared.store.Store.{Ghosts}
@@ -23,8 +24,12 @@ use Rattle.dep_host.specs.Hosting.{Deed}
 use Rattle.dep_host.specs.Runs.{Follows}
 use Rattle.dep_host.specs.Notes.{Note}
 use Rattle.dep_host.specs.declared.limits.Limits.{Limits as Bounds}
+use Rattle.std.specs.Net.Socket.{socket_ip, socket_port}
+use Rattle.dep_configuration.specs.declared.configuration.Configuration.{Configuration}
 use Rattle.dep_configuration.specs.declared.configuration.Limits.{Limits}
 use Rattle.dep_sockets.specs.Doors.{Doorway, EndsHub}
+use Rattle.dep_sockets.specs.declared.door.Entrance.{Entrance}
+use Rattle.swordd.specs.declared.hosting.Place.{Place}
 use Rattle.swordd.specs.declared.host_log.StandardErrorLog.{StandardErrorLog}
 use Rattle.dep_program.specs.declared.outcome.Outcome.{Outcome}
 use Rattle.dep_program.specs.declared.outcome.Outcome.TheVariants.{Usage, StoreFault}
@@ -68,6 +73,14 @@ GoesOnFromLeft g config old hub = IsHonest (condition_of g) hub
     → (first : State) (records : List Record) → Run config first records (first_world found)
     → StandsAfter (condition_of g) hub first records
 
+-- the hub is configured so, and goes on from what this database was given as, also where a fault shuts it later
+pub record IsOpened {S R : Type 0} (g : Ghosts S) (config : Config) (old : db.State)
+    (hub : Hub (ReservedArchive (HashingStore S) R)) : Type 0 where
+  pub configured : hub.config ≡ config
+  pub fresh : IsHonest (condition_of g) hub → HoldsNone old.now.trees
+      → StandsAfter (condition_of g) hub empty_state []
+  pub again : GoesOnFromLeft g config old hub
+
 -- the log of a host on standard error shows nothing of what it was told
 abbrev pub unshown : StandardErrorLog → Option (List Note)
 unshown log = None
@@ -91,6 +104,7 @@ module _ {S R K P : Type 0} (g : Ghosts S) (unread : R → Option (List ℕ)) (t
         (log_before log_after : StandardErrorLog)
         → EndsHub (condition_of g) (account_of g) unread taken held size unshown before after
         log_before log_after (host_limits limits) hub left deeds outcome
+        → IsOpened g config (state g given) hub
         → back ≡ left.archive.store
         → IsHosted config (state g given) (state g back) deeds
         → HostsDatabase before after limits config given back outcome
@@ -104,3 +118,37 @@ module _ {S R K P : Type 0} (g : Ghosts S) (unread : R → Option (List ℕ)) (t
     not_opened : (IsTrue (state g back).is_open → Keeps (state g given) (state g back))
         → OpeningLeaves config (state g given) (state g back) → after ≡ before
         → HostsDatabase before after limits config given back StoreFault
+
+-- the place is as it is configured
+pub record IsPlaceOf (given : Configuration) (place : Place) : Type 0 where
+  pub address : socket_ip place.address ≡ given.address
+  pub port : socket_port place.address ≡ given.port
+  pub spool_folder : place.spool_folder ≡ given.spool_folder
+  pub stop_file : place.stop_file ≡ given.stop_file
+  pub reserve : place.reserve_bytes ≡ given.reserve_bytes
+  pub limits : place.limits ≡ given.limits
+
+-- a text, unless it is empty
+abbrev filled : List ℕ → Option (List ℕ)
+filled [] = None
+filled (c ∷ text) = Some (c ∷ text)
+
+-- where the clients of this place come in, and until when
+pub record IsEntranceOf (place : Place) (entrance : Entrance) : Type 0 where
+  pub address : entrance.address ≡ place.address
+  pub clients : entrance.clients ≡ unwrap_or place.limits.connections 18446744073709551615
+  pub stop_file : option_map (λ file. file.now) entrance.stop_file ≡ filled place.stop_file
+
+-- the store of this database is served to who comes in at this place, by a door over spools of its folder,
+-- which hold no more than they may
+pub record ServesPlace {S D R K P : Type 0} (g : Ghosts S) (unread : R → Option (List ℕ))
+    (taken : K → Option (List ℕ)) (held : P → Option (List ℕ)) (size : P → ℕ)
+    (shown : D → Doorway R K P) (entrance : D → Entrance) (folder : D → List ℕ) (most : D → ℕ)
+    (place : Place) (config : Config) (given back : Held S) (outcome : Outcome) : Type 0 where
+  pub before : D
+  pub after : D
+  pub comes_in : IsEntranceOf place (entrance before)
+  pub in_folder : folder before ≡ place.spool_folder
+  pub within : most before ≡ place.limits.spool_bytes
+  pub hosts : HostsDatabase g unread taken held size (shown before) (shown after) place.limits
+      config given back outcome

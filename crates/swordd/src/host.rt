@@ -42,7 +42,7 @@ fn print_example(rt: &HostRuntime) -> Outcome {
 }
 
 fn print_version(rt: &HostRuntime) -> Outcome {
-    let printed = println!(rt; "swordd_host {VERSION}, proved with {KIT}");
+    let printed = println!(rt; "swordd_host {VERSION}, {KIT}");
     outcome_printed(rt, &printed)
 }
 

@@ -11,6 +11,8 @@ use dep_hub::{AccessLog, ConnId, Next};
 use dep_program::{microseconds_since, moment_of};
 use dep_sockets::DoorLog;
 use dep_types::Refusal;
+use std::alloc::Global;
+use std::mem;
 use std::net::IpAddr;
 use std::time::{Instant, SystemTime};
 
@@ -25,13 +27,13 @@ pub struct StandardErrorLog<'a> {
     lines: HeldLines<'a>,
     /// The time that opening the database took.
     open_microseconds: u64,
-    /// The item that is answered.
+    /// The room of the item that is answered next.
     item: Item,
 }
 
 /// What is known of an item that is answered.
 #[derive(Drop)]
-struct Item {
+pub struct Item {
     connection: u64,
     address: Option<IpAddr>,
     method: String,
@@ -51,15 +53,7 @@ impl<'a> StandardErrorLog<'a> {
             place,
             lines: HeldLines::new(rt),
             open_microseconds: microseconds_since(rt, place.begun),
-            item: Item {
-                connection: 0,
-                address: None,
-                method: String::new(rt.alloc()),
-                path: String::new(rt.alloc()),
-                status: None,
-                refusal: None,
-                begun: None,
-            },
+            item: Item::new(rt.alloc()),
         }
     }
 
@@ -85,12 +79,11 @@ impl<'a> StandardErrorLog<'a> {
     }
 
     // The line of an item that was answered.
-    fn write_exchange(&mut self, address: IpAddr, status: u16, bytes: Bytes) {
+    fn write_exchange(&mut self, item: &Item, address: IpAddr, status: u16, bytes: Bytes) {
         let Ok(peer) = format!(in self.rt.alloc(); "{address}") else {
             return;
         };
         let moment = self.moment();
-        let item = &self.item;
         let exchange = Exchange {
             moment,
             connection: item.connection,
@@ -109,24 +102,38 @@ impl<'a> StandardErrorLog<'a> {
     }
 }
 
-impl AccessLog for StandardErrorLog<'_> {
+impl Item {
+    // An item of which nothing is known.
+    fn new(alloc: Global) -> Item {
+        Item {
+            connection: 0,
+            address: None,
+            method: String::new(alloc),
+            path: String::new(alloc),
+            status: None,
+            refusal: None,
+            begun: None,
+        }
+    }
+}
+
+impl AccessLog for Item {
     fn request(&mut self, method: &[u8], path: &str, _length: u64) {
         let front = method.get(..MOST_METHOD).unwrap_or(method);
-        let _ = self
-            .item
-            .method
-            .push_str(str::from_utf8(front).unwrap_or(""));
+        let _ = self.method.push_str(str::from_utf8(front).unwrap_or(""));
         let end = path.floor_char_boundary(GREATEST_PATH);
-        let _ = self.item.path.push_str(&path[..end]);
+        let _ = self.path.push_str(&path[..end]);
     }
 
     fn reply(&mut self, status: u16, refusal: Option<Refusal>) {
-        self.item.status = Some(status);
-        self.item.refusal = refusal;
+        self.status = Some(status);
+        self.refusal = refusal;
     }
 }
 
 impl HostLog for StandardErrorLog<'_> {
+    type Item = Item;
+
     fn opened(&mut self, _connection: ConnId, _address: IpAddr) {}
 
     fn refused(&mut self, address: IpAddr, refusal: TurnedAway) {
@@ -140,8 +147,8 @@ impl HostLog for StandardErrorLog<'_> {
         self.write_closing(None, address, reason);
     }
 
-    fn answering(&mut self, connection: ConnId, address: IpAddr) {
-        let item = &mut self.item;
+    fn answering(&mut self, connection: ConnId, address: IpAddr) -> Item {
+        let mut item = mem::replace(&mut self.item, Item::new(self.rt.alloc()));
         item.connection = connection.number();
         item.address = Some(address);
         item.method.clear();
@@ -149,19 +156,20 @@ impl HostLog for StandardErrorLog<'_> {
         item.status = None;
         item.refusal = None;
         item.begun = Instant::now(self.rt).ok();
+        item
     }
 
     // A `100 Continue` has no line.
-    fn answered(&mut self, next: Next, bytes: Bytes) {
-        let Some(address) = self.item.address else {
-            return;
-        };
-        if let Some(status) = self.item.status {
-            self.write_exchange(address, status, bytes);
+    fn answered(&mut self, item: Item, next: Next, bytes: Bytes) {
+        if let Some(address) = item.address {
+            if let Some(status) = item.status {
+                self.write_exchange(&item, address, status, bytes);
+            }
+            if next == Next::Cut {
+                self.write_closing(Some(item.connection), address, Reason::ReplyCut);
+            }
         }
-        if next == Next::Cut {
-            self.write_closing(Some(self.item.connection), address, Reason::ReplyCut);
-        }
+        self.item = item;
     }
 
     // A client that ends its connection has no line.

@@ -2,7 +2,7 @@
 ghost use Rattle.std.specs.Prelude.{◌≡◌, false};
 ghost use Rattle.sqlite.specs.Held.{state};
 ghost use Rattle.dep_sockets.specs.Doors.{doorway};
-ghost use Rattle.swordd.specs.Hosted.{HostsDatabase, host_limits};
+ghost use Rattle.swordd.specs.Hosted.{HostsDatabase, IsEntranceOf, IsPlaceOf, ServesPlace, host_limits};
 
 use crate::host_log::StandardErrorLog;
 use crate::logged_reserve::LoggedReserve;
@@ -11,7 +11,9 @@ use dep_configuration::{Configuration, Limits};
 use dep_host::HostLog;
 use dep_outbox::{Sink, Source, Spool};
 use dep_program::Outcome;
-use dep_sockets::{Door, Entrance, SocketDoor, Spools, serve_hub};
+use dep_sockets::{
+    Door, Entrance, FileSpool, SocketDoor, SocketSink, SocketSource, Spools, serve_hub,
+};
 use dep_store::{Work, work_on_file};
 use dep_types::{Config, Text};
 use sqlite::{Alter, Connection};
@@ -36,8 +38,42 @@ pub struct Place {
 }
 
 impl Place {
+    /// The place that is configured, with the path of the database and what else is configured.
+    fn new(
+        configuration: Configuration,
+        reserve_file: Text,
+        begun: Option<Instant>,
+    ) -> (Place, Text, Config)
+        ensures place { IsPlaceOf configuration result.0 }
+        ensures database { result.1 ≡ configuration.database }
+        ensures config { result.2 ≡ configuration.config }
+    {
+        let Configuration {
+            address,
+            port,
+            database,
+            spool_folder,
+            stop_file,
+            config,
+            limits,
+            reserve_bytes,
+        } = configuration;
+        let place = Place {
+            address: SocketAddr::new(address, port),
+            spool_folder,
+            stop_file,
+            reserve_file,
+            reserve_bytes,
+            limits,
+            begun,
+        };
+        (place, database, config)
+    }
+
     // Where its clients come in, and until when.
-    fn entrance(&self) -> Entrance<'_> {
+    fn entrance(&self) -> Entrance<'_>
+        ensures { IsEntranceOf self.now result }
+    {
         let stop_file = self.stop_file.as_str();
         Entrance {
             address: self.address,
@@ -50,6 +86,10 @@ impl Place {
         }
     }
 }
+
+type Net = SocketDoor<'static, HostRuntime>;
+
+type File = FileSpool<'static, HostRuntime>;
 
 /// What serves the store in a database.
 #[derive(Drop)]
@@ -64,28 +104,11 @@ struct Service<'a> {
 /// Opens the store of the configuration, which is made where it isn't there, and serves all its clients. Then the log
 /// of the store is copied into its file. Unless all was done, a line on standard error says why.
 pub fn serve_store(rt: &HostRuntime, configuration: Configuration) -> Outcome {
-    let Configuration {
-        address,
-        port,
-        database,
-        spool_folder,
-        stop_file,
-        config,
-        limits,
-        reserve_bytes,
-    } = configuration;
-    let Ok(reserve_file) = reserve_beside(rt.alloc(), database.as_str()) else {
+    let Ok(reserve_file) = reserve_beside(rt.alloc(), configuration.database.as_str()) else {
         return fails(rt, "opened");
     };
-    let place = Place {
-        address: SocketAddr::new(address, port),
-        spool_folder,
-        stop_file,
-        reserve_file,
-        reserve_bytes,
-        limits,
-        begun: Instant::now(rt).ok(),
-    };
+    let begun = Instant::now(rt).ok();
+    let (place, database, config) = Place::new(configuration, reserve_file, begun);
     let is_done = Cell::new(false);
     let service = Service {
         rt,
@@ -114,7 +137,16 @@ fn fails(rt: &HostRuntime, what: &str) -> Outcome {
 
 impl Work for Service<'_> {
     // Serves whoever connects at the place.
-    fn work<S: Alter>(self, connection: Connection<S>) -> (Outcome, Connection<S>) {
+    fn work<S: Alter>(self, connection: Connection<S>) -> (Outcome, Connection<S>)
+        requires settled { (state S.Store connection).in_transaction ≡ false }
+        ensures serves { let net = ⟦<Net as Door<SocketSource, SocketSink, File>>⟧ in
+            let file = ⟦<File as Spool>⟧ in
+            ServesPlace S.Store ⟦<SocketSource as Source>⟧.unread ⟦<SocketSink as Sink>⟧.taken
+            file.held file.size (doorway net.given net.is_open net.is_over net.is_cut)
+            (λ door. door.entrance) (λ door. door.spools.now.folder.now)
+            (λ door. door.spools.now.most)
+            self.entry.place self.entry.config connection result.1 result.0 }
+    {
         let Service {
             rt,
             place,

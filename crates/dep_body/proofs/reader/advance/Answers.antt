@@ -1,19 +1,8 @@
-use Rattle.std.proofs.Common.{◌≡◌, ◌-◌, ◌≤◌, ◌++◌, length, take, drop, true, false, sym, ap, subst, ◌∙◌, arith, take_all, length-drop, append-nil, le_refl, refl}
+use Rattle.std.proofs.Common.{◌≡◌, ◌-◌, ◌≤◌, ◌++◌, length, take, drop, true, false, sym, ap, subst, ◌∙◌, arith, take_all, length-drop}
+use Rattle.dep_head.proofs.AnyError.{on_err}
 use Rattle.dep_body.specs.Standing.{StandsAt, is_settled}
-use Rattle.dep_body.proofs.FeedLemmas.{take_further, kept_further}
+use Rattle.dep_body.proofs.FeedLemmas.{chunk_byte, kept_further, take_further}
 use Rattle.dep_body.proofs.reader.advance.Goals as goal
-
-pub loop-used-init : goal.loop-used-init
-loop-used-init c = record {
-  stands = λ text h. subst (StandsAt c.args.limit c.args.content.now c.args.stage) (sym (append-nil text)) h;
-  within = omega arith;
-  settled = λ _. (refl, refl);
-  kept = take_all _ _ (le_refl _);
-}
-
-pub returns-in_err-next-clause-kept : goal.returns-in_err-next-clause-kept
-returns-in_err-next-clause-kept c =
-    kept_further c.args.content.now c.loop-used.content c.step.new.content c.loop-used.invariant.kept c.in_err-next.ensures.kept
 
 pub loop-used-preserved : goal.loop-used-preserved
 loop-used-preserved c =
@@ -32,3 +21,8 @@ loop-used-preserved c =
       settled = λ t. absurd (let same : false ≡ true = sym goes_on ∙ ap is_settled (c.loop-used.invariant.settled t).1 ∙ t in cc);
       kept = kept_further c.args.content.now c.loop-used.content c.step.new.content c.loop-used.invariant.kept c.in_ok-next.ensures.kept;
     }
+
+pub returns-in_err-next-clause-wanted : goal.returns-in_err-next-clause-wanted
+returns-in_err-next-clause-wanted c =
+    on_err c.from_residual.result
+    (λ text h. chunk_byte c.args.limit c.loop-used.used c.loop-used.content text c.args.piece.now c.loop-used.stage (c.loop-used.invariant.stands text h) c.in_err-next.ensures.wanted (omega arith))

@@ -1,6 +1,5 @@
-use Rattle.std.proofs.Common.{◌≡◌, ◌-◌, ◌++◌, ◌<◌, None, length, take, take_all, le_refl, arith, subst, sym, ap, ◌∙◌}
+use Rattle.std.proofs.Common.{◌≡◌, ◌-◌, ◌++◌, ◌<◌, None, length, take, arith, subst, sym}
 use Rattle.std.proofs.lemmas.List.{length-take-le}
-use Rattle.std.proofs.Math.Seq.{take-append_seam}
 use Rattle.dep_body.specs.Standing.{IsInData, IsBehindData}
 use Rattle.dep_body.proofs.DataSteps.{data_goes, data_ends}
 use Rattle.dep_body.proofs.reader.take_data.Goals as goal
@@ -21,18 +20,3 @@ returns-clause-stands c = λ limit text h.
     subst (λ s. IsInData limit s (c.args.left.bytes - c.min-count.result) (text ++ more)) (sym c.in_ok-append.ensures.ok)
     (subst (λ n. IsInData limit (c.args.content.now ++ more) (c.args.left.bytes - n) (text ++ more)) long
     (data_goes limit c.args.content.now text more c.args.left.bytes h less))
-
-pub returns-in_err-append-clause-kept : goal.returns-in_err-append-clause-kept
-returns-in_err-append-clause-kept c =
-    let content = c.args.content.now in
-    ap (take (length content)) c.in_err-append.ensures.err ∙ take_all _ content (le_refl _)
-
-pub returns-then-later-eq0-clause-kept : goal.returns-then-later-eq0-clause-kept
-returns-then-later-eq0-clause-kept c =
-    let content = c.args.content.now in
-    ap (take (length content)) c.in_ok-append.ensures.ok ∙ take-append_seam content (take c.min-count.result c.args.rest.now)
-
-pub returns-clause-kept : goal.returns-clause-kept
-returns-clause-kept c =
-    let content = c.args.content.now in
-    ap (take (length content)) c.in_ok-append.ensures.ok ∙ take-append_seam content (take c.min-count.result c.args.rest.now)

@@ -5,7 +5,7 @@ use Rattle.dep_types.specs.Rows.{file_row}
 use Rattle.dep_types.specs.declared.counters.Counters.{Counters}
 use Rattle.dep_types.specs.declared.rows.FileRow.{FileRow}
 use Rattle.dep_decisions.specs.Effects.{file_from}
-use Rattle.dep_objects.proofs.Named.{pushed}
+use Rattle.dep_files.proofs.Results.{pushed}
 use Rattle.dep_changes.proofs.NewObject.{no_rows, rows_added, rows_more}
 use Rattle.dep_changes.proofs.created.new_rows.Goals as goal
 

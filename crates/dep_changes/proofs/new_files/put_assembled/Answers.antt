@@ -6,6 +6,7 @@ use Rattle.dep_types.specs.State.{File, Upload}
 use Rattle.dep_types.specs.Uploads.{assembled}
 use Rattle.dep_types.specs.declared.rows.UploadRow.{UploadRow}
 use Rattle.dep_row_maps.specs.Clauses.{SeesState}
+use Rattle.dep_fixity.specs.declared.hasher.Digests.{Digests}
 use Rattle.dep_staging.specs.Assembling.{deposited}
 use Rattle.dep_changes.specs.Changed.{made_file}
 use Rattle.dep_changes.proofs.Assembled.{made_row, done_as}
@@ -48,7 +49,7 @@ returns g c = record {
             let row_is = made_row c.args.change.now s numbers new _ (assembled it) c.in_ok-row.row c.in_ok-row.ensures told.0.0 (ap (λ (w : UploadRow). w.size) is.0 ∙ sym source.whole.size, is.1) in
             subst (λ (found : Option Upload). OnOk c.assemble.result (SeesState (g.T.Statements.state c.assemble.new.tx) (deposited s numbers.object o numbers.file (made_file s new (option_map_or assembled found [])) u))) (sym source.there)
             (done_as (λ (n f w : ℕ). OnOk c.assemble.result (SeesState (g.T.Statements.state c.assemble.new.tx) (deposited s n o f file w))) s numbers.object numbers.file u o it file c.in_ok-row.row up.row row_is is.0 there source.there
-            (λ at_object at_upload upload_is same. c.assemble.ensures.does.map clean inside ours s are o it file at_object at_upload source.whole.segments upload_is same refl));
+            (λ at_object at_upload upload_is same. c.assemble.ensures.does.map clean inside ours s are o it file at_object at_upload source.whole.segments upload_is same (ap (λ (d : Digests). d.sha512) is.1) refl));
         keeps = c.assemble.ensures.does.keeps;
       };
 }

@@ -1,7 +1,7 @@
 use Rattle.dep_tables.proofs.Chains.{clean_before}
 use Rattle.dep_tables.specs.Tables.{tables_of}
 use Rattle.dep_tables.proofs.Results.{ok_then}
-use Rattle.dep_objects.specs.Edits.{without_files}
+use Rattle.dep_files.specs.Edits.{without_files}
 use Rattle.dep_changes.proofs.Steps.{emptied, gone_after}
 use Rattle.dep_row_maps.proofs.Changing.{changes_then, each_failed}
 use Rattle.dep_changes.proofs.objects.drop_object.Goals as goal

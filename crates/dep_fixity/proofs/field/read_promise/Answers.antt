@@ -1,17 +1,9 @@
-use Rattle.std.proofs.Common.{◌≡◌, ◌∙◌, ◌++◌, ◌∷◌, ℕ, List, [], None, Some, refl, sym, ap, map, append_assoc, append-nil, Bor}
+use Rattle.std.proofs.Common.{◌≡◌, ◌∙◌, ◌++◌, ◌∷◌, ℕ, List, [], sym, ap, map, append_assoc, append-nil, Bor}
 use Rattle.std.proofs.lemmas.List.{map-append}
 use Rattle.dep_octets.specs.Octets.{members}
-use Rattle.dep_fixity.specs.Fixity.{digest_under, name_and_value, spelled_under, one_digest}
-use Rattle.dep_fixity.proofs.Promises.{digest_under-unnamed, digest_under-bad, one_digest-more, spelled_under-next, spelled_under-other, value_under-same, value_under-other, named-more}
+use Rattle.dep_fixity.specs.Fixity.{digest_under, spelled_under, one_digest}
+use Rattle.dep_fixity.proofs.Promises.{digest_under-bad, one_digest-more, spelled_under-next, spelled_under-other, value_under-same, value_under-other, named-more}
 use Rattle.dep_fixity.proofs.field.read_promise.Goals as goal
-
-pub returns-in_default : goal.returns-in_default
-returns-in_default g c =
-    let done = map (λ (m : Bor (List ℕ)). m.now) c.loop-member.yielded in
-    let all : members c.args.text.now ≡ done ++ c.in-Some.member.now ∷ c.next.new.self =
-    c.loop-member.invariant.left ∙ ap (λ r. done ++ r) c.in-Some.ensures.steps in
-    let none : name_and_value c.in-Some.member.now ≡ None = rw c.in_default.is at c.cut_at_equals.ensures in
-    sym (ap (digest_under g.row.N c.args.algorithm.now) all ∙ digest_under-unnamed _ _ done c.in-Some.member.now c.next.new.self none)
 
 pub returns-in_default-promised_again : goal.returns-in_default-promised_again
 returns-in_default-promised_again g c =
@@ -51,19 +43,3 @@ loop-member-preserved g c =
       promised = rw more (ap one_digest (spelled_under-other g.row.N c.args.algorithm.now done member [] other ∙ append-nil _)
           ∙ c.loop-member.invariant.promised);
     }
-
-pub loop-member-init : goal.loop-member-init
-loop-member-init g c = record {
-  left = sym (c.into_iter-member-iterator.ensures.into_iter_gives ∙ c.split_list-member-items.ensures);
-  named = refl;
-  promised = refl;
-}
-
-pub returns : goal.returns
-returns g c =
-    let done = map (λ (m : Bor (List ℕ)). m.now) c.loop-member.yielded in
-    let all : members c.args.text.now ≡ done =
-    c.loop-member.invariant.left ∙ ap (λ r. done ++ r) c.in-None.ensures.steps.0 ∙ append-nil done in
-    let read : digest_under g.row.N c.args.algorithm.now done ≡ Some c.loop-member.promised =
-    rw c.loop-member.invariant.named c.loop-member.invariant.promised in
-    sym (ap (digest_under g.row.N c.args.algorithm.now) all ∙ read)

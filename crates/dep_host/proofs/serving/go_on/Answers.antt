@@ -1,4 +1,5 @@
-use Rattle.std.proofs.Common.{ap, is_some, ◌∙◌}
+use Rattle.std.proofs.Common.{Bool, ap, is_some, sym, subst, ◌∙◌}
+use Rattle.dep_hub.specs.Errands.{WorkedAhead, Runs}
 use Rattle.dep_host.specs.declared.serving.Ended.TheVariants.{Events, Shut, Spent}
 use Rattle.dep_host.proofs.HostLemmas.{stands_still, stays_same}
 use Rattle.dep_host.proofs.MeetLemmas.{not_told, not_yet_ended}
@@ -11,7 +12,7 @@ returns-then-is_open-clause-asks g c = record {
   asks = c.is_open.ensures.asks;
   works = c.work_ahead-is_left.ensures.goes;
   stays = c.work_ahead-is_left.ensures.stays;
-  ahead = λ none. c.work_ahead-is_left.ensures.asked;
+  ahead = λ none. subst (λ (b : Bool). Runs (WorkedAhead b) (g.A.Archive.account c.is_open.new.self.hub.store) (g.A.Archive.account c.work_ahead-is_left.new.self.hub.store)) (sym c.work_ahead-is_left.ensures.left) c.work_ahead-is_left.ensures.asked;
 }
 
 pub returns-then-is_open-clause-time : goal.returns-then-is_open-clause-time

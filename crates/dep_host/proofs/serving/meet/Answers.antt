@@ -1,7 +1,8 @@
-use Rattle.std.proofs.Common.{◌≡◌, false, [], refl, sym, subst}
+use Rattle.std.proofs.Common.{◌≡◌, Option, false, [], refl, sym, subst}
 use Rattle.std.proofs.lemmas.Result.{IfOk-weaker}
 use Rattle.dep_host.specs.Courses.{is_overdue}
 use Rattle.dep_host.specs.Coming.{seconds_of}
+use Rattle.dep_host.specs.Hosting.{GoesRound, position}
 use Rattle.dep_host.specs.declared.events.Event.{Event}
 use Rattle.dep_host.specs.Meeting.{MayEnd, wakes, makes_round, stops}
 use Rattle.dep_host.proofs.RoundLemmas.{all_round, all_stop}
@@ -23,7 +24,7 @@ returns-in-Round-clause-met g c = round_met g.A.Archive.condition g.R.Source.unr
       _,
       makes_round (record {
         mid = c.round-is_busy.new.self;
-        goes = c.round-is_busy.ensures.goes;
+        goes = subst (λ (o : Option _). GoesRound g.A.Archive.condition g.R.Source.unread g.K.Sink.taken g.S.Spool.held g.S.Spool.size (position c.args.host.now) (position c.round-is_busy.new.self) c.in-Round.time (g.L.HostLog.notes c.args.log.now) o) (sym c.let_rest.ensures) c.round-is_busy.ensures.goes;
         left = c.round-is_busy.ensures.left;
         stays = c.round-is_busy.ensures.stays;
         asks = c.go_on-next.ensures.asks;

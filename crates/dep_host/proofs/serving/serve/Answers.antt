@@ -1,4 +1,4 @@
-use Rattle.std.proofs.Common.{◌≡◌, rules, [], Err, refl, ap, ◌∙◌}
+use Rattle.std.proofs.Common.{◌≡◌, true, false, rules, [], Err, refl, ap, ◌∙◌}
 use Rattle.dep_host.proofs.CloseLemmas.{promised}
 use Rattle.dep_host.proofs.ShutLemmas.{steps_rightly, told_by_store, untold_rightly}
 use Rattle.dep_host.proofs.MeetLemmas.{met_none, met_next, met_last, met_all, is_the_end}
@@ -11,18 +11,20 @@ pub loop-count-init : goal.loop-count-init
 loop-count-init g c = record {
   met = ([], met_none g.A.Archive.condition g.R.Source.unread g.K.Sink.taken g.S.Spool.held g.A.Archive.account g.S.Spool.size g.L.HostLog.notes _ _ _);
   vacant = c.vacancy.ensures;
+  idle = λ idle. let bad : true ≡ false = idle in cc;
 }
 
 pub loop-count-preserved : goal.loop-count-preserved
 loop-count-preserved g c = record {
-  met = met_next g.A.Archive.condition g.R.Source.unread g.K.Sink.taken g.S.Spool.held g.A.Archive.account g.S.Spool.size g.L.HostLog.notes _ _ _ _ _ _ _ _ _ c.loop-count.now.vacancy c.next-event.result _ _ c.loop-count.invariant.met c.next-event.ensures.given
-      c.loop-count.invariant.vacant c.in-Ok.ensures.met c.in-Ok.ensures.time refl;
+  met = met_next g.A.Archive.condition g.R.Source.unread g.K.Sink.taken g.S.Spool.held g.A.Archive.account g.S.Spool.size g.L.HostLog.notes _ _ _ _ _ _ _ _ _ _ _ _ c.loop-count.invariant.met c.next-event.ensures.given
+      (record { offered = c.loop-count.invariant.vacant; idle = c.loop-count.invariant.idle }) c.in-Ok.ensures.met c.in-Ok.ensures.time refl;
   vacant = c.in-Ok.ensures.vacant;
+  idle = c.in-Ok.ensures.idle;
 }
 
 pub returns-in-Err : goal.returns-in-Err
 returns-in-Err g c =
-    let met = met_last g.A.Archive.condition g.R.Source.unread g.K.Sink.taken g.S.Spool.held g.A.Archive.account g.S.Spool.size g.L.HostLog.notes _ _ _ _ _ _ _ _ _ c.loop-count.now.vacancy c.next-event.result _ _ most_events c.in-Err.ended c.meet.result c.in-Err.is c.loop-count.invariant.met.1 c.next-event.ensures.given c.loop-count.invariant.vacant c.meet.ensures.met c.meet.ensures.shut in
+    let met = met_last g.A.Archive.condition g.R.Source.unread g.K.Sink.taken g.S.Spool.held g.A.Archive.account g.S.Spool.size g.L.HostLog.notes _ _ _ _ _ _ _ _ _ _ _ _ most_events c.in-Err.ended c.meet.result c.in-Err.is c.loop-count.invariant.met.1 c.next-event.ensures.given (record { offered = c.loop-count.invariant.vacant; idle = c.loop-count.invariant.idle }) c.meet.ensures.met c.meet.ensures.shut in
     record {
       met = met;
       goes = (met.0, met.1.steps);

@@ -1,6 +1,6 @@
-use Rattle.std.specs.Prelude.{List}
+use Rattle.std.specs.Prelude.{List, ◌≡◌, false}
 use Rattle.dep_host.specs.Hosting.{Deed}
-use Rattle.dep_host.specs.Meeting.{IsOffer, Met}
+use Rattle.dep_host.specs.Meeting.{IsIdle, IsOffer, Met}
 use Rattle.dep_host.specs.declared.serving.Ended.TheVariants.{Spent}
 use Rattle.dep_host.proofs.serving.serve.Given as goal
 
@@ -9,4 +9,5 @@ invariant-loop-count g l = record {
   met : (deeds : List Deed) × Met g.A.Archive.condition g.A.Archive.account g.R.Source.unread g.K.Sink.taken g.S.Spool.held g.S.Spool.size g.L.HostLog.notes (g.E.Events.given l.fn.events) (g.E.Events.given l.events) l.fn.host l.host l.fn.log l.log
       deeds l.count Spent;
   vacant : IsOffer l.host l.now.vacancy;
+  idle : l.now.is_busy ≡ false → IsIdle g.S.Spool.size l.host;
 }

@@ -4,7 +4,7 @@ use Rattle.dep_hub.specs.Sending.{outside}
 use Rattle.dep_hub.specs.Serving.{Progress, IsDeadIfShut, arrival_of}
 use Rattle.dep_hub.specs.declared.arrived.Arrived.TheVariants.{Closed, Cut}
 use Rattle.dep_hub.proofs.ServingLemmas.{served_none, fed_dead, serves_gives_up}
-use Rattle.dep_hub.proofs.NextLemmas.{open_there, closed_there, cut_there, ends_dead, runs_out, served_on, serves_wait, serves_end}
+use Rattle.dep_hub.proofs.NextLemmas.{keeps_on, open_there, closed_there, cut_there, ends_dead, runs_out, served_on, serves_wait, serves_end}
 use Rattle.dep_hub.proofs.ShutLemmas.{there_sent}
 use Rattle.dep_hub.proofs.serving.serve.Goals as goal
 
@@ -46,10 +46,7 @@ loop-preserved g c = record {
       (outside (g.O.Outlet.taken c.args.out.now) (g.O.Outlet.failures c.args.out.now) (g.A.Archive.condition c.args.store.now)) (outside (g.O.Outlet.taken c.loop.out) (g.O.Outlet.failures c.loop.out) (g.A.Archive.condition c.loop.store))
       (outside (g.O.Outlet.taken c.answer_next.new.out) (g.O.Outlet.failures c.answer_next.new.out) (g.A.Archive.condition c.answer_next.new.store)) c.loop.intake c.loop.invariant.served c.loop.invariant.keeps.limit
       (rw c.in-More.is at c.answer_next.ensures.answers);
-  keeps = record {
-    limit = c.answer_next.ensures.keeps.limit ∙ c.loop.invariant.keeps.limit;
-    dead = λ dead. c.answer_next.ensures.keeps.dead (c.loop.invariant.keeps.dead dead);
-  };
+  keeps = keeps_on _ _ _ c.loop.invariant.keeps c.answer_next.ensures.keeps;
 }
 
 pub returns-in-Waiting : goal.returns-in-Waiting
@@ -58,10 +55,7 @@ returns-in-Waiting g c = record {
       (outside (g.O.Outlet.taken c.args.out.now) (g.O.Outlet.failures c.args.out.now) (g.A.Archive.condition c.args.store.now)) (outside (g.O.Outlet.taken c.loop.out) (g.O.Outlet.failures c.loop.out) (g.A.Archive.condition c.loop.store))
       (outside (g.O.Outlet.taken c.answer_next.new.out) (g.O.Outlet.failures c.answer_next.new.out) (g.A.Archive.condition c.answer_next.new.store)) c.loop.intake c.loop.invariant.served c.loop.invariant.keeps.limit
       c.answer_next.new.intake.place (g.met.A.Archive.settled c.answer_next.new.store) c.loop.invariant.keeps.dead (rw c.in-Waiting.is at c.answer_next.ensures.answers);
-  keeps = record {
-    limit = c.answer_next.ensures.keeps.limit ∙ c.loop.invariant.keeps.limit;
-    dead = λ dead. c.answer_next.ensures.keeps.dead (c.loop.invariant.keeps.dead dead);
-  };
+  keeps = keeps_on _ _ _ c.loop.invariant.keeps c.answer_next.ensures.keeps;
   there = open_there;
 }
 
@@ -71,10 +65,7 @@ returns-in-Closed g c = record {
       (outside (g.O.Outlet.taken c.args.out.now) (g.O.Outlet.failures c.args.out.now) (g.A.Archive.condition c.args.store.now)) (outside (g.O.Outlet.taken c.loop.out) (g.O.Outlet.failures c.loop.out) (g.A.Archive.condition c.loop.store))
       (outside (g.O.Outlet.taken c.answer_next.new.out) (g.O.Outlet.failures c.answer_next.new.out) (g.A.Archive.condition c.answer_next.new.store)) c.loop.intake c.loop.invariant.served c.loop.invariant.keeps.limit
       Closed c.answer_next.new.intake.place (g.met.A.Archive.settled c.answer_next.new.store) (rw c.in-Closed.is at c.answer_next.ensures.answers);
-  keeps = record {
-    limit = c.answer_next.ensures.keeps.limit ∙ c.loop.invariant.keeps.limit;
-    dead = λ dead. c.answer_next.ensures.keeps.dead (c.loop.invariant.keeps.dead dead);
-  };
+  keeps = keeps_on _ _ _ c.loop.invariant.keeps c.answer_next.ensures.keeps;
   there = closed_there;
 }
 
@@ -84,9 +75,6 @@ returns-in-Cut g c = record {
       (outside (g.O.Outlet.taken c.args.out.now) (g.O.Outlet.failures c.args.out.now) (g.A.Archive.condition c.args.store.now)) (outside (g.O.Outlet.taken c.loop.out) (g.O.Outlet.failures c.loop.out) (g.A.Archive.condition c.loop.store))
       (outside (g.O.Outlet.taken c.answer_next.new.out) (g.O.Outlet.failures c.answer_next.new.out) (g.A.Archive.condition c.answer_next.new.store)) c.loop.intake c.loop.invariant.served c.loop.invariant.keeps.limit
       Cut c.answer_next.new.intake.place (g.met.A.Archive.settled c.answer_next.new.store) (rw c.in-Cut.is at c.answer_next.ensures.answers);
-  keeps = record {
-    limit = c.answer_next.ensures.keeps.limit ∙ c.loop.invariant.keeps.limit;
-    dead = λ dead. c.answer_next.ensures.keeps.dead (c.loop.invariant.keeps.dead dead);
-  };
+  keeps = keeps_on _ _ _ c.loop.invariant.keeps c.answer_next.ensures.keeps;
   there = cut_there;
 }

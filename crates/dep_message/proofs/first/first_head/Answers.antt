@@ -3,7 +3,6 @@ use Rattle.std.proofs.lemmas.List.{take-append-drop}
 use Rattle.dep_head.specs.Head.{head_end}
 use Rattle.dep_head.proofs.HeadEnd.{end_within, end_take, none_front, front_before}
 use Rattle.dep_message.specs.Stream.{no_head}
-use Rattle.dep_message.proofs.Reading.{has_bytes}
 use Rattle.dep_message.proofs.first.first_head.Goals as goal
 
 pub returns-then-bytes-ge-HEAD_LIMIT : goal.returns-then-bytes-ge-HEAD_LIMIT
@@ -34,11 +33,6 @@ slice_bounds-read_head-end c =
     let within : c.in-Some.end ≤ length c.args.front.bytes.now = (end_within c.args.front.bytes.now c.in-Some.end (sym c.in-Some.ensures)).1 in
     simp length-take (omega arith)
 
-pub returns-in-Err-Memory : goal.returns-in-Err-Memory
-returns-in-Err-Memory c =
-    let w = end_within c.args.front.bytes.now c.in-Some.end (sym c.in-Some.ensures) in
-    has_bytes c.args.continued c.args.front.bytes.now (omega (arith, w.0, w.1))
-
 pub returns-in-Err-NotAHead : goal.returns-in-Err-NotAHead
 returns-in-Err-NotAHead c =
     let bytes = c.args.front.bytes.now in
@@ -48,3 +42,9 @@ returns-in-Err-NotAHead c =
       sym (take-append-drop n bytes),
       no_head (inl (end_take bytes n (sym c.in-Some.ensures), simp length-take (omega arith), c.read_head.ensures.refused (cc))),
     )
+
+pub returns-in-Err-Memory : goal.returns-in-Err-Memory
+returns-in-Err-Memory c =
+    let bytes = c.args.front.bytes.now in
+    let n = c.in-Some.end in
+    (take n bytes, drop n bytes, sym (take-append-drop n bytes), c.read_head.ensures.wanted (cc))

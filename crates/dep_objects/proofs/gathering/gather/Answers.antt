@@ -5,7 +5,8 @@ use Rattle.std.proofs.lemmas.Slice.Eq.{slice_eq-Decides}
 use Rattle.dep_row_maps.specs.Stored.{added}
 use Rattle.dep_row_maps.specs.Laws.{pair_of}
 use Rattle.dep_objects.specs.Texts.{closed}
-use Rattle.dep_objects.proofs.Named.{one_more, pushed}
+use Rattle.dep_files.proofs.Results.{pushed}
+use Rattle.dep_objects.proofs.Named.{one_more}
 use Rattle.dep_objects.proofs.gathering.gather.Goals as goal
 
 pub returns-then-eq-clause-told : goal.returns-then-eq-clause-told

@@ -1,6 +1,6 @@
 use Rattle.dep_tables.proofs.Results.{ok_then}
 use Rattle.dep_tables.specs.Tables.{tables_of}
-use Rattle.dep_objects.proofs.Chains.{ok_both}
+use Rattle.dep_files.proofs.Results.{ok_both}
 use Rattle.dep_objects.proofs.Puts.{free_of, put_new}
 use Rattle.dep_row_maps.proofs.Calling.{written}
 use Rattle.dep_objects.proofs.objects.add_object.Goals as goal

@@ -5,7 +5,7 @@ use Rattle.dep_tables.specs.Tables.{tables_of}
 use Rattle.dep_row_maps.specs.TablesAre.{TablesAre}
 use Rattle.dep_row_maps.proofs.Readings.{object_read}
 use Rattle.dep_objects.specs.Objects.{IsDescribed}
-use Rattle.dep_objects.proofs.Chains.{tables_same}
+use Rattle.dep_files.proofs.Results.{same_tables}
 use Rattle.dep_objects.proofs.Puts.{has_row, its_number, none_described}
 use Rattle.dep_objects.proofs.objects.load_object.Goals as goal
 
@@ -27,7 +27,7 @@ returns g c = record {
         let before = clean_before c.describe.ensures.does.keeps.stays clean in
         let same = c.in_ok-row.ensures.does.keeps.same before ours in
         let found = sym c.in-Some.is ∙ object_read (tables_of old) s are c.args.object c.in_ok-row.field-0 (c.in_ok-row.ensures.does.ok before ours) in
-        let here = subst (λ t. TablesAre t s) (sym (tables_same old mid same)) are in
+        let here = subst (λ t. TablesAre t s) (sym (same_tables old mid same)) are in
         subst (λ (n : ℕ). IsDescribed s n c.in_ok-described.described) (its_number s c.args.object c.in-Some.row found)
         (c.in_ok-described.ensures.does.found clean (c.in_ok-row.ensures.does.keeps.stays.inside before inside) (still_ours old mid same ours) s here sound (has_row s c.args.object c.in-Some.row found));
     keeps = reads_ok (reads_then c.in_ok-row.ensures.does.keeps c.in_ok-described.ensures.does.keeps);

@@ -1,5 +1,5 @@
-use Rattle.std.proofs.Common.{◌≡◌, ◌<◌, ◌+◌, ◌∙◌, ℕ, suc, List, [], ◌∷◌, ◌++◌, Bool, true, false, not, map, take, drop, length, get_or, bytes_eq, sym, ap, refl, subst, arith, drop-cons}
-use Rattle.std.proofs.lemmas.List.{take_all, take_more, map-append, take-append-drop}
+use Rattle.std.proofs.Common.{◌≡◌, ◌<◌, ◌+◌, ◌∙◌, ℕ, suc, List, [], ◌∷◌, ◌++◌, Bool, true, false, not, map, take, drop, length, get_or, bytes_eq, sym, ap, refl, subst, drop-cons}
+use Rattle.std.proofs.lemmas.List.{take_more, map-append, take-append-drop}
 use Rattle.std.specs.List.{IsDistinct, list_any}
 use Rattle.dep_params.specs.declared.disposition.Parameter.{Parameter}
 use Rattle.dep_params.proofs.Repeats.{distinct-nil, distinct-more, not_distinct, held-more}
@@ -58,11 +58,3 @@ loop-parameter-preserved c =
       distinct = subst (λ (l : List (List ℕ)). IsDistinct bytes_eq l) (sym more)
           (distinct-more (map name (take i ps)) x c.loop-parameter.invariant.distinct (sym (c.loop-parameter.invariant.held c.deref.result) ∙ other));
     }
-
-pub returns-clause-read : goal.returns-clause-read
-returns-clause-read c = (
-  λ h.
-      let whole : take c.loop-parameter.parameter-index c.args.parameters.now ≡ c.args.parameters.now = take_all _ _ (omega arith) in
-      rw whole at c.loop-parameter.invariant.distinct,
-  λ is. refl,
-)

@@ -16,11 +16,11 @@ returns-clause-does g c =
     let before = λ (clean : HasCleanDisk new). clean_before told.map.keeps.stays clean in
     record {
       map = λ clean within ours s are sound running fit.
-          let rules = rw c.config.ensures at (ruled.found (before clean) within ours s are sound running) in
+          let rules = rw c.config.ensures at (ruled.found (before clean) within ours s are sound running).1 in
           told.map.done clean (ruled.keeps.stays.inside (before clean) within) (reads_ours ruled.keeps (before clean) within ours) s
           (sees_still old mid s (ruled.keeps.same (before clean) ours).0.now_is are) sound fit rules;
       changes = λ clean within ours s are sound running.
-          let rules = rw c.config.ensures at (ruled.found (before clean) within ours s are sound running) in (
+          let rules = rw c.config.ensures at (ruled.found (before clean) within ours s are sound running).1 in (
             λ none. reads_alike c.args.service.now s c.args.operation.now _ rules.ruling (c.lets_change-has_changes.ensures.0 none),
             λ nothing. c.lets_change-has_changes.ensures.1 (only_reads c.args.service.now s c.args.operation.now _ rules.ruling nothing),
           );
@@ -41,3 +41,14 @@ returns-in_err-ruled-clause-stays g c = stays_err c.from_residual.ensures.0 c.in
 pub returns-in_err-performed-clause-stays : goal.returns-in_err-performed-clause-stays
 returns-in_err-performed-clause-stays g c =
     stays_err c.from_residual-in_err-performed.ensures.0 (stays_then c.in_ok-ruled.ensures.map.keeps.stays c.in_err-performed.ensures.map.keeps.stays)
+
+pub returns-clause-running : goal.returns-clause-running
+returns-clause-running g c clean within ours s are sound running =
+    (c.in_ok-ruled.ensures.map.found (clean_before c.in_ok-performed.ensures.map.keeps.stays clean) within ours s are sound running).0
+
+pub returns-in_err-ruled-clause-running : goal.returns-in_err-ruled-clause-running
+returns-in_err-ruled-clause-running g c clean within ours s are sound running = (c.rule.ensures.map.found clean within ours s are sound running).0
+
+pub returns-in_err-performed-clause-running : goal.returns-in_err-performed-clause-running
+returns-in_err-performed-clause-running g c clean within ours s are sound running =
+    (c.in_ok-ruled.ensures.map.found (clean_before c.in_err-performed.ensures.map.keeps.stays clean) within ours s are sound running).0

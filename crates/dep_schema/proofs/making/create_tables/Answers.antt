@@ -1,8 +1,8 @@
-use Rattle.std.proofs.Common.{refl, Err}
+use Rattle.std.proofs.Common.{refl}
 use Rattle.std.proofs.lemmas.Result.{IfOk-from_err}
-use Rattle.dep_tables.proofs.Chains.{clean_before, stays_then, stays_ok, stays_err}
+use Rattle.dep_tables.proofs.Chains.{clean_before, stays_then, stays_ok}
 use Rattle.dep_schema.proofs.MadeTables.{none_made, one_made, one_failed, all_made}
-use Rattle.dep_schema.proofs.Refusing.{if_err_told}
+use Rattle.dep_schema.proofs.Causes.{works_failed}
 use Rattle.dep_schema.proofs.making.create_tables.Goals as goal
 
 pub loop-text-init : goal.loop-text-init
@@ -19,15 +19,11 @@ returns-in_err-run g c =
     let is_err = c.from_residual.ensures.0 in
     record {
       adds = λ clean inside. IfOk-from_err c.from_residual.result _ is_err;
-      works = record {
-        cause = λ clean inside.
-            let before = clean_before c.in_err-run.ensures.keeps.stays clean in
-            let stays = c.loop-text.invariant.stays in
-            if_err_told _ c.from_residual.result _ c.from_residual.ensures.1
-            (one_failed g.T.Statements.lenders g.T.Statements.state _ c.loop-text.text-index c.args.tx.now c.run.new.self c.loop-text.tx _ _ c.loop-text-test.true c.loop-text.invariant
-            before inside (c.in_err-run.ensures.cause clean (stays.inside before inside)));
-        stays = stays_err is_err (stays_then {r = Err c.in_err-run.field-0.0} c.loop-text.invariant.stays c.in_err-run.ensures.keeps.stays);
-      };
+      works = works_failed c.from_residual.result c.in_err-run.field-0.0 is_err c.from_residual.ensures.1 (stays_then c.loop-text.invariant.stays c.in_err-run.ensures.keeps.stays) (λ clean inside.
+          let before = clean_before c.in_err-run.ensures.keeps.stays clean in
+          let stays = c.loop-text.invariant.stays in
+          one_failed g.T.Statements.lenders g.T.Statements.state _ c.loop-text.text-index c.args.tx.now c.run.new.self c.loop-text.tx _ _ c.loop-text-test.true c.loop-text.invariant
+          before inside (c.in_err-run.ensures.cause clean (stays.inside before inside)));
     }
 
 pub returns : goal.returns

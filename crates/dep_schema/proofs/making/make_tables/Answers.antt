@@ -1,8 +1,9 @@
-use Rattle.std.proofs.Common.{Err, inl, inr}
+use Rattle.std.proofs.Common.{inl, inr}
 use Rattle.std.proofs.lemmas.Result.{IfOk-from_err}
-use Rattle.dep_tables.proofs.Chains.{clean_before, stays_then, stays_err}
+use Rattle.dep_tables.proofs.Chains.{clean_before, stays_then}
 use Rattle.dep_schema.proofs.BesideRows.{gains, free_before, first_seen}
-use Rattle.dep_schema.proofs.Refusing.{if_err_told, if_err_then}
+use Rattle.dep_tables.proofs.Results.{if_err}
+use Rattle.dep_schema.proofs.Causes.{works_failed}
 use Rattle.dep_schema.proofs.making.make_tables.Goals as goal
 
 pub returns-clause-gains : goal.returns-clause-gains
@@ -30,7 +31,7 @@ returns-clause-works g c = record {
       let clean_named = clean_before c.add_rows.ensures.works.stays clean in
       let clean_mid = clean_before both.works.stays clean_named in
       let inside_mid = made.works.stays.inside clean_mid inside in
-      if_err_then c.add_rows.result (c.add_rows.ensures.works.cause clean (both.works.stays.inside clean_named inside_mid))
+      if_err c.add_rows.result (c.add_rows.ensures.works.cause clean (both.works.stays.inside clean_named inside_mid))
       (λ fault failed. inr (
         c.create_tables.new.tx,
         made.adds clean_mid inside,
@@ -53,10 +54,8 @@ returns-in_err-create_tables g c =
     record {
       ok = λ clean inside empty. IfOk-from_err c.from_residual.result _ is_err;
       gains = λ clean inside. IfOk-from_err c.from_residual.result _ is_err;
-      works = record {
-        cause = λ clean inside. if_err_told _ c.from_residual.result _ c.from_residual.ensures.1 (inl (c.in_err-create_tables.ensures.works.cause clean inside));
-        stays = stays_err {r = Err c.in_err-create_tables.field-0.0} is_err c.in_err-create_tables.ensures.works.stays;
-      };
+      works = works_failed c.from_residual.result c.in_err-create_tables.field-0.0 is_err c.from_residual.ensures.1 c.in_err-create_tables.ensures.works.stays
+          (λ clean inside. inl (c.in_err-create_tables.ensures.works.cause clean inside));
     }
 
 pub returns-in_err-create_indexes : goal.returns-in_err-create_indexes
@@ -67,11 +66,7 @@ returns-in_err-create_indexes g c =
     record {
       ok = λ clean inside empty. IfOk-from_err c.from_residual-in_err-create_indexes.result _ is_err;
       gains = λ clean inside. IfOk-from_err c.from_residual-in_err-create_indexes.result _ is_err;
-      works = record {
-        cause = λ clean inside.
-            let before = clean_before failed.works.stays clean in
-            if_err_told _ c.from_residual-in_err-create_indexes.result _ c.from_residual-in_err-create_indexes.ensures.1
-            (inr (c.create_tables.new.tx, made.adds before inside, made.works.stays.survives, inl (failed.works.cause clean (made.works.stays.inside before inside))));
-        stays = stays_err is_err (stays_then {r = Err c.in_err-create_indexes.field-0.0} made.works.stays failed.works.stays);
-      };
+      works = works_failed c.from_residual-in_err-create_indexes.result c.in_err-create_indexes.field-0.0 is_err c.from_residual-in_err-create_indexes.ensures.1 (stays_then made.works.stays failed.works.stays) (λ clean inside.
+          let before = clean_before failed.works.stays clean in
+          inr (c.create_tables.new.tx, made.adds before inside, made.works.stays.survives, inl (failed.works.cause clean (made.works.stays.inside before inside))));
     }

@@ -8,7 +8,8 @@ use Rattle.dep_tables.proofs.Chains.{was_clean}
 use Rattle.dep_schema.proofs.Prepared.{AreMade, AreMissed, IsCommitted, IsUncommitted, IsGivenUp, on_err_by}
 use Rattle.dep_schema.proofs.Prepared.{fresh, found, made_new, still, free, beside, opened, crash, fell_back, left, refused, crash_missed}
 use Rattle.dep_schema.specs.OpenFaults.{open_fault_for, FailsToFindOrMake, ShowsOrMakes, begun}
-use Rattle.dep_schema.proofs.Refusing.{match_err, if_err_told, refuses_known, uncommitted, failed_only, clean_last}
+use Rattle.dep_schema.proofs.Causes.{if_err_is}
+use Rattle.dep_schema.proofs.Refusing.{match_err, refuses_known, uncommitted, failed_only, clean_last}
 use Rattle.dep_schema.proofs.Version.{never_passed, never_refused, told_as}
 use Rattle.dep_schema.proofs.opening.prepare.Goals as goal
 
@@ -44,7 +45,7 @@ returns-in_err-version g c =
       version = λ clean said. missed.version (before clean) (told_as result fault _ c.from_residual.ensures.1 said);
       lacking = λ clean said. missed.lacking (before clean) (told_as result fault _ c.from_residual.ensures.1 said);
       told = λ clean. match_err _ _ result fault c.from_residual.ensures.1 (inl (last, failed (before clean) refl, ended.survives));
-      ours = λ clean known. if_err_told _ result fault c.from_residual.ensures.1
+      ours = λ clean known. if_err_is _ result fault c.from_residual.ensures.1
           (refuses_known g.S.Store old last new known fault (failed (before clean) refl) missed.survives ended.survives (clean_last (state g.S.Store (begun old)) (state g.S.Store last) _ missed.survives (before clean)));
       free = λ clean lacks. IfOk-from_err result _ is_err;
       beside = λ clean lacks has. IfOk-from_err result _ is_err;
@@ -123,7 +124,7 @@ returns-in_err-commit g c =
       lacking = λ clean said lacks. never_passed result fault is said;
       told = λ clean. match_err _ _ result passed is
           (inr (last, (ended.failed clean).0, (λ lacks. (made.gains (before clean) refl lacks).free), since, failed clean, tells clean));
-      ours = λ clean known. if_err_told _ result passed is
+      ours = λ clean known. if_err_is _ result passed is
           (uncommitted g.S.Store old last new known passed (ended.failed clean).0 (failed clean) (tells clean) since ended.survives.counts (before clean));
       free = λ clean lacks. IfOk-from_err result _ is_err;
       beside = λ clean lacks has. IfOk-from_err result _ is_err;

@@ -1,9 +1,10 @@
-use Rattle.std.proofs.Common.{not, ◌≡◌, ◌∙◌, sym, ap, subst}
+use Rattle.std.proofs.Common.{not, ◌≡◌, ◌∙◌, refl, sym, ap, subst}
 use Rattle.std.proofs.lemmas.Result.{IfOk-from_err}
 use Rattle.sqlite.proofs.StateLemmas.{clean_if_open}
-use Rattle.dep_schema.proofs.Transacting.{gave_up, on_connection, still_on, works_on}
-use Rattle.dep_schema.proofs.Performed.{IsPerformed, by_commit, by_rollback, worked_on}
-use Rattle.sqlite.specs.Held.{state}
+use Rattle.dep_schema.proofs.Transacting.{gave_up, none_then, on_connection, still_on, works_on}
+use Rattle.dep_schema.proofs.Performed.{IsPerformed, by_commit, by_rollback, keeps_running, worked_on}
+use Rattle.sqlite.specs.State.{Survives}
+use Rattle.sqlite.specs.Held.{Held, state}
 use Rattle.dep_schema.proofs.performing.perform_request.Goals as goal
 
 -- where it failed, nothing is said of an Ok
@@ -20,6 +21,7 @@ returns-in_err-performed g c =
     record {
       transacts = gave_up g.S.Store old inside new _ result is_err work c.drop-tx.ensures.undone c.drop-tx.ensures.survives _ same;
       changes = λ clean s stands running. IfOk-from_err result _ is_err;
+      running = keeps_running g.S.Store old inside new c.args.running.now c.answer_within.new.running _ c.transaction-tx.ensures.begun c.in_err-performed.ensures.running c.drop-tx.ensures.survives work.shut _ same;
       back = IfOk-from_err result _ is_err;
     }
 
@@ -38,7 +40,12 @@ returns-then-performed g c =
     let last = c.connection-then-performed-1.given.0 in
     let same : new ≡ last = sym (c.connection-then-performed-1.given.1 (on_connection g.S.Store told.stays c.transaction-tx.ensures.same_reference)) in
     let it = subst (IsPerformed (state g.S.Store old) (state g.S.Store last) c.args.service.now c.args.operation.now c.args.running.now) (sym c.and.ensures) (ended last same) in
-    record { transacts = it.transacts; changes = it.changes; back = it.back }
+    record {
+      transacts = it.transacts;
+      changes = it.changes;
+      running = keeps_running g.S.Store old inside new c.args.running.now c.answer_within.new.running _ c.transaction-tx.ensures.begun told.running c.commit.ensures.survives work.shut last same;
+      back = it.back;
+    }
 
 -- where nothing was changed, all is given back, and the store is open or not
 pub returns : goal.returns
@@ -56,4 +63,12 @@ returns g c =
     let it = subst (IsPerformed (state g.S.Store old) (state g.S.Store new) c.args.service.now c.args.operation.now c.args.running.now) (sym c.and-2.ensures)
     (by_rollback g.S.Store old inside c.args.service.now c.args.operation.now c.args.running.now c.in_ok-performed.performed worked mid last new same c.check_open.result work
     c.rollback.ensures.undone c.rollback.ensures.survives (c.is_autocommit-between.ensures.settled (c.is_autocommit-between.ensures.value ∙ ap not c.requires.settled)) c.check_open.ensures c.if-performed.false) in
-    record { transacts = it.transacts; changes = it.changes; back = it.back }
+    let later = subst (λ (h : Held g.row.S.Denot). Survives (state g.S.Store h) (state g.S.Store new) (λ _. ⊥)) (sym same) c.check_open.ensures.restored.survives in
+    record {
+      transacts = it.transacts;
+      changes = it.changes;
+      running =
+          keeps_running g.S.Store old inside new c.args.running.now c.answer_within.new.running _ c.transaction-tx.ensures.begun told.running
+          (none_then (state g.S.Store inside) (state g.S.Store mid) (state g.S.Store new) c.rollback.ensures.survives later) (clean_if_open (g.S.Store.view new.store) (g.met.S.Store.shut_if_dirty new.store)) new refl;
+      back = it.back;
+    }

@@ -1,8 +1,8 @@
-use Rattle.std.proofs.Common.{Err, inl, inr}
+use Rattle.std.proofs.Common.{inl, inr}
 use Rattle.std.proofs.lemmas.Result.{IfOk-from_err}
-use Rattle.dep_tables.proofs.Results.{ok_then}
-use Rattle.dep_tables.proofs.Chains.{clean_before, stays_then, stays_err}
-use Rattle.dep_schema.proofs.Causes.{if_err_is, if_err_then}
+use Rattle.dep_tables.proofs.Results.{if_err, ok_then}
+use Rattle.dep_tables.proofs.Chains.{clean_before, stays_then}
+use Rattle.dep_schema.proofs.Causes.{works_failed}
 use Rattle.dep_schema.proofs.Upgraded.{extends, free_new}
 use Rattle.dep_schema.proofs.upgrading.extend_schema.Goals as goal
 
@@ -25,7 +25,7 @@ returns-clause-works g c = record {
   cause = λ clean inside.
       let created = c.in_ok-create_sha512s.ensures in
       let before = clean_before c.create_indexes.ensures.works.stays clean in
-      if_err_then c.create_indexes.result (c.create_indexes.ensures.works.cause clean (created.works.stays.inside before inside))
+      if_err c.create_indexes.result (c.create_indexes.ensures.works.cause clean (created.works.stays.inside before inside))
       (λ fault failed. inr (c.create_sha512s.new.tx, created.adds before inside, created.works.stays.survives, failed));
   stays = stays_then c.in_ok-create_sha512s.ensures.works.stays c.create_indexes.ensures.works.stays;
 }
@@ -37,8 +37,6 @@ returns-in_err-create_sha512s g c =
     record {
       ok = λ clean inside older. IfOk-from_err c.from_residual.result _ is_err;
       free = λ clean inside. IfOk-from_err c.from_residual.result _ is_err;
-      works = record {
-        cause = λ clean inside. if_err_is _ c.from_residual.result _ c.from_residual.ensures.1 (inl (c.in_err-create_sha512s.ensures.works.cause clean inside));
-        stays = stays_err {r = Err c.in_err-create_sha512s.field-0.0} is_err c.in_err-create_sha512s.ensures.works.stays;
-      };
+      works = works_failed c.from_residual.result c.in_err-create_sha512s.field-0.0 is_err c.from_residual.ensures.1 c.in_err-create_sha512s.ensures.works.stays
+          (λ clean inside. inl (c.in_err-create_sha512s.ensures.works.cause clean inside));
     }

@@ -1,9 +1,9 @@
-use Rattle.std.proofs.Common.{Err, inl, inr, ap, ◌∙◌}
+use Rattle.std.proofs.Common.{inl, inr, ap, ◌∙◌}
 use Rattle.std.proofs.lemmas.Result.{IfOk-from_err}
 use Rattle.dep_tables.specs.Edits.{with_our_version}
-use Rattle.dep_tables.proofs.Results.{if_ok, ok_then}
-use Rattle.dep_tables.proofs.Chains.{clean_before, survived, stays_then, stays_err}
-use Rattle.dep_schema.proofs.Causes.{if_err_is, if_err_then, fails_then, fails_later}
+use Rattle.dep_tables.proofs.Results.{if_err, if_ok, ok_then}
+use Rattle.dep_tables.proofs.Chains.{clean_before, survived, stays_then}
+use Rattle.dep_schema.proofs.Causes.{works_failed, fails_then, fails_later}
 use Rattle.dep_schema.specs.Upgrading.{with_sha512s, FailsToPut, FailsToFill}
 use Rattle.dep_schema.proofs.upgrading.upgrade_tables.Goals as goal
 
@@ -34,7 +34,7 @@ returns-clause-works g c = record {
       let there = clean_before inserted.works.stays filled in
       let goes_on = inserted.works.stays.inside filled (extended.works.stays.inside there inside) in
       let since = survived (g.T.Statements.state c.args.tx.now) (g.T.Statements.state c.extend_schema.new.tx) (g.T.Statements.state c.insert_values.new.tx) extended.works.stays.survives inserted.works.stays.survives in
-      if_err_then c.write_version.result (c.write_version.ensures.does.cause tt clean goes_on)
+      if_err c.write_version.result (c.write_version.ensures.does.cause tt clean goes_on)
       (λ fault failed. inr (extended.free there inside, fails_then g.T.Statements.state c.args.tx.now c.insert_values.new.tx c.write_version.new.tx since (FailsToFill c.args.values.now) fault (inr failed)));
   stays = stays_then c.in_ok-extend_schema.ensures.works.stays (stays_then c.in_ok-insert_values.ensures.works.stays c.write_version.ensures.does.keeps.stays);
 }
@@ -46,10 +46,8 @@ returns-in_err-extend_schema g c =
     record {
       ok = λ clean inside older. IfOk-from_err c.from_residual.result _ is_err;
       free = λ clean inside. IfOk-from_err c.from_residual.result _ is_err;
-      works = record {
-        cause = λ clean inside. if_err_is _ c.from_residual.result _ c.from_residual.ensures.1 (inl (c.in_err-extend_schema.ensures.works.cause clean inside));
-        stays = stays_err {r = Err c.in_err-extend_schema.field-0.0} is_err c.in_err-extend_schema.ensures.works.stays;
-      };
+      works = works_failed c.from_residual.result c.in_err-extend_schema.field-0.0 is_err c.from_residual.ensures.1 c.in_err-extend_schema.ensures.works.stays
+          (λ clean inside. inl (c.in_err-extend_schema.ensures.works.cause clean inside));
     }
 
 pub returns-in_err-insert_values : goal.returns-in_err-insert_values
@@ -60,15 +58,11 @@ returns-in_err-insert_values g c =
     record {
       ok = λ clean inside older. IfOk-from_err c.from_residual-in_err-insert_values.result _ is_err;
       free = λ clean inside. IfOk-from_err c.from_residual-in_err-insert_values.result _ is_err;
-      works = record {
-        cause = λ clean inside.
-            let there = clean_before failed.works.stays clean in
-            if_err_is _ c.from_residual-in_err-insert_values.result _ c.from_residual-in_err-insert_values.ensures.1
-            (inr (
-              extended.free there inside,
-              fails_later g.T.Statements.state c.args.tx.now c.extend_schema.new.tx c.insert_values.new.tx extended.works.stays.survives (FailsToPut c.args.values.now) (FailsToFill c.args.values.now)
-                  (λ at now fault by. inl by) _ (failed.works.cause clean (extended.works.stays.inside there inside)),
-            ));
-        stays = stays_err is_err (stays_then {r = Err c.in_err-insert_values.field-0.0} extended.works.stays failed.works.stays);
-      };
+      works = works_failed c.from_residual-in_err-insert_values.result c.in_err-insert_values.field-0.0 is_err c.from_residual-in_err-insert_values.ensures.1 (stays_then extended.works.stays failed.works.stays) (λ clean inside.
+          let there = clean_before failed.works.stays clean in
+          inr (
+            extended.free there inside,
+            fails_later g.T.Statements.state c.args.tx.now c.extend_schema.new.tx c.insert_values.new.tx extended.works.stays.survives (FailsToPut c.args.values.now) (FailsToFill c.args.values.now)
+                (λ at now fault by. inl by) _ (failed.works.cause clean (extended.works.stays.inside there inside)),
+          ));
     }

@@ -3,7 +3,7 @@ use Rattle.dep_tables.specs.Edits.{IsFirstBlock}
 use Rattle.dep_tables.specs.Tables.{tables_of}
 use Rattle.dep_tables.proofs.Chains.{clean_before, stays_then, stays_ok, still_ours, stays_put}
 use Rattle.dep_row_maps.proofs.Runs.{one_run_moved, all_moved}
-use Rattle.dep_objects.proofs.Results.{same_tables}
+use Rattle.dep_files.proofs.Results.{same_tables}
 use Rattle.dep_tables.specs.declared.owner.BlockOwner.TheVariants as owner
 use Rattle.dep_row_maps.proofs.FilesOwn.{no_upload}
 use Rattle.dep_row_maps.proofs.Calling.{tables_failed}

@@ -1,6 +1,6 @@
 use Rattle.dep_tables.specs.Tables.{tables_of}
 use Rattle.dep_row_maps.proofs.Calling.{queried}
-use Rattle.dep_objects.proofs.Results.{ok_both}
+use Rattle.dep_files.proofs.Results.{ok_both}
 use Rattle.dep_staging.proofs.StoredBlocks.{asked_below, stored_at}
 use Rattle.dep_staging.proofs.blocks.stored_block.Goals as goal
 

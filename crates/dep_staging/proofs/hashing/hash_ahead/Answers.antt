@@ -15,7 +15,7 @@ pub returns-in_err-hashed : goal.returns-in_err-hashed
 returns-in_err-hashed g c = record {
   does = record {
     map = λ is_open clean ours s are sound running.
-        c.put.ensures s (c.take_due.ensures.others s running) (c.hash_blocks-hashed.ensures.does.map is_open clean ours s are sound (c.in-Some.ensures.taken s running));
+        c.put.ensures s (c.take_due.ensures.others s running) (c.hash_blocks-hashed.ensures.does.map is_open clean ours s are sound (c.in-Some.ensures.taken s running)).0;
     keeps = may_err c.from_residual.ensures.0 c.hash_blocks-hashed.ensures.does.keeps;
   };
 }
@@ -24,7 +24,7 @@ pub returns : goal.returns
 returns g c = record {
   does = record {
     map = λ is_open clean ours s are sound running.
-        c.put.ensures s (c.take_due.ensures.others s running) (c.hash_blocks-hashed.ensures.does.map is_open clean ours s are sound (c.in-Some.ensures.taken s running));
+        c.put.ensures s (c.take_due.ensures.others s running) (c.hash_blocks-hashed.ensures.does.map is_open clean ours s are sound (c.in-Some.ensures.taken s running)).0;
     keeps = may_ok (subst (MayReadWithin g.T.Statements.lenders g.T.Statements.state c.args.tx.now c.hash_blocks-hashed.new.tx) c.in_ok-hashed.was c.hash_blocks-hashed.ensures.does.keeps);
   };
 }

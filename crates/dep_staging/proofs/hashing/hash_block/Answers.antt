@@ -1,4 +1,4 @@
-use Rattle.std.proofs.Common.{◌≡◌, ◌+◌, ◌∙◌, ap, sym, arith, Some}
+use Rattle.std.proofs.Common.{◌≡◌, ◌+◌, ◌∙◌, refl, ap, sym, arith, Some}
 use Rattle.std.specs.Prelude.{option_map, slice_get}
 use Rattle.dep_staging.specs.Comparing.{stored_bytes}
 use Rattle.dep_row_maps.specs.Stored.{blocks_of}
@@ -13,7 +13,7 @@ returns-in-Some g c = record {
         let was = c.args.run.now in
         let next : c.saturating_add-number.result ≡ was.segments + 1 = omega (arith, c.saturating_add-number.ensures, c.in_ok-block.ensures.few.0) in
         let found = ap (λ k. slice_get (blocks_of (stored_bytes s was.upload k)) was.blocks) (sym next) ∙ sym (c.in_ok-block.ensures.does.map clean ours s are) ∙ ap (option_map (λ x. x.items)) c.in-Some.is in
-        block_taken s sound was c.take.new.self running c.take.ensures.upload c.as_slice.result.now (found ∙ ap Some (sym c.as_slice.ensures.value)) c.take.ensures.holds c.take.ensures.segments c.take.ensures.blocks;
+        (block_taken s sound was c.take.new.self running c.take.ensures.upload c.as_slice.result.now (found ∙ ap Some (sym c.as_slice.ensures.value)) c.take.ensures.holds c.take.ensures.segments c.take.ensures.blocks, c.take.ensures.upload);
     keeps = reads_ok c.in_ok-block.ensures.does.keeps;
   };
 }
@@ -25,13 +25,13 @@ returns-else-run-eq0 g c = record {
         let was = c.args.run.now in
         let next : c.saturating_add-number.result ≡ was.segments + 1 = omega (arith, c.saturating_add-number.ensures, c.in_ok-block.ensures.few.0) in
         let found = ap (λ k. slice_get (blocks_of (stored_bytes s was.upload k)) was.blocks) (sym next) ∙ sym (c.in_ok-block.ensures.does.map clean ours s are) ∙ ap (option_map (λ x. x.items)) c.in-None.is in
-        segment_ended s sound was c.end_segment.new.self running c.end_segment.ensures.upload found c.if-run-eq0.false c.end_segment.ensures.hasher c.end_segment.ensures.segments c.end_segment.ensures.blocks;
+        (segment_ended s sound was c.end_segment.new.self running c.end_segment.ensures.upload found c.if-run-eq0.false c.end_segment.ensures.hasher c.end_segment.ensures.segments c.end_segment.ensures.blocks, c.end_segment.ensures.upload);
     keeps = reads_ok c.in_ok-block.ensures.does.keeps;
   };
 }
 
 pub returns-then-run-eq0 : goal.returns-then-run-eq0
-returns-then-run-eq0 g c = record { does = record { map = λ clean ours s are sound running. running; keeps = reads_ok c.in_ok-block.ensures.does.keeps } }
+returns-then-run-eq0 g c = record { does = record { map = λ clean ours s are sound running. (running, refl); keeps = reads_ok c.in_ok-block.ensures.does.keeps } }
 
 pub returns-in_err-block : goal.returns-in_err-block
-returns-in_err-block g c = record { does = record { map = λ clean ours s are sound running. running; keeps = reads_err c.from_residual.ensures.0 c.in_err-block.ensures.does.keeps } }
+returns-in_err-block g c = record { does = record { map = λ clean ours s are sound running. (running, refl); keeps = reads_err c.from_residual.ensures.0 c.in_err-block.ensures.does.keeps } }

@@ -1,8 +1,8 @@
-use Rattle.std.proofs.Common.{false, sym, subst}
+use Rattle.std.proofs.Common.{false, refl, sym, subst, ◌∙◌}
 use Rattle.dep_tables.specs.Tables.{Tables}
 use Rattle.dep_tables.proofs.Chains.{clean_before, still_ours, may_put, may_ok, may_then, may_read, may_err}
 use Rattle.dep_row_maps.specs.TablesAre.{TablesAre}
-use Rattle.dep_objects.proofs.Results.{same_tables}
+use Rattle.dep_files.proofs.Results.{same_tables}
 use Rattle.dep_staging.proofs.AheadLemmas.{due_too}
 use Rattle.dep_staging.proofs.hashing.hash_blocks.Goals as goal
 
@@ -16,13 +16,14 @@ returns-then-not-branch g c = record {
         let same = c.loop.invariant.0.same is_open earlier ours in
         let are_mid = subst (λ (t : Tables). TablesAre t s) (sym (same_tables old mid same)) are in
         let so_far = c.loop.invariant.1 is_open earlier ours s are sound running in
-        due_too s c.hash_block.new.run false (c.hash_block.ensures.does.map clean (still_ours old mid same ours) s are_mid sound so_far);
+        let more = c.hash_block.ensures.does.map clean (still_ours old mid same ours) s are_mid sound so_far.0 in
+        (due_too s c.hash_block.new.run false more.0, more.1 ∙ so_far.1);
     keeps = may_ok (may_then c.loop.invariant.0 (may_read c.in_ok-hash_block.ensures.does.keeps));
   };
 }
 
 pub loop-init : goal.loop-init
-loop-init g c = (may_put g.T.Statements.lenders g.T.Statements.state c.args.tx.now _, λ is_open clean ours s are sound running. running)
+loop-init g c = (may_put g.T.Statements.lenders g.T.Statements.state c.args.tx.now _, λ is_open clean ours s are sound running. (running, refl))
 
 pub loop-preserved : goal.loop-preserved
 loop-preserved g c =
@@ -34,7 +35,9 @@ loop-preserved g c =
       λ is_open clean ours s are sound running.
           let same = inv.0.same is_open (earlier clean) ours in
           let are_mid = subst (λ (t : Tables). TablesAre t s) (sym (same_tables old mid same)) are in
-          c.in_ok-hash_block.ensures.does.map clean (still_ours old mid same ours) s are_mid sound (inv.1 is_open (earlier clean) ours s are sound running),
+          let so_far = inv.1 is_open (earlier clean) ours s are sound running in
+          let more = c.in_ok-hash_block.ensures.does.map clean (still_ours old mid same ours) s are_mid sound so_far.0 in
+          (more.0, more.1 ∙ so_far.1),
     )
 
 pub returns : goal.returns
@@ -54,7 +57,9 @@ returns-in_err-hash_block g c = record {
         let earlier = clean_before c.hash_block.ensures.does.keeps.stays clean in
         let same = c.loop.invariant.0.same is_open earlier ours in
         let are_mid = subst (λ (t : Tables). TablesAre t s) (sym (same_tables old mid same)) are in
-        c.hash_block.ensures.does.map clean (still_ours old mid same ours) s are_mid sound (c.loop.invariant.1 is_open earlier ours s are sound running);
+        let so_far = c.loop.invariant.1 is_open earlier ours s are sound running in
+        let more = c.hash_block.ensures.does.map clean (still_ours old mid same ours) s are_mid sound so_far.0 in
+        (more.0, more.1 ∙ so_far.1);
     keeps = may_err c.from_residual.ensures.0 (may_then c.loop.invariant.0 (may_read c.hash_block.ensures.does.keeps));
   };
 }

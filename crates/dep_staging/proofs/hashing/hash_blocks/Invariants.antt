@@ -5,7 +5,7 @@ use Rattle.dep_types.specs.State.{State}
 use Rattle.dep_tables.specs.Tables.{tables_of, IsOurs}
 use Rattle.dep_tables.proofs.Chains.{MayReads}
 use Rattle.dep_row_maps.specs.TablesAre.{TablesAre}
-use Rattle.dep_staging.specs.HashedAhead.{IsRunning}
+use Rattle.dep_staging.specs.HashedAhead.{HasGoneOn, IsRunning}
 use Rattle.dep_staging.proofs.hashing.hash_blocks.Given as goal
 
 abbrev pub invariant-loop : goal.invariant-loop
@@ -14,4 +14,4 @@ invariant-loop g l =
     let now = g.T.Statements.state l.tx in
     MayReads g.T.Statements.lenders g.T.Statements.state l.fn.tx l.tx
     × (IsTrue old.is_open → HasCleanDisk now → IsOurs old → (s : State) → TablesAre (tables_of old) s → IsSound s
-    → IsRunning s l.fn.run → IsRunning s l.run)
+    → IsRunning s l.fn.run → HasGoneOn s l.fn.run l.run)

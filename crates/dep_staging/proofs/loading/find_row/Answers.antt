@@ -1,6 +1,6 @@
 use Rattle.dep_tables.specs.Tables.{tables_of}
 use Rattle.dep_tables.proofs.Chains.{clean_before, reads_ok, reads_then, still_ours}
-use Rattle.dep_objects.proofs.Results.{same_tables}
+use Rattle.dep_files.proofs.Results.{same_tables}
 use Rattle.dep_staging.proofs.Loaded.{none_found, row_found}
 use Rattle.dep_row_maps.proofs.Calling.{reads_failed}
 use Rattle.dep_staging.proofs.loading.find_row.Goals as goal

@@ -2,7 +2,7 @@ use Rattle.std.proofs.Common.{sym, subst, ◌∙◌}
 use Rattle.dep_tables.specs.Tables.{Tables, tables_of}
 use Rattle.dep_tables.proofs.Chains.{clean_before, reads_ok, reads_then, still_ours}
 use Rattle.dep_row_maps.specs.TablesAre.{TablesAre}
-use Rattle.dep_objects.proofs.Results.{same_tables}
+use Rattle.dep_files.proofs.Results.{same_tables}
 use Rattle.dep_staging.proofs.Loaded.{found_live}
 use Rattle.dep_row_maps.proofs.Calling.{reads_failed}
 use Rattle.dep_staging.proofs.loading.load_upload.Goals as goal

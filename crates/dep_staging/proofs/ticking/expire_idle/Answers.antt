@@ -3,7 +3,7 @@ use Rattle.dep_tables.specs.Edits.{IsLeftBefore}
 use Rattle.dep_tables.specs.Tables.{Tables, tables_of}
 use Rattle.dep_tables.proofs.Chains.{clean_before, stays_then, stays_ok, still_ours, stays_put}
 use Rattle.dep_row_maps.specs.TablesAre.{TablesAre}
-use Rattle.dep_objects.proofs.Results.{same_tables}
+use Rattle.dep_files.proofs.Results.{same_tables}
 use Rattle.dep_staging.specs.Expiring.{expired_all}
 use Rattle.dep_staging.proofs.Expired.{none_expired, one_more, all_expired}
 use Rattle.dep_row_maps.proofs.Changing.{changes_err}

@@ -4,7 +4,7 @@ use Rattle.dep_tables.specs.Tables.{Tables, tables_of}
 use Rattle.dep_row_maps.specs.Stored.{state_row}
 use Rattle.dep_row_maps.specs.TablesAre.{TablesAre}
 use Rattle.dep_row_maps.proofs.Readings.{state_read}
-use Rattle.dep_objects.proofs.Results.{same_tables}
+use Rattle.dep_files.proofs.Results.{same_tables}
 use Rattle.dep_staging.proofs.Expired.{tick_is}
 use Rattle.dep_tables.proofs.Chains.{clean_before, stays_then, still_ours}
 use Rattle.dep_row_maps.proofs.Changing.{changes_err, changes_ok, changes_then, reads_change}

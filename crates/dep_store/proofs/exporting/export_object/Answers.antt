@@ -1,6 +1,6 @@
 use Rattle.std.proofs.Common.{◌≡◌, ◌∙◌, Err, ap, sym, subst}
 use Rattle.dep_program.specs.declared.outcome.Outcome.{Outcome}
-use Rattle.dep_program.specs.declared.outcome.Outcome.TheVariants.{Done, NoSuchObject, TransferFault}
+use Rattle.dep_program.specs.declared.outcome.Outcome.TheVariants.{Done, NoSuchObject}
 use Rattle.dep_store.specs.Exports.{Exports}
 use Rattle.dep_store.specs.Reporting.{BlamesTransfer}
 use Rattle.dep_store.proofs.Exported.{gives, only_absent, never_done, blames}
@@ -10,16 +10,13 @@ use Rattle.dep_store.proofs.exporting.export_object.Goals as goal
 done_is_there : Done ≡ NoSuchObject → ⊥
 done_is_there said = cc said
 
-done_transfers : Done ≡ TransferFault → ⊥
-done_transfers said = cc said
-
 pub returns-in-Ok : goal.returns-in-Ok
 returns-in-Ok g c =
     let did = c.in-Ok.ensures in
     record {
       gives = did.gives;
       absent = λ said. absurd (done_is_there said);
-      blames = no_transfer _ _ Done done_transfers did.cause;
+      blames = no_transfer _ _ Done tt did.cause;
       kept = λ done. did.kept;
       still = did.still;
     }

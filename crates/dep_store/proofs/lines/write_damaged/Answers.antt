@@ -38,5 +38,5 @@ files-preserved g c =
         Appends-trans (g.W.Outlet.taken c.args.out.now) (g.W.Outlet.taken c.files.out) (g.W.Outlet.taken c.write_line.new.out) before.0 more.writes.0 before.1 more.writes.1,
         lines_next (damaged_line c.args.object) c.args.files.now c.files.file-index _ c.files-test.true before.0 more.writes.0 before.2 more.writes.2,
       );
-      count = more.blames.count ∙ so_far.count;
+      count = more.blames.kept ∙ so_far.count;
     }

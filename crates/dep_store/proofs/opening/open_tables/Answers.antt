@@ -10,7 +10,7 @@ use Rattle.dep_schema.proofs.Version.{not_older}
 use Rattle.dep_store.proofs.Older.{never_unknown, one_left, tells_older, known_since, back_since, had_free, not_upgraded}
 use Rattle.dep_schema.specs.OpenFaults.{begun, ShowsOrMakes}
 use Rattle.dep_schema.specs.Standing.{Stands, first_tables}
-use Rattle.dep_streams.proofs.Told.{passed_on}
+use Rattle.dep_files.proofs.Told.{passed_on}
 use Rattle.dep_store.proofs.opening.open_tables.Goals as goal
 
 pub returns-then-version-eq2 : goal.returns-then-version-eq2

@@ -1,11 +1,11 @@
-use Rattle.std.proofs.Common.{◌++◌, [], Err, refl, subst, ◌∙◌}
+use Rattle.std.proofs.Common.{◌++◌, [], Err, inl, refl, subst, ◌∙◌, arith}
 use Rattle.std.proofs.KnownBytes.{Appends-nil, Appends-trans}
 use Rattle.sqlite.specs.Held.{state}
 use Rattle.dep_tables.specs.Edits.{IsObjectAfter}
 use Rattle.dep_store.specs.declared.tally.Tally.{Tally}
 use Rattle.dep_store.specs.declared.audit_fault.AuditFault.TheVariants.{Store}
 use Rattle.dep_store.proofs.LineLemmas.{blame_none, blame_passed}
-use Rattle.dep_store.proofs.ReportLemmas.{objects_rise, told_none, told_so_far, told_more, told_all, objects_fail, sum_fails, begun_fails}
+use Rattle.dep_store.proofs.ReportLemmas.{objects_rise, told_none, told_so_far, told_more, told_all, objects_fail, sum_passes, begun_fails}
 use Rattle.dep_store.proofs.Tries.{tells_keeps, keeps_then, keeps_still}
 use Rattle.dep_store.proofs.reporting.report_objects.Goals as goal
 
@@ -17,7 +17,7 @@ returns-in_default g c =
         before.1,
         λ clean t at. let earlier = c.in_ok-object.ensures.rows.honest clean in
             let after = (c.in_ok-object.ensures.rows.ok clean t (c.objects.invariant.kept earlier t at)).0 in
-            told_all t c.objects.after before.0 c.objects.tally (before.2 earlier t at) (subst (IsObjectAfter c.objects.after t) c.in_default.is after),
+            told_all t c.objects.after before.0 c.objects.tally (before.2 earlier t at).0 (subst (IsObjectAfter c.objects.after t) c.in_default.is after),
       );
       stays =
           let inv = c.objects.invariant in
@@ -36,7 +36,7 @@ returns-in_err-more g c =
             let earlier = c.in_ok-object.ensures.rows.honest mid in
             let stood = c.objects.invariant.kept earlier t at in
             let after = c.in_ok-object.ensures.rows.ok mid t stood in
-            objects_fail t (objects_rise stood) c.objects.after c.in-Some.object before.0 c.objects.tally (before.2 earlier t at)
+            objects_fail t (objects_rise stood) c.objects.after c.in-Some.object before.0 c.objects.tally (before.2 earlier t at).0
             (subst (IsObjectAfter c.objects.after t) c.in-Some.is after.0) more.0 (c.in_err-more.field-0.0) (more.2 clean t after.1)
             c.from_residual-in_err-more.result c.from_residual-in_err-more.ensures.1,
       );
@@ -47,8 +47,9 @@ returns-in_err-more g c =
       blames = blame_passed _ _ _ c.objects.invariant.count c.in_err-more.field-0.0 c.in_err-more.ensures.reports.blames c.from_residual-in_err-more.result c.from_residual-in_err-more.ensures.1;
     }
 
-pub returns-in_err-tally : goal.returns-in_err-tally
-returns-in_err-tally g c =
+-- more files are checked than are counted
+pub returns-in_default-plus : goal.returns-in_default-plus
+returns-in_default-plus g c =
     let before = c.objects.invariant.writes in
     let more = c.in_ok-more.ensures.reports.writes in record {
       writes = (
@@ -58,15 +59,14 @@ returns-in_err-tally g c =
             let earlier = c.in_ok-object.ensures.rows.honest mid in
             let stood = c.objects.invariant.kept earlier t at in
             let after = c.in_ok-object.ensures.rows.ok mid t stood in
-            sum_fails t (objects_rise stood) c.objects.after c.in-Some.object before.0 c.objects.tally (before.2 earlier t at)
-            (subst (IsObjectAfter c.objects.after t) c.in-Some.is after.0) more.0 c.in_ok-more.more (more.2 clean t after.1)
-            _ c.from_residual-in_err-tally.result c.from_residual-in_err-tally.ensures.1,
+            sum_passes t (objects_rise stood) c.objects.after c.in-Some.object before.0 c.objects.tally (before.2 earlier t at).0
+            (subst (IsObjectAfter c.objects.after t) c.in-Some.is after.0) more.0 c.in_ok-more.more (more.2 clean t after.1) (c.plus.ensures.none c.in_default-plus.is),
       );
       stays =
           let inv = c.objects.invariant in
           let rows = c.in_ok-object.ensures.rows in
           keeps_then (state g.S.Store c.args.store.now) (state g.S.Store c.next_object.new.self) (state g.S.Store c.report_object.new.store) (λ clean t at. (rows.ok clean t (inv.kept (rows.honest clean) t at)).1) (keeps_then (state g.S.Store c.args.store.now) (state g.S.Store c.objects.store) (state g.S.Store c.next_object.new.self) inv.kept inv.stays (tells_keeps (state g.S.Store c.objects.store) (state g.S.Store c.next_object.new.self) _ _ rows)) c.in_ok-more.ensures.reports.stays;
-      blames = blame_passed {X = Tally} _ _ _ c.objects.invariant.count c.in_err-tally.field-0.0 (blame_none _ _ (Err c.in_err-tally.field-0.0) c.in_ok-more.ensures.reports.blames.count c.in_err-tally.ensures.fault) c.from_residual-in_err-tally.result c.from_residual-in_err-tally.ensures.1;
+      blames = blame_none _ _ _ (c.in_ok-more.ensures.reports.blames.kept ∙ c.objects.invariant.count) (λ is. cc is);
     }
 
 pub objects-preserved : goal.objects-preserved
@@ -84,11 +84,12 @@ objects-preserved g c =
             let earlier = c.in_ok-object.ensures.rows.honest mid in
             let stood = inv.kept earlier t at in
             let after = c.in_ok-object.ensures.rows.ok mid t stood in
-            told_more t (objects_rise stood) c.objects.after c.in-Some.object before.0 c.objects.tally (before.2 earlier t at)
-            (subst (IsObjectAfter c.objects.after t) c.in-Some.is after.0) more.0 c.in_ok-more.more c.in_ok-tally.tally (more.2 clean t after.1)
-            c.in_ok-tally.ensures.checked c.in_ok-tally.ensures.damaged,
+            let told = before.2 earlier t at in
+            told_more t (objects_rise stood) c.objects.after c.in-Some.object before.0 c.objects.tally told.0
+            (subst (IsObjectAfter c.objects.after t) c.in-Some.is after.0) more.0 c.in_ok-more.more c.in-Some-plus.sum c.objects.counter (more.2 clean t after.1)
+            (rw c.in-Some-plus.is at c.plus.ensures.checked) (rw c.in-Some-plus.is at c.plus.ensures.damaged) told.1,
       );
-      count = c.in_ok-more.ensures.reports.blames.count ∙ inv.count;
+      count = c.in_ok-more.ensures.reports.blames.kept ∙ inv.count;
     }
 
 pub objects-init : goal.objects-init
@@ -105,7 +106,7 @@ returns-in_err-object g c =
       writes = (
         before.0,
         before.1,
-        λ clean t at. begun_fails t before.0 (told_so_far t c.objects.after before.0 c.objects.tally (before.2 (c.in_err-object.ensures.rows.honest clean) t at))
+        λ clean t at. begun_fails t before.0 (told_so_far t c.objects.after before.0 c.objects.tally (before.2 (c.in_err-object.ensures.rows.honest clean) t at).0)
             _ c.from_residual.result c.from_residual.ensures.1,
       );
       stays =
@@ -120,7 +121,9 @@ returns g c =
       writes = (
         before.0,
         before.1,
-        λ clean t at. told_so_far t c.objects.after before.0 c.objects.tally (before.2 clean t at),
+        λ clean t at.
+            let told = before.2 clean t at in
+            (told_so_far t c.objects.after before.0 c.objects.tally told.0, inl (omega (arith, told.1, c.objects-test.false))),
       );
       stays = c.objects.invariant.stays;
       blames = blame_none _ _ _ c.objects.invariant.count (λ is. cc is);

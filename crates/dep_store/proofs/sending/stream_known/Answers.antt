@@ -6,8 +6,8 @@ use Rattle.sqlite.proofs.StateLemmas.{clean_if_open}
 use Rattle.dep_tables.specs.Tables.{Tables, tables_of}
 use Rattle.dep_tables.proofs.Results.{ok_then}
 use Rattle.dep_row_maps.specs.TablesAre.{TablesAre}
-use Rattle.dep_streams.proofs.Stills.{still_left}
-use Rattle.dep_streams.proofs.Streams.{streamed, IsSized}
+use Rattle.dep_files.proofs.Stills.{still_left}
+use Rattle.dep_files.proofs.Streams.{streamed, IsSized}
 use Rattle.dep_types.specs.State.{State}
 use Rattle.dep_schema.specs.States.{StandsFor}
 use Rattle.dep_schema.proofs.Transacting.{leaves_still}

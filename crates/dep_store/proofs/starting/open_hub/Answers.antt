@@ -2,6 +2,7 @@ use Rattle.std.proofs.Common.{◌≡◌, IsTrue, ap, refl, sym, subst, ◌∙◌
 use Rattle.sqlite.specs.Held.{Held, state}
 use Rattle.sqlite.specs.State.{HasCleanDisk}
 use Rattle.dep_types.specs.State.{empty_state}
+use Rattle.dep_store.specs.Causes.{FailsToOpenTables}
 use Rattle.dep_store.specs.Migrating.{OpenLeaves}
 use Rattle.dep_schema.specs.States.{StandsFor}
 use Rattle.dep_hub.specs.Records.{first_world}
@@ -41,6 +42,7 @@ returns-in-Ok-new g c =
       checked = made.checked;
       next = made.next;
       left = tt;
+      told = tt;
       known = tt;
       kept = tt;
       refused = tt;
@@ -62,6 +64,7 @@ returns-in-Err-new g c =
       checked = tt;
       next = tt;
       left = λ fault said. absurd (other_fault c.in-Err-new.fault fault said);
+      told = λ fault said. absurd (other_fault c.in-Err-new.fault fault said);
       known = λ clean said. absurd (other_fault c.in-Err-new.fault _ said);
       kept = λ fault e honest.
           let is_honest = subst (λ (h : Held _). HasCleanDisk (state g.S.Store h)) same honest in (
@@ -84,6 +87,7 @@ returns-in-Err g c =
       checked = tt;
       next = tt;
       left = λ fault said. did.left;
+      told = λ fault said clean. subst (FailsToOpenTables g.S.Store c.args.connection c.in-Err.connection) (same_open c.in-Err.fault fault said) (did.told clean);
       known = λ clean said. did.refused clean (same_open c.in-Err.fault _ said);
       kept = λ fault said. absurd (other_fault fault c.in-Err.fault (sym said));
       refused = λ said. absurd (other_fault _ c.in-Err.fault (sym said));

@@ -5,7 +5,7 @@ use Rattle.dep_types.specs.declared.store_fault.StoreFault.{StoreFault}
 use Rattle.dep_schema.specs.Transactions.{Transacts}
 use Rattle.dep_schema.proofs.Asking.{lent_connection, lent_name}
 use Rattle.dep_schema.proofs.Transacting.{gave_up, committed, uncommitted, began_open, nothing_told, works_within, still_inside}
-use Rattle.dep_streams.proofs.Told.{passed_on}
+use Rattle.dep_files.proofs.Told.{passed_on}
 use Rattle.dep_store.proofs.Carrying.{made_inside}
 use Rattle.dep_store.proofs.ShutLemmas.{under_way}
 use Rattle.dep_store.proofs.Tries.{busy_transacts}

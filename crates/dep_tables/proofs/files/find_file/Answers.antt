@@ -7,4 +7,4 @@ pub returns-then-file-ge-LIMIT : goal.returns-then-file-ge-LIMIT
 returns-then-file-ge-LIMIT g c = record { does = refuses_query _ (omega (arith, c.if-file-ge-LIMIT.true)) }
 
 pub returns : goal.returns
-returns g c = record { does = asks _ 11 (omega (arith, c.if-file-ge-LIMIT.false)) c.key_param.ensures find_is.plain c.ask_one.ensures.shown c.ask_one.ensures.cause c.ask_one.ensures.keeps (finds_file _ _ c.args.file) }
+returns g c = record { does = asks _ 10 (omega (arith, c.if-file-ge-LIMIT.false)) c.key_param.ensures find_is.plain c.ask_one.ensures.shown c.ask_one.ensures.cause c.ask_one.ensures.keeps (finds_file _ _ c.args.file) }

@@ -1,15 +1,17 @@
-use Rattle.std.proofs.Common.{◌∙◌, map, not, true, ap}
+use Rattle.std.proofs.Common.{◌∙◌, map, not, true, ap, sym, subst}
+use Rattle.std.specs.List.{All}
 use Rattle.std.proofs.lemmas.Result.{IfOk-from_err}
 use Rattle.dep_operations.specs.Views.{upload_view}
 use Rattle.dep_operations.specs.declared.view.UploadView.{UploadView}
 use Rattle.dep_tables.proofs.Chains.{may_err, may_ok, may_put}
-use Rattle.dep_views.proofs.Hashed.{hashed_all, nothing_to_hash}
+use Rattle.dep_views.specs.Seen.{IsUndigested}
+use Rattle.dep_views.proofs.Hashed.{all_undigested, hashed_all, nothing_to_hash}
 use Rattle.dep_views.proofs.digests.load_digests.Goals as goal
 
 pub returns-then-is_none : goal.returns-then-is_none
 returns-then-is_none g c = record {
   map = record {
-    found = λ clean inside ours s are is_open sound running content t same. nothing_to_hash s content t c.args.loaded same (c.is_none.ensures ∙ ap not c.if-is_none.true);
+    found = λ clean inside ours s are is_open sound running. (running, λ content t same. nothing_to_hash s content t c.args.loaded same (c.is_none.ensures ∙ ap not c.if-is_none.true));
     keeps = may_put g.T.Statements.lenders g.T.Statements.state c.args.tx.now _;
   };
 }
@@ -17,9 +19,14 @@ returns-then-is_none g c = record {
 pub returns : goal.returns
 returns g c = record {
   map = record {
-    found = λ clean inside ours s are is_open sound running content t same.
-        let hashed = c.in_ok-uploads.ensures.map.found clean inside ours s are is_open sound running in
-        hashed_all s content t c.args.loaded same c.in_ok-uploads.uploads (c.is_none.ensures ∙ ap not c.if-is_none.false) (hashed ∙ ap (map (λ (v : UploadView). upload_view true s v.upload)) c.as_slice.ensures);
+    found = λ clean inside ours s are is_open sound running.
+        let hashed = c.in_ok-uploads.ensures.map.found clean inside ours s are is_open sound running in (
+          hashed.0,
+          λ content t same.
+              let some = c.is_none.ensures ∙ ap not c.if-is_none.false in
+              let told = hashed.1 (subst (All (IsUndigested s)) (sym c.as_slice.ensures) (all_undigested s content t c.args.loaded same some)) in
+              hashed_all s content t c.args.loaded same c.in_ok-uploads.uploads some (told ∙ ap (map (λ (v : UploadView). upload_view true s v.upload)) c.as_slice.ensures),
+        );
     keeps = may_ok c.in_ok-uploads.ensures.map.keeps;
   };
 }
@@ -27,7 +34,10 @@ returns g c = record {
 pub returns-in_err-uploads : goal.returns-in_err-uploads
 returns-in_err-uploads g c = record {
   map = record {
-    found = λ clean inside ours s are is_open sound running. IfOk-from_err c.from_residual.result _ c.from_residual.ensures.0;
+    found = λ clean inside ours s are is_open sound running. (
+      (c.hash_uploads.ensures.map.found clean inside ours s are is_open sound running).0,
+      IfOk-from_err c.from_residual.result _ c.from_residual.ensures.0,
+    );
     keeps = may_err c.from_residual.ensures.0 c.in_err-uploads.ensures.map.keeps;
   };
 }

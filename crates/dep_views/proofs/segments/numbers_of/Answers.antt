@@ -1,7 +1,7 @@
 use Rattle.std.proofs.Common.{◌∙◌, ◌++◌, [], ◌∷◌, map, get_or, is_err, sym, ap}
 use Rattle.std.proofs.lemmas.List.{map_more, take_all}
 use Rattle.dep_tables.specs.declared.segments.SegmentRow.{SegmentRow}
-use Rattle.dep_objects.proofs.Named.{pushed}
+use Rattle.dep_files.proofs.Results.{pushed}
 use Rattle.dep_views.proofs.segments.numbers_of.Goals as goal
 
 pub loop-segment-preserved : goal.loop-segment-preserved

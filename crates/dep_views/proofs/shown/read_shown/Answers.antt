@@ -5,6 +5,9 @@ use Rattle.dep_views.proofs.shown.read_shown.Goals as goal
 pub returns-in-Object : goal.returns-in-Object
 returns-in-Object g c = record { does = reads_shown c.args.subject.now _ c.in-Object.is (λ _. ⊤) c.show_object.ensures.does }
 
+pub returns-in-Payload : goal.returns-in-Payload
+returns-in-Payload g c = record { does = reads_shown c.args.subject.now _ c.in-Payload.is (λ _. ⊤) c.show_payload.ensures.does }
+
 pub returns-in-Files : goal.returns-in-Files
 returns-in-Files g c = record { does = reads_shown c.args.subject.now _ c.in-Files.is (λ _. ⊤) c.show_files.ensures.does }
 

@@ -1,5 +1,4 @@
-use Rattle.std.proofs.Common.{◌∙◌, ap}
-use Rattle.dep_types.specs.State.{Texts}
+use Rattle.std.proofs.Common.{[], ◌∙◌}
 use Rattle.dep_answers.specs.declared.subject.Shown.TheVariants as shown
 use Rattle.dep_tables.proofs.Chains.{reads_ok, reads_err}
 use Rattle.dep_views.proofs.Shows.{listed_shown, shown_failed}
@@ -10,8 +9,8 @@ returns g c = record {
   does = record {
     map = record {
       found = λ clean inside ours s are sound has.
-          ap (λ (texts : Texts). shown.Files (record { object = c.args.row; metadata = texts; files = c.in_ok-files.files })) c.new.ensures
-          ∙ listed_shown s c.args.row c.in_ok-files.files has (c.in_ok-files.ensures.does.map clean ours s are);
+          (λ i. shown.Files (record { object = c.args.row; metadata = c.new.ensures i; files = c.in_ok-files.files; sha512s = (c.new-3.ensures ∙ c.new-2.ensures.items) i }))
+          ∙ listed_shown (λ _. []) s c.args.row c.in_ok-files.files has (c.in_ok-files.ensures.does.map clean ours s are);
       keeps = reads_ok c.in_ok-files.ensures.does.keeps;
     };
   };

@@ -1,7 +1,7 @@
 use Rattle.std.proofs.lemmas.Result.{IfOk-from_err}
 use Rattle.std.proofs.Common.{Ok, ◌≡◌, ◌∙◌, ◌++◌, [], ◌∷◌, map, take, get_or, is_err, sym, ap}
 use Rattle.std.proofs.lemmas.List.{map_more, take_all}
-use Rattle.dep_objects.proofs.Named.{pushed}
+use Rattle.dep_files.proofs.Results.{pushed}
 use Rattle.dep_operations.specs.Views.{upload_undigested}
 use Rattle.dep_operations.specs.declared.view.UploadView.{UploadView}
 use Rattle.dep_tables.proofs.Chains.{clean_before, may_ok, may_then, may_err, still_ours}

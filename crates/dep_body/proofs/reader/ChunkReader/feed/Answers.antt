@@ -1,7 +1,7 @@
-use Rattle.std.proofs.Common.{◌≤◌, ◌++◌, length, subst, sym}
+use Rattle.std.proofs.Common.{ℕ, List, ◌++◌, subst, sym}
 use Rattle.dep_body.specs.ReaderValue.{ReaderValue}
-use Rattle.dep_body.specs.Feeding.{HasFed, TellsFed, used_by}
-use Rattle.dep_body.proofs.FeedLemmas.{feeds, feeds_fed, tells, used_within}
+use Rattle.dep_body.specs.Feeding.{HasFed, HasChunkByte, TellsFed}
+use Rattle.dep_body.proofs.FeedLemmas.{all_used, feeds, feeds_fed, tells}
 use Rattle.dep_body.proofs.reader.ChunkReader.feed.Goals as goal
 
 pub returns-clause-fed : goal.returns-clause-fed
@@ -23,7 +23,9 @@ returns-clause-told c = λ fed h.
     (tells c.self.inside.max_upload c.advance.new.content fed c.args.piece.now c.in-Ok.advanced.0 c.in-Ok.advanced.1
     (feeds old new fed c.args.piece.now c.in-Ok.advanced.1 was c.in-Ok.ensures.stands c.in-Ok.ensures.within c.in-Ok.ensures.all c.in-Ok.ensures.settled)))
 
-pub returns-clause-within : goal.returns-clause-within
-returns-clause-within c =
-    subst (λ a. used_by a ≤ length c.args.piece.now) (sym c.answer.ensures)
-    (used_within c.in-Ok.advanced.0 c.in-Ok.advanced.1 (length c.args.piece.now) c.in-Ok.ensures.within)
+pub returns-in-Err-clause-wanted : goal.returns-in-Err-clause-wanted
+returns-in-Err-clause-wanted c = λ fed h.
+    let old : ReaderValue = record { limit = c.self.inside.max_upload; content = c.self.inside.content; stage = c.self.inside.stage } in
+    let was = subst (λ (r : ReaderValue). HasFed r fed) (sym c.self.view_is) h in
+    subst (λ (r : ReaderValue). HasChunkByte r.limit fed c.args.piece.now) c.self.view_is
+    (subst (λ (l : List ℕ). HasChunkByte c.self.inside.max_upload l c.args.piece.now) (sym (all_used old fed was c.in-Err.ensures.unsettled)) (c.in-Err.ensures.wanted was.text was.stands))

@@ -5,7 +5,7 @@ use Rattle.dep_hub.specs.Holding.{MovesLine}
 use Rattle.dep_outbox.specs.Wires.{told}
 use Rattle.dep_host.specs.Notes.{Grows, LetIn}
 use Rattle.dep_host.specs.declared.log.Refusal.TheVariants.{Address, Full, Memory}
-use Rattle.dep_host.proofs.HostLemmas.{untouched, stays_same, stays_set}
+use Rattle.dep_host.proofs.HostLemmas.{untouched, unopened, stays_same, stays_set}
 use Rattle.dep_host.proofs.MeetLemmas.{turned}
 use Rattle.dep_host.proofs.host.Host.admit.Goals as goal
 
@@ -21,15 +21,7 @@ returns-then-seated_from-self g c =
 pub returns-in-Err-Full : goal.returns-in-Err-Full
 returns-in-Err-Full g c =
     turned g.A.Archive.condition g.R.Source.unread g.K.Sink.taken g.S.Spool.held g.L.HostLog.notes _ _ _ _ c.args.at c.args.client Full _ c.turn_away-in-Err-Full.ensures.same (record {
-      keeps = record {
-        sits = refl;
-        next = c.in-Err-Full.ensures.kept;
-        keeps = c.in-Err-Full.ensures.holding;
-        same_store = c.connect.ensures.store;
-        same_config = c.connect.ensures.config;
-        same_limits = refl;
-        same_shut = refl;
-      };
+      keeps = unopened g.A.Archive.condition g.R.Source.unread g.K.Sink.taken g.S.Spool.held _ _ refl c.in-Err-Full.ensures.kept c.in-Err-Full.ensures.holding c.connect.ensures.store c.connect.ensures.config refl refl;
       may = (c.requires.vacant.2, inr (c.in-Err-Full.ensures.full (search rules)));
       stays = record { places = refl; limits = refl; shut = refl; unanswered = refl };
       noted = c.turn_away-in-Err-Full.ensures.noted;
@@ -38,15 +30,7 @@ returns-in-Err-Full g c =
 pub returns-in-Err-Memory : goal.returns-in-Err-Memory
 returns-in-Err-Memory g c =
     turned g.A.Archive.condition g.R.Source.unread g.K.Sink.taken g.S.Spool.held g.L.HostLog.notes _ _ _ _ c.args.at c.args.client Memory _ c.turn_away-in-Err-Memory.ensures.same (record {
-      keeps = record {
-        sits = refl;
-        next = c.in-Err-Memory.ensures.kept;
-        keeps = c.in-Err-Memory.ensures.holding;
-        same_store = c.connect.ensures.store;
-        same_config = c.connect.ensures.config;
-        same_limits = refl;
-        same_shut = refl;
-      };
+      keeps = unopened g.A.Archive.condition g.R.Source.unread g.K.Sink.taken g.S.Spool.held _ _ refl c.in-Err-Memory.ensures.kept c.in-Err-Memory.ensures.holding c.connect.ensures.store c.connect.ensures.config refl refl;
       may = c.requires.vacant.2;
       stays = record { places = refl; limits = refl; shut = refl; unanswered = refl };
       noted = c.turn_away-in-Err-Memory.ensures.noted;

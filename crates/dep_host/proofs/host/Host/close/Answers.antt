@@ -4,15 +4,14 @@ use Rattle.dep_host.specs.Hosting.{MayGo, position}
 use Rattle.dep_host.proofs.HostLemmas.{within_still, free_once_left, slot_read, closing, closing_none, stays_set}
 use Rattle.dep_host.proofs.host.Host.close.Goals as goal
 
-pub returns-in-Some : goal.returns-in-Some
-returns-in-Some g c = record {
+pub returns-in-Some-clause-goes : goal.returns-in-Some-clause-goes
+returns-in-Some-clause-goes g c = record {
   goes =
       let sat = slot_read _ _ _ c.requires.there c.index_mut.ensures.value ∙ (sym c.take.ensures.value ∙ c.in-Some.is) in
-      closing g.A.Archive.condition g.R.Source.unread g.K.Sink.taken g.S.Spool.held _ _ c.args.at c.args.second _ c.in-Some.seat sat (record {
+      closing g.A.Archive.condition g.R.Source.unread g.K.Sink.taken g.S.Spool.held _ _ c.args.at c.args.second c.args.closing _ c.in-Some.seat sat (record {
         there = c.requires.there;
         sat = sat;
         gone = ap (λ y. set c.args.self.now.seats.items c.args.at y) c.take.ensures.after;
-        reason = c.args.closing;
         done = subst (λ o. MayGo (position c.args.self.now) c.args.second c.args.closing o) sat c.requires.done;
         next = c.close.ensures.kept.next;
         moves = c.close.ensures.holding;
@@ -26,9 +25,9 @@ returns-in-Some g c = record {
   stays = stays_set _ _ c.args.at _ refl refl refl refl;
 }
 
-pub returns-in_default : goal.returns-in_default
-returns-in_default g c = record {
-  goes = closing_none g.A.Archive.condition g.R.Source.unread g.K.Sink.taken g.S.Spool.held _ _ c.args.at c.args.second _
+pub returns-in_default-clause-goes : goal.returns-in_default-clause-goes
+returns-in_default-clause-goes g c = record {
+  goes = closing_none g.A.Archive.condition g.R.Source.unread g.K.Sink.taken g.S.Spool.held _ _ c.args.at c.args.second c.args.closing _
       (slot_read _ _ _ c.requires.there c.index_mut.ensures.value ∙ (sym c.take.ensures.value ∙ c.in_default.is));
   gone = get_or-set_same _ c.args.at _ None c.requires.there ∙ c.take.ensures.after;
   others = λ place ne. get_or-set_other _ c.args.at place _ None ne;

@@ -1,6 +1,7 @@
 use Rattle.std.proofs.Common.{[], false, true, Ok, Err, inl, inr, refl, sym, ◌∙◌, rules}
 use Rattle.std.proofs.lemmas.List.Elements.{Contains-push}
-use Rattle.dep_host.proofs.HostLemmas.{asked, stands_still, told_shut, told_open, told_as}
+use Rattle.dep_hub.specs.Archives.{KeepsAll}
+use Rattle.dep_host.proofs.HostLemmas.{asked_alone, stands_still, told_shut, told_open, told_as}
 use Rattle.dep_host.proofs.host.Host.is_open.Goals as goal
 
 pub returns-then-is_some-clause-asks : goal.returns-then-is_some-clause-asks
@@ -13,13 +14,7 @@ returns-then-is_some-clause-asks g c = record {
 
 pub returns-in-Ok-false-clause-asks : goal.returns-in-Ok-false-clause-asks
 returns-in-Ok-false-clause-asks g c = record {
-  steps = asked g.A.Archive.condition g.R.Source.unread g.K.Sink.taken g.S.Spool.held _ _ (record {
-    sits = refl;
-    hub = record { next = c.is_open.ensures.rests.next; same_config = c.is_open.ensures.rests.config; clean = c.is_open.ensures.rests.store.was_open; honest = c.is_open.ensures.rests.store.honest };
-    stands = c.is_open.ensures.rests.stands;
-    same_limits = refl;
-    told = inr (sym c.is_some.ensures ∙ c.if-is_some.false, λ is. told_shut (g.A.Archive.condition c.is_open.new.self.store) c.in-Ok-false.field-0 (search rules) c.in-Ok-false.ensures.told);
-  });
+  steps = asked_alone g.A.Archive.condition g.R.Source.unread g.K.Sink.taken g.S.Spool.held _ _ KeepsAll c.is_open.ensures.rests c.is_open.ensures.rests.store.was_open c.is_open.ensures.rests.store.honest refl refl (inr (sym c.is_some.ensures ∙ c.if-is_some.false, λ is. told_shut (g.A.Archive.condition c.is_open.new.self.store) c.in-Ok-false.field-0 (search rules) c.in-Ok-false.ensures.told));
   told = inr (sym c.is_some.ensures ∙ c.if-is_some.false, Contains-push [] c.args.second);
   limits = refl;
   known = inr (
@@ -31,13 +26,7 @@ returns-in-Ok-false-clause-asks g c = record {
 
 pub returns-in-Ok-true-clause-asks : goal.returns-in-Ok-true-clause-asks
 returns-in-Ok-true-clause-asks g c = record {
-  steps = asked g.A.Archive.condition g.R.Source.unread g.K.Sink.taken g.S.Spool.held _ _ (record {
-    sits = refl;
-    hub = record { next = c.is_open.ensures.rests.next; same_config = c.is_open.ensures.rests.config; clean = c.is_open.ensures.rests.store.was_open; honest = c.is_open.ensures.rests.store.honest };
-    stands = c.is_open.ensures.rests.stands;
-    same_limits = refl;
-    told = inl refl;
-  });
+  steps = asked_alone g.A.Archive.condition g.R.Source.unread g.K.Sink.taken g.S.Spool.held _ _ KeepsAll c.is_open.ensures.rests c.is_open.ensures.rests.store.was_open c.is_open.ensures.rests.store.honest refl refl (inl refl);
   told = inl refl;
   limits = refl;
   known = inr (
@@ -49,13 +38,7 @@ returns-in-Ok-true-clause-asks g c = record {
 
 pub returns-in-Err-clause-asks : goal.returns-in-Err-clause-asks
 returns-in-Err-clause-asks g c = record {
-  steps = asked g.A.Archive.condition g.R.Source.unread g.K.Sink.taken g.S.Spool.held _ _ (record {
-    sits = refl;
-    hub = record { next = c.is_open.ensures.rests.next; same_config = c.is_open.ensures.rests.config; clean = c.is_open.ensures.rests.store.was_open; honest = c.is_open.ensures.rests.store.honest };
-    stands = c.is_open.ensures.rests.stands;
-    same_limits = refl;
-    told = inl refl;
-  });
+  steps = asked_alone g.A.Archive.condition g.R.Source.unread g.K.Sink.taken g.S.Spool.held _ _ KeepsAll c.is_open.ensures.rests c.is_open.ensures.rests.store.was_open c.is_open.ensures.rests.store.honest refl refl (inl refl);
   told = inl refl;
   limits = refl;
   known = inr (Err c.in-Err._fault, c.in-Err.ensures.asked, (sym c.is_some.ensures ∙ c.if-is_some.false, c.saturating_add-self.ensures, c.in-Err.ensures.cause));

@@ -2,10 +2,11 @@ use Rattle.std.proofs.Common.{refl, sym, ap, ◌∙◌}
 use Rattle.dep_hub.specs.Sending.{outside}
 use Rattle.dep_hub.specs.Numbers.{index_of}
 use Rattle.dep_hub.proofs.ConnectionLemmas.{index_none, ascends_set}
-use Rattle.dep_hub.proofs.HubLemmas.{stays_there, none_there, keeps_same, not_absent, same_hub}
+use Rattle.dep_hub.proofs.HubLemmas.{stays_there, none_there, not_absent, same_hub}
 use Rattle.dep_hub.proofs.HoldingLemmas.{comes_next}
 use Rattle.dep_hub.proofs.NextLemmas.{next_there, next_passes}
 use Rattle.dep_hub.proofs.hub.Hub.answer.Goals as goal
+use Rattle.std.proofs.KnownBytes.{Keeps-refl}
 
 -- there is no such connection
 pub returns-in_default : goal.returns-in_default
@@ -15,7 +16,7 @@ returns-in_default g c =
       goes = record { config = refl; next = refl; clean = λ is_open. is_open; honest = λ honest. honest };
       absent = λ _. refl;
       there = λ there. absurd (none_there _ none there);
-      answers = record { absent = none; same = same_hub c.args.self.now _; sends_nothing = keeps_same (g.O.Outlet.taken c.args.out.now) };
+      answers = record { absent = none; same = same_hub c.args.self.now _; sends_nothing = Keeps-refl (g.O.Outlet.taken c.args.out.now) };
     }
 
 -- its next item was answered

@@ -1,15 +1,16 @@
 use Rattle.std.proofs.Common.{refl, sym, ap, ◌∙◌}
 use Rattle.dep_hub.specs.Numbers.{index_of}
 use Rattle.dep_hub.proofs.ConnectionLemmas.{index_none, ascends_set}
-use Rattle.dep_hub.proofs.HubLemmas.{comes_to, keeps_same, same_hub}
+use Rattle.dep_hub.proofs.HubLemmas.{comes_to, same_hub}
 use Rattle.dep_hub.proofs.hub.Hub.arrive.Goals as goal
+use Rattle.std.proofs.KnownBytes.{Keeps-refl}
 
 pub returns-in_default : goal.returns-in_default
 returns-in_default g c = record {
   arrival = record {
     absent = index_none c.args.connection c.args.self.now.connections.items (ap (index_of c.args.connection) (sym c.as_slice.ensures.value) ∙ (sym c.index_among.ensures.value ∙ c.in_default.is));
     same = same_hub c.args.self.now _;
-    sends_nothing = keeps_same (g.O.Outlet.taken c.args.out.now);
+    sends_nothing = Keeps-refl (g.O.Outlet.taken c.args.out.now);
   };
 }
 

@@ -24,42 +24,18 @@ invariant_of-self-2 g c =
     }
 
 -- there are too many, or no number is left
-pub returns-then-len-ge-MOST_CONNECTIONS : goal.returns-then-len-ge-MOST_CONNECTIONS
-returns-then-len-ge-MOST_CONNECTIONS g c = record {
-  adds = tt;
-  moves = tt;
-  same = λ w at. at;
-  holding = λ lines held kept. kept;
-  config = refl;
-  store = refl;
-  next = tt;
-  full = search rules;
-  room = tt;
-  memory = λ e. cc;
-  kept = refl;
-  fresh = tt;
-  there = tt;
-  rests = leaves_as_before g.A.Archive.condition c.args.self.now _ refl (g.met.A.Archive.settled c.args.self.now.store);
-}
+pub returns-then-len-ge-MOST_CONNECTIONS-clause-memory : goal.returns-then-len-ge-MOST_CONNECTIONS-clause-memory
+returns-then-len-ge-MOST_CONNECTIONS-clause-memory g c = λ e. cc
+
+pub returns-then-len-ge-MOST_CONNECTIONS-clause-rests : goal.returns-then-len-ge-MOST_CONNECTIONS-clause-rests
+returns-then-len-ge-MOST_CONNECTIONS-clause-rests g c = leaves_as_before g.A.Archive.condition c.args.self.now _ refl (g.met.A.Archive.settled c.args.self.now.store)
 
 -- memory ran out
-pub returns-in-Err : goal.returns-in-Err
-returns-in-Err g c = record {
-  adds = tt;
-  moves = tt;
-  same = search rules;
-  holding = holds_same c.args.self.now.config.max_upload c.args.self.now.connections.items c.push.new.self.items c.in-Err.ensures.items;
-  config = refl;
-  store = refl;
-  next = tt;
-  full = search rules;
-  room = tt;
-  memory = search rules;
-  kept = refl;
-  fresh = tt;
-  there = tt;
-  rests = leaves_as_before g.A.Archive.condition c.args.self.now _ refl (g.met.A.Archive.settled c.args.self.now.store);
-}
+pub returns-in-Err-clause-holding : goal.returns-in-Err-clause-holding
+returns-in-Err-clause-holding g c = holds_same c.args.self.now.config.max_upload c.args.self.now.connections.items c.push.new.self.items c.in-Err.ensures.items
+
+pub returns-in-Err-clause-rests : goal.returns-in-Err-clause-rests
+returns-in-Err-clause-rests g c = leaves_as_before g.A.Archive.condition c.args.self.now _ refl (g.met.A.Archive.settled c.args.self.now.store)
 
 -- the connection is the last of them
 pub returns : goal.returns

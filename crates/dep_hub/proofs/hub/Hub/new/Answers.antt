@@ -1,4 +1,4 @@
-use Rattle.std.proofs.Common.{rules, refl, sym, subst, List, [], arith}
+use Rattle.std.proofs.Common.{sym, subst, List, [], arith}
 use Rattle.dep_hub.specs.Numbers.{Ascends}
 use Rattle.dep_types.specs.declared.config.Config.{Config}
 use Rattle.dep_hub.specs.Records.{Line, Run, begins, first_world}
@@ -6,71 +6,32 @@ use Rattle.dep_hub.specs.Standing.{IsKeptAs, intake_of}
 use Rattle.dep_hub.specs.declared.connections.Connection.{Connection}
 use Rattle.dep_hub.proofs.hub.Hub.new.Goals as goal
 
--- there is no memory for the check
-pub returns-in-Err-Memory : goal.returns-in-Err-Memory
-returns-in-Err-Memory g c = record {
-  stands = tt;
-  again = tt;
-  config = tt;
-  kept = tt;
-  checked = tt;
-  refused = λ e. cc;
-  next = tt;
-  store = refl;
-}
+pub returns-in-Err-Memory-clause-refused : goal.returns-in-Err-Memory-clause-refused
+returns-in-Err-Memory-clause-refused g c = λ e. cc
 
--- it is no configuration
-pub returns-in-Err-Base : goal.returns-in-Err-Base
-returns-in-Err-Base g c = record {
-  stands = tt;
-  again = tt;
-  config = tt;
-  kept = tt;
-  checked = tt;
-  refused = search rules;
-  next = tt;
-  store = refl;
-}
-
--- there is no memory for the site
-pub returns-in_default : goal.returns-in_default
-returns-in_default g c = record {
-  stands = tt;
-  again = tt;
-  config = tt;
-  kept = tt;
-  checked = tt;
-  refused = λ e. cc;
-  next = tt;
-  store = refl;
-}
+pub returns-in_default-clause-refused : goal.returns-in_default-clause-refused
+returns-in_default-clause-refused g c = λ e. cc
 
 -- no connection is there yet
-pub returns : goal.returns
-returns g c = record {
-  stands = λ first e. record {
-    world = first_world first;
-    run = begins;
-    at = record {
-      state = e;
-      kept = λ n. subst (λ (cs : List Connection). IsKeptAs c.in-Ok-new.config.max_upload ((first_world first).line n) (intake_of cs n)) (sym c.new-2.ensures.items) tt;
-    };
+pub returns-clause-stands : goal.returns-clause-stands
+returns-clause-stands g c = λ first e. record {
+  world = first_world first;
+  run = begins;
+  at = record {
+    state = e;
+    kept = λ n. subst (λ (cs : List Connection). IsKeptAs c.in-Ok-new.config.max_upload ((first_world first).line n) (intake_of cs n)) (sym c.new-2.ensures.items) tt;
   };
-  again = λ first records w run absent e. record {
-    world = w;
-    run = subst (λ (x : Config). Run x first records w) (sym c.in-Ok-new.ensures) run;
-    at = record {
-      state = e;
-      kept = λ n. subst (λ (cs : List Connection). IsKeptAs c.in-Ok-new.config.max_upload (w.line n) (intake_of cs n)) (sym c.new-2.ensures.items)
-          (subst (λ (l : Line). IsKeptAs c.in-Ok-new.config.max_upload l (intake_of [] n)) (sym (absent n)) tt);
-    };
+}
+
+pub returns-clause-again : goal.returns-clause-again
+returns-clause-again g c = λ first records w run absent e. record {
+  world = w;
+  run = subst (λ (x : Config). Run x first records w) (sym c.in-Ok-new.ensures) run;
+  at = record {
+    state = e;
+    kept = λ n. subst (λ (cs : List Connection). IsKeptAs c.in-Ok-new.config.max_upload (w.line n) (intake_of cs n)) (sym c.new-2.ensures.items)
+        (subst (λ (l : Line). IsKeptAs c.in-Ok-new.config.max_upload l (intake_of [] n)) (sym (absent n)) tt);
   };
-  config = c.in-Ok-new.ensures;
-  kept = refl;
-  checked = search rules;
-  refused = tt;
-  next = refl;
-  store = tt;
 }
 
 pub invariant_of-result : goal.invariant_of-result

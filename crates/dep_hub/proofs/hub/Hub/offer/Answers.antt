@@ -2,11 +2,12 @@ use Rattle.std.proofs.Common.{refl, sym, ap, ◌∙◌}
 use Rattle.dep_message.specs.Places.{shut_reading, place_with}
 use Rattle.dep_hub.specs.Numbers.{index_of}
 use Rattle.dep_hub.proofs.ConnectionLemmas.{index_none, ascends_set}
-use Rattle.dep_hub.proofs.HubLemmas.{stays_there, none_there, keeps_same, not_absent, same_hub}
+use Rattle.dep_hub.proofs.HubLemmas.{stays_there, none_there, not_absent, same_hub}
 use Rattle.dep_hub.proofs.HoldingLemmas.{held_fed, refuses}
 use Rattle.dep_hub.proofs.NextLemmas.{open_there, runs_out}
 use Rattle.dep_hub.proofs.ShutLemmas.{there_sent}
 use Rattle.dep_hub.proofs.hub.Hub.offer.Goals as goal
+use Rattle.std.proofs.KnownBytes.{Keeps-refl}
 
 -- there is no such connection
 pub returns-in_default : goal.returns-in_default
@@ -16,7 +17,7 @@ returns-in_default g c =
       kept = record { config = refl; next = refl; store = refl };
       absent = λ _. refl;
       there = λ there. absurd (none_there _ none there);
-      offers = record { absent = none; same = same_hub c.args.self.now _; sends_nothing = keeps_same (g.O.Outlet.taken c.args.out.now) };
+      offers = record { absent = none; same = same_hub c.args.self.now _; sends_nothing = Keeps-refl (g.O.Outlet.taken c.args.out.now) };
     }
 
 -- the piece was taken
@@ -33,7 +34,7 @@ returns-in-Ok g c =
       offers = record {
         holds = held_fed c.args.self.now.config.max_upload c.args.connection c.in-Some.i c.args.self.now.connections.items c.index_mut-kept.result.now c.feed.new.self
             index c.index_mut-kept.ensures.value c.args.piece.now c.in-Ok.ensures.ok;
-        sends_nothing = keeps_same (g.O.Outlet.taken c.args.out.now);
+        sends_nothing = Keeps-refl (g.O.Outlet.taken c.args.out.now);
         same_failures = refl;
       };
     }

@@ -1,29 +1,17 @@
-use Rattle.std.proofs.Common.{false, List, ℕ, arith, sym, ap, subst, ◌∙◌, ◌++◌, ◌<◌, ◌-◌, length, take, drop, length-append}
+use Rattle.std.proofs.Common.{false, List, ℕ, arith, sym, ap, subst, ◌∙◌, ◌++◌, ◌-◌, length, take, drop}
 use Rattle.dep_message.specs.Working.{Keeps}
 use Rattle.dep_message.specs.declared.work.Work.{Work}
 use Rattle.dep_message.specs.declared.progress.Progress.TheVariants.{Sized}
-use Rattle.dep_body.specs.declared.frame.Framing.TheVariants.{Length}
-use Rattle.dep_message.proofs.Bodies.{head_size, waits_for_body}
-use Rattle.dep_message.proofs.Reading.{has_bytes}
+use Rattle.dep_message.proofs.Bodies.{begins_with_head}
 use Rattle.dep_message.proofs.Keeping.{keeps_sized, takes_apart, left_behind, left_of}
 use Rattle.dep_message.proofs.work.Work.read_sized.Goals as goal
-
-pub returns-then-as_slice-request : goal.returns-then-as_slice-request
-returns-then-as_slice-request c =
-    let w = c.args.self.now in
-    let r = c.args.request in
-    let short : length r.behind < r.length = omega (arith, ap length c.as_slice.ensures, c.if-as_slice-request.true) in (
-      waits_for_body w.limit w.continued w.buffer r.behind r.head (Length r.length) c.requires.known short,
-      subst (λ (new : Work). Keeps w.limit w.continued (w.buffer ++ r.behind) new) (sym c.keep_place.ensures) (keeps_sized w r c.requires.known),
-    )
 
 pub returns-in-Err : goal.returns-in-Err
 returns-in-Err c =
     let w = c.args.self.now in
-    let r = c.args.request in
-    let some : 0 < length w.buffer = head_size w.limit w.continued w.buffer r.head _ c.requires.known in (
+    let r = c.args.request in (
       subst (λ (new : Work). Keeps w.limit w.continued (w.buffer ++ r.behind) new) (sym (c.keep_place-in-Err.ensures ∙ ap (λ (b : List ℕ). record w { buffer = b; progress = Sized r }) c.in-Err.ensures.err)) (keeps_sized w r c.requires.known),
-      has_bytes w.continued (w.buffer ++ r.behind) (omega (arith, length-append w.buffer r.behind)),
+      begins_with_head w.limit w.continued w.buffer r.behind r.head _ c.requires.known,
     )
 
 pub returns-in-Ok : goal.returns-in-Ok

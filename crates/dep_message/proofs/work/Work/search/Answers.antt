@@ -1,6 +1,6 @@
 use Rattle.std.proofs.Common.{refl, true, subst, List, ℕ}
 use Rattle.std.proofs.lemmas.Result.{err_from_is_err_and}
-use Rattle.dep_message.specs.Places.{Open, HasBytes}
+use Rattle.dep_message.specs.Giving.{BeginsWithHead}
 use Rattle.dep_message.specs.Working.{FindsHead}
 use Rattle.dep_message.proofs.Keeping.{keeps_fresh}
 use Rattle.dep_message.proofs.work.Work.search.Goals as goal
@@ -11,7 +11,7 @@ returns-in_err-first_head c =
     let p = err_from_is_err_and c.from_residual.result c.from_residual.ensures.1 in
     rw (p.1) (
       keeps_fresh w.limit w.continued w.buffer w c.requires.fresh refl refl refl,
-      subst (λ (l : List ℕ). HasBytes (Open w.continued l)) c.as_slice-bytes.ensures c.in_err-first_head.ensures,
+      subst BeginsWithHead c.as_slice-bytes.ensures c.in_err-first_head.ensures,
     )
 
 pub returns-in-Fault : goal.returns-in-Fault

@@ -3,7 +3,7 @@ use Rattle.std.proofs.lemmas.Str.{IsUtf8-from_is_utf8}
 use Rattle.std.specs.Str.{is_utf8}
 use Rattle.dep_types.specs.Names.{is_good_name}
 use Rattle.dep_params.proofs.Runs.{and_both, not_both}
-use Rattle.dep_params.proofs.Extended.{same_name}
+use Rattle.dep_params.proofs.ToldNames.{same_name}
 use Rattle.dep_params.proofs.disposition.Disposition.file_name.Goals as goal
 
 utf8_of : (name : List ℕ) → is_good_name name ≡ true → is_utf8 name ≡ true

@@ -10,4 +10,4 @@ returns-in-Some c s are =
     All-set (IsRunning s) c.args.self.now.uploads.items at c.resume.new.self (c.resume.ensures s (subst (IsRunning s) (sym c.index_mut.ensures.value) was)) are
 
 pub returns-in-None : goal.returns-in-None
-returns-in-None c s are = c.put.ensures s (c.make_room.ensures s are) (inl c.new.ensures.fresh)
+returns-in-None c s are = c.put.ensures s are (inl c.new.ensures.fresh)

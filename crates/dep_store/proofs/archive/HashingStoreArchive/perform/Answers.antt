@@ -14,21 +14,23 @@ use Rattle.dep_store.proofs.archive.HashingStoreArchive.perform.Goals as goal
 pub returns-in_err-performed-clause-does : goal.returns-in_err-performed-clause-does
 returns-in_err-performed-clause-does g c =
     let runs = c.args.self.now.running in
+    let later = c.perform.new.running in
     let config = c.args.service.now in
     let op = c.args.operation.now in
     let old = state g.S.Store c.args.self.now.store in
     let new = state g.S.Store c.perform.new.self in
-    tries_failed (shown_by old runs) (shown_by new runs) _ (λ s p. IsReady (operation_step config s op) p) (λ s. (operation_step config s op).state) _ c.from_residual.result c.from_residual.ensures.0
-    (tries_hashed old new runs runs _ (λ s. AreFit op.fields) (λ s p. IsReady (operation_step config s op) p) (λ s. (operation_step config s op).state) _ (λ s fit are. (fit, are)) (λ s are. are)
-    (λ s are. are_running_still s (operation_step config s op).state runs (step_keeps_segments config s op) are) c.in_err-performed.ensures.does)
+    tries_failed (shown_by old runs) (shown_by new later) _ (λ s p. IsReady (operation_step config s op) p) (λ s. (operation_step config s op).state) _ c.from_residual.result c.from_residual.ensures.0
+    (tries_hashed old new runs later _ (λ s. AreFit op.fields) (λ s p. IsReady (operation_step config s op) p) (λ s. (operation_step config s op).state) _ (λ s fit are. (fit, are)) c.in_err-performed.ensures.running
+    (λ s are. are_running_still s (operation_step config s op).state later (step_keeps_segments config s op) are) c.in_err-performed.ensures.does)
 
 pub returns-in_err-performed-clause-shut : goal.returns-in_err-performed-clause-shut
 returns-in_err-performed-clause-shut g c =
     let runs = c.args.self.now.running in
+    let later = c.perform.new.running in
     let old = state g.S.Store c.args.self.now.store in
     let new = state g.S.Store c.perform.new.self in
-    fails_failed (shown_by old runs) (shown_by new runs) _ c.from_residual.result c.from_residual.ensures.0
-    (shut_hashed old new runs runs _ c.in_err-performed.ensures.shut)
+    fails_failed (shown_by old runs) (shown_by new later) _ c.from_residual.result c.from_residual.ensures.0
+    (shut_hashed old new runs later _ c.in_err-performed.ensures.shut)
 
 pub returns-clause-does : goal.returns-clause-does
 returns-clause-does g c =
@@ -40,8 +42,8 @@ returns-clause-does g c =
     let done : Result Performed StoreFault = Ok c.in_ok-performed.performed in
     subst (λ (h : Held _). MakesStep (shown_by old runs) (shown_by (state g.S.Store h) later) (λ s. AreFit op.fields) (λ s. operation_step config s op) done) (sym c.note.ensures.store)
     (tries_hashed old (state g.S.Store c.perform.new.self) runs later _ (λ s. AreFit op.fields) (λ s p. IsReady (operation_step config s op) p) (λ s. (operation_step config s op).state) done
-    (λ s fit are. (fit, are)) (λ s are. c.note.ensures.running s are)
-    (λ s are. c.note.ensures.running (operation_step config s op).state (are_running_still s (operation_step config s op).state runs (step_keeps_segments config s op) are))
+    (λ s fit are. (fit, are)) (λ is_open s stands are. c.note.ensures.running s (c.in_ok-performed.ensures.running is_open s stands are))
+    (λ s are. are_running_still s (operation_step config s op).state later (step_keeps_segments config s op) are)
     c.in_ok-performed.ensures.does)
 
 pub returns-clause-shut : goal.returns-clause-shut

@@ -16,7 +16,7 @@ returns-then-count-clause-rests g c =
     let result = c.copy_log-copied.result in
     keeps_either (shown_by old runs) (shown_by new runs) result
     (clean_if_open (g.S.Store.view store.store) (g.met.S.Store.shut_if_dirty store.store))
-    (tries_hashed old new runs runs Always Always (λ s answer. Unit {0}) (λ s. s) result (λ s its are. tt) (λ s are. are) (λ s are. are) c.copy_log-copied.ensures.does)
+    (tries_hashed old new runs runs Always Always (λ s answer. Unit {0}) (λ s. s) result (λ s its are. tt) (λ is_open s stands are. are) (λ s are. are) c.copy_log-copied.ensures.does)
     (shut_hashed old new runs runs result c.copy_log-copied.ensures.shut)
 
 -- nothing is hashed in this call

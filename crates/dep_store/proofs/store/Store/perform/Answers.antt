@@ -55,6 +55,7 @@ returns-in-Some g c =
     record {
       does = tries_over _ _ result (Made config op) _ (ready config op) (next config op) (λ s its t p after made means. made its.0 s means) (rw c.self.view_is at still);
       unchanged = λ clean s given running nothing. if_ok result (rw c.self.view_is at back);
+      running = λ is_open s stands are. are;
       shut = rw c.self.view_is at shut;
     }
 
@@ -80,6 +81,7 @@ returns-in_err-done g c =
         stop = did.stop;
       };
       unchanged = λ clean s given running nothing. IfOk-from_err result _ is_err;
+      running = rw c.self.view_is at c.in_err-done.ensures.hashed;
       shut = rw c.self.view_is at shut;
     }
 
@@ -96,6 +98,7 @@ returns g c =
       unchanged = λ clean s given running nothing.
           let stands = rw (← c.self.view_is) at given in
           subst (λ h. IsGivenBack (state g.S.Store h) (state g.S.Store c.perform_if_open.new.connection)) c.self.view_is (done.back ((done.changes clean s stands running).1 nothing));
+      running = rw c.self.view_is at done.hashed;
       shut = record { opened = shut.opened; left = shut.left };
     }
 
@@ -103,7 +106,7 @@ pub returns-then-not-is_autocommit : goal.returns-then-not-is_autocommit
 returns-then-not-is_autocommit g c =
     let d = state g.S.Store c.args.self.now in
     let busy : IsTrue d.in_transaction = rw c.self.view_is at (under_way c.self.inside.connection.in_transaction c.if-not-is_autocommit.ensures.value) in
-    record { does = busy_tries d busy; unchanged = λ clean s given running nothing. tt; shut = busy_fails d busy }
+    record { does = busy_tries d busy; unchanged = λ clean s given running nothing. tt; running = λ is_open s stands are. are; shut = busy_fails d busy }
 
 pub invariant_of-self : goal.invariant_of-self
 invariant_of-self g c = forgotten (state g.S.Store c.perform_if_open.new.connection)

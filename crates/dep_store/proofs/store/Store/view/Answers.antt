@@ -19,5 +19,8 @@ returns-clause-still g c is_open t given =
     let store = c.transact.new.connection.store in
     still_tells _ _ _ _ c.transact.ensures.transacts (clean_if_open (g.S.Store.view store) (g.met.S.Store.shut_if_dirty store)) is_open t (rw (← c.self.view_is) at given)
 
+pub returns-clause-opened : goal.returns-clause-opened
+returns-clause-opened g c = rw c.self.view_is at c.transact.ensures.opened
+
 pub invariant_of-self : goal.invariant_of-self
 invariant_of-self g c = forgotten (state g.S.Store c.transact.new.connection)

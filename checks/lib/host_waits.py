@@ -1,0 +1,114 @@
+"""Parts of checks/host.py: large segments, and how long one client's requests make the others wait."""
+
+import json
+import os
+import tempfile
+import threading
+import time
+
+from depositing import JSON, Client, by_reference, exchange
+from expectations import expect
+from hosted import MIB, PATIENCE, Host
+
+# ---- segments ----
+
+# In MiB: from what any check sends else up to the greatest.
+SIZES = range(7, 17)
+
+
+def upload(client, content, size):
+    """Sends a content in segments of this size. Returns the upload's URL."""
+    count = -(-len(content) // size)
+    url = client.open(len(content), count, size)
+    for number in range(1, count + 1):
+        client.segment(204, url, number, content[(number - 1) * size:number * size])
+    return url
+
+
+def segments():
+    """An upload of each size: two whole segments, but for the last byte."""
+    content = os.urandom(2 * SIZES[-1] * MIB)
+    with Host() as host, Client(host, PATIENCE) as client:
+        urls = {upload(client, content[:2 * it * MIB - 1], it * MIB): it for it in SIZES}
+        dispositions = {url: f"attachment; filename={it}" for url, it in urls.items()}
+        _, document = client.ask(201, "POST", "/service", *by_reference(dispositions))
+        for link, it in zip(json.loads(document)["links"], SIZES):
+            _, came = client.ask(200, "GET", host.path_of(link["@id"]))
+            expect(f"the bytes of a file of segments of {it} MiB", came == content[:2 * it * MIB - 1], True)
+    return f"an upload for each size of segments from {SIZES[0]} to {SIZES[-1]} MiB, deposited and read"
+
+
+# ---- waits ----
+
+# So many milliseconds may another client wait at most. One that is seldom longer is measured up to TRIES times.
+MOST, TRIES = 100, 5
+SIZE, SEGMENT_SIZE, TEXTS = 64 * MIB, 16 * MIB, 400_000
+
+
+class Other:
+    """A client that asks for the service document over and over, and notes how long it waited at most, in milliseconds."""
+
+    def __init__(self, host):
+        self.host, self.longest, self.is_over = host, 0, threading.Event()
+        self.thread = threading.Thread(target=self.go_on)
+
+    def go_on(self):
+        with Client(self.host, PATIENCE) as client:
+            while not self.is_over.is_set():
+                began = time.monotonic()
+                exchange(client.connection, "GET", "/service")
+                self.longest = max(self.longest, 1000 * (time.monotonic() - began))
+                time.sleep(0.001)
+
+    def __enter__(self):
+        self.thread.start()
+        time.sleep(0.1)
+        return self
+
+    def __exit__(self, *_):
+        time.sleep(0.1)
+        self.is_over.set()
+        self.thread.join()
+
+
+def waited(host, *request):
+    """How long another client waits at most while one makes this request."""
+    with Client(host, PATIENCE) as client, Other(host) as other:
+        client.ask(*request)
+    return other.longest
+
+
+def is_short(what, host, *request):
+    """Another client hardly waits while one makes this request. Returns how long it did."""
+    shortest = 1e9
+    for _ in range(TRIES):
+        shortest = min(shortest, waited(host, *request))
+        if shortest <= MOST:
+            break
+    expect(f"whether others wait at most {MOST} ms for {what}, {shortest:.0f} ms", shortest <= MOST, True)
+    return shortest
+
+
+def waits():
+    """What is refused without a look at an upload's bytes, or once they were hashed, and what shows none of an object's many texts,
+    holds nobody up."""
+    with tempfile.TemporaryDirectory() as folder:
+        with Host(folder) as host, Client(host, PATIENCE) as client:
+            path = host.path_of(upload(client, os.urandom(SIZE), SEGMENT_SIZE))
+            texts = json.dumps({"dc:subject": TEXTS * [""]})
+            reply, _ = client.ask(201, "POST", "/service", texts, {"Content-Disposition": "attachment; metadata=true", **JSON})
+            described = host.path_of(reply.headers["Location"])
+        # What was hashed ahead of a deposit is forgotten here.
+        with Host(folder) as host:
+            body, fields = by_reference({host.base + path: "attachment; filename=a"})
+            entry = json.loads(body)["byReferenceFiles"][0]
+            other = json.dumps({"byReferenceFiles": [{**entry, "digest": f"SHA-256={64 * '0'}"}]})
+            told = [is_short("a refused deposit of an upload", host, 404, "POST", "/objects/999", body, fields),
+                    is_short("one that is refused for a digest, again", host, 412, "POST", "/service", other, fields),
+                    is_short("a HEAD of many texts", host, 200, "HEAD", described),
+                    is_short("the bagit.txt of many texts", host, 200, "GET", f"{described}/bag/bagit.txt"),
+                    is_short("the manifest of many texts", host, 200, "GET", f"{described}/bag/manifest-sha512.txt")]
+    return f"others waited {max(told):.0f} ms at most for refused deposits of {SIZE // MIB} MiB, and beside {TEXTS:,} texts"
+
+
+PARTS = {it.__name__: it for it in (segments, waits)}

@@ -1,0 +1,92 @@
+-- What the calls on the files of an object come to.
+use Rattle.std.proofs.Common.{◌≡◌, ℕ, ◌+◌, ◌<◌, List, [], ◌∷◌, ◌++◌, length, get_or, take, Option, Some, None, map, refl, sym, ap, subst, ◌∙◌, nat_cmp}
+use Rattle.std.specs.Prelude.{option_and_then}
+use Rattle.std.specs.Option.{option_map_or}
+use Rattle.std.specs.FinMap as finmap
+use Rattle.std.proofs.lemmas.List.{map-append, take_more}
+use Rattle.sha2.specs.Sha512.{sha512}
+use Rattle.dep_types.specs.State.{State, Object, File, file_at}
+use Rattle.dep_types.specs.Rows.{file_row}
+use Rattle.dep_types.specs.declared.rows.FileRow.{FileRow}
+use Rattle.dep_statements.specs.Rows.{IsOrdered, row_at}
+use Rattle.dep_tables.specs.Edits.{LacksFileRow, with_new_file_row, with_new_sha512, without_blocks_of, without_file_row, without_file_rows, without_sha512}
+use Rattle.dep_tables.specs.Rows.{is_block_of, is_sha512_of}
+use Rattle.dep_tables.specs.Tables.{Tables}
+use Rattle.dep_tables.specs.declared.owner.BlockOwner.TheVariants as owner
+use Rattle.dep_row_maps.specs.Laws.{with_content, without_contents, without_whole_file}
+use Rattle.dep_row_maps.specs.TablesAre.{TablesAre, files_at}
+use Rattle.dep_row_maps.proofs.Files.{free_file}
+use Rattle.dep_row_maps.proofs.FilesOwn.{files_there}
+use Rattle.dep_row_maps.proofs.Whole.{file_removed}
+use Rattle.dep_row_maps.proofs.Posted.{file_posted}
+use Rattle.dep_row_maps.proofs.FileSets.{file_missed, files_dropped, without_last}
+use Rattle.dep_files.specs.Edits.{only_part, with_file, without_file, without_files}
+
+-- the file of an object, by the files that are under its number
+pub file_is : (s : State) (n f : ℕ) → finmap.get (files_at s.objects n) f ≡ file_at s n f
+file_is s n f = go (finmap.get s.objects n)
+  where
+    go : (o : Option Object) → finmap.get (option_map_or (λ (x : Object). x.files) o finmap.empty) f ≡ option_and_then (λ (x : Object). finmap.get x.files f) o
+    go None = finmap.get-empty nat_cmp f
+    go (Some o) = refl
+
+-- ---- a file is put in
+
+module _ (a b c : Tables) (f : ℕ) (bytes value : List ℕ) (first : b ≡ with_content (owner.File f) only_part bytes a) (second : c ≡ with_new_sha512 (owner.File f) value b) where
+  put_so_far : c ≡ with_new_sha512 (owner.File f) value (with_content (owner.File f) only_part bytes a)
+  put_so_far = second ∙ ap (with_new_sha512 (owner.File f) value) first
+
+  was_free : LacksFileRow f c → LacksFileRow f a
+  was_free free = sym (ap (λ (t : Tables). row_at t.files f) put_so_far) ∙ free
+
+  pub free_of : (s : State) → TablesAre a s → IsOrdered a.files → LacksFileRow f c → (n : ℕ) → file_at s n f ≡ None
+  free_of s h up free n = sym (file_is s n f) ∙ free_file a.files (files_at s.objects) (files_at s.objects) h.common.files up n f (was_free free)
+
+pub file_put : (a b c d : Tables) (s : State) (row : FileRow) (value bytes : List ℕ) (o : Object) (file : File) → TablesAre a s → IsOrdered a.files → IsOrdered a.blocks → IsOrdered a.sha512s → finmap.get s.objects row.object ≡ Some o
+    → row ≡ file_row row.object row.file file → value ≡ sha512 file.content → bytes ≡ file.content → b ≡ with_content (owner.File row.file) only_part bytes a → c ≡ with_new_sha512 (owner.File row.file) value b → d ≡ with_new_file_row row c
+    → LacksFileRow row.file c → TablesAre d (with_file s row.object o row.file file)
+file_put a b c d s row value bytes o file h up blocks_up values_up there is its same first second third free =
+    let put = λ (r : FileRow) (v content : List ℕ). with_new_file_row r (with_new_sha512 (owner.File row.file) v (with_content (owner.File row.file) only_part content a)) in
+    let all : d ≡ put row value bytes = third ∙ ap (with_new_file_row row) (put_so_far a b c row.file bytes value first second) in
+    let given : put row value bytes ≡ put (file_row row.object row.file file) (sha512 file.content) file.content = (λ i. put (is i) (its i) (same i)) in
+    subst (λ (t : Tables). TablesAre t (with_file s row.object o row.file file)) (sym (all ∙ given))
+    (file_posted a s h up blocks_up values_up row.object o there row.file file (was_free a b c row.file bytes value first second free))
+
+-- ---- a file is deleted
+
+module _ (a b c d : Tables) (s : State) (f : ℕ) (h : TablesAre a s) (up : IsOrdered a.files)
+    (first : b ≡ without_blocks_of (owner.File f) a) (second : c ≡ without_sha512 (owner.File f) b) (third : d ≡ without_file_row f c) where
+  all_gone : d ≡ without_whole_file f a
+  all_gone = third ∙ ap (without_file_row f) (second ∙ ap (without_sha512 (owner.File f)) first)
+
+  pub file_gone : (n : ℕ) (o : Object) (it : File) → finmap.get s.objects n ≡ Some o → finmap.get o.files f ≡ Some it → TablesAre d (without_file s n o f)
+  file_gone n o it there has = subst (λ (t : Tables). TablesAre t (without_file s n o f)) (sym all_gone) (file_removed a s h up n o there f it has)
+
+  pub file_absent : ((n : ℕ) → file_at s n f ≡ None) → TablesAre d s
+  file_absent none = subst (λ (t : Tables). TablesAre t s) (sym all_gone) (file_missed a s h up f (λ n. file_is s n f ∙ none n))
+
+-- ---- all files of an object are deleted
+
+abbrev numbers_in : List FileRow → List ℕ
+numbers_in rows = map (λ (r : FileRow). r.file) rows
+
+-- what one more of them has is deleted
+pub one_more_gone : (a b c d : Tables) (all : List FileRow) (i : ℕ) (r : FileRow) → i < length all → r ≡ get_or all i r → b ≡ without_contents (numbers_in (take i all)) a
+    → c ≡ without_blocks_of (owner.File r.file) b → d ≡ without_sha512 (owner.File r.file) c → d ≡ without_contents (numbers_in (take (i + 1) all)) a
+one_more_gone a b c d all i r within is so_far first second =
+    let fs = numbers_in (take i all) in
+    let numbers : numbers_in (take (i + 1) all) ≡ fs ++ r.file ∷ [] =
+    ap numbers_in (take_more all i r within) ∙ map-append (λ (x : FileRow). x.file) (take i all) (get_or all i r ∷ []) ∙ ap (λ (x : FileRow). fs ++ x.file ∷ []) (sym is) in
+    let last : without_contents (fs ++ r.file ∷ []) a ≡ without_sha512 (owner.File r.file) (without_blocks_of (owner.File r.file) (without_contents fs a)) =
+    (λ i. record a { blocks = without_last is_block_of fs r.file a.blocks i; sha512s = without_last is_sha512_of fs r.file a.sha512s i }) in
+    second ∙ ap (without_sha512 (owner.File r.file)) (first ∙ ap (without_blocks_of (owner.File r.file)) so_far) ∙ sym (ap (λ ns. without_contents ns a) numbers ∙ last)
+
+numbers_of : (n : ℕ) (es : List (ℕ × File)) → numbers_in (map (λ e. file_row n e.0 e.1) es) ≡ map (λ e. e.0) es
+numbers_of n [] = refl
+numbers_of n (e ∷ es) = ap (λ ks. e.0 ∷ ks) (numbers_of n es)
+
+pub files_gone : (a b c : Tables) (s : State) (n : ℕ) (o : Object) (found : List FileRow) → TablesAre a s → IsOrdered a.files → finmap.get s.objects n ≡ Some o → found ≡ map (λ e. file_row n e.0 e.1) (finmap.entries (files_at s.objects n))
+    → b ≡ without_contents (numbers_in found) a → c ≡ without_file_rows n b → TablesAre c (without_files s n o)
+files_gone a b c s n o found h up there is first second =
+    let numbers : numbers_in found ≡ finmap.keys o.files = ap numbers_in is ∙ numbers_of n (finmap.entries (files_at s.objects n)) ∙ ap finmap.keys (files_there s.objects n o there) in
+    subst (λ (t : Tables). TablesAre t (without_files s n o)) (sym (second ∙ ap (without_file_rows n) (first ∙ ap (λ fs. without_contents fs a) numbers))) (files_dropped a s h up n o there)

@@ -1,0 +1,96 @@
+use Rattle.std.proofs.Common.{◌≡◌, ◌∙◌, ◌++◌, ◌+◌, List, [], ◌∷◌, take, length, inl, inr, sym, ap, rules, subst, append-nil}
+use Rattle.std.proofs.lemmas.List.Elements.{Contains-get_or}
+use Rattle.std.specs.List.{AllZip, Contains, flat_map}
+use Rattle.std.proofs.lemmas.List.{take_more, take_all}
+use Rattle.std.proofs.lemmas.Grind.{flat_map-append}
+use Rattle.sqlite.specs.Held.{state}
+use Rattle.sqlite.specs.Order.{Row}
+use Rattle.sqlite.specs.State.{HasCleanDisk}
+use Rattle.sqlite.proofs.Callers.{unchanged_then}
+use Rattle.dep_files.proofs.Results.{same_tables}
+use Rattle.dep_tables.specs.Tables.{Tables, tables_of}
+use Rattle.dep_files.specs.Fixity.{HasFixity, KeepsDamaged, number_if_damaged}
+use Rattle.dep_files.proofs.Stills.{IsStill, ours_still, stays_then, still_same}
+use Rattle.dep_files.proofs.Digests.{one_more}
+use Rattle.dep_files.proofs.Told.{passed_on}
+use Rattle.dep_files.proofs.auditing.audit_files.Goals as goal
+
+pub files-init : goal.files-init
+files-init g c =
+    let told = c.in_ok-rows.ensures in
+    (told.reads.stays, told.reads.same, λ clean ours. (c.as_slice-row-items.ensures.value ∙ told.ok clean ours, ([], tt, c.new-damaged.ensures.items)))
+
+pub files-preserved : goal.files-preserved
+files-preserved g c =
+    let old = state g.S.Store c.args.connection.now in
+    let mid = state g.S.Store c.files.connection in
+    let new = state g.S.Store c.keep_damaged.new.connection in
+    let inv = c.files.invariant in
+    let kept = c.in_ok-keep_damaged.ensures in
+    let earlier = kept.reads.stays.honest in (
+      stays_then inv.0 (λ clean. still_same old mid (inv.1 clean)) kept.reads.stays,
+      λ clean. unchanged_then old mid new (inv.1 (earlier clean)) (kept.reads.same clean),
+      λ clean ours.
+          let same = inv.1 (earlier clean) in
+          let done = inv.2 (earlier clean) ours in
+          let noted = kept.notes clean (ours_still old mid (still_same old mid same) ours) in
+          let row = c.row-item.result in
+          let it = subst (λ (t : Tables). KeepsDamaged t row c.files.damaged.items c.keep_damaged.new.damaged.items) (same_tables old mid same) noted in
+          let xs = c.as_slice-row-items.result.now in
+          let i = c.files.row-index in
+          let grown : take (i + 1) xs ≡ take i xs ++ row ∷ [] = take_more xs i _ c.files-test.true ∙ ap (λ (r : Row). take i xs ++ r ∷ []) (sym c.row-item.is) in (
+            done.0,
+            (
+              done.1.0 ++ it.found ∷ [],
+              subst (λ (l : List Row). AllZip (HasFixity (tables_of old)) l (done.1.0 ++ it.found ∷ [])) (sym grown) (one_more (HasFixity (tables_of old)) (take i xs) done.1.0 row it.found done.1.1 it.its),
+              it.noted ∙ ap (λ l. l ++ number_if_damaged it.found) done.1.2
+                  ∙ ap (λ l. flat_map number_if_damaged done.1.0 ++ l) (sym (append-nil (number_if_damaged it.found)))
+                  ∙ sym (flat_map-append number_if_damaged done.1.0 (it.found ∷ [])),
+            ),
+          ),
+    )
+
+pub returns : goal.returns
+returns g c =
+    let inv = c.files.invariant in
+    let counted : c.len.result ≡ length c.in_ok-rows.rows.items = search rules in
+    let whole = take_all c.files.row-index c.as_slice-row-items.result.now c.files-test.false in
+    record {
+      audits = λ clean ours.
+          let done = inv.2 clean ours in
+          record {
+            checked = counted ∙ ap length (sym c.as_slice-row-items.ensures.value ∙ done.0);
+            found = done.1.0;
+            are = subst (λ (l : List Row). AllZip (HasFixity (tables_of (state g.S.Store c.args.connection.now))) l done.1.0) (whole ∙ done.0) done.1.1;
+            damaged = done.1.2;
+          };
+      cause = λ clean ours. tt;
+      reads = record { stays = inv.0; same = inv.1 };
+    }
+
+-- the files were not listed
+pub returns-in_err-rows : goal.returns-in_err-rows
+returns-in_err-rows g c =
+    let told = c.in_err-rows.ensures in
+    let passed = passed_on c.from_residual.result c.in_err-rows.field-0.0 c.from_residual.ensures.1 in
+    rw passed record { audits = λ clean ours. tt; cause = λ clean ours. inl (told.cause clean); reads = record { stays = told.reads.stays; same = λ clean. tt } }
+
+-- one was not checked
+pub returns-in_err-keep_damaged : goal.returns-in_err-keep_damaged
+returns-in_err-keep_damaged g c =
+    let old = state g.S.Store c.args.connection.now in
+    let mid = state g.S.Store c.files.connection in
+    let inv = c.files.invariant in
+    let told = c.in_err-keep_damaged.ensures in
+    let still : HasCleanDisk mid → IsStill old mid = λ clean. still_same old mid (inv.1 clean) in
+    let passed = passed_on c.from_residual-in_err-keep_damaged.result c.in_err-keep_damaged.field-0.0 c.from_residual-in_err-keep_damaged.ensures.1 in
+    rw passed record {
+      audits = λ clean ours. tt;
+      cause = λ clean ours.
+          let so_far = still (told.reads.stays.honest clean) in
+          let failed = told.cause clean (ours_still old mid so_far ours) in
+          let row = c.row-item.result in
+          let there = subst (Contains c.as_slice-row-items.result.now) (sym c.row-item.is) (Contains-get_or c.as_slice-row-items.result.now c.files.row-index _ c.files-test.true) in
+          inr (row, subst (λ (l : List Row). Contains l row) (inv.2 (told.reads.stays.honest clean) ours).0 there, c.files.connection, so_far.now_is, failed);
+      reads = record { stays = stays_then inv.0 still told.reads.stays; same = λ clean. tt };
+    }

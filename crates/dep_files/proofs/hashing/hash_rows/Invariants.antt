@@ -1,0 +1,16 @@
+use Rattle.std.proofs.Common.{◌≡◌}
+use Rattle.sqlite.specs.State.{HasCleanDisk}
+use Rattle.sqlite.specs.Held.{state}
+use Rattle.sqlite.specs.Values.{bound}
+use Rattle.dep_files.specs.Clauses.{StaysOver}
+use Rattle.dep_files.proofs.RowByRow.{Hashed}
+use Rattle.dep_files.proofs.hashing.hash_rows.Given as goal
+
+-- the hasher holds the rows so far
+abbrev pub invariant-rows : goal.invariant-rows
+invariant-rows g l =
+    let old = l.fn.connection in
+    let now = l.rows.conn.now in
+    (l.rows.conn.ghost_name ≡ l.initial.rows.conn.ghost_name)
+    × StaysOver g.S.Store old now
+    × (HasCleanDisk (state g.S.Store now) → Hashed g.S.Store l.sql (bound l.params) (state g.S.Store old) now l.counter l.hasher)

@@ -1,0 +1,9 @@
+pub mod Fixity
+pub mod Reading
+pub mod Sizes
+pub mod Clauses
+pub mod Sent
+pub mod Faults
+pub mod Causes
+pub mod Sha512s
+pub mod Edits

@@ -1,0 +1,78 @@
+//! The digests that the tables keep of files.
+
+ghost use Rattle.std.specs.Prelude.{◌≡◌, ◌∷◌, [], map};
+ghost use Rattle.sqlite.specs.Order.{column};
+ghost use Rattle.dep_tables.specs.Tables.{IsOurs};
+ghost use Rattle.dep_files.specs.Clauses.{TellsOver, ReadsOver, FailsFor};
+ghost use Rattle.dep_files.specs.Fixity.{IsKeptDigest, IsKeptSha512, sha256_rows};
+ghost use Rattle.dep_files.specs.Causes.{FailsToFindSha512, FailsToListSha256s};
+
+use crate::asking::{ask, key_param};
+use dep_tables::{BlockOwner, LIMIT, is_storable_owner, owner_params};
+use dep_types::StoreFault;
+use sqlite::types::ValueRef;
+use sqlite::{Alter, Connection, Row};
+
+/// The digest of N bytes in this column of a row, if it holds one.
+pub(crate) fn digest_at<const N: usize>(row: &Row, at: usize) -> Option<[u8; N]>
+    ensures { IsKeptDigest N (column row.now at ∷ []) result }
+{
+    match row.get_ref(at) {
+        Ok(ValueRef::Blob(bytes)) => <[u8; N]>::try_from(bytes).ok(),
+        _ => None,
+    }
+}
+
+fn only(rows: &[Row]) -> Option<[u8; 64]>
+    ensures { IsKeptDigest 64 (map (λ row. column row 0) rows.now) result }
+{
+    match rows {
+        [row] => digest_at(row, 0),
+        _ => None,
+    }
+}
+
+/// The SHA-512 that the tables keep of an owner: none where they keep a value of another length. A number of 2^63 or
+/// more is a fault of the store.
+pub(crate) fn find_sha512<S: Alter>(
+    connection: &mut Connection<S>,
+    owner: BlockOwner,
+) -> Result<Option<[u8; 64]>, StoreFault>
+    ensures ok { TellsOver IsOurs S.Store connection.old connection.new result
+        (λ t. IsKeptSha512 t owner) }
+    ensures cause { FailsFor S.Store connection.old connection.new result
+        (FailsToFindSha512 owner) }
+    ensures reads { ReadsOver S.Store connection.old connection.new result }
+{
+    if !is_storable_owner(owner) {
+        return Err(StoreFault::Store);
+    }
+    let rows = ask(
+        connection,
+        "SELECT value FROM sha512s WHERE kind = ?1 AND owner = ?2",
+        &owner_params(owner),
+    )?;
+    Ok(only(rows.as_slice()))
+}
+
+/// The number of each file of an object, and what its row keeps as its SHA-256, by ascending number. A number of 2^63 or
+/// more is a fault of the store.
+pub(crate) fn list_sha256s<S: Alter>(
+    connection: &mut Connection<S>,
+    object: u64,
+) -> Result<Vec<Row>, StoreFault>
+    ensures ok { TellsOver IsOurs S.Store connection.old connection.new result
+        (λ t rows. rows.items ≡ sha256_rows object t) }
+    ensures cause { FailsFor S.Store connection.old connection.new result
+        (FailsToListSha256s object) }
+    ensures reads { ReadsOver S.Store connection.old connection.new result }
+{
+    if object >= LIMIT {
+        return Err(StoreFault::Store);
+    }
+    ask(
+        connection,
+        "SELECT file, sha256 FROM files WHERE object = ?1 ORDER BY file",
+        &key_param(object),
+    )
+}

@@ -1,0 +1,112 @@
+//! The files of an object, read without their contents, and the content of one as a whole.
+
+ghost use Rattle.std.specs.Prelude.{◌≡◌, ℕ, nat_eq, map, Some, IfOk, IsTrue, option_map, option_and_then};
+ghost use Rattle.std.specs.FinMap as finmap;
+ghost use Rattle.sha2.specs.Sha512.{sha512};
+ghost use Rattle.dep_types.specs.State.{File, file_at};
+ghost use Rattle.dep_types.specs.Rows.{file_row, sha512s_of};
+ghost use Rattle.dep_row_maps.specs.Clauses.{MayFind, ReadsMaps};
+ghost use Rattle.dep_row_maps.specs.TablesAre.{files_at};
+ghost use Rattle.dep_types.specs.Names.{if_passes};
+ghost use Rattle.dep_tables.specs.Tables.{IsOurs};
+ghost use Rattle.dep_files.specs.Clauses.{StaysOver, TellsOver, FailsOver};
+ghost use Rattle.dep_files.specs.Reading.{IsLoadedFrom};
+ghost use Rattle.dep_files.specs.Causes.{FailsToLoad};
+
+use crate::streaming::stream_content;
+use dep_tables::{BlockOwner, Statements, files_of, find_sha512};
+use dep_types::{FileRow, FileRows, Octets, Sha512s, StoreFault, StreamFault, Through};
+use sqlite::{Alter, Connection};
+use std::alloc::Global;
+
+/// The files of an object, by ascending number; none where there is no such object. A number of 2^63
+/// or more is a fault of the store.
+pub fn load_files<T: Statements>(
+    tx: &mut T,
+    alloc: Global,
+    object: u64,
+) -> Result<FileRows, StoreFault>
+    ensures does { ReadsMaps T.lenders T.state tx.old tx.new result (λ s found. found
+        ≡ map (λ e. file_row object e.0 e.1) (finmap.entries (files_at s.objects object))) }
+{
+    Ok(FileRows::new(files_of(tx, alloc, object)?))
+}
+
+// The SHA-512 of a file, which is there.
+fn load_sha512<T: Statements>(tx: &mut T, file: u64) -> Result<[u8; 64], StoreFault>
+    ensures does { ReadsMaps T.lenders T.state tx.old tx.new result
+        (λ s value. (n : ℕ) (it : File) → finmap.get (files_at s.objects n) file ≡ Some it
+        → value ≡ sha512 it.content) }
+{
+    match find_sha512(tx, BlockOwner::File(file))? {
+        Some(value) => Ok(value),
+        None => Err(StoreFault::Store),
+    }
+}
+
+/// The SHA-512 of each of these files, which are an object's, in their order. It is a fault of the store
+/// where one has none, and where a number is 2^63 or more.
+pub fn load_sha512s<T: Statements>(
+    tx: &mut T,
+    alloc: Global,
+    rows: &[FileRow],
+) -> Result<Sha512s, StoreFault>
+    ensures does { MayFind T.lenders T.state tx.old tx.new result
+        (λ s. IsTrue (T.state tx.old).is_open → (n : ℕ)
+        → rows.now ≡ map (λ e. file_row n e.0 e.1) (finmap.entries (files_at s.objects n))
+        → IfOk result (λ values. values ≡ sha512s_of (files_at s.objects n))) }
+{
+    let mut values = Vec::new(alloc);
+    'rows: for row in rows {
+        let value = load_sha512(tx, row.file)?;
+        values.push(value)?;
+    }
+    Ok(Sha512s::new(values))
+}
+
+fn of_object(found: Option<FileRow>, object: u64) -> Option<FileRow>
+    ensures { result ≡ option_and_then (if_passes (λ row. nat_eq row.object object)) found }
+{
+    match found {
+        Some(row) if row.object == object => Some(row),
+        _ => None,
+    }
+}
+
+/// The file of an object and a number, if the object has it. A number of a file of 2^63 or more is a
+/// fault of the store.
+pub fn find_file<T: Statements>(
+    tx: &mut T,
+    object: u64,
+    file: u64,
+) -> Result<Option<FileRow>, StoreFault>
+    ensures does { ReadsMaps T.lenders T.state tx.old tx.new result
+        (λ s found. found ≡ option_map (file_row object file) (file_at s object file)) }
+{
+    Ok(of_object(dep_tables::find_file(tx, file)?, object))
+}
+
+/// Returns the content of a file as a whole, if there is a file of this number. It takes memory for all of
+/// it, so the server never calls it: `stream_content` holds one block at a time. A number of 2^63 or more is
+/// a fault of the store.
+pub fn load_content<S: Alter>(
+    connection: &mut Connection<S>,
+    alloc: Global,
+    file: u64,
+) -> Result<Option<Octets>, StoreFault>
+    ensures loads { TellsOver IsOurs S.Store connection.old connection.new result
+        (IsLoadedFrom file) }
+    ensures cause { FailsOver IsOurs S.Store connection.old connection.new result
+        (FailsToLoad file) }
+    ensures stays { StaysOver S.Store connection.old connection.new }
+{
+    let mut out = Through::new(Vec::new(alloc));
+    match stream_content(connection, file, &mut out) {
+        Ok(()) => Ok(Some(Octets::from_vec(out.into_inner()))),
+        Err(StreamFault::NoSuchFile) => Ok(None),
+        Err(StreamFault::Store) => Err(StoreFault::Store),
+        Err(StreamFault::Memory) => Err(StoreFault::Memory),
+        // The bytes are kept in memory, so that a write fails for want of it.
+        Err(StreamFault::Writer) => Err(StoreFault::Memory),
+    }
+}

@@ -1,0 +1,73 @@
+//! The rows of a query of blocks, sent one at a time.
+
+ghost use Rattle.std.specs.Prelude.{◌≡◌, ◌≢◌, ◌⊎◌, ◌≤◌, ◌<◌, IfOk, Err, length};
+ghost use Rattle.sqlite.specs.Values.{bound};
+ghost use Rattle.sqlite.specs.Order.{column};
+ghost use Rattle.dep_tables.specs.Rows.{IsBytesValue};
+ghost use Rattle.dep_files.specs.Clauses.{OnlyReads, OnlyShows, ReadsOver, FailsOver, GivesOver};
+ghost use Rattle.dep_files.specs.Causes.{FailsToSend};
+ghost use Rattle.dep_files.specs.Faults.{BlamesOutlet};
+ghost use Rattle.dep_files.specs.Sent.{blob_of, GivesSized, SendsSized};
+
+use dep_tables::fault_of;
+use dep_types::{Outlet, StreamFault};
+use sqlite::types::ValueRef;
+use sqlite::{Alter, Connection, Row};
+
+/// Sends the bytes of a block, if it has no more than so many bytes, and returns how many it has.
+fn give_sized<O: Outlet>(row: &Row, most: u64, out: &mut O) -> Result<u64, StreamFault>
+    ensures gives { GivesSized (O.taken out.old) (O.taken out.new) (blob_of row.now) result }
+    ensures fits { IfOk result (λ n. n ≤ most) }
+    ensures refused { result ≡ Err StreamFault.Store
+        → (¬ (IsBytesValue (column row.now 2))) ⊎ (most < length (blob_of row.now)) }
+    ensures outlet { BlamesOutlet StreamFault.Writer (O.failures out.old) (O.failures out.new) result }
+{
+    let Ok(ValueRef::Blob(bytes)) = row.get_ref(2) else {
+        return Err(StreamFault::Store);
+    };
+    let size = bytes.len() as u64;
+    if size > most {
+        return Err(StreamFault::Store);
+    }
+    out.write(bytes)?;
+    Ok(size)
+}
+
+/// Sends the bytes of each block that a query shows, up to so many bytes in all. It holds one row at a time.
+pub(crate) fn stream_sized<S: Alter, O: Outlet>(
+    connection: &mut Connection<S>,
+    sql: &str,
+    params: &[ValueRef<'_>],
+    size: u64,
+    out: &mut O,
+) -> Result<(), StreamFault>
+    requires some { 0 < size }
+    requires query { OnlyReads sql.now }
+    ensures streams { GivesOver (OnlyShows sql.now) S.Store connection.old connection.new
+        (O.taken out.old) (O.taken out.new)
+        (λ s sent. SendsSized sql.now (bound params.now) s size sent result) }
+    ensures why { FailsOver (OnlyShows sql.now) S.Store connection.old connection.new result
+        (FailsToSend sql.now (bound params.now) size) }
+    ensures reads { ReadsOver S.Store connection.old connection.new result }
+    ensures outlet { BlamesOutlet StreamFault.Writer (O.failures out.old) (O.failures out.new) result }
+    ensures there { result ≢ Err StreamFault.NoSuchFile }
+{
+    let mut left = size;
+    // With `map_err` no proof would know what a failure leaves of the connection.
+    let mut rows = match connection.query(sql, params) {
+        Ok(rows) => rows,
+        Err(error) => return Err(StreamFault::from(fault_of(error))),
+    };
+    'rows: for _ in 0..u64::MAX {
+        let row = match rows.next() {
+            Ok(Some(row)) => row,
+            Ok(None) => return Err(StreamFault::Store),
+            Err(error) => return Err(StreamFault::from(fault_of(error))),
+        };
+        left -= give_sized(row, left, out)?;
+        if left == 0 {
+            return Ok(());
+        }
+    }
+    Err(StreamFault::Store)
+}

@@ -1,0 +1,68 @@
+//! How many bytes a file has, asked outside a transaction.
+
+ghost use Rattle.std.specs.Prelude.{◌≡◌, IfOk, IfErr, map};
+ghost use Rattle.std.specs.Option.{option_to_list};
+ghost use Rattle.dep_statements.specs.Rows.{columns_from};
+ghost use Rattle.dep_tables.specs.Tables.{IsOurs};
+ghost use Rattle.dep_tables.specs.Clauses.{AtMostOne, IsFaultAt};
+ghost use Rattle.dep_files.specs.Clauses.{TellsOver, ReadsOver, FailsFor};
+ghost use Rattle.dep_files.specs.Sizes.{IsSizeRow, IsSizeOf, size_values};
+ghost use Rattle.dep_files.specs.Causes.{FailsToFindSize};
+
+use crate::asking::{ask, key_param};
+use dep_tables::{LIMIT, number_at};
+use dep_types::StoreFault;
+use sqlite::{Alter, Connection, Error, Row};
+
+/// What has to be known of a file before its content is sent.
+#[derive(Clone, Copy, Debug, PartialEq, Eq)]
+pub(crate) struct FileSize {
+    /// The number of the object that it belongs to.
+    pub(crate) object: u64,
+    /// How many bytes it has.
+    pub(crate) size: u64,
+}
+
+fn size_in(row: &Row) -> Result<FileSize, Error>
+    ensures told { IfOk result (λ found. size_values found ≡ columns_from 0 2 row.now) }
+    ensures refused { IfErr result (λ _. ¬ (IsSizeRow row.now)) }
+{
+    Ok(FileSize {
+        object: number_at(row, 0)?,
+        size: number_at(row, 1)?,
+    })
+}
+
+fn only(rows: &[Row]) -> Result<Option<FileSize>, StoreFault>
+    ensures told { IfOk result
+        (λ found. map size_values (option_to_list found) ≡ map (columns_from 0 2) rows.now) }
+    ensures refused { IfErr result (IsFaultAt ⊥ (AtMostOne IsSizeRow) rows.now) }
+{
+    match rows {
+        [] => Ok(None),
+        [row] => size_in(row).map(Some).map_err(|_| StoreFault::Store),
+        _ => Err(StoreFault::Store),
+    }
+}
+
+/// Returns the object and the size of the file of this number, if there is one. A number of 2^63 or more is a
+/// fault of the store.
+pub(crate) fn find_size<S: Alter>(
+    connection: &mut Connection<S>,
+    file: u64,
+) -> Result<Option<FileSize>, StoreFault>
+    ensures ok { TellsOver IsOurs S.Store connection.old connection.new result
+        (λ t. IsSizeOf t file) }
+    ensures cause { FailsFor S.Store connection.old connection.new result (FailsToFindSize file) }
+    ensures reads { ReadsOver S.Store connection.old connection.new result }
+{
+    if file >= LIMIT {
+        return Err(StoreFault::Store);
+    }
+    let rows = ask(
+        connection,
+        "SELECT object, size FROM files WHERE file = ?1",
+        &key_param(file),
+    )?;
+    only(rows.as_slice())
+}

@@ -1,5 +1,0 @@
-use Rattle.dep_row_maps.proofs.Whole as lemmas
-use Rattle.dep_row_maps.proofs.laws.object_found.Goals as goal
-
-pub returns : goal.returns
-returns c = lemmas.object_found

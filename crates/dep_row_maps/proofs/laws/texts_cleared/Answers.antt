@@ -1,5 +1,0 @@
-use Rattle.dep_row_maps.proofs.Whole as lemmas
-use Rattle.dep_row_maps.proofs.laws.texts_cleared.Goals as goal
-
-pub returns : goal.returns
-returns c = lemmas.texts_cleared

@@ -1,5 +1,0 @@
-use Rattle.dep_row_maps.proofs.Readings as lemmas
-use Rattle.dep_row_maps.proofs.laws.texts_read.Goals as goal
-
-pub returns : goal.returns
-returns c = lemmas.texts_read
