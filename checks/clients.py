@@ -132,9 +132,10 @@ def is_the_folder(bag, folder):
 
 
 def bags_of_all(server, relay, place):
-    """A range of objects: kept, and only read. Those that aren't there are left out."""
-    last = int(server.ask(201, "POST", "/service", b"abc", {"Content-Disposition": "attachment; filename=a"})[0]
-               .headers["Location"].rpartition("/")[2])
+    """A range of objects: kept, and only read. Those that aren't there are left out. Objects of its own, since a deposit that
+    was broken off may have left one without files."""
+    replies = [server.ask(201, "POST", "/service", b"abc", {"Content-Disposition": "attachment; filename=a"})[0] for _ in range(3)]
+    last = int(replies[-1].headers["Location"].rpartition("/")[2])
     server.ask(204, "DELETE", f"/objects/{last - 1}")
     words = [sys.executable, FETCHER, "--all", str(last - 2), str(last + 2), relay.url]
     kept, read = (subprocess.run([*words, *where], capture_output=True, text=True, check=False) for where in ([place / "all"], []))
