@@ -5,21 +5,18 @@ use Rattle.dep_files.proofs.Results.{pushed}
 use Rattle.dep_operations.specs.Views.{upload_view}
 use Rattle.dep_operations.specs.declared.view.UploadView.{UploadView}
 use Rattle.dep_operations.specs.declared.view.UploadState.TheVariants.{Unknown}
-use Rattle.dep_tables.proofs.Chains.{clean_before, may_ok, may_then, may_err, still_ours}
-use Rattle.dep_views.proofs.Chains.{still_seen}
+use Rattle.dep_tables.proofs.Chains.{clean_before, may_ok, may_then, may_err}
+use Rattle.dep_views.proofs.Chains.{found_behind}
 use Rattle.dep_views.proofs.digests.hash_uploads.Goals as goal
 
 pub views-preserved : goal.views-preserved
 views-preserved g c =
-    let old = g.T.Statements.state c.args.tx.now in
-    let mid = g.T.Statements.state c.views.tx in
     let inv = c.views.invariant in
     let earlier = clean_before c.hash_state.ensures.map.keeps.stays in (
       may_ok (may_then {r = Ok c.in_ok-state.state} inv.0 c.in_ok-state.ensures.map.keeps),
       λ is_open clean inside ours s are sound running.
-          let same = inv.0.same is_open (earlier clean) ours in
           let so_far = inv.1 is_open (earlier clean) inside ours s are sound running in
-          let it = c.in_ok-state.ensures.map.found clean (inv.0.stays.inside (earlier clean) inside) (still_ours old mid same ours) s (still_seen old mid s same are) same.0.is_open sound so_far.0 in (
+          let it = found_behind inv.0 c.in_ok-state.ensures.map is_open clean inside ours s are (inv.0.same is_open (earlier clean) ours).0.is_open sound so_far.0 in (
             it.0,
             λ undigested.
                 let f = λ (v : UploadView). upload_view true s v.upload in
@@ -49,13 +46,9 @@ pub returns-in_err-state : goal.returns-in_err-state
 returns-in_err-state g c = record {
   map = record {
     found = λ clean inside ours s are is_open sound running.
-        let old = g.T.Statements.state c.args.tx.now in
-        let mid = g.T.Statements.state c.views.tx in
-        let inv = c.views.invariant in
         let earlier = clean_before c.hash_state.ensures.map.keeps.stays clean in
-        let same = inv.0.same is_open earlier ours in
-        let so_far = inv.1 is_open earlier inside ours s are sound running in
-        let it = c.hash_state.ensures.map.found clean (inv.0.stays.inside earlier inside) (still_ours old mid same ours) s (still_seen old mid s same are) same.0.is_open sound so_far.0 in
+        let so_far = c.views.invariant.1 is_open earlier inside ours s are sound running in
+        let it = found_behind c.views.invariant.0 c.hash_state.ensures.map is_open clean inside ours s are (c.views.invariant.0.same is_open earlier ours).0.is_open sound so_far.0 in
         (it.0, λ undigested. IfOk-from_err c.from_residual.result _ c.from_residual.ensures.0);
     keeps = may_err c.from_residual.ensures.0 (may_then c.views.invariant.0 c.hash_state.ensures.map.keeps);
   };
@@ -65,13 +58,9 @@ pub returns-in_err-push : goal.returns-in_err-push
 returns-in_err-push g c = record {
   map = record {
     found = λ clean inside ours s are is_open sound running.
-        let old = g.T.Statements.state c.args.tx.now in
-        let mid = g.T.Statements.state c.views.tx in
-        let inv = c.views.invariant in
         let earlier = clean_before c.hash_state.ensures.map.keeps.stays clean in
-        let same = inv.0.same is_open earlier ours in
-        let so_far = inv.1 is_open earlier inside ours s are sound running in
-        let it = c.in_ok-state.ensures.map.found clean (inv.0.stays.inside earlier inside) (still_ours old mid same ours) s (still_seen old mid s same are) same.0.is_open sound so_far.0 in
+        let so_far = c.views.invariant.1 is_open earlier inside ours s are sound running in
+        let it = found_behind c.views.invariant.0 c.in_ok-state.ensures.map is_open clean inside ours s are (c.views.invariant.0.same is_open earlier ours).0.is_open sound so_far.0 in
         (it.0, λ undigested. IfOk-from_err c.from_residual-in_err-push.result _ c.from_residual-in_err-push.ensures.0);
     keeps = may_ok (may_then c.views.invariant.0 c.in_ok-state.ensures.map.keeps);
   };
