@@ -5,20 +5,21 @@ use Rattle.std.proofs.lemmas.Bool.{both_ways, cases_Bool}
 use Rattle.dep_types.specs.State.{State}
 use Rattle.dep_types.specs.declared.config.Config.{Config}
 use Rattle.dep_types.specs.Conditions.{Condition, Leaves}
-use Rattle.dep_message.specs.Places.{Place}
+use Rattle.dep_message.specs.Places.{Place, Open, Shut}
 use Rattle.dep_message.specs.Stream.{Item}
-use Rattle.dep_hub.specs.Machine.{Fails, given_up, cut_short, Serves, serves_all, step_fails, gives_up}
+use Rattle.dep_hub.specs.Machine.{answer_at_place, Fails, given_up, cut_short, Serves, serves_all, step_fails, gives_up}
 use Rattle.dep_hub.specs.Stops.{LeftByFailure, LeftByServing}
 use Rattle.dep_hub.specs.Records.{World, Line, with_line, Record, stopped, first_world, Run, goes_on, stops, Arrives, at_live, at_shut_line, LeftByArrival, arrives}
 use Rattle.dep_hub.specs.Standing.{IsKeptAs, IsArrival, KeepsLines, StandsAt, IsClean, IsHonest, intake_of, store_of}
 use Rattle.dep_hub.specs.Turns.{Turn, record_of, last_answer, Exchanges, none_yet, one_more, LeftByExchanges}
-use Rattle.dep_hub.specs.Conversation.{Talks, WorksAhead, silent, turn, ahead}
+use Rattle.dep_hub.specs.Conversation.{Outflow, Talks, WorksAhead, silent, turn, ahead}
 use Rattle.dep_hub.specs.declared.hub.Hub.{Hub}
 use Rattle.dep_hub.specs.declared.connections.Connection.{Connection}
 use Rattle.dep_hub.specs.declared.arrived.Arrived.{Arrived}
-use Rattle.dep_hub.specs.declared.arrived.Arrived.TheVariants.{Open as StaysOpen}
+use Rattle.dep_hub.specs.declared.arrived.Arrived.TheVariants.{Open as StaysOpen, NoSuch}
 use Rattle.dep_hub.proofs.Leaving.{Settles, stays_as, leaves_wider, leaves_before}
 use Rattle.dep_hub.proofs.HubLemmas.{stopped_run}
+use Rattle.dep_hub.proofs.ShutLemmas.{there_sent}
 
 pub map_more : (n : ℕ) (turns : List Turn) (t : Turn) → map (record_of n) (turns ++ t ∷ []) ≡ map (record_of n) turns ++ record_of n t ∷ []
 map_more n [] t = refl
@@ -72,6 +73,27 @@ own_left at_shut_line = refl
 end_left : {config : Config} {n : ℕ} {first w : World} {turns : List Turn} (e : Exchanges config n first turns w) → LeftByExchanges e w.state
 end_left none_yet = refl
 end_left (one_more t e stays a) = own_left a
+
+-- an arrival at a connection that is there
+fails_there : {config : Config} {s : State} {item : Item} {moment : ℕ} {sent : List ℕ} {left : State} {answer : Arrived}
+    → Fails config s item moment sent left answer → answer ≡ NoSuch → ⊥
+fails_there (given_up fixed sends leaves) e = there_sent sends e
+fails_there (cut_short part leaves) e = cc
+
+place_there : (at : Place) → answer_at_place at ≡ NoSuch → ⊥
+place_there (Open continued rest) e = cc
+place_there Shut e = cc
+
+serves_there : {config : Config} {reads : List Item → Place → Type 0} {s : State} {moment : ℕ} {sent : List ℕ} {left : State} {at : Place} {answer : Arrived}
+    → Serves config reads s moment sent left at answer → answer ≡ NoSuch → ⊥
+serves_there (serves_all items {at} reads waits) e = place_there at e
+serves_there (step_fails items item at reads fails) e = fails_there fails e
+serves_there (gives_up items at reads some sends) e = there_sent sends e
+
+pub arrives_there : {config : Config} {piece : List ℕ} {moment : ℕ} {line after : Line} {s left : State} {sent : List ℕ} {answer : Arrived}
+    → Arrives config piece moment line s sent left after answer → answer ≡ NoSuch → ⊥
+arrives_there (at_live serves) e = serves_there serves e
+arrives_there at_shut_line e = cc
 
 -- an arrival carried over to the same configuration leaves the same by a stop, and so do turns
 left_along : {piece : List ℕ} {moment : ℕ} {line after : Line} {s left : State} {sent : List ℕ} {answer : Arrived} (given config : Config) (same : given ≡ config)
@@ -143,9 +165,10 @@ module _ {A : Type 0} (condition : A → Condition) where
       }
 
   -- what the hub answered is what the machine answers
-  pub talks_exchange : (n : ℕ) (old new : Hub A) (failures failures_after : ℕ) (turns : List Turn) → Settles (store_of condition old) → Talks condition n old failures turns new failures_after
+  pub talks_exchange : (shown : Outflow → Type 0) (n : ℕ) (old new : Hub A) (first last : Outflow) (turns : List Turn) → Settles (store_of condition old)
+      → Talks condition shown n old first turns new last
       → IsHonest condition new → (w : World) → StandsAt condition old w → Exchanged old.config n new turns w
-  talks_exchange n old new failures failures_after turns settles silent honest w at = record {
+  talks_exchange shown n old new first last turns settles silent honest w at = record {
     talked = w;
     exchanges = none_yet;
     kept = λ _. at.kept;
@@ -154,14 +177,14 @@ module _ {A : Type 0} (condition : A → Condition) where
     rests = λ _. stays_as (store_of condition old) w.state settles at.state;
     stop = stays_as (store_of condition old) w.state settles at.state;
   }
-  talks_exchange n old new failures failures_after turns settles (turn {mid = mid} {before = between} {turns = before} t talks stays same a) honest w at =
-      let h = talks_exchange n old mid failures between before settles talks (a.honest honest) w at in
+  talks_exchange shown n old new first last turns settles (turn {mid = mid} {before = between} {turns = before} t talks stays out same a sends flushed shows) honest w at =
+      let h = talks_exchange shown n old mid first between before settles talks (a.honest honest) w at in
       elim (cases_Bool (store_of condition mid).is_open) [
-        | inl is_open ↦ exchange_open old.config n mid new between failures_after before t w stays same a honest is_open h
-        | inr shut ↦ exchange_shut old.config n mid new between failures_after before t w stays same a honest (both_ways (store_of condition mid).is_open shut) h
+        | inl is_open ↦ exchange_open old.config n mid new between.failures last.failures before t w stays same a honest is_open h
+        | inr shut ↦ exchange_shut old.config n mid new between.failures last.failures before t w stays same a honest (both_ways (store_of condition mid).is_open shut) h
       ]
-  talks_exchange n old new failures failures_after turns settles (ahead {mid = mid} talks stays a) honest w at =
-      let h = talks_exchange n old mid failures failures_after turns settles talks (a.store.honest honest) w at in
+  talks_exchange shown n old new first last turns settles (ahead {mid = mid} talks stays out a) honest w at =
+      let h = talks_exchange shown n old mid first last turns settles talks (a.store.honest honest) w at in
       let left : Leaves (store_of condition new) (λ found. found ≡ h.talked.state) = elim (cases_Bool (store_of condition mid).is_open) [
         | inl is_open ↦ a.store.stop honest h.talked.state (h.at is_open).state
         | inr shut ↦ leaves_before (store_of condition mid) (store_of condition new) _ (a.store.left honest (both_ways (store_of condition mid).is_open shut)) (h.stays stays)
@@ -179,9 +202,10 @@ module _ {A : Type 0} (condition : A → Condition) where
       }
 
   -- what a stop now leaves goes on from the turns
-  pub talks_stop : (n : ℕ) (old new : Hub A) (failures failures_after : ℕ) (turns : List Turn) → Settles (store_of condition old) → Talks condition n old failures turns new failures_after
+  pub talks_stop : (shown : Outflow → Type 0) (n : ℕ) (old new : Hub A) (out last : Outflow) (turns : List Turn) → Settles (store_of condition old)
+      → Talks condition shown n old out turns new last
       → IsHonest condition new → (first : State) (records : List Record) (w : World) → Run old.config first records w → StandsAt condition old w
       → Leaves (store_of condition new) (λ found. Run old.config first ((records ++ map (record_of n) turns) ++ stopped ∷ []) (first_world found))
-  talks_stop n old new failures failures_after turns settles talks honest first records w run at =
-      let h = talks_exchange n old new failures failures_after turns settles talks honest w at in
+  talks_stop shown n old new out last turns settles talks honest first records w run at =
+      let h = talks_exchange shown n old new out last turns settles talks honest w at in
       leaves_wider (store_of condition new) _ _ (λ found l. exchanges_stop old.config n first records w h.talked turns run h.exchanges found l) h.stop

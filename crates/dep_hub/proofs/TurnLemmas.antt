@@ -8,10 +8,14 @@ use Rattle.dep_types.specs.Reading.{end_of_read}
 use Rattle.dep_types.specs.declared.inlet.ReadFailed.{ReadFailed}
 use Rattle.dep_types.specs.declared.inlet.LastRead.TheVariants.{Bytes, Nothing}
 use Rattle.dep_hub.specs.Turns.{most_read}
-use Rattle.dep_hub.specs.Standing.{ArrivesOver, IsArrival, GoesOnAs}
+use Rattle.std.specs.Prelude.{IsSome}
+use Rattle.dep_hub.specs.Standing.{ArrivesOver, ComesTo, IsArrival, GoesOnAs, intake_of}
+use Rattle.dep_hub.proofs.HubLemmas.{none_there}
+use Rattle.dep_hub.specs.declared.arrived.Arrived.TheVariants.{Open as StaysOpen, Closed as HasClosed, Cut, NoSuch}
 use Rattle.dep_hub.specs.Archives.{KeepsEachState}
 use Rattle.dep_hub.specs.Holding.{RestsOn}
-use Rattle.dep_hub.specs.Conversation.{Session, OneTurn, NoTurn}
+use Rattle.dep_hub.specs.Conversation.{Outflow, Session, OneTurn, NoTurn}
+use Rattle.dep_hub.specs.Flushing.{IsFlushed}
 use Rattle.dep_hub.specs.declared.hub.Hub.{Hub}
 use Rattle.dep_hub.specs.declared.arrived.Arrived.{Arrived}
 
@@ -54,10 +58,6 @@ gives_bytes (suc n) some = refl
 pub gives_none : (n : ℕ) → n ≡ 0 → end_of_read {E = ReadFailed} (Ok n) ≡ Nothing
 gives_none n none = ap (λ k. end_of_read {E = ReadFailed} (Ok k)) none
 
-keeps_itself : (o : Option (List ℕ)) → Keeps o o
-keeps_itself None = tt
-keeps_itself (Some xs) = refl
-
 module _ {A : Type 0} (condition : A → Condition) where
   -- nothing is asked of a hub
   pub goes_same : (hub : Hub A) → GoesOnAs condition hub hub
@@ -89,19 +89,29 @@ module _ {A : Type 0} (condition : A → Condition) where
     is_there = a.is_there;
   }
 
-  -- a piece was read, and it arrived
-  pub one_turn : {C : Type 0} (ticks : C → ℕ → C → Type 0) (number : ℕ) (before after : Session A C) (answer : Arrived)
+  -- an arrival at a connection that was there
+  pub arrived_there : (held holds : Option (List ℕ)) (failures failed : ℕ) (old new : Hub A) (number : ℕ) (piece : List ℕ) (moment : ℕ) (answer : Arrived)
+      → IsSome (intake_of old.connections.items number) → ComesTo condition held holds failures failed old new number piece moment answer
+      → ArrivesOver condition held holds failures failed old new number piece moment answer
+  arrived_there held holds failures failed old new number piece moment NoSuch there a = absurd (none_there _ a.absent there)
+  arrived_there held holds failures failed old new number piece moment StaysOpen there a = a
+  arrived_there held holds failures failed old new number piece moment HasClosed there a = a
+  arrived_there held holds failures failed old new number piece moment Cut there a = a
+
+  -- a piece was read, it arrived, and the outlet was flushed
+  pub one_turn : (shown : Outflow → Type 0) {C : Type 0} (ticks : C → ℕ → C → Type 0) (number : ℕ) (before after : Session A C) (answer : Arrived)
       (n moment : ℕ) (buffer whole : List ℕ) → whole ≡ buffer → length buffer ≡ most_read
       → n ≤ length buffer → n ≡ length (take n buffer) → (n ≡ 0 → ⊥)
       → Consumes before.wire.unread after.wire.unread (take n buffer)
       → after.wire.reads ≡ next_count before.wire.reads → after.wire.last ≡ Bytes
       → ticks before.clock moment after.clock
-      → ArrivesOver condition before.wire.taken after.wire.taken before.wire.failures after.wire.failures
+      → IsFlushed after.wire.out.held after.wire.out.has_failed → shown after.wire.out
+      → ArrivesOver condition before.wire.out.taken after.wire.out.taken before.wire.out.failures after.wire.out.failures
       before.hub after.hub number (take n whole) moment answer
-      → OneTurn condition ticks number before after answer
-  one_turn ticks number before after answer n moment buffer whole is_whole room fits long not_none read count last ticked arrival =
-      let came : ArrivesOver condition before.wire.taken after.wire.taken before.wire.failures after.wire.failures
-      before.hub after.hub number (take n buffer) moment answer = subst (λ (xs : List ℕ). ArrivesOver condition before.wire.taken after.wire.taken before.wire.failures after.wire.failures
+      → OneTurn condition shown ticks number before after answer
+  one_turn shown ticks number before after answer n moment buffer whole is_whole room fits long not_none read count last ticked flushed shows arrival =
+      let came : ArrivesOver condition before.wire.out.taken after.wire.out.taken before.wire.out.failures after.wire.out.failures
+      before.hub after.hub number (take n buffer) moment answer = subst (λ (xs : List ℕ). ArrivesOver condition before.wire.out.taken after.wire.out.taken before.wire.out.failures after.wire.out.failures
       before.hub after.hub number (take n xs) moment answer) is_whole arrival in
       record {
         piece = take n buffer;
@@ -113,21 +123,18 @@ module _ {A : Type 0} (condition : A → Condition) where
         some = some_read n buffer long not_none;
         small = small_read n buffer fits long room;
         transfers = record { pieces = read; replies = came.appends };
+        flushed = flushed;
+        shows = shows;
         ticked = ticked;
         goes = came.goes;
       }
 
   -- nothing was read
   pub no_turn : {C : Type 0} (before after : Session A C)
-      → after.hub ≡ before.hub → after.clock ≡ before.clock → after.wire.taken ≡ before.wire.taken → after.wire.failures ≡ before.wire.failures
+      → after.hub ≡ before.hub → after.clock ≡ before.clock → after.wire.out ≡ before.wire.out
       → Keeps before.wire.unread after.wire.unread → after.wire.reads ≡ next_count before.wire.reads → NoTurn condition before after
-  no_turn before after hub clock taken failures kept count = record {
+  no_turn before after hub clock out kept count = record {
     same_hub = hub;
-    nothing = record {
-      pieces = kept;
-      reads = count;
-      replies = subst (λ (o : Option (List ℕ)). Keeps before.wire.taken o) (sym taken) (keeps_itself before.wire.taken);
-      failures = failures;
-    };
+    nothing = record { pieces = kept; reads = count; out = out };
     same_clock = clock;
   }

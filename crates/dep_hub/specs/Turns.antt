@@ -1,5 +1,5 @@
 -- The turns of one connection, and how the machine answers them.
-use Rattle.std.specs.Prelude.{◌<◌, ◌≤◌, ◌+◌, length, ◌≡◌, ℕ, zero, suc, List, [], ◌∷◌, ◌++◌, Option, map}
+use Rattle.std.specs.Prelude.{◌<◌, ◌≤◌, ◌+◌, length, ◌≡◌, ◌⊎◌, ℕ, zero, suc, Bool, true, false, if◌then◌else◌, List, [], ◌∷◌, ◌++◌, Option, map}
 use Rattle.std.specs.List.{flat_map}
 use Rattle.std.specs.Io.KnownBytes.{IsAtEnd}
 use Rattle.dep_types.specs.State.{State}
@@ -82,15 +82,24 @@ abbrev pub LeftByExchanges : {config : Config} {number : ℕ} {first w : World} 
 LeftByExchanges {first = first} none_yet found = found ≡ first.state
 LeftByExchanges (one_more t exchanges stays arrives) found = LeftByArrival arrives found
 
--- why a connection was served no longer
-abbrev pub EndsAs : Option (List ℕ) → List Turn → Served → Type 0
-EndsAs left turns Ended = IsAtEnd left × (last_answer turns ≡ StaysOpen)
-    × (length turns < most_reads)
-EndsAs left turns Closed = (last_answer turns ≡ HasClosed) × (length turns ≤ most_reads)
-EndsAs left turns WriteFault = (last_answer turns ≡ Cut) × (length turns ≤ most_reads)
-EndsAs left turns ReadFault = (last_answer turns ≡ StaysOpen) × (length turns < most_reads)
-EndsAs left turns Bound = (last_answer turns ≡ StaysOpen) × (length turns ≡ most_reads)
-EndsAs left turns Unserved = ⊥
+-- what was sent for these turns, if there are any, has gone out: their outlet hasn't given up
+abbrev pub HasGoneOut : List Turn → (has_failed : Bool) → Type 0
+HasGoneOut [] has_failed = Unit {0}
+HasGoneOut (t ∷ turns) has_failed = has_failed ≡ false
+
+-- why a connection was served no longer, where this was left unread, and its outlet has given up or not
+abbrev pub EndsAs : (left : Option (List ℕ)) → (has_failed : Bool) → List Turn → Served → Type 0
+EndsAs left has_failed turns Ended = IsAtEnd left × (last_answer turns ≡ StaysOpen)
+    × HasGoneOut turns has_failed × (length turns < most_reads)
+EndsAs left has_failed turns Closed = (last_answer turns ≡ HasClosed)
+    × HasGoneOut turns has_failed × (length turns ≤ most_reads)
+EndsAs left has_failed turns WriteFault =
+    ((last_answer turns ≡ Cut) ⊎ (¬ HasGoneOut turns has_failed)) × (length turns ≤ most_reads)
+EndsAs left has_failed turns ReadFault = (last_answer turns ≡ StaysOpen)
+    × HasGoneOut turns has_failed × (length turns < most_reads)
+EndsAs left has_failed turns Bound = (last_answer turns ≡ StaysOpen)
+    × HasGoneOut turns has_failed × (length turns ≡ most_reads)
+EndsAs left has_failed turns Unserved = ⊥
 
 -- how many reads were made: one for each turn, and one that gave nothing or failed
 abbrev pub reads_made : List Turn → Served → ℕ
@@ -116,9 +125,10 @@ HasLastRead last Bound = last ≡ read.Bytes
 HasLastRead last Unserved = ⊥
 
 -- what the answer to a turn says of the turns behind it, and of why the connection was served no
--- longer
-abbrev pub IsEndedBy : Arrived → List Turn → Served → Type 0
-IsEndedBy StaysOpen behind _ = Unit {0}
-IsEndedBy HasClosed behind served = (behind ≡ []) × (served ≡ Closed)
-IsEndedBy Cut behind served = (behind ≡ []) × (served ≡ WriteFault)
-IsEndedBy NoSuch behind _ = ⊥
+-- longer, where its outlet has given up or not
+abbrev pub IsEndedBy : Arrived → (has_failed : Bool) → List Turn → (end : Served) → Type 0
+IsEndedBy StaysOpen has_failed behind end = has_failed ≡ true → behind ≡ [] → end ≡ WriteFault
+IsEndedBy HasClosed has_failed behind end =
+    (behind ≡ []) × (end ≡ (if has_failed then WriteFault else Closed))
+IsEndedBy Cut has_failed behind end = (behind ≡ []) × (end ≡ WriteFault)
+IsEndedBy NoSuch has_failed behind end = ⊥

@@ -2,13 +2,13 @@
 ghost use Rattle.std.specs.Prelude.{◌≡◌, ◌<◌, IsSome, length};
 ghost use Rattle.dep_hub.specs.Standing.{intake_of, ServesAs};
 ghost use Rattle.dep_hub.specs.Turns.{most_read};
-ghost use Rattle.dep_hub.specs.Conversation.{standing, ConversesOver, CanGoOn, TalksUntil, TurnsTo, next_after};
+ghost use Rattle.dep_hub.specs.Conversation.{standing, MayShow, ConversesOver, CanGoOn, TalksUntil, TurnsTo, next_after};
 ghost use Rattle.dep_hub.specs.Flushing.{IsFlushed};
 
 use crate::archive::Archive;
 use crate::arrived::Arrived;
 use crate::connections::ConnId;
-use crate::flush::Flush;
+use crate::flush::{Flush, FlushFailed};
 use crate::hub::Hub;
 use dep_moment::Moment;
 use dep_types::{Inlet, ReadFailed};
@@ -25,7 +25,7 @@ pub enum Served {
     Unserved,
     /// The last read failed.
     ReadFault,
-    /// The outlet failed.
+    /// The outlet failed: a reply was cut, or what was held back was not sent.
     WriteFault,
     /// It came to the greatest number of reads.
     Bound,
@@ -44,8 +44,9 @@ struct Incoming {
 }
 
 /// Serves one fresh connection, from its opening to its close. It makes at most 1,048,576 reads, of at most
-/// 65,536 bytes each, and asks the clock once for each piece. Behind a piece with which the connection
-/// doesn't end, the store works ahead once.
+/// 65,536 bytes each, and asks the clock once for each piece. Behind each piece the outlet is flushed: where
+/// that fails the connection ends with `WriteFault`, before anything is read again. Behind a piece with which
+/// it doesn't end, the store works ahead once.
 pub fn serve_connection<A: Archive, R: Inlet, W: Flush, C: FnMut() -> Moment>(
     alloc: Global,
     reader: &mut R,
@@ -56,9 +57,10 @@ pub fn serve_connection<A: Archive, R: Inlet, W: Flush, C: FnMut() -> Moment>(
     requires { C.IsAlwaysCallable clock.old }
     ensures call { C.IsAlwaysCallable clock.new }
     ensures goes { ServesAs A.condition hub.old hub.new }
-    ensures converses { ConversesOver A.condition C.step
-        (standing R.Inlet W.Outlet hub.old reader.old writer.old clock.old)
-        (standing R.Inlet W.Outlet hub.new reader.new writer.new clock.new) result }
+    ensures converses { ConversesOver A.condition (MayShow W.Outlet W.held W.has_failed) C.step
+        (standing R.Inlet W.Outlet W.held W.has_failed hub.old reader.old writer.old clock.old)
+        (standing R.Inlet W.Outlet W.held W.has_failed hub.new reader.new writer.new clock.new)
+        result }
     ensures next { hub.new.next ≡ next_after hub.old.next result }
     // All was sent, or the outlet has given up.
     ensures flushed { IsFlushed (W.held writer.old) (W.has_failed writer.old)
@@ -85,9 +87,11 @@ fn converse<A: Archive, R: Inlet, W: Flush, C: FnMut() -> Moment>(
     incoming: &mut Incoming,
 ) -> Served
     requires { CanGoOn C.IsAlwaysCallable incoming.old.connection hub.old clock.old }
-    ensures talks { TalksUntil A.condition C.step incoming.old.connection
-        (standing R.Inlet W.Outlet hub.old reader.old writer.old clock.old)
-        (standing R.Inlet W.Outlet hub.new reader.new writer.new clock.new) result }
+    ensures talks { TalksUntil A.condition (MayShow W.Outlet W.held W.has_failed) C.step
+        incoming.old.connection
+        (standing R.Inlet W.Outlet W.held W.has_failed hub.old reader.old writer.old clock.old)
+        (standing R.Inlet W.Outlet W.held W.has_failed hub.new reader.new writer.new clock.new)
+        result }
     ensures flushed { IsFlushed (W.held writer.old) (W.has_failed writer.old)
         → IsFlushed (W.held writer.new) (W.has_failed writer.new) }
 {
@@ -99,7 +103,8 @@ fn converse<A: Archive, R: Inlet, W: Flush, C: FnMut() -> Moment>(
     Served::Bound
 }
 
-/// Reads a piece, and has it served. Where the connection goes on the store works ahead once.
+/// Reads a piece, has it served, and flushes the outlet. Where the connection goes on the store works ahead
+/// once.
 fn turn<A: Archive, R: Inlet, W: Flush, C: FnMut() -> Moment>(
     reader: &mut R,
     writer: &mut W,
@@ -110,9 +115,11 @@ fn turn<A: Archive, R: Inlet, W: Flush, C: FnMut() -> Moment>(
     requires { CanGoOn C.IsAlwaysCallable incoming.old.connection hub.old clock.old }
     ensures there { IsSome (intake_of hub.new.connections.items incoming.old.connection) }
     ensures same { incoming.new.connection ≡ incoming.old.connection }
-    ensures turn { TurnsTo A.condition C.step incoming.old.connection
-        (standing R.Inlet W.Outlet hub.old reader.old writer.old clock.old)
-        (standing R.Inlet W.Outlet hub.new reader.new writer.new clock.new) result }
+    ensures turn { TurnsTo A.condition (MayShow W.Outlet W.held W.has_failed) C.step
+        incoming.old.connection
+        (standing R.Inlet W.Outlet W.held W.has_failed hub.old reader.old writer.old clock.old)
+        (standing R.Inlet W.Outlet W.held W.has_failed hub.new reader.new writer.new clock.new)
+        result }
     ensures flushed { IsFlushed (W.held writer.old) (W.has_failed writer.old)
         → IsFlushed (W.held writer.new) (W.has_failed writer.new) }
 {
@@ -122,7 +129,9 @@ fn turn<A: Archive, R: Inlet, W: Flush, C: FnMut() -> Moment>(
         Ok(n) => {
             let moment = clock();
             let arrived = hub.arrive(incoming.connection, &incoming.buffer[..n], moment, writer);
-            writer.flush();
+            if let Err(FlushFailed) = writer.flush() {
+                return Some(Served::WriteFault);
+            }
             match arrived {
                 Arrived::Open => {
                     let _left = hub.work_ahead();

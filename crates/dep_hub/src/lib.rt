@@ -22,6 +22,6 @@ pub use arrived::Arrived;
 pub use connection::{Served, serve_connection};
 pub use connections::ConnId;
 pub use faults::{ConnectFault, HubFault};
-pub use flush::Flush;
+pub use flush::{Flush, FlushFailed};
 pub use hub::Hub;
 pub use next::Next;

@@ -1,21 +1,20 @@
 -- Connections that are served one after another.
-use Rattle.std.proofs.Common.{◌≡◌, ℕ, ◌+◌, List, [], ◌∷◌, ◌++◌, refl, sym, subst, ◌∙◌, arith}
+use Rattle.std.proofs.Common.{◌≡◌, ℕ, ◌+◌, false, List, [], ◌∷◌, ◌++◌, refl, sym, subst, ◌∙◌, arith}
 use Rattle.std.proofs.lemmas.List.{append-nil, length-append, flat_map_more}
 use Rattle.std.proofs.lemmas.List.Elements.{All-nil, All-append, All-cons}
 use Rattle.std.specs.Prelude.{None}
 use Rattle.std.specs.List.{FoldsTo}
 use Rattle.dep_types.specs.Conditions.{Condition}
-use Rattle.dep_types.specs.declared.inlet.LastRead.{LastRead}
 use Rattle.dep_types.specs.declared.inlet.LastRead.TheVariants.{NoneYet}
 use Rattle.dep_hub.specs.Standing.{StandsAfter, ServesAs, IsClean}
 use Rattle.dep_hub.specs.Turns.{Turn, records_of, ArePieces}
-use Rattle.dep_hub.specs.Conversation.{Wire, wire, session, Clocks, Converses, ConversesOver}
+use Rattle.dep_hub.specs.Conversation.{Outflow, Wire, session, Clocks, Converses, ConversesOver}
 use Rattle.dep_hub.specs.declared.connection.Served.{Served}
 use Rattle.dep_hub.specs.declared.connection.Served.TheVariants.{Ended, Closed, Unserved, ReadFault, WriteFault, Bound}
 use Rattle.dep_hub.specs.declared.hub.Hub.{Hub}
-use Rattle.dep_hub.proofs.TalkLemmas.{unserved}
+use Rattle.dep_hub.proofs.TalkLemmas.{unserved, converses_wider}
 use Rattle.dep_hub.proofs.Leaving.{Settles, stays_as}
-use Rattle.dep_program.specs.Serves.{ServesOne, socket_wire, Conversation, AreAmong, ServesThese, all_records_of, all_turns_of}
+use Rattle.dep_program.specs.Serves.{ServesOne, socket_out, socket_wire, AnyOut, Conversation, AreAmong, ServesThese, all_records_of, all_turns_of}
 
 -- one list of steps behind another
 folds_join : {C A : Type 0} (r : C → A → C → Type 0) (a : C) (xs ys : List A) (b c : C) → FoldsTo r a xs b → FoldsTo r b ys c → FoldsTo r a (xs ++ ys) c
@@ -42,7 +41,7 @@ module _ {A : Type 0} (condition : A → Condition) {C : Type 0} (ticks : C → 
   }
 
   module _ (now later : C) (mid new : Hub A) (count : ℕ) (p : Progress now mid count) (back : IsClean condition new → IsClean condition mid) where
-    unserved_more : (before after : Wire) → ConversesOver condition ticks (session mid before now) (session new after later) Unserved → Progress later new (count + 1)
+    unserved_more : (before after : Wire) → ConversesOver condition AnyOut ticks (session mid before now) (session new after later) Unserved → Progress later new (count + 1)
     unserved_more before after v = record {
       talks = p.talks;
       among = (p.among.0 + 1, let e = p.among.1 in omega arith);
@@ -54,7 +53,7 @@ module _ {A : Type 0} (condition : A → Condition) {C : Type 0} (ticks : C → 
       moments = subst (λ c. Clocks ticks clock (all_turns_of p.talks) c) (sym v.same_clock) p.moments;
     }
 
-    talk_more : (before after : Wire) (end : Served) → Converses condition ticks (session mid before now) (session new after later) end → Progress later new (count + 1)
+    talk_more : (before after : Wire) (end : Served) → Converses condition AnyOut ticks (session mid before now) (session new after later) end → Progress later new (count + 1)
     talk_more before after end v =
         let talk : Conversation = record { number = v.number; turns = v.turns } in
         let long = length-append p.talks (talk ∷ []) in
@@ -72,7 +71,7 @@ module _ {A : Type 0} (condition : A → Condition) {C : Type 0} (ticks : C → 
               (folds_join (λ before (t : Turn) after. ticks before t.moment after) clock (all_turns_of p.talks) v.turns now later p.moments v.moments);
         }
 
-    more : (served : Served) (before after : Wire) → ConversesOver condition ticks (session mid before now) (session new after later) served → Progress later new (count + 1)
+    more : (served : Served) (before after : Wire) → ConversesOver condition AnyOut ticks (session mid before now) (session new after later) served → Progress later new (count + 1)
     more Unserved before after v = unserved_more before after v
     more Ended before after v = talk_more before after Ended v
     more Closed before after v = talk_more before after Closed v
@@ -83,17 +82,20 @@ module _ {A : Type 0} (condition : A → Condition) {C : Type 0} (ticks : C → 
     pub one_served : (served : Served) (v : ServesOne condition ticks now later mid new served) → Progress later new (count + 1)
     one_served served v = more served _ v.after v.converses
 
--- a connection over a socket at which nothing was read, and to which no write has failed
-pub over_socket : {A : Type 0} (condition : A → Condition) {C : Type 0} (ticks : C → ℕ → C → Type 0) (clock now : C) (old new : Hub A) (end : Served)
-    (reads failures : ℕ) (last : LastRead) (after : Wire) → reads ≡ 0 → last ≡ NoneYet → failures ≡ 0
-    → ConversesOver condition ticks (session old (wire None reads last None failures) clock) (session new after now) end
+-- a connection over a socket at which nothing was read, and to which nothing was written
+pub over_socket : {A : Type 0} (condition : A → Condition) (shown : Outflow → Type 0) {C : Type 0} (ticks : C → ℕ → C → Type 0) (clock now : C) (old new : Hub A) (end : Served)
+    (before after : Wire) → before.unread ≡ None → before.reads ≡ 0 → before.last ≡ NoneYet
+    → before.out.taken ≡ None → before.out.failures ≡ 0 → before.out.held ≡ [] → before.out.has_failed ≡ false
+    → ConversesOver condition shown ticks (session old before clock) (session new after now) end
     → ServesOne condition ticks clock now old new end
-over_socket condition ticks clock now old new end reads failures last after r l f converses = record {
-  after = after;
-  converses = subst (λ n. ConversesOver condition ticks (session old (wire None 0 NoneYet None n) clock) (session new after now) end) f
-      (subst (λ x. ConversesOver condition ticks (session old (wire None 0 x None failures) clock) (session new after now) end) l
-      (subst (λ n. ConversesOver condition ticks (session old (wire None n last None failures) clock) (session new after now) end) r converses));
-}
+over_socket condition shown ticks clock now old new end before after unread reads last taken failures held going converses =
+    let out : before.out ≡ socket_out = λ i. record { taken = taken i; failures = failures i; held = held i; has_failed = going i } in
+    let same : before ≡ socket_wire = λ i. record { unread = unread i; reads = reads i; last = last i; out = out i } in
+    record {
+      after = after;
+      converses = subst (λ (w : Wire). ConversesOver condition AnyOut ticks (session old w clock) (session new after now) end) same
+          (converses_wider condition shown AnyOut (λ o its. tt) ticks (session old before clock) (session new after now) end converses);
+    }
 
 -- a connection that is let go before anything was read of it
 pub not_served : {A : Type 0} (condition : A → Condition) {C : Type 0} (ticks : C → ℕ → C → Type 0) (clock : C) (hub : Hub A)

@@ -1,9 +1,9 @@
 -- Connections that are accepted at a listener and served one after another.
-use Rattle.std.specs.Prelude.{◌≡◌, ◌⊎◌, ◌<◌, ◌+◌, ℕ, List, All, None, length}
+use Rattle.std.specs.Prelude.{◌≡◌, ◌⊎◌, ◌<◌, ◌+◌, ℕ, false, List, [], All, None, length}
 use Rattle.std.specs.List.{flat_map}
 use Rattle.dep_hub.specs.Records.{Record}
 use Rattle.dep_hub.specs.Turns.{Turn, records_of, ArePieces}
-use Rattle.dep_hub.specs.Conversation.{Wire, wire, session, AddsAll, Clocks, ConversesOver}
+use Rattle.dep_hub.specs.Conversation.{Outflow, Wire, session, AddsAll, Clocks, ConversesOver}
 use Rattle.dep_types.specs.Conditions.{Condition}
 use Rattle.dep_types.specs.declared.inlet.LastRead.TheVariants.{NoneYet}
 use Rattle.dep_hub.specs.declared.hub.Hub.{Hub}
@@ -34,16 +34,24 @@ AreServed talks count outcome =
     (AreAmong talks count × (outcome ≡ Done))
     ⊎ ((k : ℕ) × (k < count) × AreAmong talks k × (outcome ≡ TransferFault))
 
--- an accepted socket, over which nothing went yet: it shows neither what it will give nor what it took
+-- an outlet over an accepted socket, over which nothing went yet: it doesn't show what it took
+abbrev pub socket_out : Outflow
+socket_out = record { taken = None; failures = 0; held = []; has_failed = false }
+
+-- the same socket: it doesn't show either what it will give
 abbrev pub socket_wire : Wire
-socket_wire = wire None 0 NoneYet None 0
+socket_wire = record { unread = None; reads = 0; last = NoneYet; out = socket_out }
+
+-- an outlet that may stand in every way
+abbrev pub AnyOut : Outflow → Type 0
+AnyOut out = Unit {0}
 
 module _ {A : Type 0} (condition : A → Condition) where
   -- one connection over an accepted socket
   pub record ServesOne {C : Type 0} (ticks : C → ℕ → C → Type 0) (clock now : C)
       (old new : Hub A) (served : Served) : Type 0 where
     pub after : Wire
-    pub converses : ConversesOver condition ticks (session old socket_wire clock)
+    pub converses : ConversesOver condition AnyOut ticks (session old socket_wire clock)
         (session new after now) served
 
   -- For all records that it stood for, the hub stands for them with those of the connections behind

@@ -6,7 +6,7 @@ ghost use Rattle.dep_types.specs.Writing.{TakesPart};
 ghost use Rattle.dep_hub.specs.Flushing.{IsFlushed};
 ghost use Rattle.dep_program.specs.Gathering.{told, held_in, given};
 
-use dep_hub::Flush;
+use dep_hub::{Flush, FlushFailed};
 use dep_types::{Outlet, WriteFailed};
 use std::alloc::{AllocError, Global};
 use std::io::{BufWriter, Write};
@@ -98,9 +98,16 @@ impl<W: Write + Drop> Flush for Gathered<W> {
 
     ghost has_failed = { λ outlet. outlet.has_failed };
 
-    fn flush(&mut self) {
-        if !self.has_failed && self.writer.flush().is_err() {
-            self.has_failed = true;
+    fn flush(&mut self) -> Result<(), FlushFailed> {
+        if self.has_failed {
+            return Err(FlushFailed);
+        }
+        match self.writer.flush() {
+            Ok(()) => Ok(()),
+            Err(_) => {
+                self.has_failed = true;
+                Err(FlushFailed)
+            }
         }
     }
 }

@@ -178,8 +178,9 @@ pub fn turns_make_a_run()
 {}
 
 /// A turn that does not leave its connection open is the last one, and shows why the connection is served no
-/// longer: where a reply was cut, because the outlet failed, and where it was closed, because of that.
+/// longer: where a reply was cut, because the outlet failed, and where it was closed, because of that. Where the
+/// outlet has given up behind the last turn, the connection ended because of that, whatever the turn came to.
 pub fn last_turn_tells_the_end()
     ensures { (talk : EndedTalk) (before behind : List Turn) (t : Turn)
-        → talk.turns ≡ before ++ t ∷ behind → IsEndedBy t.answer behind talk.end }
+        → talk.turns ≡ before ++ t ∷ behind → IsEndedBy t.answer talk.has_failed behind talk.end }
 {}

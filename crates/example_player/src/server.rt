@@ -4,7 +4,8 @@ use crate::asked::Command;
 use crate::tables::ExampleTables;
 use dep_hub::{Archive, ConnId, ConnectFault, Hub, Served, serve_connection};
 use dep_moment::Moment;
-use dep_types::{ReaderInlet, Through};
+use dep_program::Gathered;
+use dep_types::ReaderInlet;
 use example_faults::{arrives, connected, hub_over, trouble_of, word_of};
 use example_text::{Exchange, Page, Settings, Source, Trouble};
 use std::alloc::Global;
@@ -104,7 +105,7 @@ impl<A: Archive + Drop> Server<A> {
         Ok(word_of(came))
     }
 
-    // A connection of its own is served.
+    // A connection of its own is served. Its replies are gathered, so a writer that fails does so at a flush.
     fn serves(
         &mut self,
         alloc: Global,
@@ -113,7 +114,7 @@ impl<A: Archive + Drop> Server<A> {
         page: &mut Page,
     ) -> Result<&'static str, Trouble> {
         let mut source = ReaderInlet::new(Source::of(exchange));
-        let mut out = Through::new(page);
+        let mut out = Gathered::new(alloc, page)?;
         let moment = Moment::new(exchange.moment);
         let served = serve_connection(alloc, &mut source, &mut out, &mut self.hub, &mut || moment);
         let reads = source.into_inner().reads();

@@ -8,9 +8,9 @@ use Rattle.dep_types.specs.declared.outlet.Outlet as outlet
 use Rattle.dep_schema.specs.Standing.{HoldsNone}
 use Rattle.dep_hub.specs.Records.{World, first_world, Run}
 use Rattle.dep_hub.specs.Turns.{Turn, pieces_of, replies_of, records_of, ArePieces, with_opened, with_closed, Exchanges, EndsAs, most_reads, reads_made, reads_after, HasLastRead}
-use Rattle.dep_hub.specs.Conversation.{Wire, Transfers, Rests, wire}
+use Rattle.dep_hub.specs.Conversation.{Wire, Transfers, Rests, outflow, wire}
 use Rattle.dep_hub.specs.declared.connection.Served.{Served}
-use Rattle.dep_program.specs.Gathering.{told}
+use Rattle.dep_program.specs.Gathering.{told, held_in}
 use Rattle.dep_program.specs.Outcomes.{outcome_of, outcome_sent}
 use Rattle.dep_program.specs.Setup.{program_config}
 use Rattle.dep_program.specs.declared.gathered.Gathered.{Gathered}
@@ -18,14 +18,10 @@ use Rattle.dep_program.specs.declared.outcome.Outcome.{Outcome}
 use Rattle.dep_program.specs.declared.outcome.Outcome.TheVariants.{Usage, StoreFault}
 use Rattle.swordd.specs.declared.replay.Setting.{Setting}
 
--- the connection of this inlet, to an outlet that took these bytes and failed so often
-abbrev pub wire_over : {R : Type 0} → (g : inlet.Ghosts R) → R → (taken : Option (List ℕ)) → (failures : ℕ)
-    → Wire
-wire_over g reader taken failures = wire (g.unread reader) (g.reads reader) (g.last reader) taken failures
-
--- the same to this outlet
-abbrev pub wire_of : {R W : Type 0} → (g : inlet.Ghosts R) → (h : outlet.Ghosts W) → R → W → Wire
-wire_of g h reader writer = wire_over g reader (h.taken writer) (h.failures writer)
+-- the connection of this inlet to this outlet
+abbrev pub wire_of : {R W : Type 0} → (g : inlet.Ghosts R) → (h : outlet.Ghosts W)
+    → (held : W → List ℕ) → (has_failed : W → Bool) → R → W → Wire
+wire_of g h held has_failed reader writer = wire g reader (outflow h held has_failed writer)
 
 -- where a database had no table, and its disk has told no lie up to now
 abbrev pub FromNothing : (old new : db.State) → Type 0 → Type 0
@@ -34,7 +30,12 @@ FromNothing old new P = HoldsNone old.now.trees → db.HasCleanDisk new → P
 -- the same, to an outlet that gathers what its writer has taken
 abbrev pub wire_gathered : {R W : Type 0} → (g : inlet.Ghosts R) → R
     → (contents : W → Option (List ℕ)) → Gathered W → Wire
-wire_gathered g reader contents outlet = wire_over g reader (told contents outlet) outlet.failures
+wire_gathered g reader contents outlet = wire g reader (record {
+  taken = told contents outlet;
+  failures = outlet.failures;
+  held = held_in outlet;
+  has_failed = outlet.has_failed;
+})
 
 -- One connection of the machine, from its opening over the empty archive to its close, each piece at
 -- the moment: what was read are its pieces, what was written is what the machine sends for them, and
@@ -51,7 +52,7 @@ pub record IsReplayed (base : List ℕ) (moment : ℕ) (before after : Wire) (se
   pub moments : All (λ t. t.moment ≡ moment) turns
   pub sizes : ArePieces turns
   pub transfers : Transfers before after (pieces_of turns) (replies_of turns)
-  pub ends : EndsAs after.unread turns served
+  pub ends : EndsAs after.unread after.out.has_failed turns served
   pub reads : after.reads ≡ reads_after before.reads (reads_made turns served)
   pub few_reads : after.reads ≤ before.reads + most_reads
   pub last : HasLastRead after.last served

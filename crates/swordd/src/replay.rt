@@ -32,8 +32,8 @@ pub fn replay<R: Inlet, W: Flush>(
     writer: &mut W,
 ) -> Outcome
     ensures replays { Replays base.now moment
-        (wire_of R.Inlet W.Outlet reader.old writer.old)
-        (wire_of R.Inlet W.Outlet reader.new writer.new) result }
+        (wire_of R.Inlet W.Outlet W.held W.has_failed reader.old writer.old)
+        (wire_of R.Inlet W.Outlet W.held W.has_failed reader.new writer.new) result }
     ensures flushed { IsFlushed (W.held writer.old) (W.has_failed writer.old)
         → IsFlushed (W.held writer.new) (W.has_failed writer.new) }
 {
@@ -79,8 +79,8 @@ fn replay_database<S: Alter, R: Inlet, W: Flush>(
 ) -> (Outcome, Connection<S>)
     requires settled { (state S.Store connection).in_transaction ≡ false }
     ensures replays { FromNothing (state S.Store connection) (state S.Store result.1)
-        (ReplaysIn setting.entry (wire_of R.Inlet W.Outlet reader.old writer.old)
-        (wire_of R.Inlet W.Outlet reader.new writer.new) result.0) }
+        (ReplaysIn setting.entry (wire_of R.Inlet W.Outlet W.held W.has_failed reader.old writer.old)
+        (wire_of R.Inlet W.Outlet W.held W.has_failed reader.new writer.new) result.0) }
     ensures flushed { IsFlushed (W.held writer.old) (W.has_failed writer.old)
         → IsFlushed (W.held writer.new) (W.has_failed writer.new) }
 {

@@ -1,9 +1,9 @@
-use Rattle.std.specs.Prelude.{IsSome, ◌≡◌, ◌⊎◌}
+use Rattle.std.specs.Prelude.{IsSome, ◌≡◌, ◌⊎◌, false}
 use Rattle.dep_types.specs.declared.inlet.LastRead.TheVariants.{Bytes}
 use Rattle.dep_hub.specs.Standing.{intake_of}
 use Rattle.dep_hub.specs.declared.arrived.Arrived.TheVariants.{Open as StaysOpen}
 use Rattle.dep_hub.specs.Turns.{reads_after}
-use Rattle.dep_hub.specs.Conversation.{Talk, session, wire}
+use Rattle.dep_hub.specs.Conversation.{Talk, MayShow, standing}
 use Rattle.dep_hub.specs.Flushing.{IsFlushed}
 use Rattle.dep_hub.proofs.connection.converse.Given as goal
 
@@ -16,7 +16,8 @@ invariant-loop-count g l = record {
   last : (l.count ≡ 0) ⊎ (g.R.Inlet.last l.reader ≡ Bytes);
   flushed : IsFlushed (g.W.Flush.held l.fn.writer) (g.W.Flush.has_failed l.fn.writer)
       → IsFlushed (g.W.Flush.held l.writer) (g.W.Flush.has_failed l.writer);
-  talk : Talk g.A.Archive.condition (goal.C-step g) l.fn.incoming.connection
-      (session l.fn.hub (wire (g.R.Inlet.unread l.fn.reader) (g.R.Inlet.reads l.fn.reader) (g.R.Inlet.last l.fn.reader) (g.W.Outlet.taken l.fn.writer) (g.W.Outlet.failures l.fn.writer)) l.fn.clock)
-      (session l.hub (wire (g.R.Inlet.unread l.reader) (g.R.Inlet.reads l.reader) (g.R.Inlet.last l.reader) (g.W.Outlet.taken l.writer) (g.W.Outlet.failures l.writer)) l.clock) l.count StaysOpen;
+  out : (l.count ≡ 0) ⊎ (g.W.Flush.has_failed l.writer ≡ false);
+  talk : Talk g.A.Archive.condition (MayShow g.W.Outlet g.W.Flush.held g.W.Flush.has_failed) (goal.C-step g) l.fn.incoming.connection
+      (standing g.R.Inlet g.W.Outlet g.W.Flush.held g.W.Flush.has_failed l.fn.hub l.fn.reader l.fn.writer l.fn.clock)
+      (standing g.R.Inlet g.W.Outlet g.W.Flush.held g.W.Flush.has_failed l.hub l.reader l.writer l.clock) l.count StaysOpen;
 }

@@ -1,7 +1,7 @@
 use Rattle.std.proofs.Common.{sym, ◌∙◌, refl, subst, IsTrue}
 use denote.Param.Always.{mut_next}
 use Rattle.dep_types.specs.Conditions.{HasCleanDisk}
-use Rattle.dep_hub.specs.Conversation.{wire, session}
+use Rattle.dep_hub.specs.Conversation.{MayShow, outflow, wire, standing}
 use Rattle.dep_hub.specs.Standing.{store_of}
 use Rattle.dep_hub.proofs.HubLemmas.{same_stands_for}
 use Rattle.dep_hub.proofs.Leaving.{stays_as}
@@ -24,8 +24,8 @@ returns g c =
             subst (λ (x : _). HasCleanDisk (g.A.Archive.condition x)) c.connect.ensures.store
             (talks.talk.goes.honest (subst (λ (x : _). HasCleanDisk (g.A.Archive.condition x)) c.close.ensures.kept.store honest));
       };
-      converses = serves_whole g.A.Archive.condition _ c.in-Ok-connect.connection
-          (session c.args.hub.now (wire (g.R.Inlet.unread c.args.reader.now) (g.R.Inlet.reads c.args.reader.now) (g.R.Inlet.last c.args.reader.now) (g.W.Outlet.taken c.args.writer.now) (g.W.Outlet.failures c.args.writer.now)) c.args.clock.now)
+      converses = serves_whole g.A.Archive.condition (MayShow g.W.Outlet g.W.Flush.held g.W.Flush.has_failed) _ c.in-Ok-connect.connection
+          (standing g.R.Inlet g.W.Outlet g.W.Flush.held g.W.Flush.has_failed c.args.hub.now c.args.reader.now c.args.writer.now c.args.clock.now)
           c.connect.new.self c.converse-served.new.hub c.close.new.self _ c.converse-served.new.clock
           c.in-Ok-connect.ensures.next.0 c.in-Ok-connect.ensures.fresh c.in-Ok-connect.ensures.moves c.close.ensures.moves
           (g.met.A.Archive.settled c.connect.new.self.store)
@@ -33,7 +33,7 @@ returns g c =
           c.connect.ensures.config (c.close.ensures.kept.config ∙ (talks.talk.goes.config ∙ c.connect.ensures.config)) c.close.ensures.kept.store c.connect.ensures.store c.close.ensures.gone
           c.converse-served.result talks;
       next = c.close.ensures.kept.next ∙ (talks.talk.goes.next ∙ (c.in-Ok-connect.ensures.next.1
-          ∙ sym (next_served g.A.Archive.condition _ c.in-Ok-connect.connection _ _ c.converse-served.result talks c.args.hub.now.next)));
+          ∙ sym (next_served g.A.Archive.condition _ _ c.in-Ok-connect.connection _ _ c.converse-served.result talks c.args.hub.now.next)));
       flushed = c.converse-served.ensures.flushed;
     }
 
@@ -46,11 +46,11 @@ returns-in_default-connect-clause-goes g c = record {
 }
 
 pub returns-in_default-connect-clause-converses : goal.returns-in_default-connect-clause-converses
-returns-in_default-connect-clause-converses g c = unserved g.A.Archive.condition c.args.clock.now c.args.hub.now c.connect.new.self (wire (g.R.Inlet.unread c.args.reader.now) (g.R.Inlet.reads c.args.reader.now) (g.R.Inlet.last c.args.reader.now) (g.W.Outlet.taken c.args.writer.now) (g.W.Outlet.failures c.args.writer.now))
+returns-in_default-connect-clause-converses g c = unserved g.A.Archive.condition c.args.clock.now c.args.hub.now c.connect.new.self (wire g.R.Inlet c.args.reader.now (outflow g.W.Outlet g.W.Flush.held g.W.Flush.has_failed c.args.writer.now))
     c.in_default-connect.ensures.same c.connect.ensures.store c.connect.ensures.rests (same_stands_for g.A.Archive.condition c.args.hub.now c.connect.new.self c.connect.ensures.config c.in_default-connect.ensures.same)
 
 -- there was no memory for its pieces
 pub returns-in_default-clause-converses : goal.returns-in_default-clause-converses
-returns-in_default-clause-converses g c = unserved g.A.Archive.condition c.args.clock.now c.args.hub.now c.args.hub.now (wire (g.R.Inlet.unread c.args.reader.now) (g.R.Inlet.reads c.args.reader.now) (g.R.Inlet.last c.args.reader.now) (g.W.Outlet.taken c.args.writer.now) (g.W.Outlet.failures c.args.writer.now))
+returns-in_default-clause-converses g c = unserved g.A.Archive.condition c.args.clock.now c.args.hub.now c.args.hub.now (wire g.R.Inlet c.args.reader.now (outflow g.W.Outlet g.W.Flush.held g.W.Flush.has_failed c.args.writer.now))
     (λ w at. at) refl (λ w at. stays_as (store_of g.A.Archive.condition c.args.hub.now) w.state (g.met.A.Archive.settled c.args.hub.now.store) at.state)
     (λ first records h. h)

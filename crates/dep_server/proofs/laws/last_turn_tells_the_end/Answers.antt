@@ -5,6 +5,6 @@ use Rattle.dep_server.proofs.laws.last_turn_tells_the_end.Goals as goal
 
 pub returns : goal.returns
 returns c = λ talk before behind t is.
-    last_tells talk.config talk.number talk.first talk.last before behind t talk.unread talk.end
+    last_tells talk.config talk.number talk.first talk.last before behind t talk.unread talk.has_failed talk.end
     (subst (λ (turns : List Turn). Exchanges talk.config talk.number talk.first turns talk.last) is talk.answers)
-    (subst (λ (turns : List Turn). EndsAs talk.unread turns talk.end) is talk.ends)
+    (subst (λ (turns : List Turn). EndsAs talk.unread talk.has_failed turns talk.end) is talk.ends)

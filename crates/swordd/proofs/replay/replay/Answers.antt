@@ -1,8 +1,7 @@
 use Rattle.sqlite.specs.Held.{state}
 use Rattle.sqlite.specs.Steps.{over_memory}
 use Rattle.sqlite.proofs.Callers.{memory_is_clean}
-use Rattle.dep_hub.specs.Conversation.{wire}
-use Rattle.swordd.specs.Replays.{not_begun}
+use Rattle.swordd.specs.Replays.{not_begun, wire_of}
 use Rattle.swordd.proofs.ReplayLemmas.{empty_holds_none, rests_same}
 use Rattle.swordd.proofs.replay.replay.Goals as goal
 
@@ -13,4 +12,4 @@ returns-in-Ok-clause-replays g c =
 
 pub returns-in-Err-clause-replays : goal.returns-in-Err-clause-replays
 returns-in-Err-clause-replays g c =
-    not_begun (rests_same (wire (g.R.Inlet.unread c.args.reader.now) (g.R.Inlet.reads c.args.reader.now) (g.R.Inlet.last c.args.reader.now) (g.W.Outlet.taken c.args.writer.now) (g.W.Outlet.failures c.args.writer.now)))
+    not_begun (rests_same (wire_of g.R.Inlet g.W.Outlet g.W.Flush.held g.W.Flush.has_failed c.args.reader.now c.args.writer.now))
