@@ -10,19 +10,20 @@ use Rattle.dep_types.specs.Rows.{file_row, object_view}
 use Rattle.dep_types.specs.declared.rows.ObjectView.{ObjectView}
 use Rattle.dep_types.specs.Sinks.{Entry}
 use Rattle.dep_docs_out.specs.Documents.{bag_metadata_document}
-use Rattle.dep_manifest.specs.TagFiles.{bagit_text, manifest_path}
-use Rattle.dep_manifest.specs.Told.{told_info, told_manifest}
+use Rattle.dep_manifest.specs.TagFiles.{bagit_text}
 use Rattle.dep_manifest.specs.declared.algorithm.Algorithm.TheVariants.{Sha256, Sha512}
-use Rattle.dep_bag.specs.Parts.{told_parts, told_part, told_tag_manifests, text_part, stored_part}
+use Rattle.dep_bag.specs.Parts.{tag_file_at, told_parts, told_part, text_part, stored_part}
 use Rattle.dep_bag.specs.declared.part.BagPart.{BagPart}
 use Rattle.dep_bag.specs.declared.part.BagPart.TheVariants.{Bytes, Stored}
+use Rattle.dep_bag.specs.declared.part.TagFile.{TagFile}
+use Rattle.dep_bag.specs.declared.part.TagFile.TheVariants as tag
 use Rattle.dep_bag.proofs.Keys.{entries-held}
 use Rattle.dep_bag.specs.Bag.{tag_files, bag_files}
 use Rattle.dep_bag.proofs.Files.{payload_entry}
+use Rattle.dep_bag.proofs.TagFileParts.{part_of as at_tag_file, by_tag_file}
 use Rattle.dep_bag.proofs.ToldBag.{same_tag_files}
-use Rattle.dep_answers.specs.Answers.{ReplyContent, StoredContent, bytes_of}
+use Rattle.dep_answers.specs.Answers.{Document, PlainText, ReplyContent, StoredContent, bytes_of}
 use Rattle.dep_answers.specs.Bags.{BagEntry, bag_entries, tags_shown, payload_shown, shown_in_bag}
-use Rattle.dep_answers.specs.Subjects.{files_view, payload_view, shows_metadata, shows_sha512s}
 use Rattle.dep_answers.specs.Telling.{tag_view, view_by}
 use Rattle.dep_answers.specs.Told.{content_of, form_at}
 
@@ -66,61 +67,18 @@ shown_files o = ap (λ (l : List Entry). tag_files o ++ l) (same_payload (finmap
 
 -- ---- what is read of an object shows what all of it does
 
-abbrev Part : Type 0
-Part = List ℕ × BagPart
-
-found_behind : (test : Part → Bool) (front xs ys : List Part) → find test xs ≡ find test ys → find test (front ++ xs) ≡ find test (front ++ ys)
-found_behind test [] xs ys e = e
-found_behind test (p ∷ front) xs ys e = ap (cond (test p) (Some p)) (found_behind test front xs ys e)
-
--- parts that aren't looked for
-past_one : (a : Bool) (p q : Part) (rest more : Option Part) → a ≡ false → rest ≡ more → cond a (Some p) rest ≡ cond a (Some q) more
-past_one true p q rest more e same = absurd (cc)
-past_one false p q rest more e same = same
-
-past_three : (a b c : Bool) (p q r s t u : Part) (rest : Option Part) → (a || b || c) ≡ false
-    → cond a (Some p) (cond b (Some q) (cond c (Some r) rest)) ≡ cond a (Some s) (cond b (Some t) (cond c (Some u) rest))
-past_three true b c p q r s t u rest e = absurd (cc)
-past_three false true c p q r s t u rest e = absurd (cc)
-past_three false false true p q r s t u rest e = absurd (cc)
-past_three false false false p q r s t u rest e = refl
-
 module _ (n : ℕ) (o : Object) (path : List ℕ) where
-  -- the tag files that are made without the metadata and the SHA-512 values
-  abbrev front : List Part
-  front =
-      (codes "bagit.txt", Bytes bagit_text)
-      ∷ (codes "bag-info.txt", Bytes (told_info (object_view n o)))
-      ∷ (manifest_path Sha256, Bytes (told_manifest Sha256 (object_view n o)))
-      ∷ []
-
-  abbrev behind : ObjectView → List Part
-  behind view =
-      each text_part ((codes "metadata/sword.json", bag_metadata_document view.metadata) ∷ told_tag_manifests view) ++ each stored_part view.files
-
-  abbrev hashed : ObjectView → Part
-  hashed view = text_part (manifest_path Sha512, told_manifest Sha512 view)
-
   pub same_part : told_part (tag_view path n o) path ≡ told_part (object_view n o) path
-  same_part = go (shows_metadata path) (shows_sha512s path) refl refl
+  same_part = sym (by_tag_file (tag_view path n o) path) ∙ (go (tag_file_at path) ∙ by_tag_file (object_view n o) path)
     where
-      test : Part → Bool
-      test = λ p. bytes_eq path p.0
-
-      same_behind : (values : List (List ℕ)) → shows_metadata path ≡ false
-          → find test (behind (record (payload_view n o) { sha512s = values })) ≡ find test (behind (object_view n o))
-      same_behind values is =
-          past_three (bytes_eq path (codes "metadata/sword.json")) (bytes_eq path (codes "tagmanifest-sha256.txt")) (bytes_eq path (codes "tagmanifest-sha512.txt")) _ _ _ _ _ _ _ is
-
-      go : (m h : Bool) → shows_metadata path ≡ m → shows_sha512s path ≡ h → told_part (view_by m h n o) path ≡ told_part (object_view n o) path
-      go true h is other = refl
-      go false true is other =
-          ap (option_map (λ (p : Part). p.1))
-          (found_behind test (front ++ hashed (object_view n o) ∷ []) (behind (payload_view n o)) (behind (object_view n o)) (same_behind (object_view n o).sha512s is))
-      go false false is other =
-          ap (option_map (λ (p : Part). p.1))
-          (found_behind test front (hashed (files_view n o) ∷ behind (files_view n o)) (hashed (object_view n o) ∷ behind (object_view n o))
-          (past_one (shows_sha512s path) (hashed (files_view n o)) (hashed (object_view n o)) _ _ other (same_behind [] is)))
+      go : (file : Option TagFile) → at_tag_file (view_by n o file) path file ≡ at_tag_file (object_view n o) path file
+      go (Some tag.Declaration) = refl
+      go (Some tag.Information) = refl
+      go (Some (tag.Manifest Sha256)) = refl
+      go (Some (tag.Manifest Sha512)) = refl
+      go (Some tag.Metadata) = refl
+      go (Some (tag.TagManifest a)) = refl
+      go None = refl
 
 -- ---- what is found
 
@@ -235,3 +193,38 @@ pub nothing_shown : (n : ℕ) (o : Object) (view : ObjectView) (path : List ℕ)
     → None ≡ told_part view path → shown_in_bag o path ≡ None
 nothing_shown n o view path e is =
     by_none o (part n o path) (place n o path) (both_found n o path) (is ∙ part_of n o path view e)
+
+-- ---- the tag files that are made of no files
+
+-- where each tag file stands
+abbrev place_of : TagFile → List ℕ
+place_of tag.Declaration = codes "bagit.txt"
+place_of tag.Information = codes "bag-info.txt"
+place_of (tag.Manifest Sha256) = codes "manifest-sha256.txt"
+place_of (tag.Manifest Sha512) = codes "manifest-sha512.txt"
+place_of tag.Metadata = codes "metadata/sword.json"
+place_of (tag.TagManifest Sha256) = codes "tagmanifest-sha256.txt"
+place_of (tag.TagManifest Sha512) = codes "tagmanifest-sha512.txt"
+
+module _ (path : List ℕ) where
+  abbrev ArePlaced : Option TagFile → Type 0
+  ArePlaced files = (file : TagFile) → files ≡ Some file → path ≡ place_of file
+
+  placed : (it : TagFile) (files : Option TagFile) → ArePlaced files → ArePlaced (cond (bytes_eq path (place_of it)) (Some it) files)
+  placed it files rest file is = go (bytes_eq path (place_of it)) refl is
+    where
+      go : (b : Bool) → bytes_eq path (place_of it) ≡ b → cond b (Some it) files ≡ Some file → path ≡ place_of file
+      go true here is = (bytes_eq-Decides path (place_of it)).0 here ∙ ap place_of (same_some it file is)
+      go false here is = rest file is
+
+  pub its_place : ArePlaced (tag_file_at path)
+  its_place =
+      placed tag.Declaration _ (placed tag.Information _ (placed (tag.Manifest Sha256) _ (placed (tag.Manifest Sha512) _
+      (placed tag.Metadata _ (placed (tag.TagManifest Sha256) _ (placed (tag.TagManifest Sha512) None (λ file is. absurd (cc))))))))
+
+  module _ (o : Object) where
+    pub declaration_shown : tag_file_at path ≡ Some tag.Declaration → shown_in_bag o path ≡ Some (PlainText bagit_text)
+    declaration_shown is = ap (shown_in_bag o) (its_place tag.Declaration is)
+
+    pub metadata_shown : tag_file_at path ≡ Some tag.Metadata → shown_in_bag o path ≡ Some (Document (bag_metadata_document o.metadata))
+    metadata_shown is = ap (shown_in_bag o) (its_place tag.Metadata is)

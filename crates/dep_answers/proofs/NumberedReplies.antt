@@ -6,23 +6,31 @@ use Rattle.std.specs.FinMap as finmap
 use Rattle.std.proofs.lemmas.List.Elements.{All-head, All-tail}
 use Rattle.std.proofs.lemmas.Slice.Eq.{bytes_eq-Decides}
 use Rattle.dep_types.specs.BagPaths.{payload_path}
-use Rattle.dep_types.specs.Rows.{file_row, object_view}
+use Rattle.dep_types.specs.Rows.{file_row, object_row, object_view}
 use Rattle.dep_types.specs.Sound.{IsSound}
-use Rattle.dep_types.specs.State.{State, Object, File, file_at}
+use Rattle.dep_types.specs.State.{State, Object, File, Texts, file_at}
 use Rattle.dep_types.specs.declared.rows.FileRow.{FileRow}
+use Rattle.dep_types.specs.declared.rows.ObjectRow.{ObjectRow}
 use Rattle.dep_types.specs.declared.rows.ObjectView.{ObjectView}
+use Rattle.dep_docs_out.specs.Documents.{bag_metadata_document}
+use Rattle.dep_manifest.specs.TagFiles.{bagit_text}
+use Rattle.dep_manifest.specs.declared.algorithm.Algorithm.TheVariants.{Sha256, Sha512}
 use Rattle.dep_bag.specs.Numbered.{file_number}
+use Rattle.dep_bag.specs.Parts.{tag_file_at}
+use Rattle.dep_bag.specs.declared.part.TagFile.{TagFile}
+use Rattle.dep_bag.specs.declared.part.TagFile.TheVariants as tag
 use Rattle.dep_bag.proofs.Lines.{All-none}
 use Rattle.dep_bag.proofs.Numbered.{HasStorable, files_storable, found_by_number, none_by_number, numbered}
-use Rattle.dep_answers.specs.Answers.{ReplyContent, StoredContent, answer}
+use Rattle.dep_answers.specs.Answers.{Document, PlainText, ReplyContent, StoredContent, answer}
 use Rattle.dep_answers.specs.Bags.{BagEntry, bag_entries, payload_shown, shown_in_bag, tags_shown}
-use Rattle.dep_answers.specs.Subjects.{shown_at, shows_metadata, shows_sha512s, subject_by, subject_in_bag}
+use Rattle.dep_answers.specs.Subjects.{files_view, payload_view, shown_at, subject_in_bag, tag_subject}
 use Rattle.dep_answers.specs.Telling.{tag_view, view_by}
 use Rattle.dep_answers.specs.Told.{bag_answer}
 use Rattle.dep_answers.specs.declared.subject.Shown.{Shown}
 use Rattle.dep_answers.specs.declared.subject.Shown.TheVariants as shown
-use Rattle.dep_answers.proofs.BagLemmas.{found_through}
-use Rattle.dep_answers.proofs.ShownReplies.{file_in, files_in, no_bag_answer, no_file, no_object, object_in}
+use Rattle.dep_answers.specs.declared.subject.Subject.TheVariants as subject
+use Rattle.dep_answers.proofs.BagLemmas.{declaration_shown, found_through, metadata_shown}
+use Rattle.dep_answers.proofs.ShownReplies.{file_in, no_bag_answer, no_file}
 
 abbrev has_number : BagEntry → Bool
 has_number e = is_some (file_number e.0)
@@ -146,66 +154,159 @@ not_shown : {X : Type 0} (sh : Shown) (show : X → Shown) → ((x : X) → sh �
 not_shown sh show other something None e = something e
 not_shown sh show other something (Some x) e = other x e
 
-module _ (s : State) (n : ℕ) (path : List ℕ) (sh : Shown) where
-  -- this is what the tag file at the path is shown by
-  abbrev pub IsTagView : ObjectView → Type 0
-  IsTagView view = (file_number path ≡ None) × ((o : Object) × ((finmap.get s.objects n ≡ Some o) × (view ≡ tag_view path n o)))
+-- what a tag file of an object is shown by
+abbrev show_by : ℕ → Option TagFile → Object → Shown
+show_by n (Some tag.Declaration) o = shown.ObjectRow (object_row n o)
+show_by n (Some tag.Metadata) o = shown.Metadata (object_row n o) o.metadata
+show_by n (Some (tag.Manifest Sha512)) o = shown.Files (payload_view n o)
+show_by n (Some (tag.TagManifest a)) o = shown.Object (object_view n o)
+show_by n file o = shown.Files (files_view n o)
 
+read_by : (s : State) (n : ℕ) (file : Option TagFile) → shown_at s (tag_subject n file) ≡ option_map_or (show_by n file) (finmap.get s.objects n) shown.Nothing
+read_by s n (Some tag.Declaration) = refl
+read_by s n (Some tag.Information) = refl
+read_by s n (Some (tag.Manifest Sha256)) = refl
+read_by s n (Some (tag.Manifest Sha512)) = refl
+read_by s n (Some tag.Metadata) = refl
+read_by s n (Some (tag.TagManifest a)) = refl
+read_by s n None = refl
+
+view_shown : (n : ℕ) (view : ObjectView) (file : Option TagFile) (o : Object) → (shown.Object view ≡ show_by n file o) ⊎ (shown.Files view ≡ show_by n file o)
+    → view ≡ view_by n o file
+view_shown n view (Some tag.Declaration) o (inl e) = absurd (cc)
+view_shown n view (Some tag.Declaration) o (inr e) = absurd (cc)
+view_shown n view (Some tag.Information) o (inl e) = absurd (cc)
+view_shown n view (Some tag.Information) o (inr e) = cc
+view_shown n view (Some (tag.Manifest Sha256)) o (inl e) = absurd (cc)
+view_shown n view (Some (tag.Manifest Sha256)) o (inr e) = cc
+view_shown n view (Some (tag.Manifest Sha512)) o (inl e) = absurd (cc)
+view_shown n view (Some (tag.Manifest Sha512)) o (inr e) = cc
+view_shown n view (Some tag.Metadata) o (inl e) = absurd (cc)
+view_shown n view (Some tag.Metadata) o (inr e) = absurd (cc)
+view_shown n view (Some (tag.TagManifest a)) o (inl e) = cc
+view_shown n view (Some (tag.TagManifest a)) o (inr e) = absurd (cc)
+view_shown n view None o (inl e) = absurd (cc)
+view_shown n view None o (inr e) = cc
+
+row_shown : (n : ℕ) (row : ObjectRow) (file : Option TagFile) (o : Object) → shown.ObjectRow row ≡ show_by n file o → file ≡ Some tag.Declaration
+row_shown n row (Some tag.Declaration) o e = refl
+row_shown n row (Some tag.Information) o e = absurd (cc)
+row_shown n row (Some (tag.Manifest Sha256)) o e = absurd (cc)
+row_shown n row (Some (tag.Manifest Sha512)) o e = absurd (cc)
+row_shown n row (Some tag.Metadata) o e = absurd (cc)
+row_shown n row (Some (tag.TagManifest a)) o e = absurd (cc)
+row_shown n row None o e = absurd (cc)
+
+texts_shown : (n : ℕ) (row : ObjectRow) (texts : Texts) (file : Option TagFile) (o : Object) → shown.Metadata row texts ≡ show_by n file o
+    → (file ≡ Some tag.Metadata) × (texts ≡ o.metadata)
+texts_shown n row texts (Some tag.Metadata) o e = (refl, cc)
+texts_shown n row texts (Some tag.Declaration) o e = absurd (cc)
+texts_shown n row texts (Some tag.Information) o e = absurd (cc)
+texts_shown n row texts (Some (tag.Manifest Sha256)) o e = absurd (cc)
+texts_shown n row texts (Some (tag.Manifest Sha512)) o e = absurd (cc)
+texts_shown n row texts (Some (tag.TagManifest a)) o e = absurd (cc)
+texts_shown n row texts None o e = absurd (cc)
+
+module _ (s : State) (n : ℕ) (path : List ℕ) (sh : Shown) where
   abbrev IsRead : Type 0
   IsRead = sh ≡ shown_at s (subject_in_bag n path)
 
-  abbrev IsReadBy : Option ℕ → (m h : Bool) → Type 0
-  IsReadBy k m h = sh ≡ shown_at s (subject_by n k m h)
+  -- no file can stand at the path, and what is shown of the object is what its tag file is shown by
+  abbrev IsTagRead : Object → Type 0
+  IsTagRead o = (file_number path ≡ None) × ((finmap.get s.objects n ≡ Some o) × (sh ≡ show_by n (tag_file_at path) o))
 
-  -- without its metadata, an object is shown with its files
-  abbrev files_by : (h : Bool) → Object → Shown
-  files_by h o = shown.Files (view_by false h n o)
+  -- the row of the one file that can stand at the path, or else what the tag file there is shown by
+  abbrev IsFileRead : ℕ → Type 0
+  IsFileRead f = (file_number path ≡ Some f) × (sh ≡ option_map_or (λ (it : File). shown.File (file_row n f it)) (file_at s n f) shown.Nothing)
 
-  by_files : (h : Bool) → IsReadBy None false h → sh ≡ option_map_or (files_by h) (finmap.get s.objects n) shown.Nothing
-  by_files true e = e
-  by_files false e = e
+  abbrev IsObjectRead : Type 0
+  IsObjectRead = (file_number path ≡ None) × (sh ≡ option_map_or (show_by n (tag_file_at path)) (finmap.get s.objects n) shown.Nothing)
 
-  tag_view_is : (view : ObjectView) (m h : Bool) → file_number path ≡ None → shows_metadata path ≡ m → shows_sha512s path ≡ h
-      → (o : Object) × ((finmap.get s.objects n ≡ Some o) × (view ≡ view_by m h n o)) → IsTagView view
-  tag_view_is view m h none is has found = (none, (found.0, (found.1.0, found.1.1 ∙ sym (λ i. view_by (is i) (has i) n found.0))))
-
-  whole_read : (view : ObjectView) → sh ≡ shown.Object view → IsRead → IsTagView view
-  whole_read view is read = go (file_number path) (shows_metadata path) (shows_sha512s path) refl refl refl read
+  either_read : IsRead → ((f : ℕ) × IsFileRead f) ⊎ IsObjectRead
+  either_read read = go (file_number path) refl read
     where
-      go : (k : Option ℕ) (m h : Bool) → file_number path ≡ k → shows_metadata path ≡ m → shows_sha512s path ≡ h → IsReadBy k m h → IsTagView view
-      go None true h none of has e = tag_view_is view true h none of has (object_in n view (finmap.get s.objects n) (sym is ∙ e))
-      go None false h none of has e = absurd (not_shown (shown.Object view) (files_by h) (λ o e. cc) (λ e. cc) (finmap.get s.objects n) (sym is ∙ by_files h e))
-      go (Some f) m h some of has e = absurd (not_shown (shown.Object view) (λ (it : File). shown.File (file_row n f it)) (λ it e. cc) (λ e. cc) (file_at s n f) (sym is ∙ e))
+      go : (k : Option ℕ) → file_number path ≡ k → sh ≡ shown_at s (option_map_or (λ f. subject.File (record { object = n; file = f })) k (tag_subject n (tag_file_at path)))
+          → ((f : ℕ) × IsFileRead f) ⊎ IsObjectRead
+      go (Some f) of e = inl (f, (of, e))
+      go None of e = inr (of, e ∙ read_by s n (tag_file_at path))
 
-  files_read : (view : ObjectView) → sh ≡ shown.Files view → IsRead → IsTagView view
-  files_read view is read = go (file_number path) (shows_metadata path) (shows_sha512s path) refl refl refl read
+  tag_read : (sh ≡ shown.Nothing → ⊥) → ((row : FileRow) → sh ≡ shown.File row → ⊥) → IsRead → (o : Object) × IsTagRead o
+  tag_read something no_row read = go (either_read read)
     where
-      go : (k : Option ℕ) (m h : Bool) → file_number path ≡ k → shows_metadata path ≡ m → shows_sha512s path ≡ h → IsReadBy k m h → IsTagView view
-      go None true h none of has e = absurd (not_shown (shown.Files view) (λ (o : Object). shown.Object (object_view n o)) (λ o e. cc) (λ e. cc) (finmap.get s.objects n) (sym is ∙ e))
-      go None false h none of has e = tag_view_is view false h none of has (files_in (view_by false h n) view (finmap.get s.objects n) (sym is ∙ by_files h e))
-      go (Some f) m h some of has e = absurd (not_shown (shown.Files view) (λ (it : File). shown.File (file_row n f it)) (λ it e. cc) (λ e. cc) (file_at s n f) (sym is ∙ e))
+      there : file_number path ≡ None → (x : Option Object) → finmap.get s.objects n ≡ x → sh ≡ option_map_or (show_by n (tag_file_at path)) x shown.Nothing
+          → (o : Object) × IsTagRead o
+      there of None is e = absurd (something e)
+      there of (Some o) is e = (o, (of, (is, e)))
 
-  -- where an object was shown, with its metadata or without, it is the one whose tag file that is
+      go : ((f : ℕ) × IsFileRead f) ⊎ IsObjectRead → (o : Object) × IsTagRead o
+      go (inl (f, (of, e))) = absurd (not_shown sh (λ (it : File). shown.File (file_row n f it)) (λ it. no_row (file_row n f it)) something (file_at s n f) e)
+      go (inr (of, e)) = there of (finmap.get s.objects n) refl e
+
+  -- where an object was shown with its files, this is what its tag file is made of
+  abbrev pub IsTagView : ObjectView → Type 0
+  IsTagView view = (file_number path ≡ None) × ((o : Object) × ((finmap.get s.objects n ≡ Some o) × (view ≡ tag_view path n o)))
+
   pub object_read : (view : ObjectView) → (sh ≡ shown.Object view) ⊎ (sh ≡ shown.Files view) → IsRead → IsTagView view
-  object_read view (inl is) read = whole_read view is read
-  object_read view (inr is) read = files_read view is read
+  object_read view (inl is) read =
+      let found = tag_read (λ e. cc) (λ row e. cc) read in
+      (found.1.0, (found.0, (found.1.1.0, view_shown n view (tag_file_at path) found.0 (inl (sym is ∙ found.1.1.1)))))
+  object_read view (inr is) read =
+      let found = tag_read (λ e. cc) (λ row e. cc) read in
+      (found.1.0, (found.0, (found.1.1.0, view_shown n view (tag_file_at path) found.0 (inr (sym is ∙ found.1.1.1)))))
+
+  -- where the object's row was shown alone, the declaration stands at the path
+  pub row_read : (row : ObjectRow) → sh ≡ shown.ObjectRow row → IsRead → (o : Object) × ((finmap.get s.objects n ≡ Some o) × (shown_in_bag o path ≡ Some (PlainText bagit_text)))
+  row_read row is read =
+      let found = tag_read (λ e. cc) (λ row e. cc) read in
+      (found.0, (found.1.1.0, declaration_shown path found.0 (row_shown n row (tag_file_at path) found.0 (sym is ∙ found.1.1.1))))
+
+  -- where its metadata was shown with it, that stands there
+  pub texts_read : (row : ObjectRow) (texts : Texts) → sh ≡ shown.Metadata row texts → IsRead
+      → (o : Object) × ((finmap.get s.objects n ≡ Some o) × (shown_in_bag o path ≡ Some (Document (bag_metadata_document texts))))
+  texts_read row texts is read =
+      let found = tag_read (λ e. cc) (λ row e. cc) read in
+      let shows = texts_shown n row texts (tag_file_at path) found.0 (sym is ∙ found.1.1.1) in
+      (found.0, (found.1.1.0, metadata_shown path found.0 shows.0 ∙ ap (λ (t : Texts). Some (Document (bag_metadata_document t))) (sym shows.1)))
 
   -- where a file was shown, it is the one that was read
   pub file_read : (row : FileRow) → sh ≡ shown.File row → IsRead
       → (f : ℕ) × (file_number path ≡ Some f) × (it : File) × (file_at s n f ≡ Some it) × (row ≡ file_row n f it)
-  file_read row is read = go (file_number path) (shows_metadata path) (shows_sha512s path) refl read
+  file_read row is read = go (either_read read)
     where
-      go : (k : Option ℕ) (m h : Bool) → file_number path ≡ k → IsReadBy k m h → (f : ℕ) × (file_number path ≡ Some f) × (it : File) × (file_at s n f ≡ Some it) × (row ≡ file_row n f it)
-      go None true h of e = absurd (not_shown (shown.File row) (λ (o : Object). shown.Object (object_view n o)) (λ o e. cc) (λ e. cc) (finmap.get s.objects n) (sym is ∙ e))
-      go None false h of e = absurd (not_shown (shown.File row) (files_by h) (λ o e. cc) (λ e. cc) (finmap.get s.objects n) (sym is ∙ by_files h e))
-      go (Some f) m h of e = let found = file_in n f row (file_at s n f) (sym is ∙ e) in (f, of, found.0, found.1.0, found.1.1)
+      no_row : (file : Option TagFile) (o : Object) → shown.File row ≡ show_by n file o → ⊥
+      no_row (Some tag.Declaration) o e = cc
+      no_row (Some tag.Information) o e = cc
+      no_row (Some (tag.Manifest Sha256)) o e = cc
+      no_row (Some (tag.Manifest Sha512)) o e = cc
+      no_row (Some tag.Metadata) o e = cc
+      no_row (Some (tag.TagManifest a)) o e = cc
+      no_row None o e = cc
+
+      go : ((f : ℕ) × IsFileRead f) ⊎ IsObjectRead → (f : ℕ) × (file_number path ≡ Some f) × (it : File) × (file_at s n f ≡ Some it) × (row ≡ file_row n f it)
+      go (inl (f, (of, e))) = let found = file_in n f row (file_at s n f) (sym is ∙ e) in (f, of, found.0, found.1.0, found.1.1)
+      go (inr (of, e)) =
+          absurd (not_shown sh (show_by n (tag_file_at path)) (λ o e. no_row (tag_file_at path) o (sym is ∙ e)) (λ e. cc) (finmap.get s.objects n) e)
 
   -- where none of them was shown, nothing stands at the path
-  pub nothing_read : IsSound s → ((view : ObjectView) → sh ≡ shown.Object view → ⊥) → ((view : ObjectView) → sh ≡ shown.Files view → ⊥)
-      → ((row : FileRow) → sh ≡ shown.File row → ⊥) → IsRead → answer 200 None None None ≡ bag_answer s n path
-  nothing_read sound no_view no_files no_row read = go (file_number path) (shows_metadata path) (shows_sha512s path) refl read
-    where
-      go : (k : Option ℕ) (m h : Bool) → file_number path ≡ k → IsReadBy k m h → answer 200 None None None ≡ bag_answer s n path
-      go None true h of e = no_bag_answer s n path (no_object (λ (v : ObjectView). shown.Object v) (object_view n) sh (finmap.get s.objects n) no_view e)
-      go None false h of e = no_bag_answer s n path (no_object (λ (v : ObjectView). shown.Files v) (view_by false h n) sh (finmap.get s.objects n) no_files (by_files h e))
-      go (Some f) m h of e = absent_answer path f of s sound n (no_file n f sh (file_at s n f) no_row e)
+  module _ (no_view : (view : ObjectView) → sh ≡ shown.Object view → ⊥) (no_files : (view : ObjectView) → sh ≡ shown.Files view → ⊥)
+      (no_object_row : (row : ObjectRow) → sh ≡ shown.ObjectRow row → ⊥) (no_texts : (row : ObjectRow) (texts : Texts) → sh ≡ shown.Metadata row texts → ⊥)
+      (no_row : (row : FileRow) → sh ≡ shown.File row → ⊥) where
+    no_show : (file : Option TagFile) (o : Object) → sh ≡ show_by n file o → ⊥
+    no_show (Some tag.Declaration) o e = no_object_row (object_row n o) e
+    no_show (Some tag.Information) o e = no_files (files_view n o) e
+    no_show (Some (tag.Manifest Sha256)) o e = no_files (files_view n o) e
+    no_show (Some (tag.Manifest Sha512)) o e = no_files (payload_view n o) e
+    no_show (Some tag.Metadata) o e = no_texts (object_row n o) o.metadata e
+    no_show (Some (tag.TagManifest a)) o e = no_view (object_view n o) e
+    no_show None o e = no_files (files_view n o) e
+
+    no_object : (x : Option Object) → sh ≡ option_map_or (show_by n (tag_file_at path)) x shown.Nothing → x ≡ None
+    no_object None e = refl
+    no_object (Some o) e = absurd (no_show (tag_file_at path) o e)
+
+    pub nothing_read : IsSound s → IsRead → answer 200 None None None ≡ bag_answer s n path
+    nothing_read sound read = go (either_read read)
+      where
+        go : ((f : ℕ) × IsFileRead f) ⊎ IsObjectRead → answer 200 None None None ≡ bag_answer s n path
+        go (inl (f, (of, e))) = absent_answer path f of s sound n (no_file n f sh (file_at s n f) no_row e)
+        go (inr (of, e)) = no_bag_answer s n path (no_object (finmap.get s.objects n) e)

@@ -72,18 +72,6 @@ no_file n f sh (Some file) not e = absurd (not (file_row n f file) e)
 
 -- ---- a bag
 
-pub object_in : (n : ℕ) (view : ObjectView) (o : Option Object)
-    → shown.Object view ≡ option_map_or (λ (x : Object). shown.Object (object_view n x)) o shown.Nothing
-    → (it : Object) × ((o ≡ Some it) × (view ≡ object_view n it))
-object_in n view None e = absurd (cc)
-object_in n view (Some it) e = (it, (refl, cc e))
-
-pub files_in : (view_of : Object → ObjectView) (view : ObjectView) (o : Option Object)
-    → shown.Files view ≡ option_map_or (λ (x : Object). shown.Files (view_of x)) o shown.Nothing
-    → (it : Object) × ((o ≡ Some it) × (view ≡ view_of it))
-files_in view_of view None e = absurd (cc)
-files_in view_of view (Some it) e = (it, (refl, cc e))
-
 -- what was read of the object is what its tag file at the path is shown by
 pub tag_reply_is : (s : State) (n : ℕ) (path : List ℕ) (delivery : Delivery) (said : Option Performed)
     → (o : Object) → finmap.get s.objects n ≡ Some o
@@ -93,12 +81,6 @@ tag_reply_is s n path delivery said o there says =
     says_as s (answer 200 (shown_in_bag o path) None None) (bag_answer s n path) delivery said
     (ap (λ (x : Option Object). answer 200 (option_and_then (λ (y : Object). shown_in_bag y path) x) None None) (sym there))
     says
-
--- nothing was shown of an object, so there is none
-pub no_object : (show : ObjectView → Shown) (view_of : Object → ObjectView) (sh : Shown) (o : Option Object) → ((view : ObjectView) → sh ≡ show view → ⊥)
-    → sh ≡ option_map_or (λ (x : Object). show (view_of x)) o shown.Nothing → o ≡ None
-no_object show view_of sh None not e = refl
-no_object show view_of sh (Some it) not e = absurd (not (view_of it) e)
 
 pub no_bag_answer : (s : State) (n : ℕ) (path : List ℕ) → finmap.get s.objects n ≡ None → answer 200 None None None ≡ bag_answer s n path
 no_bag_answer s n path none =

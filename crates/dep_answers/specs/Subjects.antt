@@ -1,5 +1,5 @@
 -- What has to be read of the archive for a reply, and what is read.
-use Rattle.std.specs.Prelude.{ℕ, ◌-◌, Bool, true, false, List, [], codes, bytes_eq, ◌||◌, Option, Some, None}
+use Rattle.std.specs.Prelude.{ℕ, ◌-◌, List, [], Option, Some, None}
 use Rattle.std.specs.Option.{option_map_or}
 use Rattle.std.specs.FinMap as finmap
 use Rattle.dep_types.specs.State.{State, Object as Kept, file_at}
@@ -10,37 +10,29 @@ use Rattle.dep_types.specs.declared.target.Resource.{Resource}
 use Rattle.dep_types.specs.declared.target.Resource.TheVariants.{Service, Object, Metadata, FileSet, File, Staging, Upload, BagList, BagFile}
 use Rattle.dep_types.specs.declared.target.Method.{Method}
 use Rattle.dep_types.specs.declared.target.Method.TheVariants.{Get, Head, Post, Put}
+use Rattle.dep_manifest.specs.declared.algorithm.Algorithm.TheVariants.{Sha512}
 use Rattle.dep_bag.specs.Numbered.{file_number}
+use Rattle.dep_bag.specs.Parts.{tag_file_at}
+use Rattle.dep_bag.specs.declared.part.TagFile.{TagFile}
+use Rattle.dep_bag.specs.declared.part.TagFile.TheVariants as tag
 use Rattle.dep_answers.specs.declared.subject.Subject.{Subject}
 use Rattle.dep_answers.specs.declared.subject.Subject.TheVariants as subject
 use Rattle.dep_answers.specs.declared.subject.Shown.{Shown}
 use Rattle.dep_answers.specs.declared.subject.Shown.TheVariants as shown
 
--- the tag file at a path is made of the metadata
-abbrev pub shows_metadata : (path : List ℕ) → Bool
-shows_metadata path =
-    bytes_eq path (codes "metadata/sword.json")
-    || bytes_eq path (codes "tagmanifest-sha256.txt")
-    || bytes_eq path (codes "tagmanifest-sha512.txt")
-
--- it is made of the SHA-512 values, and of no metadata
-abbrev pub shows_sha512s : (path : List ℕ) → Bool
-shows_sha512s path = bytes_eq path (codes "manifest-sha512.txt")
-
 -- what is read to show a tag file
-abbrev pub tag_subject : ℕ → (metadata sha512s : Bool) → Subject
-tag_subject n true sha512s = subject.Object n
-tag_subject n false true = subject.Payload n
-tag_subject n false false = subject.Files n
+abbrev pub tag_subject : ℕ → Option TagFile → Subject
+tag_subject n (Some tag.Declaration) = subject.ObjectRow n
+tag_subject n (Some tag.Metadata) = subject.Metadata n
+tag_subject n (Some (tag.Manifest Sha512)) = subject.Payload n
+tag_subject n (Some (tag.TagManifest a)) = subject.Object n
+tag_subject n file = subject.Files n
 
--- the same: the one file that can stand at the path, or else what its tag file shows
-abbrev pub subject_by : ℕ → (file : Option ℕ) → (metadata sha512s : Bool) → Subject
-subject_by n (Some f) metadata sha512s = subject.File (record { object = n; file = f })
-subject_by n None metadata sha512s = tag_subject n metadata sha512s
-
--- what is read to show what stands at a path of a bag
+-- what is read to show what stands at a path of a bag: the one file that can, or else what its tag file is made of
 abbrev pub subject_in_bag : ℕ → (path : List ℕ) → Subject
-subject_in_bag n path = subject_by n (file_number path) (shows_metadata path) (shows_sha512s path)
+subject_in_bag n path =
+    option_map_or (λ f. subject.File (record { object = n; file = f })) (file_number path)
+    (tag_subject n (tag_file_at path))
 
 -- what is read to show a resource
 abbrev pub subject_at : Resource → Subject

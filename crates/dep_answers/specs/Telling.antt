@@ -1,5 +1,5 @@
 -- What a reply shows of a state that what it was made of was read from.
-use Rattle.std.specs.Prelude.{◌≡◌, ℕ, Bool, true, false, List, Option, Some, None}
+use Rattle.std.specs.Prelude.{◌≡◌, ℕ, List, Option, Some, None}
 use Rattle.std.specs.FinMap as map
 use Rattle.dep_types.specs.State.{State, Object, File, file_at}
 use Rattle.dep_types.specs.Sound.{IsSound}
@@ -8,12 +8,16 @@ use Rattle.dep_types.specs.declared.config.Config.{Config}
 use Rattle.dep_types.specs.declared.rows.FileRow.{FileRow}
 use Rattle.dep_types.specs.declared.rows.ObjectView.{ObjectView}
 use Rattle.dep_types.specs.declared.target.Target.{Target}
+use Rattle.dep_manifest.specs.declared.algorithm.Algorithm.TheVariants.{Sha512}
 use Rattle.dep_bag.specs.Numbered.{file_number}
+use Rattle.dep_bag.specs.Parts.{tag_file_at}
+use Rattle.dep_bag.specs.declared.part.TagFile.{TagFile}
+use Rattle.dep_bag.specs.declared.part.TagFile.TheVariants as tag
 use Rattle.dep_answers.specs.Answers.{answer, StoredContent}
 use Rattle.dep_answers.specs.Bags.{shown_in_bag}
 use Rattle.dep_answers.specs.Performing.{IsReply, Says}
 use Rattle.dep_answers.specs.Replies.{answer_to}
-use Rattle.dep_answers.specs.Subjects.{files_view, payload_view, shown_at, shows_metadata, shows_sha512s, subject_of}
+use Rattle.dep_answers.specs.Subjects.{files_view, payload_view, shown_at, subject_of}
 use Rattle.dep_answers.specs.Told.{bag_answer}
 use Rattle.dep_answers.specs.declared.performed.Delivery.{Delivery}
 use Rattle.dep_answers.specs.declared.performed.Performed.{Performed}
@@ -31,15 +35,16 @@ SaysPayload path row delivery said = (s : State) (n : ℕ) (f : ℕ) (it : File)
     → file_number path ≡ Some f → file_at s n f ≡ Some it → row ≡ file_row n f it
     → Says s (bag_answer s n path) delivery said
 
--- what is read of an object to show a tag file
-abbrev pub view_by : (metadata sha512s : Bool) → ℕ → Object → ObjectView
-view_by true sha512s n o = object_view n o
-view_by false true n o = payload_view n o
-view_by false false n o = files_view n o
+-- what a tag file of an object is made of
+abbrev pub view_by : ℕ → Object → Option TagFile → ObjectView
+view_by n o (Some tag.Metadata) = object_view n o
+view_by n o (Some (tag.Manifest Sha512)) = payload_view n o
+view_by n o (Some (tag.TagManifest a)) = object_view n o
+view_by n o file = files_view n o
 
 -- the same of the tag file at a path
 abbrev pub tag_view : (path : List ℕ) → ℕ → Object → ObjectView
-tag_view path n o = view_by (shows_metadata path) (shows_sha512s path) n o
+tag_view path n o = view_by n o (tag_file_at path)
 
 -- where no file can stand at the path, and this is read of the object, its tag file there is said
 abbrev pub SaysTagFile : (path : List ℕ) → ObjectView → Delivery → Option Performed → Type 0

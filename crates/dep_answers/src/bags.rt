@@ -3,8 +3,10 @@ ghost use Rattle.std.specs.Prelude.{◌≡◌, ℕ, IfOk, IfSome, Some, None};
 ghost use Rattle.std.specs.FinMap as map;
 ghost use Rattle.dep_types.specs.State.{State};
 ghost use Rattle.dep_types.specs.Sound.{IsSound};
+ghost use Rattle.dep_docs_out.specs.Documents.{bag_metadata_document};
+ghost use Rattle.dep_manifest.specs.TagFiles.{bagit_text};
 ghost use Rattle.dep_bag.specs.Bag.{list_text};
-ghost use Rattle.dep_answers.specs.Answers.{answer};
+ghost use Rattle.dep_answers.specs.Answers.{answer, Document, PlainText};
 ghost use Rattle.dep_answers.specs.Performing.{HasEnd, Says};
 ghost use Rattle.dep_answers.specs.Subjects.{shown_at, subject_in_bag};
 ghost use Rattle.dep_answers.specs.Told.{told_list, form_at, bag_answer};
@@ -15,9 +17,10 @@ use crate::performed::{Delivery, Performed};
 use crate::stored::stored_reply;
 use crate::subject::Shown;
 use dep_bag::{BagPart, bag_file, bag_paths, is_payload_path};
-use dep_manifest::METADATA;
+use dep_docs_out::bag_metadata_doc;
+use dep_manifest::{METADATA, declaration};
 use dep_reply::Status;
-use dep_types::{FileRow, ObjectView, Octets, Text};
+use dep_types::{FileRow, Metadata, ObjectView, Octets, Text};
 use std::alloc::{AllocError, Global};
 
 /// The list of a bag: the path of each of its files, with a line feed.
@@ -48,7 +51,8 @@ fn list_text(alloc: Global, paths: &[Text]) -> Result<Vec<u8>, AllocError>
 }
 
 /// Returns the reply that shows what stands at a path of an object's bag, where something stands there: by
-/// the row of the one file that can, or else by the object, with its metadata where the path needs that.
+/// the row of the one file that can, or else by what its tag file is made of. The declaration is the same in each
+/// bag, so that the object's row is shown for it alone.
 pub(crate) fn bag_reply(
     alloc: Global,
     shown: &Shown,
@@ -62,9 +66,31 @@ pub(crate) fn bag_reply(
 {
     match shown {
         Shown::Object(view) | Shown::Files(view) => tag_file_reply(alloc, view, path, delivery),
+        Shown::ObjectRow(_) => declared(alloc)?.say(alloc, delivery),
+        Shown::Metadata { metadata, .. } => described(alloc, metadata)?.say(alloc, delivery),
         Shown::File(row) => file_reply_at(alloc, row, path, delivery),
         _ => Ok(None),
     }
+}
+
+// The declaration of a bag.
+fn declared(alloc: Global) -> Result<Answer, AllocError>
+    ensures { IfOk result (λ a. a ≡ answer 200 (Some (PlainText bagit_text)) None None) }
+{
+    let text = Octets::from_vec(declaration(alloc)?);
+    Ok(Answer::showing(
+        Status::Ok,
+        ReplyText::new(Form::PlainText, text),
+    ))
+}
+
+// The metadata of an object, as it stands in the object's bag.
+fn described(alloc: Global, metadata: &Metadata) -> Result<Answer, AllocError>
+    ensures { IfOk result (λ a.
+        a ≡ answer 200 (Some (Document (bag_metadata_document metadata.now))) None None) }
+{
+    let document = bag_metadata_doc(alloc, metadata)?;
+    Ok(Answer::showing(Status::Ok, ReplyText::document(document)))
 }
 
 // The content of the file with this row, without an entity tag, where it stands at the path.

@@ -2,11 +2,11 @@
 ghost use Rattle.std.specs.Prelude.{◌≡◌};
 ghost use Rattle.dep_types.specs.declared.counters.Counters.{Counters as ACounters};
 ghost use Rattle.dep_types.specs.declared.target.Method.TheVariants.{Post, Put};
-ghost use Rattle.dep_answers.specs.Subjects.{shows_metadata, shows_sha512s, subject_at, subject_in_bag, subject_of, tag_subject};
+ghost use Rattle.dep_answers.specs.Subjects.{subject_at, subject_in_bag, subject_of, tag_subject};
 
 use crate::performed::FileId;
-use dep_bag::file_number;
-use dep_manifest::{MANIFEST_SHA512, METADATA, TAG_MANIFEST_SHA256, TAG_MANIFEST_SHA512};
+use dep_bag::{TagFile, file_number, tag_file};
+use dep_manifest::Algorithm;
 use dep_operations::Numbers;
 use dep_types::{
     Counters, FileRow, Metadata, Method, ObjectRow, ObjectView, Resource, Target, UploadRow,
@@ -105,30 +105,21 @@ fn in_bag(object: u64, path: &[u8]) -> Subject
 {
     match file_number(path) {
         Some(file) => Subject::File(FileId { object, file }),
-        None => in_tag_file(object, path),
+        None => in_tag_file(object, tag_file(path)),
     }
 }
 
 // What is read to show a tag file.
-fn in_tag_file(object: u64, path: &[u8]) -> Subject
-    ensures { result ≡ tag_subject object (shows_metadata path.now) (shows_sha512s path.now) }
+fn in_tag_file(object: u64, file: Option<TagFile>) -> Subject
+    ensures { result ≡ tag_subject object file }
 {
-    if shows_metadata(path) {
-        Subject::Object(object)
-    } else if path == MANIFEST_SHA512.as_bytes() {
-        Subject::Payload(object)
-    } else {
-        Subject::Files(object)
+    match file {
+        Some(TagFile::Declaration) => Subject::ObjectRow(object),
+        Some(TagFile::Metadata) => Subject::Metadata(object),
+        Some(TagFile::Manifest(Algorithm::Sha512)) => Subject::Payload(object),
+        Some(TagFile::TagManifest(_)) => Subject::Object(object),
+        _ => Subject::Files(object),
     }
-}
-
-// Whether a tag file is made of the metadata.
-fn shows_metadata(path: &[u8]) -> bool
-    ensures { result ≡ shows_metadata path.now }
-{
-    path == METADATA.as_bytes()
-        || path == TAG_MANIFEST_SHA256.as_bytes()
-        || path == TAG_MANIFEST_SHA512.as_bytes()
 }
 
 // What is read once something was posted.

@@ -11,6 +11,6 @@ mod source;
 
 pub use export_fault::ExportFault;
 pub use exporting::export;
-pub use part::{BagPart, bag_file};
+pub use part::{BagPart, TagFile, bag_file, tag_file};
 pub use paths::{bag_paths, file_number, has_bag_path, is_payload_path};
 pub use source::BagSource;

@@ -23,11 +23,16 @@ pub enum BagPart {
 
 /// A file of a bag that is no payload.
 #[derive(Clone, Copy)]
-pub(crate) enum TagFile {
+pub enum TagFile {
+    /// `bagit.txt`, which is the same in each bag.
     Declaration,
+    /// `bag-info.txt`.
     Information,
+    /// The manifest of the payload by this algorithm.
     Manifest(Algorithm),
+    /// `metadata/sword.json`.
     Metadata,
+    /// The manifest of the tag files by this algorithm.
     TagManifest(Algorithm),
 }
 
@@ -49,8 +54,8 @@ pub fn bag_file(
     }
 }
 
-/// The tag file that stands at this path.
-pub(crate) fn tag_file(path: &[u8]) -> Option<TagFile>
+/// Returns the tag file that stands at this path of a bag, if one does. Paths are compared byte by byte.
+pub fn tag_file(path: &[u8]) -> Option<TagFile>
     ensures { result ≡ tag_file_at path.now }
 {
     if is_at(path, BAGIT) {

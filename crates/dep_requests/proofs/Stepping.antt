@@ -37,12 +37,13 @@ use Rattle.dep_decisions.proofs.ReadAlone.{reads_keep}
 use Rattle.dep_answers.specs.Performing.{IsReady, IsReply}
 use Rattle.dep_answers.specs.Replies.{answer_to, refused_answer}
 use Rattle.dep_answers.specs.Steps.{operation_step, step_by, answered_step, accepted_answer, refused_step, accepted_step, is_head}
-use Rattle.dep_answers.specs.Subjects.{shown_at, subject_by, subject_of}
+use Rattle.dep_answers.specs.Subjects.{shown_at, subject_of}
 use Rattle.dep_answers.specs.declared.performed.Delivery.{Delivery}
 use Rattle.dep_answers.specs.declared.performed.Performed.{Performed}
 use Rattle.dep_answers.specs.declared.subject.Shown.{Shown}
 use Rattle.dep_answers.specs.declared.subject.Shown.TheVariants as shown
 use Rattle.dep_answers.specs.declared.subject.Subject.{Subject}
+use Rattle.dep_answers.specs.declared.subject.Subject.TheVariants as subject
 use Rattle.dep_tables.specs.Clauses.{ReadsOnly, StaysWithin}
 use Rattle.dep_tables.specs.Tables.{HasOurTables, IsOurs, tables_in}
 use Rattle.dep_tables.proofs.Results.{ok_then}
@@ -197,17 +198,18 @@ row_seen s next (resource.BagFile n path) m row h e = absurd (cc)
 
 -- ---- a payload file of a bag, whose row was looked at
 
-in_bag : (s : State) (n : ℕ) (row : FileRow) (k : Option ℕ) (metadata sha512s : Bool) → Some row ≡ option_and_then (λ f. option_map (file_row n f) (file_at s n f)) k → shown.File row ≡ shown_at s (subject_by n k metadata sha512s)
-in_bag s n row None metadata sha512s e = absurd (cc)
-in_bag s n row (Some f) metadata sha512s e = by_row n f row (file_at s n f) e
+in_bag : (s : State) (n : ℕ) (row : FileRow) (k : Option ℕ) (tag : Subject) → Some row ≡ option_and_then (λ f. option_map (file_row n f) (file_at s n f)) k
+    → shown.File row ≡ shown_at s (option_map_or (λ f. subject.File (record { object = n; file = f })) k tag)
+in_bag s n row None tag e = absurd (cc)
+in_bag s n row (Some f) tag e = by_row n f row (file_at s n f) e
 
 abbrev payload_looked_at : State → Resource → Option FileRow
 payload_looked_at s r = object_in r >>= (λ n. path_in r >>= file_at_path s n)
 
 payload_seen : (s : State) (next : Counters) (r : Resource) (m : Method) (row : FileRow) → IsTrue (is_safe m) → Some row ≡ payload_looked_at s r
     → shown.File row ≡ shown_at s (subject_of next r m)
-payload_seen s next (resource.BagFile n path) Get row h e = in_bag s n row _ _ _ e
-payload_seen s next (resource.BagFile n path) Head row h e = in_bag s n row _ _ _ e
+payload_seen s next (resource.BagFile n path) Get row h e = in_bag s n row _ _ e
+payload_seen s next (resource.BagFile n path) Head row h e = in_bag s n row _ _ e
 payload_seen s next (resource.BagFile n path) Post row h e = cc h
 payload_seen s next (resource.BagFile n path) Put row h e = cc h
 payload_seen s next (resource.BagFile n path) Delete row h e = cc h
