@@ -4,11 +4,13 @@
     checks/bodies.py                          those of checks/bodies, in one build
     checks/bodies.py CRATE/NAME [FILE..]      another one, in a build of its own
 
-Most bodies of checks/bodies are allowed by every contract, since a request may always be answered 500 or 503, so only
-examples refuse them. Two the prover refuses as well (`replies_before_it_commits`, `forgets_the_timed_out`): they show
-that the rounds over disks that stop find such a server. All stand in one copy of the repository, and each is in force
-only where the abstract of the configuration is its name. So one build of the program `examples`, by `rt try`, plays for
-each a file that refuses it, with that abstract and with another one, at which all has to be as it is written.
+Most bodies of checks/bodies are allowed by every contract, since a request may always be answered 500 or 503, and an
+export may find no memory, so only examples refuse them. Three the prover refuses as well: `replies_before_it_commits` and
+`forgets_the_timed_out` show that the rounds over disks that stop find such a server, `repeat_leaves_the_moment` that the
+examples of idle uploads do. All stand in one copy of the repository, and each is in force only where the abstract of the
+configuration is its name, or, where the configuration isn't at hand, at an example of its own. So one build of the program
+`examples`, by `rt try`, plays for each a file that refuses it, with that abstract and with another one, or that example and
+another one, at which all has to be as it is written.
 
 CRATE/NAME is an edit NAME.edit of crates/CRATE/must-fail or wrong-bodies. It is played over the files, each behind
 texts.txt (by default all that crates/examples/args names), of which one has to refuse it. The prover may refuse it too:
@@ -35,11 +37,17 @@ BODIES = ROOT / "checks/bodies"
 PLAYED = {"always_500": "one-file.txt", "always_503": "one-file.txt", "check_finds_no_memory": "one-file.txt",
           "connects_never": "hubs.txt", "cuts_each_content": "one-file.txt", "ends_at_once": "conversations.txt",
           "ends_by_a_bound": "conversations.txt", "ends_by_a_read_fault": "conversations.txt",
-          "ends_by_a_write_fault": "conversations.txt", "forgets_the_timed_out": "stopped-disks.txt",
-          "hub_finds_no_memory": "one-file.txt", "replies_before_it_commits": "stopped-disks.txt"}
+          "ends_by_a_write_fault": "conversations.txt", "export_finds_no_memory": "exports.txt",
+          "forgets_the_timed_out": "stopped-disks.txt", "hub_finds_no_memory": "one-file.txt",
+          "repeat_leaves_the_moment": "repeated-segments.txt", "replies_before_it_commits": "stopped-disks.txt"}
 # Of these files one example alone is played, with stops of the log alone, since the program that `rt try` builds is slow.
 ONLY = {"conversations.txt": "a deposit and its file in one input",
         "stopped-disks.txt": "an upload that timed out stays so, whatever the moment"}
+# These don't know the configuration: the example of their file at which each is in force, and another one.
+SWITCHED = {"export_finds_no_memory": ("an object without files has an empty folder data",
+                                       "files of no byte, of three and of two blocks"),
+            "repeat_leaves_the_moment": ("the upload stays by one segment that comes again, hour after hour",
+                                         "an upload of one segment, which is the last one too")}
 ALL_WAYS, ONE_WAY = "stops log database\nfails log database\n", "stops log\n"
 WITHOUT = "no_wrong_body"
 # No wrong body: a database in memory gets a smaller cache, whose megabyte that program would write byte by byte at each open.
@@ -87,12 +95,28 @@ def play(edits, cases):
     return {name: int(status) for name, status in statuses.items()}, dict(zip(printed[1::2], printed[2::2]))
 
 
-def examples_at(file, abstract):
-    """The examples of a file, or the only one, each with this abstract, which the service document tells."""
+def examples_of(file, title=None):
+    """The examples of a file, or the only one, with what stands before them."""
     front, *examples = (DATA / file).read_text(encoding="utf-8").split("\n# ")
-    chosen = [it for it in examples if ONLY.get(file, it.partition("\n")[0]) == it.partition("\n")[0]]
+    chosen = [it for it in examples if title in (None, it.partition("\n")[0])]
+    return "\n# ".join([front, *chosen]) + "\n"
+
+
+def examples_at(file, abstract):
+    """The examples of a file that are played, each with this abstract, which the service document tells."""
     lines = f"config abstract {abstract}\nlet abstract {abstract}\nlet service-length {SERVICE_LENGTH + len(abstract)}"
-    return re.sub(r"(?m)^(# .*)$", rf"\1\n{lines}", "\n# ".join([front, *chosen]).replace(ALL_WAYS, ONE_WAY))
+    return re.sub(r"(?m)^(# .*)$", rf"\1\n{lines}", examples_of(file, ONLY.get(file)).replace(ALL_WAYS, ONE_WAY))
+
+
+def cases_of(bodies):
+    """The examples at which these bodies are in force, by their names, and those at which they are not, with the name of
+    those for each body."""
+    cases = {it: examples_of(PLAYED[it], SWITCHED[it][0]) if it in SWITCHED else examples_at(PLAYED[it], it) for it in bodies}
+    without = {it: f"{WITHOUT}.{it if it in SWITCHED else PLAYED[it]}" for it in bodies}
+    for body, name in without.items():
+        file = PLAYED[body]
+        cases[name] = examples_of(file, SWITCHED[body][1]) if body in SWITCHED else examples_at(file, WITHOUT)
+    return cases, without
 
 
 def told(printed):
@@ -103,9 +127,7 @@ def told(printed):
 def try_together():
     """Tries the bodies that share a build. Returns how many are refused, and how many not."""
     edits = sorted(BODIES.glob("*/*.edit"))
-    cases = {edit.stem: examples_at(PLAYED[edit.stem], edit.stem) for edit in edits}
-    without = {edit.stem: f"{WITHOUT}.{PLAYED[edit.stem]}" for edit in edits}
-    cases |= {name: examples_at(name.removeprefix(f"{WITHOUT}."), WITHOUT) for name in without.values()}
+    cases, without = cases_of([it.stem for it in edits])
     statuses, printed = play(edits, cases)
     refused = 0
     for edit in edits:
