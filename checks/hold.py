@@ -1,0 +1,170 @@
+#!/usr/bin/env python3
+"""How long one client's requests make all others wait, over `swordd_host`, beside how long they may.
+
+    checks/hold.py [--mib 512] [--texts 1000000] [--references 100000] [--files 3000] [--check] [WORD..]
+
+One client does one thing after another; a second one asks for the service document over and over. Each line tells how long the
+act took, how long the other waited at most, and how long it may: 100 ms, and 100 ms for each 16 MiB that the request brings or
+moves. With words it does only the acts whose line has one of them. With --check its status is 1 where another waited longer.
+"""
+
+import sys
+sys.path.insert(0, f"{sys.path[0]}/lib")
+
+import argparse
+import json
+import os
+import tempfile
+import threading
+import time
+
+from depositing import JSON, Client, as_file, by_reference, exchange, first_file
+from hosted import MIB, Host
+from host_waits import MOST, SEGMENT_SIZE, Other, upload
+
+PATIENCE, CLIENTS, IDLE = 900, 10, 8
+METADATA = {"Content-Disposition": "attachment; metadata=true", **JSON}
+
+
+class Acts:
+    """What one client does, in this order: each act with its name and the bytes that it brings or moves."""
+
+    def __init__(self, options, folder):
+        self.options, self.folder, self.size = options, folder, options.mib * MIB
+        self.host = Host(folder).wait_until_it_listens()
+
+    def restart(self, **settings):
+        self.host.stop()
+        self.host = Host(self.folder, **settings).wait_until_it_listens()
+
+    def client(self):
+        return Client(self.host, PATIENCE)
+
+    def ask(self, status, *request):
+        with self.client() as client:
+            return client.ask(status, *request)
+
+    def refer(self, status, path="/service", **more):
+        """A deposit of the upload by reference, whose entry may say more."""
+        body, fields = by_reference({self.host.base + self.upload: "attachment; filename=a"})
+        entry = json.loads(body)["byReferenceFiles"][0]
+        return self.ask(status, "POST", path, json.dumps({"byReferenceFiles": [{**entry, **more}]}), fields)
+
+    def made(self, name, make):
+        """What an earlier act made, which may have been left out."""
+        if name not in vars(self):
+            setattr(self, name, make())
+        return getattr(self, name)
+
+    def path_of(self, reply):
+        return self.host.path_of(reply.headers["Location"])
+
+    def send(self):
+        with self.client() as client:
+            return self.host.path_of(upload(client, os.urandom(self.size), SEGMENT_SIZE))
+
+    def deposit(self):
+        _, document = self.refer(201)
+        return self.host.path_of(first_file(document))
+
+    def describe(self):
+        texts = json.dumps({"dc:subject": self.options.texts * [""]}, separators=(",", ":"))
+        return self.path_of(self.ask(201, "POST", "/service", texts, METADATA)[0])
+
+    def fill(self):
+        with self.client() as client:
+            path = self.path_of(client.ask(201, "POST", "/service", b"x", as_file("a"))[0])
+            for _ in range(self.options.files - 1):
+                client.ask(200, "POST", path, b"x", as_file("a"))
+        return path
+
+    def read_at_once(self):
+        threads = [threading.Thread(target=self.ask, args=(200, "GET", self.file)) for _ in range(CLIENTS)]
+        for it in threads:
+            it.start()
+        for it in threads:
+            it.join()
+
+    def leave_unread(self):
+        """Asks for the file, and reads nothing of it."""
+        wire = self.host.connect(room=16_384)
+        wire.sendall(f"GET {self.file} HTTP/1.1\r\nHost: a\r\n\r\n".encode())
+        time.sleep(3)
+        print(f"    {sum(self.host.spools()) // MIB} MiB in spools")
+        wire.close()
+
+    def refer_to_nothing(self):
+        uploads = {f"{self.host.base}/staging/{10**6 + it}": "attachment; filename=a" for it in range(self.options.references)}
+        self.ask(404, "POST", "/service", *by_reference(uploads))
+
+    def leave_uploads(self):
+        """Uploads that are left idle, one of them large, until they have ended but for the tick of the next request."""
+        self.restart(staging_max_idle=IDLE)
+        with self.client() as client:
+            for _ in range(1_000):
+                client.open(1, 1, 1)
+        self.send()
+        time.sleep(IDLE + 2)
+
+    def all(self):
+        """Each act: its line, the bytes that it brings or moves, what comes before and isn't measured, and what is done."""
+        size, path = f"{self.options.mib} MiB", "/objects/999999999"
+        sent, kept = lambda: self.made("upload", self.send), lambda: self.made("file", lambda: sent() and self.deposit())
+        described, filled = lambda: self.made("described", self.describe), lambda: self.made("filled", self.fill)
+        yield "nothing", 0, None, lambda: time.sleep(1)
+        yield "deposit of 16 MiB", 16 * MIB, None, lambda: self.ask(201, "POST", "/service", os.urandom(16 * MIB), as_file("a"))
+        yield f"{size} in segments of 16 MiB", SEGMENT_SIZE, None, sent
+        yield f"by reference {size}, of no object (404)", 0, sent, lambda: self.refer(404, path)
+        yield "the same behind a restart", 0, lambda: (sent(), self.restart()), lambda: self.refer(404, path)
+        yield "by reference, another digest (412)", 0, sent, lambda: self.refer(412, digest=f"SHA-256={64 * '0'}")
+        yield "the same again (412)", 0, sent, lambda: self.refer(412, digest=f"SHA-256={64 * '0'}")
+        yield f"by reference {size}", self.size, sent, kept
+        yield f"GET of {size}", 0, kept, lambda: self.ask(200, "GET", self.file)
+        yield f"{CLIENTS} GETs of {size} at once", 0, kept, self.read_at_once
+        yield f"GET of {size} that isn't read", 0, kept, self.leave_unread
+        yield f"DELETE of its object, {size}", self.size, kept, lambda: self.ask(204, "DELETE", self.file.partition("/files")[0])
+        yield f"metadata of {self.options.texts:,} texts", 3 * self.options.texts, None, described
+        yield "HEAD of its object", 0, described, lambda: self.ask(200, "HEAD", self.described)
+        for it in ("bagit.txt", "manifest-sha512.txt", "tagmanifest-sha256.txt"):
+            yield f"{it} of its object", 0, described, lambda it=it: self.ask(200, "GET", f"{self.described}/bag/{it}")
+        yield "GET of the metadata", 0, described, lambda: self.ask(200, "GET", f"{self.described}/metadata")
+        yield "DELETE of its object", 3 * self.options.texts, described, lambda: self.ask(204, "DELETE", self.described)
+        yield f"{self.options.references:,} references of nothing", 100 * self.options.references, None, self.refer_to_nothing
+        yield f"an object of {self.options.files:,} files, one by one", 0, None, filled
+        yield "GET of that object", 0, filled, lambda: self.ask(200, "GET", self.filled)
+        yield "DELETE of that object", 0, filled, lambda: self.ask(204, "DELETE", self.filled)
+        yield f"1,000 uploads and one of {size} end idle", self.size, self.leave_uploads, lambda: self.ask(200, "GET", "/service")
+
+
+def main():
+    words = argparse.ArgumentParser(description=__doc__, formatter_class=argparse.RawDescriptionHelpFormatter)
+    for name, most in (("mib", 512), ("texts", 1_000_000), ("references", 100_000), ("files", 3_000)):
+        words.add_argument(f"--{name}", type=int, default=most)
+    words.add_argument("--check", action="store_true")
+    words.add_argument("words", nargs="*")
+    options = words.parse_args()
+    longer = 0
+    with tempfile.TemporaryDirectory() as folder:
+        acts = Acts(options, folder)
+        for line, moved, before, act in acts.all():
+            if options.words and not any(it in line for it in options.words):
+                continue
+            if before:
+                before()
+            acts.host.forget_peak()
+            began = time.monotonic()
+            with Other(acts.host) as other:
+                began = time.monotonic()
+                act()
+                took = time.monotonic() - began
+            most = MOST * max(1, moved / (16 * MIB))
+            longer += other.longest > most
+            print(f"{line:<44} took {took:6.2f} s, others waited {other.longest:6.0f} ms of {most:5.0f}, {acts.host.peak():5.0f} MiB"
+                  f"{'  LONGER' if other.longest > most else ''}", flush=True)
+        acts.host.stop()
+    print(f"hold: {longer} acts above their bound")
+    return 1 if options.check and longer else 0
+
+
+if __name__ == "__main__":
+    sys.exit(main())
