@@ -23,7 +23,7 @@ use Rattle.dep_host.specs.declared.log.Closing.TheVariants.{Large}
 use Rattle.dep_host.specs.declared.course.Phase.TheVariants.{Open}
 use Rattle.dep_host.specs.Notes.{Note, Grows}
 use Rattle.dep_host.specs.Seats.{SameClient}
-use Rattle.dep_host.specs.Hosting.{Position, slot, farewell, MayGo, Stays, Deed, unfinished_of, unfinished_in, Goes, IsRightlyTold, Asks, Refused, Step, refused, asks, rests, Steps, begins, goes_on, Sheds}
+use Rattle.dep_host.specs.Hosting.{Position, slot, farewell, MayGo, Stays, Deed, Closes, unfinished_of, unfinished_in, Goes, IsRightlyTold, Asks, Refused, Step, refused, asks, rests, Steps, begins, goes_on, Sheds}
 
 -- what a log is told
 pub grows_none : {X : Type 0} (told : Option (List X)) → Grows told told []
@@ -247,6 +247,6 @@ module _ {A R K S : Type 0} (condition : A → Condition) (unread : R → Option
 
   -- the largest was closed
   pub shed_one : (p q : Position A R K S) (at second : ℕ) (told tells : Option (List Note)) (x : Option (Seat R K S)) → slot at p.seats ≡ x → IsSomeAnd x (λ seat. seat.course.phase ≡ Open)
-      → IfSome x (Goes condition unread taken held p q at second Large) → Grows told tells (farewell Large x) → Sheds condition unread taken held p q second told tells
+      → IfSome x (Goes condition unread taken held p q at second Large) → Grows told tells (farewell Large x) → (deeds : List Deed) × Sheds condition unread taken held p q second deeds told tells
   shed_one p q at second told tells None e waits g noted = absurd waits
-  shed_one p q at second told tells (Some seat) e waits g noted = inr (at, seat, g, noted)
+  shed_one p q at second told tells (Some seat) e waits g noted = (Closes at seat.connection second Large ∷ [], inr (at, seat, g, refl, noted))

@@ -23,6 +23,7 @@ use Rattle.dep_host.specs.declared.serving.Ended.{Ended}
 use Rattle.dep_host.specs.declared.serving.Ended.TheVariants as ended
 use Rattle.dep_host.specs.Coming.{Call, seconds_of, seconds_in}
 use Rattle.dep_host.specs.Courses.{is_overdue, is_past}
+use Rattle.dep_host.specs.Causes.{Causes}
 use Rattle.dep_host.specs.Seats.{woken_seat}
 use Rattle.dep_hub.specs.declared.hub.Hub.{Hub}
 use Rattle.dep_hub.specs.Standing.{IsClean, IsHonest}
@@ -183,10 +184,10 @@ module _ {A R K S : Type 0} (condition : A → Condition) (unread : R → Option
         → Admits condition unread taken held notes p q l m at client (Err told)
     turned p q l m at client why told same h = subst (λ (r : Refusal). TurnsAway condition unread taken held notes p q l m client r) (sym same) h
 
-  module _ {L : Type 0} (account : A → Account) (size : S → ℕ) (notes : L → Option (List Note)) where
+  module _ {L : Type 0} (account : A → Account) (size : S → ℕ) (causes : Causes R K S) (notes : L → Option (List Note)) where
     -- it was met by some deeds
     abbrev IsMetBySome : (p q : Host A R K S) (l m : L) (offer : Option ℕ) (event : Event R K S) → Type 0
-    IsMetBySome p q l m offer event = (deeds : List Deed) × Meets condition account unread taken held size notes p q l m offer event deeds
+    IsMetBySome p q l m offer event = (deeds : List Deed) × Meets condition account unread taken held size causes notes p q l m offer event deeds
 
     pub admitted : (p q : Host A R K S) (l m : L) (offer : Option ℕ) (at : ℕ) (client : Client R K S) (result : Result (Unit {0}) Refusal) → offer ≡ Some at → Admits condition unread taken held notes p q l m at client result
         → IsMetBySome p q l m offer (came.Client client)
@@ -197,14 +198,14 @@ module _ {A R K S : Type 0} (condition : A → Condition) (unread : R → Option
     meets_as p q l m offer event other is h = subst (λ (e : Event R K S). IsMetBySome p q l m offer e) (sym is) h
 
     pub round_met : {T : Type 0} (p q : Host A R K S) (l m : L) (offer : Option ℕ) (event : Event R K S) (result : Result T Ended) → (result ≡ Err ended.Events → ⊥) → (result ≡ Err ended.Spent → ⊥)
-        → IsMetBySome p q l m offer event → IsMet condition account unread taken held size notes p q l m offer event result
+        → IsMetBySome p q l m offer event → IsMet condition account unread taken held size causes notes p q l m offer event result
     round_met p q l m offer event (Ok now) more few h = h
     round_met p q l m offer event (Err ended.Events) more few h = absurd (more refl)
     round_met p q l m offer event (Err (ended.Shut why)) more few h = h
     round_met p q l m offer event (Err ended.Spent) more few h = absurd (few refl)
 
     -- what comes of an event
-    meets_go : {p q : Host A R K S} {l m : L} {offer : Option ℕ} {event : Event R K S} {deeds : List Deed} → Meets condition account unread taken held size notes p q l m offer event deeds
+    meets_go : {p q : Host A R K S} {l m : L} {offer : Option ℕ} {event : Event R K S} {deeds : List Deed} → Meets condition account unread taken held size causes notes p q l m offer event deeds
         → Steps condition unread taken held (position p) deeds (position q)
     meets_go {p = p} {q = q} (wakes {at = at} {r = r} {w = w} h same) = wakes_there p q at r w (slot at p.seats.items) refl h
     meets_go {p = p} {q = q} (lets_in h) = alone condition unread taken held (position p) (position q) _ (comes h.comes)
@@ -214,14 +215,14 @@ module _ {A R K S : Type 0} (condition : A → Condition) (unread : R → Option
         (still_on (position p) (position h.mid) (position h.asks.mid) h.goes.deeds h.goes.steps h.asks.asks.steps) h.asks.works
     meets_go {p = p} {q = q} (stops {second = second} h same) = stops_there p q second h
 
-    pub meets_limits : {p q : Host A R K S} {l m : L} {offer : Option ℕ} {event : Event R K S} {deeds : List Deed} → Meets condition account unread taken held size notes p q l m offer event deeds → q.limits ≡ p.limits
+    pub meets_limits : {p q : Host A R K S} {l m : L} {offer : Option ℕ} {event : Event R K S} {deeds : List Deed} → Meets condition account unread taken held size causes notes p q l m offer event deeds → q.limits ≡ p.limits
     meets_limits (wakes h same) = h.stays.limits
     meets_limits (lets_in h) = h.stays.limits
     meets_limits (turns_away h) = h.stays.limits
     meets_limits (makes_round h) = h.asks.stays.limits ∙ (h.asks.asks.limits ∙ h.stays.limits)
     meets_limits (stops h same) = h.limits
 
-    pub meets_told : {p q : Host A R K S} {l m : L} {offer : Option ℕ} {event : Event R K S} {deeds : List Deed} → Meets condition account unread taken held size notes p q l m offer event deeds → IsTold p.shut q.shut (seconds_of event)
+    pub meets_told : {p q : Host A R K S} {l m : L} {offer : Option ℕ} {event : Event R K S} {deeds : List Deed} → Meets condition account unread taken held size causes notes p q l m offer event deeds → IsTold p.shut q.shut (seconds_of event)
     meets_told (wakes h same) = inl h.stays.shut
     meets_told (lets_in h) = inl h.stays.shut
     meets_told (turns_away h) = inl h.stays.shut
@@ -230,7 +231,7 @@ module _ {A R K S : Type 0} (condition : A → Condition) (unread : R → Option
         (subst (λ (o : Option Shut). IsTold h.mid.shut o (time.second ∷ [])) (sym h.asks.stays.shut) h.asks.asks.told)
     meets_told {p = p} {q = q} (stops {second = second} h same) = stops_told p q second h
 
-    pub met_none : (told : Option (List (Call R K S))) (p : Host A R K S) (l : L) → Met condition account unread taken held size notes told told p p l l [] 0 ended.Spent
+    pub met_none : (told : Option (List (Call R K S))) (p : Host A R K S) (l : L) → Met condition account unread taken held size causes notes told told p p l l [] 0 ended.Spent
     met_none told p l = record {
       calls = [];
       last = record { offer = None; is_busy = true; event = came.End };
@@ -244,11 +245,11 @@ module _ {A R K S : Type 0} (condition : A → Condition) (unread : R → Option
     }
 
     pub met_on : (old mid new : Option (List (Call R K S))) (p q r : Host A R K S) (l m n : L) (call : Call R K S) (deeds more : List Deed) (count most : ℕ) (end : Ended)
-        → Met condition account unread taken held size notes old mid p q l m deeds count ended.Spent → Grows mid new (call ∷ []) → MayCall size q call
-        → Meets condition account unread taken held size notes q r m n call.offer call.event more
+        → Met condition account unread taken held size causes notes old mid p q l m deeds count ended.Spent → Grows mid new (call ∷ []) → MayCall size q call
+        → Meets condition account unread taken held size causes notes q r m n call.offer call.event more
         → (end ≡ ended.Events → ⊥) → (((why : Cause) → end ≡ ended.Shut why → ⊥) → AllByRecursion (λ second. is_overdue r.shut second r.limits ≡ false) (seconds_of call.event))
         → ((why : Cause) → end ≡ ended.Shut why → MayEnd r why (seconds_of call.event)) → (end ≡ ended.Spent → most ≡ count + 1)
-        → Met condition account unread taken held size notes old new p r l n (deeds ++ more) most end
+        → Met condition account unread taken held size causes notes old new p r l n (deeds ++ more) most end
     met_on old mid new p q r l m n call deeds more count most end s g offered h events now may next =
         record {
           calls = s.calls ++ call ∷ [];
@@ -269,11 +270,11 @@ module _ {A R K S : Type 0} (condition : A → Condition) (unread : R → Option
 
     -- the last event, behind which nothing more is asked for
     ended_by : (T : Type 0) (old mid new : Option (List (Call R K S))) (p q r : Host A R K S) (l m n : L) (call : Call R K S) (deeds : List Deed) (count most : ℕ) (end : Ended)
-        → Met condition account unread taken held size notes old mid p q l m deeds count ended.Spent → Grows mid new (call ∷ []) → MayCall size q call
-        → IsMet condition account unread taken held size notes {T = T} q r m n call.offer call.event (Err end)
-        → ((why : Cause) → end ≡ ended.Shut why → MayEnd r why (seconds_of call.event)) → (all : List Deed) × Met condition account unread taken held size notes old new p r l n all most end
+        → Met condition account unread taken held size causes notes old mid p q l m deeds count ended.Spent → Grows mid new (call ∷ []) → MayCall size q call
+        → IsMet condition account unread taken held size causes notes {T = T} q r m n call.offer call.event (Err end)
+        → ((why : Cause) → end ≡ ended.Shut why → MayEnd r why (seconds_of call.event)) → (all : List Deed) × Met condition account unread taken held size causes notes old new p r l n all most end
     ended_by T old mid new p q r l m n call deeds count most ended.Events s g offered h may =
-        let now : Met condition account unread taken held size notes old new p q l m deeds most ended.Events = record {
+        let now : Met condition account unread taken held size causes notes old new p q l m deeds most ended.Events = record {
           calls = s.calls;
           last = call;
           given = grows_on old mid new s.calls (call ∷ []) s.given g;
@@ -285,8 +286,8 @@ module _ {A R K S : Type 0} (condition : A → Condition) (unread : R → Option
           spent = λ e. let bad : ended.Events ≡ ended.Spent = e in cc;
         } in (
           deeds,
-          subst (λ (k : L). Met condition account unread taken held size notes old new p r l k deeds most ended.Events) (sym h.2)
-              (subst (λ (k : Host A R K S). Met condition account unread taken held size notes old new p k l m deeds most ended.Events) (sym h.1) now),
+          subst (λ (k : L). Met condition account unread taken held size causes notes old new p r l k deeds most ended.Events) (sym h.2)
+              (subst (λ (k : Host A R K S). Met condition account unread taken held size causes notes old new p k l m deeds most ended.Events) (sym h.1) now),
         )
     ended_by T old mid new p q r l m n call deeds count most (ended.Shut why) s g offered h may = (
       deeds ++ h.0,
@@ -296,16 +297,16 @@ module _ {A R K S : Type 0} (condition : A → Condition) (unread : R → Option
     ended_by T old mid new p q r l m n call deeds count most ended.Spent s g offered h may = absurd h
 
     pub met_last : {T : Type 0} (old mid new : Option (List (Call R K S))) (p q r : Host A R K S) (l m n : L) (call : Call R K S) (deeds : List Deed) (count most : ℕ) (end : Ended) (result : Result T Ended)
-        → result ≡ Err end → Met condition account unread taken held size notes old mid p q l m deeds count ended.Spent → Grows mid new (call ∷ []) → MayCall size q call
-        → IsMet condition account unread taken held size notes q r m n call.offer call.event result
-        → ((why : Cause) → result ≡ Err (ended.Shut why) → MayEnd r why (seconds_of call.event)) → (all : List Deed) × Met condition account unread taken held size notes old new p r l n all most end
+        → result ≡ Err end → Met condition account unread taken held size causes notes old mid p q l m deeds count ended.Spent → Grows mid new (call ∷ []) → MayCall size q call
+        → IsMet condition account unread taken held size causes notes q r m n call.offer call.event result
+        → ((why : Cause) → result ≡ Err (ended.Shut why) → MayEnd r why (seconds_of call.event)) → (all : List Deed) × Met condition account unread taken held size causes notes old new p r l n all most end
     met_last {T = T} old mid new p q r l m n call deeds count most end result is s g offered h may =
-        ended_by T old mid new p q r l m n call deeds count most end s g offered (subst (λ (k : Result T Ended). IsMet condition account unread taken held size notes q r m n call.offer call.event k) is h) (λ why e. may why (is ∙ ap Err e))
+        ended_by T old mid new p q r l m n call deeds count most end s g offered (subst (λ (k : Result T Ended). IsMet condition account unread taken held size causes notes q r m n call.offer call.event k) is h) (λ why e. may why (is ∙ ap Err e))
 
     pub met_next : (old mid new : Option (List (Call R K S))) (p q r : Host A R K S) (l m n : L) (call : Call R K S) (count most : ℕ)
-        → (deeds : List Deed) × Met condition account unread taken held size notes old mid p q l m deeds count ended.Spent → Grows mid new (call ∷ []) → MayCall size q call
+        → (deeds : List Deed) × Met condition account unread taken held size causes notes old mid p q l m deeds count ended.Spent → Grows mid new (call ∷ []) → MayCall size q call
         → IsMetBySome q r m n call.offer call.event → AllByRecursion (λ second. is_overdue r.shut second r.limits ≡ false) (seconds_of call.event) → most ≡ count + 1
-        → (deeds : List Deed) × Met condition account unread taken held size notes old new p r l n deeds most ended.Spent
+        → (deeds : List Deed) × Met condition account unread taken held size causes notes old new p r l n deeds most ended.Spent
     met_next old mid new p q r l m n call count most s g offered h now next = (
       s.0 ++ h.0,
       met_on old mid new p q r l m n call s.0 h.0 count most ended.Spent s.1 g offered h.1 (λ e. let bad : ended.Spent ≡ ended.Events = e in cc) (λ more. now)
@@ -314,9 +315,9 @@ module _ {A R K S : Type 0} (condition : A → Condition) (unread : R → Option
 
     -- as many came as may
     pub met_all : (old new : Option (List (Call R K S))) (p q : Host A R K S) (l m : L) (count most : ℕ) → count ≡ most
-        → (deeds : List Deed) × Met condition account unread taken held size notes old new p q l m deeds count ended.Spent
-        → (deeds : List Deed) × Met condition account unread taken held size notes old new p q l m deeds most ended.Spent
-    met_all old new p q l m count most e h = subst (λ (n : ℕ). (deeds : List Deed) × Met condition account unread taken held size notes old new p q l m deeds n ended.Spent) e h
+        → (deeds : List Deed) × Met condition account unread taken held size causes notes old new p q l m deeds count ended.Spent
+        → (deeds : List Deed) × Met condition account unread taken held size causes notes old new p q l m deeds most ended.Spent
+    met_all old new p q l m count most e h = subst (λ (n : ℕ). (deeds : List Deed) × Met condition account unread taken held size causes notes old new p q l m deeds n ended.Spent) e h
 
-    pub is_the_end : {T : Type 0} (p q : Host A R K S) (l m : L) (offer : Option ℕ) (event : Event R K S) (result : Result T Ended) → result ≡ Err ended.Events → IsMet condition account unread taken held size notes p q l m offer event result → event ≡ came.End
-    is_the_end {T = T} p q l m offer event result is h = let at_end = subst (λ (k : Result T Ended). IsMet condition account unread taken held size notes p q l m offer event k) is h in at_end.0
+    pub is_the_end : {T : Type 0} (p q : Host A R K S) (l m : L) (offer : Option ℕ) (event : Event R K S) (result : Result T Ended) → result ≡ Err ended.Events → IsMet condition account unread taken held size causes notes p q l m offer event result → event ≡ came.End
+    is_the_end {T = T} p q l m offer event result is h = let at_end = subst (λ (k : Result T Ended). IsMet condition account unread taken held size causes notes p q l m offer event k) is h in at_end.0

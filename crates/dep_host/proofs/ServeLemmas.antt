@@ -1,26 +1,33 @@
 -- What a turn and a round of a host serve.
 use Rattle.std.proofs.Common.{◌≡◌, ◌⊎◌, ◌<◌, ◌≤◌, ◌+◌, ◌==◌, ℕ, zero, suc, Bool, true, false, if◌then◌else◌, List, [], ◌∷◌, ◌++◌, Option, None, Some, refl, sym, ap, subst, ◌∙◌, append_assoc, length, get_or, set, nat_lt, is_some, ◌&&◌, ◌||◌, inl, inr, arith}
-use Rattle.std.proofs.lemmas.List.{get_or-set_same, get_or-set_other}
+use Rattle.std.proofs.lemmas.List.{append-nil, get_or-set_same, get_or-set_other}
 use Rattle.std.proofs.Math.ListN.{length-set}
 use Rattle.std.proofs.lemmas.Bool.{ne_eqb, eq-eqb, cases_eq, cases_lt, lt-ltb}
 use Rattle.std.specs.Prelude.{IfSome}
+use Rattle.std.specs.Option.{option_map_or}
 use Rattle.dep_types.specs.Conditions.{Condition}
+use Rattle.dep_types.specs.Writing.{HasRisen}
+use Rattle.dep_outbox.specs.Sockets.{after_receive, after_send}
+use Rattle.dep_outbox.specs.declared.socket.Received.TheVariants as gives
+use Rattle.dep_outbox.specs.declared.socket.Delivered.TheVariants as takes
 use Rattle.dep_outbox.specs.declared.wire.Wire.{Wire}
 use Rattle.dep_outbox.specs.Wires.{told, owed_count}
 use Rattle.dep_host.specs.declared.ending.Shut.{Shut}
 use Rattle.dep_host.specs.declared.course.Phase.{Phase}
-use Rattle.dep_host.specs.Courses.{duty, is_ended, is_held_back, phase_begun}
+use Rattle.dep_host.specs.Courses.{StaysOrIsOver, duty, is_ended, is_held_back, phase_begun}
+use Rattle.dep_host.specs.Causes.{Causes, HasCauses}
 use Rattle.dep_host.specs.declared.seat.Seat.{Seat}
 use Rattle.dep_host.specs.declared.seat.Time.{Time}
 use Rattle.dep_host.specs.declared.log.Closing.{Closing}
 use Rattle.dep_host.specs.declared.log.Closing.TheVariants.{Large}
-use Rattle.dep_host.specs.declared.course.Phase.TheVariants.{Open}
+use Rattle.dep_host.specs.declared.course.Phase.TheVariants.{Open, Answering, Last, Draining, Over}
 use Rattle.dep_host.specs.declared.course.Duty.{Duty}
 use Rattle.dep_host.specs.declared.course.Duty.TheVariants as to
-use Rattle.dep_host.specs.Seats.{MayRest, ActsOnce, TakesTurn, next_duty}
-use Rattle.dep_host.specs.Hosting.{Position, slot, MayGo, farewell, note_of, closings_of, Deed, Takes, Replies, Declines, Closes, answers_at, pieces_at, unfinished_of, unfinished_in, AreDoneAt, HasTurn, Goes, rests, offers, refuses, answers, leaves, Steps, begins, goes_on, IsLost, IsServed, IsServedAt, turn_duty, Serves, GoesRound, Sheds}
+use Rattle.dep_host.specs.Seats.{IsUnknown, MayRest, ActsOnce, TakesTurn, next_duty}
+use Rattle.dep_host.specs.Hosting.{Position, slot, MayGo, farewell, note_of, closings_of, Deed, Takes, Replies, Declines, Closes, answers_at, pieces_at, unfinished_of, unfinished_in, AreDoneAt, HasTurn, Goes, rests, offers, refuses, answers, leaves, Steps, begins, goes_on, IsClosed, IsLeftAs, IsLost, IsServed, IsServedAt, turn_duty, Serves, GoesRound, Sheds}
 use Rattle.std.proofs.lemmas.Grind.{flat_map-append}
 use Rattle.dep_host.specs.Notes.{Note, LetGo, Grows}
+use Rattle.dep_host.proofs.SeatLemmas.{lost_too}
 use Rattle.dep_host.proofs.HostLemmas.{grows_none, grows_on, grows_same, slot_read, steps_join, unchanged, woken}
 
 -- what was set twice is as it was set last
@@ -52,10 +59,32 @@ one_at_most false = omega arith
 one_here : (at : ℕ) → (if at == at then 1 else 0) + 0 ≡ 1
 one_here at = ap (λ (b : Bool). (if b then 1 else 0) + 0) (eq-eqb at at refl)
 
+-- one seat is at a place
+some_same : {X : Type 0} (x y : X) → Some x ≡ Some y → x ≡ y
+some_same {X = X} x y e = ap (λ (o : Option X). option_map_or (λ z. z) o x) e
+
+-- a turn begins once
+begun_once : (p : Phase) (is_shut : Bool) → phase_begun (phase_begun p is_shut) is_shut ≡ phase_begun p is_shut
+begun_once Open true = refl
+begun_once Open false = refl
+begun_once Answering is_shut = refl
+begun_once Last is_shut = refl
+begun_once Draining is_shut = refl
+begun_once Over is_shut = refl
+
+-- and nobody is over by that
+over_begun : (p : Phase) (is_shut : Bool) → phase_begun p is_shut ≡ Over → p ≡ Over
+over_begun Open true h = absurd (let bad : Last ≡ Over = h in cc)
+over_begun Open false h = h
+over_begun Answering is_shut h = h
+over_begun Last is_shut h = h
+over_begun Draining is_shut h = h
+over_begun Over is_shut h = h
+
 none_elsewhere : (at place : ℕ) → (place ≡ at → ⊥) → (if at == place then 1 else 0) + 0 ≡ 0
 none_elsewhere at place ne = ap (λ (b : Bool). (if b then 1 else 0) + 0) (ne_eqb at place (λ e. ne (sym e)))
 
-module _ {A R K S : Type 0} (condition : A → Condition) (unread : R → Option (List ℕ)) (taken : K → Option (List ℕ)) (held : S → Option (List ℕ)) (size : S → ℕ) where
+module _ {A R K S : Type 0} (condition : A → Condition) (unread : R → Option (List ℕ)) (taken : K → Option (List ℕ)) (held : S → Option (List ℕ)) (size : S → ℕ) (causes : Causes R K S) where
   -- of a request of which something is kept no more was read
   none_read : (p : Position A R K S) (at n : ℕ) (before : Seat R K S) → slot at p.seats ≡ Some before → before.course.unfinished ≡ 0 → 0 < unfinished_of (slot at p.seats) → n ≡ 0
   none_read p at n before sat none some = absurd (
@@ -63,7 +92,7 @@ module _ {A R K S : Type 0} (condition : A → Condition) (unread : R → Option
       let no : ⊥ = omega (arith, kept, none, some) in no)
 
   -- who was served is served still where the round began earlier
-  lost_before : (p q r : Position A R K S) (number : ℕ) (xs ys : List Deed) → Steps condition unread taken held p xs q → IsLost condition unread taken held size q r ys number → IsLost condition unread taken held size p r (xs ++ ys) number
+  lost_before : (p q r : Position A R K S) (number : ℕ) (xs ys : List Deed) → Steps condition unread taken held p xs q → IsLost condition unread taken held size causes q r ys number → IsLost condition unread taken held size causes p r (xs ++ ys) number
   lost_before p q r number xs ys s lost = record {
     earlier = xs ++ lost.earlier;
     later = lost.later;
@@ -74,24 +103,26 @@ module _ {A R K S : Type 0} (condition : A → Condition) (unread : R → Option
     goes = lost.goes;
   }
 
-  served_before : (p q r : Position A R K S) (xs ys : List Deed) (is_full : Bool) (before : Seat R K S) (after : Option (Seat R K S)) (answered read : ℕ) (d : Duty) → Steps condition unread taken held p xs q → q.shut ≡ p.shut
-      → IsServed condition unread taken held size q r ys is_full before after answered read d → IsServed condition unread taken held size p r (xs ++ ys) is_full before after answered read d
-  served_before p q r xs ys is_full before after answered read to.Flush s shut h = h
+  served_before : (p q r : Position A R K S) (xs ys : List Deed) (is_full : Bool) (before after : Seat R K S) (answered read : ℕ) (d : Duty) → Steps condition unread taken held p xs q → q.shut ≡ p.shut
+      → IsServed condition unread taken held size causes q r ys is_full before after answered read d → IsServed condition unread taken held size causes p r (xs ++ ys) is_full before after answered read d
+  served_before p q r xs ys is_full before after answered read to.Flush s shut h = (h.0, subst (λ (o : Option Shut). StaysOrIsOver (phase_begun before.course.phase (is_some o)) after.course.phase) shut h.1)
   served_before p q r xs ys is_full before after answered read to.Answer s shut (inl one) = inl one
   served_before p q r xs ys is_full before after answered read to.Answer s shut (inr lost) = inr (lost_before p q r before.connection xs ys s lost)
   served_before p q r xs ys is_full before after answered read to.Read s shut (inl one) = inl one
-  served_before p q r xs ys is_full before after answered read to.Read s shut (inr (inl back)) = inr (inl (subst (λ (o : Option Shut). is_held_back before.course is_full (is_some o) ≡ true) shut back))
-  served_before p q r xs ys is_full before after answered read to.Read s shut (inr (inr none)) = inr (inr none)
+  served_before p q r xs ys is_full before after answered read to.Read s shut (inr (inl back)) = inr (inl (
+    subst (λ (o : Option Shut). is_held_back before.course is_full (is_some o) ≡ true) shut back.0,
+    subst (λ (o : Option Shut). after.course.phase ≡ phase_begun before.course.phase (is_some o)) shut back.1,
+  ))
+  served_before p q r xs ys is_full before after answered read to.Read s shut (inr (inr (inl none))) =
+      inr (inr (inl (none.0, subst (λ (o : Option Shut). after.course.phase ≡ phase_begun before.course.phase (is_some o)) shut none.1)))
+  served_before p q r xs ys is_full before after answered read to.Read s shut (inr (inr (inr over))) = inr (inr (inr over))
   served_before p q r xs ys is_full before after answered read to.Finish s shut h = h
-  served_before p q r xs ys is_full before after answered read to.Drain s shut h = tt
-  served_before p q r xs ys is_full before after answered read to.Wait s shut h = tt
+  served_before p q r xs ys is_full before after answered read to.Drain s shut h = subst (λ (o : Option Shut). StaysOrIsOver (phase_begun before.course.phase (is_some o)) after.course.phase) shut h
+  served_before p q r xs ys is_full before after answered read to.Wait s shut h = subst (λ (o : Option Shut). after.course.phase ≡ phase_begun before.course.phase (is_some o)) shut h
 
   -- and where it went on later
-  served_later : (p q r : Position A R K S) (xs ys : List Deed) (is_full : Bool) (before : Seat R K S) (after : Option (Seat R K S)) (answered read : ℕ) (d : Duty) → Steps condition unread taken held q ys r
-      → IsServed condition unread taken held size p q xs is_full before after answered read d → IsServed condition unread taken held size p r (xs ++ ys) is_full before after answered read d
-  served_later p q r xs ys is_full before after answered read to.Flush s h = h
-  served_later p q r xs ys is_full before after answered read to.Answer s (inl one) = inl one
-  served_later p q r xs ys is_full before after answered read to.Answer s (inr lost) = inr (record {
+  lost_later : (p q r : Position A R K S) (number : ℕ) (xs ys : List Deed) → Steps condition unread taken held q ys r → IsLost condition unread taken held size causes p q xs number → IsLost condition unread taken held size causes p r (xs ++ ys) number
+  lost_later p q r number xs ys s lost = record {
     earlier = lost.earlier;
     later = lost.later ++ ys;
     all = ap (λ (l : List Deed). l ++ ys) lost.all ∙ append_assoc lost.earlier lost.later ys;
@@ -99,58 +130,115 @@ module _ {A R K S : Type 0} (condition : A → Condition) (unread : R → Option
     came = lost.came;
     absent = lost.absent;
     goes = steps_join condition unread taken held lost.goes s;
-  })
+  }
+
+  served_later : (p q r : Position A R K S) (xs ys : List Deed) (is_full : Bool) (before after : Seat R K S) (answered read : ℕ) (d : Duty) → Steps condition unread taken held q ys r
+      → IsServed condition unread taken held size causes p q xs is_full before after answered read d → IsServed condition unread taken held size causes p r (xs ++ ys) is_full before after answered read d
+  served_later p q r xs ys is_full before after answered read to.Flush s h = h
+  served_later p q r xs ys is_full before after answered read to.Answer s (inl one) = inl one
+  served_later p q r xs ys is_full before after answered read to.Answer s (inr lost) = inr (lost_later p q r before.connection xs ys s lost)
   served_later p q r xs ys is_full before after answered read to.Read s h = h
   served_later p q r xs ys is_full before after answered read to.Finish s h = h
-  served_later p q r xs ys is_full before after answered read to.Drain s h = tt
-  served_later p q r xs ys is_full before after answered read to.Wait s h = tt
+  served_later p q r xs ys is_full before after answered read to.Drain s h = h
+  served_later p q r xs ys is_full before after answered read to.Wait s h = h
 
-  -- and where it was closed since
-  served_gone : (p q : Position A R K S) (deeds : List Deed) (is_full : Bool) (before : Seat R K S) (after : Option (Seat R K S)) (answered read : ℕ) (d : Duty)
-      → IsServed condition unread taken held size p q deeds is_full before after answered read d → IsServed condition unread taken held size p q deeds is_full before None answered read d
-  served_gone p q deeds is_full before after answered read to.Flush h = tt
-  served_gone p q deeds is_full before after answered read to.Answer h = h
-  served_gone p q deeds is_full before after answered read to.Read (inl one) = inl one
-  served_gone p q deeds is_full before after answered read to.Read (inr (inl back)) = inr (inl back)
-  served_gone p q deeds is_full before after answered read to.Read (inr (inr none)) = inr (inr tt)
-  served_gone p q deeds is_full before after answered read to.Finish h = tt
-  served_gone p q deeds is_full before after answered read to.Drain h = tt
-  served_gone p q deeds is_full before after answered read to.Wait h = tt
+  -- who was closed was closed where it began earlier, and where it went on later
+  closed_before : (p q r : Position A R K S) (xs ys : List Deed) (place : ℕ) (seat : Seat R K S) → Steps condition unread taken held p xs q → IsClosed condition unread taken held q r ys place seat → IsClosed condition unread taken held p r (xs ++ ys) place seat
+  closed_before p q r xs ys place seat s k = record {
+    earlier = xs ++ k.earlier;
+    later = k.later;
+    second = k.second;
+    reason = k.reason;
+    all = ap (λ (l : List Deed). xs ++ l) k.all ∙ sym (append_assoc xs k.earlier (Closes place seat.connection k.second k.reason ∷ k.later));
+    mid = k.mid;
+    next = k.next;
+    came = steps_join condition unread taken held s k.came;
+    goes = k.goes;
+    rest = k.rest;
+  }
+
+  closed_later : (p q r : Position A R K S) (xs ys : List Deed) (place : ℕ) (seat : Seat R K S) → Steps condition unread taken held q ys r → IsClosed condition unread taken held p q xs place seat → IsClosed condition unread taken held p r (xs ++ ys) place seat
+  closed_later p q r xs ys place seat s k = record {
+    earlier = k.earlier;
+    later = k.later ++ ys;
+    second = k.second;
+    reason = k.reason;
+    all = ap (λ (l : List Deed). l ++ ys) k.all ∙ append_assoc k.earlier (Closes place seat.connection k.second k.reason ∷ k.later) ys;
+    mid = k.mid;
+    next = k.next;
+    came = k.came;
+    goes = k.goes;
+    rest = steps_join condition unread taken held k.rest s;
+  }
+
+  -- who sat there was closed by this
+  closed_there : (q r : Position A R K S) (at second : ℕ) (reason : Closing) (seat other : Seat R K S) → Goes condition unread taken held q r at second reason seat → slot at q.seats ≡ Some other
+      → IsClosed condition unread taken held q r (Closes at seat.connection second reason ∷ []) at other
+  closed_there q r at second reason seat other g sat =
+      let same : seat ≡ other = some_same seat other (sym g.sat ∙ sat) in
+      subst (λ (s : Seat R K S). IsClosed condition unread taken held q r (Closes at seat.connection second reason ∷ []) at s) same (record {
+        earlier = [];
+        later = [];
+        second = second;
+        reason = reason;
+        all = refl;
+        mid = q;
+        next = r;
+        came = begins;
+        goes = g;
+        rest = begins;
+      })
+
+  -- it is left as it was where it began earlier, and where it went on later
+  left_before : (p q r : Position A R K S) (xs ys : List Deed) (place : ℕ) (seat : Seat R K S) → Steps condition unread taken held p xs q → IsLeftAs condition unread taken held q r ys place seat → IsLeftAs condition unread taken held p r (xs ++ ys) place seat
+  left_before p q r xs ys place seat s (inl sits) = inl sits
+  left_before p q r xs ys place seat s (inr k) = inr (closed_before p q r xs ys place seat s k)
+
+  left_later : (p q r : Position A R K S) (xs ys : List Deed) (place : ℕ) (seat : Seat R K S) → Steps condition unread taken held p xs q → Steps condition unread taken held q ys r
+      → ((other : Seat R K S) → slot place q.seats ≡ Some other → IsLeftAs condition unread taken held q r ys place other) → IsLeftAs condition unread taken held p q xs place seat → IsLeftAs condition unread taken held p r (xs ++ ys) place seat
+  left_later p q r xs ys place seat s t how (inl sits) = left_before p q r xs ys place seat s (how seat sits)
+  left_later p q r xs ys place seat s t how (inr k) = inr (closed_later p q r xs ys place seat t k)
 
   -- the same of who sits at a place, or nobody does
   at_before : (p q r : Position A R K S) (is_full : Bool) (xs ys : List Deed) (place : ℕ) (x : Option (Seat R K S)) → Steps condition unread taken held p xs q → q.shut ≡ p.shut → answers_at place xs ≡ 0 → pieces_at place xs ≡ 0
-      → IsServedAt condition unread taken held size q r is_full ys place x → IsServedAt condition unread taken held size p r is_full (xs ++ ys) place x
+      → IsServedAt condition unread taken held size causes q r is_full ys place x → IsServedAt condition unread taken held size causes p r is_full (xs ++ ys) place x
   at_before p q r is_full xs ys place None s shut none unread_yet h = tt
   at_before p q r is_full xs ys place (Some seat) s shut none unread_yet h =
       let answered : answers_at place ys ≡ answers_at place (xs ++ ys) = let e = answers_append place xs ys in omega (arith, e, none) in
       let pieces : pieces_at place ys ≡ pieces_at place (xs ++ ys) = let e = pieces_append place xs ys in omega (arith, e, unread_yet) in
-      served_before p q r xs ys is_full seat (slot place r.seats) (answers_at place (xs ++ ys)) (pieces_at place (xs ++ ys)) (turn_duty size p.shut seat) s shut
-      (subst (λ (o : Option Shut). IsServed condition unread taken held size q r ys is_full seat (slot place r.seats) (answers_at place (xs ++ ys)) (pieces_at place (xs ++ ys)) (turn_duty size o seat)) shut
-      (subst (λ (n : ℕ). IsServed condition unread taken held size q r ys is_full seat (slot place r.seats) (answers_at place (xs ++ ys)) n (turn_duty size q.shut seat)) pieces
-      (subst (λ (n : ℕ). IsServed condition unread taken held size q r ys is_full seat (slot place r.seats) n (pieces_at place ys) (turn_duty size q.shut seat)) answered h)))
-
-  still : (p q r : Position A R K S) (deeds : List Deed) (is_full : Bool) (seat : Seat R K S) (answered read : ℕ) (d : Duty) (place : ℕ) → (slot place r.seats ≡ slot place q.seats) ⊎ (slot place r.seats ≡ None)
-      → IsServed condition unread taken held size p r deeds is_full seat (slot place q.seats) answered read d → IsServed condition unread taken held size p r deeds is_full seat (slot place r.seats) answered read d
-  still p q r deeds is_full seat answered read d place (inl same) h = subst (λ (o : Option (Seat R K S)). IsServed condition unread taken held size p r deeds is_full seat o answered read d) (sym same) h
-  still p q r deeds is_full seat answered read d place (inr gone) h = subst (λ (o : Option (Seat R K S)). IsServed condition unread taken held size p r deeds is_full seat o answered read d) (sym gone) (served_gone p r deeds is_full seat (slot place q.seats) answered read d h)
+      record {
+        after = h.after;
+        left = left_before p q r xs ys place h.after s h.left;
+        caused = lost_too causes (IsLost condition unread taken held size causes q r ys seat.connection) (IsLost condition unread taken held size causes p r (xs ++ ys) seat.connection) seat h.after
+            (lost_before p q r seat.connection xs ys s) h.caused;
+        served = served_before p q r xs ys is_full seat h.after (answers_at place (xs ++ ys)) (pieces_at place (xs ++ ys)) (turn_duty size p.shut seat) s shut
+            (subst (λ (o : Option Shut). IsServed condition unread taken held size causes q r ys is_full seat h.after (answers_at place (xs ++ ys)) (pieces_at place (xs ++ ys)) (turn_duty size o seat)) shut
+            (subst (λ (n : ℕ). IsServed condition unread taken held size causes q r ys is_full seat h.after (answers_at place (xs ++ ys)) n (turn_duty size q.shut seat)) pieces
+            (subst (λ (n : ℕ). IsServed condition unread taken held size causes q r ys is_full seat h.after n (pieces_at place ys) (turn_duty size q.shut seat)) answered h.served)));
+      }
 
   -- later deeds did not concern it, but that it may have been closed
-  at_after : (p q r : Position A R K S) (is_full : Bool) (xs ys : List Deed) (place : ℕ) (x : Option (Seat R K S)) → Steps condition unread taken held q ys r → (slot place r.seats ≡ slot place q.seats) ⊎ (slot place r.seats ≡ None) → answers_at place ys ≡ 0
-      → pieces_at place ys ≡ 0 → IsServedAt condition unread taken held size p q is_full xs place x → IsServedAt condition unread taken held size p r is_full (xs ++ ys) place x
-  at_after p q r is_full xs ys place None s how none unread_later h = tt
-  at_after p q r is_full xs ys place (Some seat) s how none unread_later h =
+  at_after : (p q r : Position A R K S) (is_full : Bool) (xs ys : List Deed) (place : ℕ) (x : Option (Seat R K S)) → Steps condition unread taken held p xs q → Steps condition unread taken held q ys r
+      → ((other : Seat R K S) → slot place q.seats ≡ Some other → IsLeftAs condition unread taken held q r ys place other) → answers_at place ys ≡ 0
+      → pieces_at place ys ≡ 0 → IsServedAt condition unread taken held size causes p q is_full xs place x → IsServedAt condition unread taken held size causes p r is_full (xs ++ ys) place x
+  at_after p q r is_full xs ys place None s t how none unread_later h = tt
+  at_after p q r is_full xs ys place (Some seat) s t how none unread_later h =
       let answered : answers_at place xs ≡ answers_at place (xs ++ ys) = let e = answers_append place xs ys in omega (arith, e, none) in
       let pieces : pieces_at place xs ≡ pieces_at place (xs ++ ys) = let e = pieces_append place xs ys in omega (arith, e, unread_later) in
       let d = turn_duty size p.shut seat in
-      let k : IsServed condition unread taken held size p q xs is_full seat (slot place q.seats) (answers_at place (xs ++ ys)) (pieces_at place (xs ++ ys)) d =
-      subst (λ (n : ℕ). IsServed condition unread taken held size p q xs is_full seat (slot place q.seats) (answers_at place (xs ++ ys)) n d) pieces
-      (subst (λ (n : ℕ). IsServed condition unread taken held size p q xs is_full seat (slot place q.seats) n (pieces_at place xs) d) answered h) in
-      still p q r (xs ++ ys) is_full seat (answers_at place (xs ++ ys)) (pieces_at place (xs ++ ys)) d place how
-      (served_later p q r xs ys is_full seat (slot place q.seats) (answers_at place (xs ++ ys)) (pieces_at place (xs ++ ys)) d s k)
+      record {
+        after = h.after;
+        left = left_later p q r xs ys place h.after s t how h.left;
+        caused = lost_too causes (IsLost condition unread taken held size causes p q xs seat.connection) (IsLost condition unread taken held size causes p r (xs ++ ys) seat.connection) seat h.after
+            (lost_later p q r seat.connection xs ys t) h.caused;
+        served = served_later p q r xs ys is_full seat h.after (answers_at place (xs ++ ys)) (pieces_at place (xs ++ ys)) d t
+            (subst (λ (n : ℕ). IsServed condition unread taken held size causes p q xs is_full seat h.after (answers_at place (xs ++ ys)) n d) pieces
+            (subst (λ (n : ℕ). IsServed condition unread taken held size causes p q xs is_full seat h.after n (pieces_at place xs) d) answered h.served));
+      }
 
   -- nothing was done at a place
   pub served_none : (p q : Position A R K S) (at : ℕ) (time : Time) (is_full : Bool) (told tells : Option (List Note)) (x : Option (Seat R K S)) → tells ≡ told → q.hub ≡ p.hub → q.limits ≡ p.limits → q.shut ≡ p.shut → q.seats ≡ set p.seats at x → at < length p.seats → x ≡ get_or p.seats at x → x ≡ None
-      → Serves condition unread taken held size p q at time is_full told tells
+      → Serves condition unread taken held size causes p q at time is_full told tells
   served_none p q at time is_full told tells x same hub limits shut seats there read none = record {
     deeds = [];
     steps = goes_on begins (unchanged condition unread taken held p q at x hub limits shut seats there read);
@@ -158,7 +246,7 @@ module _ {A R K S : Type 0} (condition : A → Condition) (unread : R → Option
     others = λ place ne. refl;
     waits = λ full some. refl;
     unread_others = λ place ne. refl;
-    served = subst (λ (o : Option (Seat R K S)). IsServedAt condition unread taken held size p q is_full [] at o) (sym (slot_read at p.seats x there read ∙ none)) tt;
+    served = subst (λ (o : Option (Seat R K S)). IsServedAt condition unread taken held size causes p q is_full [] at o) (sym (slot_read at p.seats x there read ∙ none)) tt;
     in_time = tt;
     noted = grows_same told tells same;
   }
@@ -171,73 +259,73 @@ module _ {A R K S : Type 0} (condition : A → Condition) (unread : R → Option
     others : (place : ℕ) → (place ≡ at → ⊥) → answers_at place deeds ≡ 0
     waits : is_full ≡ true → 0 < unfinished_of (slot at p.seats) → pieces_at at deeds ≡ 0
     unread_others : (place : ℕ) → (place ≡ at → ⊥) → pieces_at place deeds ≡ 0
-    does : IsServed condition unread taken held size p q deeds is_full before (Some after) (answers_at at deeds) (pieces_at at deeds) (next_duty size before)
+    does : IsServed condition unread taken held size causes p q deeds is_full before after (answers_at at deeds) (pieces_at at deeds) (next_duty size before)
     in_time : AreDoneAt time deeds
     quiet : closings_of deeds ≡ []
 
-  rest_served : (p q : Position A R K S) (is_full : Bool) (before after : Seat R K S) (d : Duty) → Steps condition unread taken held p [] q → MayRest condition unread taken held size p.hub before after is_full (is_some p.shut) d
-      → IsServed condition unread taken held size p q [] is_full before (Some after) 0 0 d
-  rest_served p q is_full before after to.Flush s may = may
-  rest_served p q is_full before after to.Answer s may = inr (record { earlier = []; later = []; all = refl; mid = p; came = begins; absent = may; goes = s })
-  rest_served p q is_full before after to.Read s (inl back) = inr (inl back)
-  rest_served p q is_full before after to.Read s (inr (inl later)) = inr (inr (inl later))
-  rest_served p q is_full before after to.Read s (inr (inr (over, kept))) = inr (inr (inr over))
-  rest_served p q is_full before after to.Finish s may = may
-  rest_served p q is_full before after to.Drain s may = tt
-  rest_served p q is_full before after to.Wait s may = tt
+  rest_served : (p q : Position A R K S) (is_full : Bool) (before after : Seat R K S) (d : Duty) → before.course.phase ≡ phase_begun before.course.phase (is_some p.shut)
+      → Steps condition unread taken held p [] q → MayRest condition unread taken held size p.hub before after is_full (is_some p.shut) d → IsServed condition unread taken held size causes p q [] is_full before after 0 0 d
+  rest_served p q is_full before after to.Flush e s may = (may.0, subst (λ (h : Phase). StaysOrIsOver h after.course.phase) e may.1)
+  rest_served p q is_full before after to.Answer e s may = inr (record { earlier = []; later = []; all = refl; mid = p; came = begins; absent = may; goes = s })
+  rest_served p q is_full before after to.Read e s (inl back) = inr (inl (back.0, back.1 ∙ e))
+  rest_served p q is_full before after to.Read e s (inr (inl later)) = inr (inr (inl (later.0, later.1 ∙ e)))
+  rest_served p q is_full before after to.Read e s (inr (inr (over, kept))) = inr (inr (inr over))
+  rest_served p q is_full before after to.Finish e s may = may
+  rest_served p q is_full before after to.Drain e s may = subst (λ (h : Phase). StaysOrIsOver h after.course.phase) e may
+  rest_served p q is_full before after to.Wait e s may = may ∙ e
 
-  read_served : (p q : Position A R K S) (deeds : List Deed) (is_full : Bool) (before : Seat R K S) (after : Option (Seat R K S)) (answered read : ℕ) → next_duty size before ≡ to.Read → read ≡ 1
-      → IsServed condition unread taken held size p q deeds is_full before after answered read (next_duty size before)
-  read_served p q deeds is_full before after answered read due one = subst (λ (d : Duty). IsServed condition unread taken held size p q deeds is_full before after answered read d) (sym due) (inl one)
+  read_served : (p q : Position A R K S) (deeds : List Deed) (is_full : Bool) (before after : Seat R K S) (answered read : ℕ) → next_duty size before ≡ to.Read → read ≡ 1
+      → IsServed condition unread taken held size causes p q deeds is_full before after answered read (next_duty size before)
+  read_served p q deeds is_full before after answered read due one = subst (λ (d : Duty). IsServed condition unread taken held size causes p q deeds is_full before after answered read d) (sym due) (inl one)
 
-  answer_served : (p q : Position A R K S) (deeds : List Deed) (is_full : Bool) (before : Seat R K S) (after : Option (Seat R K S)) (answered read : ℕ) → next_duty size before ≡ to.Answer → answered ≡ 1
-      → IsServed condition unread taken held size p q deeds is_full before after answered read (next_duty size before)
-  answer_served p q deeds is_full before after answered read due one = subst (λ (d : Duty). IsServed condition unread taken held size p q deeds is_full before after answered read d) (sym due) (inl one)
+  answer_served : (p q : Position A R K S) (deeds : List Deed) (is_full : Bool) (before after : Seat R K S) (answered read : ℕ) → next_duty size before ≡ to.Answer → answered ≡ 1
+      → IsServed condition unread taken held size causes p q deeds is_full before after answered read (next_duty size before)
+  answer_served p q deeds is_full before after answered read due one = subst (λ (d : Duty). IsServed condition unread taken held size causes p q deeds is_full before after answered read d) (sym due) (inl one)
 
   -- a connection had its turn
   took_turn : (p q : Position A R K S) (at : ℕ) (time : Time) (is_full : Bool) (before after : Seat R K S) → HasTurn condition unread taken held p q at before after
-      → ActsOnce condition unread taken held size p.hub q.hub before after time.moment is_full (is_some p.shut) → Turned p q at time is_full before after
-  took_turn p q at time is_full before after t (inl (r, may)) = record {
+      → before.course.phase ≡ phase_begun before.course.phase (is_some p.shut) → ActsOnce condition unread taken held size p.hub q.hub before after time.moment is_full (is_some p.shut) → Turned p q at time is_full before after
+  took_turn p q at time is_full before after t e (inl (r, may)) = record {
     deeds = [];
     steps = goes_on begins (rests t r);
     once = omega arith;
     others = λ place ne. refl;
     waits = λ full some. refl;
     unread_others = λ place ne. refl;
-    does = rest_served p q is_full before after (next_duty size before) (goes_on begins (rests t r)) may;
+    does = rest_served p q is_full before after (next_duty size before) e (goes_on begins (rests t r)) may;
     in_time = tt;
     quiet = refl;
   }
-  took_turn p q at time is_full before after t (inr (inl (o, due))) = record {
+  took_turn p q at time is_full before after t e (inr (inl (o, due))) = record {
     deeds = Takes at before.connection o.piece ∷ [];
     steps = goes_on begins (offers t o);
     once = omega arith;
     others = λ place ne. refl;
     waits = λ full some. none_read p at _ before t.sat (o.read.allowed full) some;
     unread_others = λ place ne. none_elsewhere at place ne;
-    does = read_served p q _ is_full before (Some after) _ _ due (one_here at);
+    does = read_served p q _ is_full before after _ _ due (one_here at);
     in_time = (tt, tt);
     quiet = refl;
   }
-  took_turn p q at time is_full before after t (inr (inr (inl (r, due)))) = record {
+  took_turn p q at time is_full before after t e (inr (inr (inl (r, due)))) = record {
     deeds = Declines at before.connection r.piece time.moment r.answers.sent ∷ [];
     steps = goes_on begins (refuses t r);
     once = one_at_most (at == at);
     others = λ place ne. none_elsewhere at place ne;
     waits = λ full some. none_read p at _ before t.sat (r.read.allowed full) some;
     unread_others = λ place ne. none_elsewhere at place ne;
-    does = read_served p q _ is_full before (Some after) _ _ due (one_here at);
+    does = read_served p q _ is_full before after _ _ due (one_here at);
     in_time = (refl, tt);
     quiet = refl;
   }
-  took_turn p q at time is_full before after t (inr (inr (inr (a, due)))) = record {
+  took_turn p q at time is_full before after t e (inr (inr (inr (a, due)))) = record {
     deeds = Replies at before.connection time.moment a.answers.sent ∷ [];
     steps = goes_on begins (answers t a);
     once = one_at_most (at == at);
     others = λ place ne. none_elsewhere at place ne;
     waits = λ full some. refl;
     unread_others = λ place ne. refl;
-    does = answer_served p q _ is_full before (Some after) _ _ due (one_here at);
+    does = answer_served p q _ is_full before after _ _ due (one_here at);
     in_time = (refl, tt);
     quiet = refl;
   }
@@ -260,19 +348,44 @@ module _ {A R K S : Type 0} (condition : A → Condition) (unread : R → Option
   -- who was served once its turn had begun was served
   served_begun : (p m q : Position A R K S) (deeds : List Deed) (is_full : Bool) (before mid after : Seat R K S) (answered read : ℕ) (d : Duty) → Steps condition unread taken held p [] m → m.shut ≡ p.shut
       → mid.connection ≡ before.connection → mid.wire ≡ before.wire → mid.course.unfinished ≡ before.course.unfinished
-      → IsServed condition unread taken held size m q deeds is_full mid (Some after) answered read d → IsServed condition unread taken held size p q deeds is_full before (Some after) answered read d
-  served_begun p m q deeds is_full before mid after answered read to.Flush s shut number wire count (inl fewer) = inl (subst (λ (w : Wire K S). owed_count size after.wire < owed_count size w) wire fewer)
-  served_begun p m q deeds is_full before mid after answered read to.Flush s shut number wire count (inr none) = inr none
-  served_begun p m q deeds is_full before mid after answered read to.Answer s shut number wire count (inl one) = inl one
-  served_begun p m q deeds is_full before mid after answered read to.Answer s shut number wire count (inr lost) =
-      inr (subst (λ (n : ℕ). IsLost condition unread taken held size p q deeds n) number (lost_before p m q mid.connection [] deeds s lost))
-  served_begun p m q deeds is_full before mid after answered read to.Read s shut number wire count (inl one) = inl one
-  served_begun p m q deeds is_full before mid after answered read to.Read s shut number wire count (inr (inl back)) =
-      inr (inl (held_back p m is_full before mid shut count back))
-  served_begun p m q deeds is_full before mid after answered read to.Read s shut number wire count (inr (inr none)) = inr (inr none)
-  served_begun p m q deeds is_full before mid after answered read to.Finish s shut number wire count h = h
-  served_begun p m q deeds is_full before mid after answered read to.Drain s shut number wire count h = tt
-  served_begun p m q deeds is_full before mid after answered read to.Wait s shut number wire count h = tt
+      → phase_begun mid.course.phase (is_some m.shut) ≡ phase_begun before.course.phase (is_some p.shut)
+      → IsServed condition unread taken held size causes m q deeds is_full mid after answered read d → IsServed condition unread taken held size causes p q deeds is_full before after answered read d
+  served_begun p m q deeds is_full before mid after answered read to.Flush s shut number wire count phase (inl fewer, h) =
+      (inl (subst (λ (w : Wire K S). owed_count size after.wire < owed_count size w) wire fewer), subst (λ (x : Phase). StaysOrIsOver x after.course.phase) phase h)
+  served_begun p m q deeds is_full before mid after answered read to.Flush s shut number wire count phase (inr none, h) = (inr none, subst (λ (x : Phase). StaysOrIsOver x after.course.phase) phase h)
+  served_begun p m q deeds is_full before mid after answered read to.Answer s shut number wire count phase (inl one) = inl one
+  served_begun p m q deeds is_full before mid after answered read to.Answer s shut number wire count phase (inr lost) =
+      inr (subst (λ (n : ℕ). IsLost condition unread taken held size causes p q deeds n) number (lost_before p m q mid.connection [] deeds s lost))
+  served_begun p m q deeds is_full before mid after answered read to.Read s shut number wire count phase (inl one) = inl one
+  served_begun p m q deeds is_full before mid after answered read to.Read s shut number wire count phase (inr (inl back)) =
+      inr (inl (held_back p m is_full before mid shut count back.0, back.1 ∙ phase))
+  served_begun p m q deeds is_full before mid after answered read to.Read s shut number wire count phase (inr (inr (inl none))) = inr (inr (inl (none.0, none.1 ∙ phase)))
+  served_begun p m q deeds is_full before mid after answered read to.Read s shut number wire count phase (inr (inr (inr over))) = inr (inr (inr over))
+  served_begun p m q deeds is_full before mid after answered read to.Finish s shut number wire count phase h = h
+  served_begun p m q deeds is_full before mid after answered read to.Drain s shut number wire count phase h = subst (λ (x : Phase). StaysOrIsOver x after.course.phase) phase h
+  served_begun p m q deeds is_full before mid after answered read to.Wait s shut number wire count phase h = h ∙ phase
+
+  -- and had its causes since before
+  caused_begun : (lost more : Type 0) (before mid after : Seat R K S) → mid.source ≡ before.source → mid.wire ≡ before.wire → mid.course.is_readable ≡ before.course.is_readable
+      → mid.course.is_writable ≡ before.course.is_writable → (mid.course.phase ≡ Over → before.course.phase ≡ Over) → (lost → more) → HasCauses causes lost mid after → HasCauses causes more before after
+  caused_begun lost more before mid after source wire readable writable over f h = record {
+    readable = elim h.readable [
+      | inl same ↦ inl (same ∙ readable)
+      | inr none ↦ inr (none.0, subst (λ (r : R). causes.source after.source ≡ after_receive gives.Later (causes.source r)) source none.1)
+    ];
+    writable = elim h.writable [
+      | inl same ↦ inl (same ∙ writable)
+      | inr none ↦ inr (none.0, subst (λ (w : Wire K S). causes.sink after.wire.sink ≡ after_send takes.Later (causes.sink w.sink)) wire none.1)
+    ];
+    over = λ is. elim (h.over is) [
+      | inl was ↦ inl (over was)
+      | inr (inl broken) ↦ inr (inl (subst (λ (r : R). (causes.source after.source ≡ after_receive gives.Ended (causes.source r)) ⊎ ((causes.source after.source ≡ after_receive gives.Failed (causes.source r))
+          ⊎ ((causes.sink after.wire.sink ≡ after_send takes.Failed (causes.sink before.wire.sink)) ⊎ HasRisen (causes.spool before.wire.backlog.spool) (causes.spool after.wire.backlog.spool)))) source
+          (subst (λ (w : Wire K S). (causes.source after.source ≡ after_receive gives.Ended (causes.source mid.source)) ⊎ ((causes.source after.source ≡ after_receive gives.Failed (causes.source mid.source))
+          ⊎ ((causes.sink after.wire.sink ≡ after_send takes.Failed (causes.sink w.sink)) ⊎ HasRisen (causes.spool w.backlog.spool) (causes.spool after.wire.backlog.spool)))) wire broken)))
+      | inr (inr l) ↦ inr (inr (f l))
+    ];
+  }
 
   -- a connection had its turn, once that had begun
   pub served : (p q : Position A R K S) (at : ℕ) (time : Time) (is_full is_shut : Bool) (told_old told_new : Option (List Note)) (before mid after : Seat R K S) → told_new ≡ told_old → at < length p.seats → slot at p.seats ≡ Some before
@@ -280,7 +393,7 @@ module _ {A R K S : Type 0} (condition : A → Condition) (unread : R → Option
       → (mid.course.phase ≡ Open → before.course.phase ≡ Open) → (is_ended before.course.phase ≡ true → is_ended mid.course.phase ≡ true)
       → mid.course.unfinished ≡ before.course.unfinished → mid.course.phase ≡ phase_begun before.course.phase is_shut → mid.course.is_readable ≡ before.course.is_readable
       → mid.course.is_writable ≡ before.course.is_writable → is_shut ≡ is_some p.shut
-      → TakesTurn condition unread taken held size p.hub q.hub mid after time.moment is_full is_shut → Serves condition unread taken held size p q at time is_full told_old told_new
+      → TakesTurn condition unread taken held size causes p.hub q.hub mid after time.moment is_full is_shut → Serves condition unread taken held size causes p q at time is_full told_old told_new
   served p q at time is_full is_shut told_old told_new before mid after quiet there sat sits limits shut same opens ended count phase readable writable told t =
       let m : Position A R K S = record p { seats = set p.seats at (Some mid) } in
       let begun : slot at m.seats ≡ Some mid = get_or-set_same p.seats at (Some mid) None there in
@@ -291,6 +404,11 @@ module _ {A R K S : Type 0} (condition : A → Condition) (unread : R → Option
       (record { connection = ap (λ (x : Seat R K S). x.connection) same; address = ap (λ (x : Seat R K S). x.address) same })
       (ap (λ (x : Seat R K S). x.source) same) wire opens ended count in
       let stands : Some after ≡ slot at q.seats = sym (ap (λ (l : List (Option (Seat R K S))). slot at l) sits ∙ get_or-set_same p.seats at (Some after) None there) in
+      let source = ap (λ (x : Seat R K S). x.source) same in
+      let number = ap (λ (x : Seat R K S). x.connection) same in
+      let begun_so : mid.course.phase ≡ phase_begun before.course.phase (is_some p.shut) = phase ∙ ap (λ (b : Bool). phase_begun before.course.phase b) told in
+      let twice : phase_begun mid.course.phase (is_some p.shut) ≡ phase_begun before.course.phase (is_some p.shut) =
+      ap (λ (h : Phase). phase_begun h (is_some p.shut)) begun_so ∙ begun_once before.course.phase (is_some p.shut) in
       let s = took_turn m q at time is_full mid after (record {
         there = omega (arith, there, length-set p.seats at (Some mid));
         sat = begun;
@@ -300,7 +418,7 @@ module _ {A R K S : Type 0} (condition : A → Condition) (unread : R → Option
         ended = t.ended;
         same_limits = limits;
         same_shut = shut;
-      }) (subst (λ (b : Bool). ActsOnce condition unread taken held size p.hub q.hub mid after time.moment is_full b) told t.acts) in
+      }) (begun_so ∙ sym twice) (subst (λ (b : Bool). ActsOnce condition unread taken held size p.hub q.hub mid after time.moment is_full b) told t.acts) in
       record {
         deeds = s.deeds;
         steps = steps_join condition unread taken held began s.steps;
@@ -308,18 +426,31 @@ module _ {A R K S : Type 0} (condition : A → Condition) (unread : R → Option
         others = s.others;
         waits = λ full some. s.waits full (omega (arith, unfinished, some));
         unread_others = s.unread_others;
-        served = subst (λ (x : Option (Seat R K S)). IsServedAt condition unread taken held size p q is_full s.deeds at x) (sym sat)
-            (subst (λ (d : Duty). IsServed condition unread taken held size p q s.deeds is_full before (slot at q.seats) (answers_at at s.deeds) (pieces_at at s.deeds) d)
-            (duty_begun p.shut is_shut before mid told phase wire readable writable)
-            (subst (λ (x : Option (Seat R K S)). IsServed condition unread taken held size p q s.deeds is_full before x (answers_at at s.deeds) (pieces_at at s.deeds) (next_duty size mid)) stands
-            (served_begun p m q s.deeds is_full before mid after (answers_at at s.deeds) (pieces_at at s.deeds) (next_duty size mid) began refl (ap (λ (x : Seat R K S). x.connection) same) wire count s.does)));
+        served = subst (λ (x : Option (Seat R K S)). IsServedAt condition unread taken held size causes p q is_full s.deeds at x) (sym sat) (record {
+          after = after;
+          left = inl (sym stands);
+          caused = caused_begun (IsUnknown p.hub mid.connection) (IsLost condition unread taken held size causes p q s.deeds before.connection) before mid after source wire readable writable
+              (λ h. over_begun before.course.phase (is_some p.shut) (sym begun_so ∙ h))
+              (λ unknown. record {
+                earlier = [];
+                later = s.deeds;
+                all = refl;
+                mid = p;
+                came = begins;
+                absent = subst (λ (n : ℕ). IsUnknown p.hub n) number unknown;
+                goes = steps_join condition unread taken held began s.steps;
+              }) t.caused;
+          served = subst (λ (d : Duty). IsServed condition unread taken held size causes p q s.deeds is_full before after (answers_at at s.deeds) (pieces_at at s.deeds) d)
+              (duty_begun p.shut is_shut before mid told phase wire readable writable)
+              (served_begun p m q s.deeds is_full before mid after (answers_at at s.deeds) (pieces_at at s.deeds) (next_duty size mid) began refl number wire count twice s.does);
+        });
         in_time = s.in_time;
         noted = subst (λ (l : List Note). Grows told_old told_new l) (sym s.quiet) (grows_same told_old told_new quiet);
       }
 
   -- and was closed after it
-  pub then_closed : (p q r : Position A R K S) (at : ℕ) (time : Time) (is_full : Bool) (told so_far tells : Option (List Note)) (reason : Closing) (seat : Seat R K S) → Serves condition unread taken held size p q at time is_full told so_far → Goes condition unread taken held q r at time.second reason seat
-      → Grows so_far tells (LetGo seat.connection reason ∷ []) → Serves condition unread taken held size p r at time is_full told tells
+  pub then_closed : (p q r : Position A R K S) (at : ℕ) (time : Time) (is_full : Bool) (told so_far tells : Option (List Note)) (reason : Closing) (seat : Seat R K S) → Serves condition unread taken held size causes p q at time is_full told so_far → Goes condition unread taken held q r at time.second reason seat
+      → Grows so_far tells (LetGo seat.connection reason ∷ []) → Serves condition unread taken held size causes p r at time is_full told tells
   then_closed p q r at time is_full told so_far tells reason seat s g noted =
       let more : List Deed = Closes at seat.connection time.second reason ∷ [] in
       record {
@@ -329,14 +460,14 @@ module _ {A R K S : Type 0} (condition : A → Condition) (unread : R → Option
         others = λ place ne. let e = answers_append place s.deeds more in let f : answers_at place more ≡ 0 = refl in let o = s.others place ne in omega (arith, e, f, o);
         waits = λ full some. let e = pieces_append at s.deeds more in let f : pieces_at at more ≡ 0 = refl in let o = s.waits full some in omega (arith, e, f, o);
         unread_others = λ place ne. let e = pieces_append place s.deeds more in let f : pieces_at place more ≡ 0 = refl in let o = s.unread_others place ne in omega (arith, e, f, o);
-        served = at_after p q r is_full s.deeds more at (slot at p.seats) (goes_on begins (leaves g))
-            (inr (ap (λ (l : List (Option (Seat R K S))). slot at l) g.gone ∙ get_or-set_same q.seats at None None g.there)) refl refl s.served;
+        served = at_after p q r is_full s.deeds more at (slot at p.seats) s.steps (goes_on begins (leaves g))
+            (λ other sits. inr (closed_there q r at time.second reason seat other g sits)) refl refl s.served;
         in_time = in_time_append time s.deeds more s.in_time (refl, tt);
         noted = noted_on told so_far tells s.deeds more s.noted noted;
       }
 
   pub closes_served : (p q r : Position A R K S) (at : ℕ) (time : Time) (is_full : Bool) (told so_far tells : Option (List Note)) (reason : Closing) (x : Option (Seat R K S)) → IfSome x (Goes condition unread taken held q r at time.second reason) → MayGo q time.second reason x
-      → Serves condition unread taken held size p q at time is_full told so_far → Grows so_far tells (farewell reason x) → Serves condition unread taken held size p r at time is_full told tells
+      → Serves condition unread taken held size causes p q at time is_full told so_far → Grows so_far tells (farewell reason x) → Serves condition unread taken held size causes p r at time is_full told tells
   closes_served p q r at time is_full told so_far tells reason None g d s noted = absurd d
   closes_served p q r at time is_full told so_far tells reason (Some seat) g d s noted = then_closed p q r at time is_full told so_far tells reason seat s g noted
 
@@ -349,7 +480,7 @@ module _ {A R K S : Type 0} (condition : A → Condition) (unread : R → Option
     waits : is_full ≡ true → (place : ℕ) → 0 < unfinished_of (slot place p.seats) → pieces_at place deeds ≡ 0
     unread_later : (place : ℕ) → at ≤ place → pieces_at place deeds ≡ 0
     pub stays : (place : ℕ) → at ≤ place → slot place q.seats ≡ slot place p.seats
-    served : (place : ℕ) → place < at → IsServedAt condition unread taken held size p q is_full deeds place (slot place p.seats)
+    served : (place : ℕ) → place < at → IsServedAt condition unread taken held size causes p q is_full deeds place (slot place p.seats)
     in_time : AreDoneAt time deeds
     noted : Grows told tells (closings_of deeds)
 
@@ -367,7 +498,7 @@ module _ {A R K S : Type 0} (condition : A → Condition) (unread : R → Option
     noted = grows_none told;
   }
 
-  pub round_goes_on : (p q r : Position A R K S) (at next : ℕ) (time : Time) (is_full : Bool) (told so_far tells : Option (List Note)) → RoundSoFar p q at time is_full told so_far → Serves condition unread taken held size q r at time is_full so_far tells
+  pub round_goes_on : (p q r : Position A R K S) (at next : ℕ) (time : Time) (is_full : Bool) (told so_far tells : Option (List Note)) → RoundSoFar p q at time is_full told so_far → Serves condition unread taken held size causes q r at time is_full so_far tells
       → ((place : ℕ) → (place ≡ at → ⊥) → slot place r.seats ≡ slot place q.seats) → next ≡ at + 1 → q.shut ≡ p.shut → RoundSoFar p r next time is_full told tells
   round_goes_on p q r at next time is_full told so_far tells s t same e shut = record {
     deeds = s.deeds ++ t.deeds;
@@ -392,10 +523,10 @@ module _ {A R K S : Type 0} (condition : A → Condition) (unread : R → Option
         let c = t.unread_others place (λ is. omega (arith, is, h, e)) in omega (arith, a, b, c);
     stays = λ place h. same place (λ is. omega (arith, is, h, e)) ∙ s.stays place (omega (arith, h, e));
     served = λ place h. elim (cases_eq place at) [
-      | inl is ↦ subst (λ (n : ℕ). IsServedAt condition unread taken held size p r is_full (s.deeds ++ t.deeds) n (slot n p.seats)) (sym is)
-          (subst (λ (x : Option (Seat R K S)). IsServedAt condition unread taken held size p r is_full (s.deeds ++ t.deeds) at x) (s.stays at (omega arith))
+      | inl is ↦ subst (λ (n : ℕ). IsServedAt condition unread taken held size causes p r is_full (s.deeds ++ t.deeds) n (slot n p.seats)) (sym is)
+          (subst (λ (x : Option (Seat R K S)). IsServedAt condition unread taken held size causes p r is_full (s.deeds ++ t.deeds) at x) (s.stays at (omega arith))
           (at_before p q r is_full s.deeds t.deeds at (slot at q.seats) s.steps shut (s.later at (omega arith)) (s.unread_later at (omega arith)) t.served))
-      | inr ne ↦ at_after p q r is_full s.deeds t.deeds place (slot place p.seats) t.steps (inl (same place ne)) (t.others place ne) (t.unread_others place ne) (s.served place (omega (arith, h, e, ne)))
+      | inr ne ↦ at_after p q r is_full s.deeds t.deeds place (slot place p.seats) s.steps t.steps (λ other sits. inl (same place ne ∙ sits)) (t.others place ne) (t.unread_others place ne) (s.served place (omega (arith, h, e, ne)))
     ];
     in_time = in_time_append time s.deeds t.deeds s.in_time t.in_time;
     noted = noted_on told so_far tells s.deeds t.deeds s.noted t.noted;
@@ -403,26 +534,26 @@ module _ {A R K S : Type 0} (condition : A → Condition) (unread : R → Option
 
   -- so all had, as nobody sits behind these
   all_served : (p q : Position A R K S) (at : ℕ) (time : Time) (is_full : Bool) (told tells : Option (List Note)) → (s : RoundSoFar p q at time is_full told tells) → ((place : ℕ) → at ≤ place → slot place p.seats ≡ None)
-      → (place : ℕ) → IsServedAt condition unread taken held size p q is_full s.deeds place (slot place p.seats)
+      → (place : ℕ) → IsServedAt condition unread taken held size causes p q is_full s.deeds place (slot place p.seats)
   all_served p q at time is_full told tells s all place = elim (cases_lt place at) [
     | inl lt ↦ s.served place lt
-    | inr ge ↦ subst (λ (x : Option (Seat R K S)). IsServedAt condition unread taken held size p q is_full s.deeds place x) (sym (all place (omega (arith, ge)))) tt
+    | inr ge ↦ subst (λ (x : Option (Seat R K S)). IsServedAt condition unread taken held size causes p q is_full s.deeds place x) (sym (all place (omega (arith, ge)))) tt
   ]
 
   -- and the largest was closed, where it had to be
-  pub round_ends : (p q r : Position A R K S) (at : ℕ) (time : Time) (is_full : Bool) (told so_far tells : Option (List Note)) → RoundSoFar p q at time is_full told so_far → is_full ≡ nat_lt p.limits.unfinished_bytes (unfinished_in p.seats) → ((place : ℕ) → at ≤ place → slot place p.seats ≡ None)
-      → Sheds condition unread taken held q r time.second so_far tells → GoesRound condition unread taken held size p r time told tells
-  round_ends p q r at time is_full told so_far tells s e all (inl (same, keep, quiet)) = subst (λ (x : Position A R K S). GoesRound condition unread taken held size p x time told tells) (sym same) (record {
+  pub round_ends : (p q r : Position A R K S) (at : ℕ) (time : Time) (is_full : Bool) (last : List Deed) (told so_far tells : Option (List Note)) → RoundSoFar p q at time is_full told so_far → is_full ≡ nat_lt p.limits.unfinished_bytes (unfinished_in p.seats) → ((place : ℕ) → at ≤ place → slot place p.seats ≡ None)
+      → Sheds condition unread taken held q r time.second last so_far tells → GoesRound condition unread taken held size causes p r time told tells
+  round_ends p q r at time is_full last told so_far tells s e all (inl (same, keep, none, quiet)) = subst (λ (x : Position A R K S). GoesRound condition unread taken held size causes p x time told tells) (sym same) (record {
     deeds = s.deeds;
     steps = s.steps;
     once = s.once;
     waits = λ more place some. s.waits (e ∙ lt-ltb p.limits.unfinished_bytes (unfinished_in p.seats) more) place some;
-    served = λ place. subst (λ (b : Bool). IsServedAt condition unread taken held size p q b s.deeds place (slot place p.seats)) e (all_served p q at time is_full told so_far s all place);
+    served = λ place. subst (λ (b : Bool). IsServedAt condition unread taken held size causes p q b s.deeds place (slot place p.seats)) e (all_served p q at time is_full told so_far s all place);
     in_time = s.in_time;
     noted = subst (λ (o : Option (List Note)). Grows told o (closings_of s.deeds)) (sym quiet) s.noted;
-    sheds = (q, s.deeds, so_far, s.steps, inl (refl, keep, quiet));
+    sheds = (q, s.deeds, [], so_far, sym (append-nil s.deeds), s.steps, s.noted, inl (refl, keep, refl, quiet));
   })
-  round_ends p q r at time is_full told so_far tells s e all (inr (place, seat, g, noted)) =
+  round_ends p q r at time is_full last told so_far tells s e all (inr (place, seat, g, one, noted)) =
       let more : List Deed = Closes place seat.connection time.second Large ∷ [] in
       record {
         deeds = s.deeds ++ more;
@@ -431,12 +562,13 @@ module _ {A R K S : Type 0} (condition : A → Condition) (unread : R → Option
         waits = λ full other some.
             let a = pieces_append other s.deeds more in let f : pieces_at other more ≡ 0 = refl in
             let o = s.waits (e ∙ lt-ltb p.limits.unfinished_bytes (unfinished_in p.seats) full) other some in omega (arith, a, f, o);
-        served = λ other. subst (λ (b : Bool). IsServedAt condition unread taken held size p r b (s.deeds ++ more) other (slot other p.seats)) e
-            (at_after p q r is_full s.deeds more other (slot other p.seats) (goes_on begins (leaves g)) (elim (cases_eq other place) [
-              | inl is ↦ inr (ap (λ (l : List (Option (Seat R K S))). slot other l) g.gone ∙ (ap (λ (n : ℕ). slot n (set q.seats place None)) is ∙ get_or-set_same q.seats place None None g.there))
-              | inr ne ↦ inl (ap (λ (l : List (Option (Seat R K S))). slot other l) g.gone ∙ get_or-set_other q.seats place other None None ne)
+        served = λ other. subst (λ (b : Bool). IsServedAt condition unread taken held size causes p r b (s.deeds ++ more) other (slot other p.seats)) e
+            (at_after p q r is_full s.deeds more other (slot other p.seats) s.steps (goes_on begins (leaves g)) (λ who sits. elim (cases_eq other place) [
+              | inl is ↦ inr (subst (λ (n : ℕ). IsClosed condition unread taken held q r more n who) (sym is)
+                  (closed_there q r place time.second Large seat who g (subst (λ (n : ℕ). slot n q.seats ≡ Some who) is sits)))
+              | inr ne ↦ inl (ap (λ (l : List (Option (Seat R K S))). slot other l) g.gone ∙ get_or-set_other q.seats place other None None ne ∙ sits)
             ]) refl refl (all_served p q at time is_full told so_far s all other));
         in_time = in_time_append time s.deeds more s.in_time (refl, tt);
         noted = noted_on told so_far tells s.deeds more s.noted noted;
-        sheds = (q, s.deeds, so_far, s.steps, inr (place, seat, g, noted));
+        sheds = (q, s.deeds, more, so_far, refl, s.steps, s.noted, inr (place, seat, g, refl, noted));
       }

@@ -91,3 +91,7 @@ pub record StaysOrEnds (before after : Course) : Type 0 where
   pub stirs : after.has_moved ≡ before.has_moved
   pub moved : after.moved ≡ before.moved
   pub unfinished : after.unfinished ≡ before.unfinished
+
+-- its phase stays, or it is over
+abbrev pub StaysOrIsOver : (before after : Phase) → Type 0
+StaysOrIsOver before after = (after ≡ before) ⊎ (after ≡ Over)

@@ -19,7 +19,8 @@ use Rattle.dep_host.specs.declared.ending.Shut.{Shut}
 use Rattle.dep_host.specs.declared.limits.Limits.{Limits}
 use Rattle.dep_host.specs.declared.log.Closing.{Closing}
 use Rattle.dep_host.specs.declared.log.Closing.TheVariants as ends
-use Rattle.dep_host.specs.Courses.{closing, duty, is_ended, is_held_back, phase_begun}
+use Rattle.dep_host.specs.Courses.{StaysOrIsOver, closing, duty, is_ended, is_held_back, phase_begun}
+use Rattle.dep_host.specs.Causes.{Causes, HasCauses}
 use Rattle.dep_host.specs.Notes.{Note, LetGo, Grows}
 use Rattle.dep_host.specs.Seats.{HubStays, SameClient, SendsOn, next_duty, IsUnknown, Rests, Offers, Refuses, Answers}
 
@@ -274,11 +275,32 @@ module _ {A R K S : Type 0} (condition : A → Condition) (unread : R → Option
   GoesOn first last = (deeds : List Deed) × Steps first deeds last
 
   -- the largest is closed, and the log is told so, or nothing is done, where nothing has to be
-  abbrev pub Sheds : Position A R K S → Position A R K S → (second : ℕ)
+  abbrev pub Sheds : Position A R K S → Position A R K S → (second : ℕ) → List Deed
       → (told tells : Option (List Note)) → Type 0
-  Sheds p q second told tells = ((q ≡ p) × MayKeep p × (tells ≡ told))
+  Sheds p q second deeds told tells =
+      ((q ≡ p) × MayKeep p × (deeds ≡ []) × (tells ≡ told))
       ⊎ ((at : ℕ) × (seat : Seat R K S) × Goes p q at second ends.Large seat
+      × (deeds ≡ Closes at seat.connection second ends.Large ∷ [])
       × Grows told tells (LetGo seat.connection ends.Large ∷ []))
+
+  -- a connection was closed by one of these deeds, as it was then
+  pub record IsClosed (p q : Position A R K S) (deeds : List Deed) (place : ℕ) (seat : Seat R K S)
+      : Type 0 where
+    pub earlier : List Deed
+    pub later : List Deed
+    pub second : ℕ
+    pub reason : Closing
+    pub all : deeds ≡ earlier ++ Closes place seat.connection second reason ∷ later
+    pub mid : Position A R K S
+    pub next : Position A R K S
+    pub came : Steps p earlier mid
+    pub goes : Goes mid next place second reason seat
+    pub rest : Steps next later q
+
+  -- it sits there still, as it is, or was closed as it was then
+  abbrev pub IsLeftAs : (p q : Position A R K S) → List Deed → (place : ℕ) → Seat R K S → Type 0
+  IsLeftAs p q deeds place seat = (slot place q.seats ≡ Some seat)
+      ⊎ IsClosed p q deeds place seat
 
 -- what a connection does next once its turn begins
 abbrev pub turn_duty : {R K S : Type 0} → (S → ℕ) → Option Shut → Seat R K S → Duty
@@ -286,7 +308,8 @@ turn_duty size shut seat = duty (phase_begun seat.course.phase (is_some shut))
     (nat_lt 0 (owed_count size seat.wire)) seat.course.is_readable seat.course.is_writable
 
 module _ {A R K S : Type 0} (condition : A → Condition) (unread : R → Option (List ℕ))
-    (taken : K → Option (List ℕ)) (held : S → Option (List ℕ)) (size : S → ℕ) where
+    (taken : K → Option (List ℕ)) (held : S → Option (List ℕ)) (size : S → ℕ)
+    (causes : Causes R K S) where
   -- behind the first of these deeds the hub had no connection of that number
   pub record IsLost (p q : Position A R K S) (deeds : List Deed) (number : ℕ) : Type 0 where
     pub earlier : List Deed
@@ -297,31 +320,44 @@ module _ {A R K S : Type 0} (condition : A → Condition) (unread : R → Option
     pub absent : IsUnknown mid.hub number
     pub goes : Steps condition unread taken held mid later q
 
-  -- What was to be done for a connection was done, after which it is this, or was closed: its next
-  -- item was answered; what is owed was sent, as far as its socket takes it; a piece was read,
-  -- where one may be and the socket had one; or its client was told that nothing more is sent.
+  -- What was to be done for a connection was done, after which it is this: its next item was answered;
+  -- what is owed was sent, as far as its socket takes it; a piece was read, where one may be and the
+  -- socket had one; or its client was told that nothing more is sent. But for that it is as far as it
+  -- was once its turn began, or over.
   abbrev pub IsServed : (p q : Position A R K S) → (deeds : List Deed) → (is_full : Bool)
-      → (before : Seat R K S) → (after : Option (Seat R K S)) → (answered read : ℕ) → Duty
-      → Type 0
-  IsServed p q deeds is_full before after answered read to.Flush =
-      IfSome after (λ seat. SendsOn size before seat)
+      → (before after : Seat R K S) → (answered read : ℕ) → Duty → Type 0
+  IsServed p q deeds is_full before after answered read to.Flush = SendsOn size before after
+      × StaysOrIsOver (phase_begun before.course.phase (is_some p.shut)) after.course.phase
   IsServed p q deeds is_full before after answered read to.Answer =
       (answered ≡ 1) ⊎ IsLost p q deeds before.connection
   IsServed p q deeds is_full before after answered read to.Read = (read ≡ 1)
-      ⊎ ((is_held_back before.course is_full (is_some p.shut) ≡ true)
-      ⊎ IfSome after (λ seat. (seat.course.is_readable ≡ false) ⊎ (seat.course.phase ≡ Over)))
+      ⊎ (((is_held_back before.course is_full (is_some p.shut) ≡ true)
+      × (after.course.phase ≡ phase_begun before.course.phase (is_some p.shut)))
+      ⊎ (((after.course.is_readable ≡ false)
+      × (after.course.phase ≡ phase_begun before.course.phase (is_some p.shut)))
+      ⊎ (after.course.phase ≡ Over)))
   IsServed p q deeds is_full before after answered read to.Finish =
-      IfSome after (λ seat. seat.course.phase ≡ Draining)
-  IsServed p q deeds is_full before after answered read to.Drain = Unit {0}
-  IsServed p q deeds is_full before after answered read to.Wait = Unit {0}
+      after.course.phase ≡ Draining
+  IsServed p q deeds is_full before after answered read to.Drain =
+      StaysOrIsOver (phase_begun before.course.phase (is_some p.shut)) after.course.phase
+  IsServed p q deeds is_full before after answered read to.Wait =
+      after.course.phase ≡ phase_begun before.course.phase (is_some p.shut)
 
-  -- so was who sat at a place, where somebody did
+  -- A connection had its turn, in which it was served, and after which it is or was this. Where it
+  -- waits for its socket since, or is over, its socket or its spool said so in that turn.
+  pub record IsTurned (p q : Position A R K S) (is_full : Bool) (deeds : List Deed) (place : ℕ)
+      (before : Seat R K S) : Type 0 where
+    pub after : Seat R K S
+    pub left : IsLeftAs condition unread taken held p q deeds place after
+    pub caused : HasCauses causes (IsLost p q deeds before.connection) before after
+    pub served : IsServed p q deeds is_full before after (answers_at place deeds)
+        (pieces_at place deeds) (turn_duty size p.shut before)
+
+  -- so had who sat at a place, where somebody did
   abbrev pub IsServedAt : (p q : Position A R K S) → (is_full : Bool) → (deeds : List Deed)
       → (place : ℕ) → Option (Seat R K S) → Type 0
   IsServedAt p q is_full deeds place None = Unit {0}
-  IsServedAt p q is_full deeds place (Some seat) =
-      IsServed p q deeds is_full seat (slot place q.seats) (answers_at place deeds)
-      (pieces_at place deeds) (turn_duty size p.shut seat)
+  IsServedAt p q is_full deeds place (Some seat) = IsTurned p q is_full deeds place seat
 
   -- one place has its turn, where too many bytes of unfinished requests are kept or not
   pub record Serves (p q : Position A R K S) (at : ℕ) (time : Time) (is_full : Bool)
@@ -351,10 +387,11 @@ module _ {A R K S : Type 0} (condition : A → Condition) (unread : R → Option
         (nat_lt p.limits.unfinished_bytes (unfinished_in p.seats)) deeds place (slot place p.seats)
     pub in_time : AreDoneAt time deeds
     pub noted : Grows told tells (closings_of deeds)
-    -- once each had its turn, the largest is closed where it has to be
-    pub sheds : (turned : Position A R K S) × (early : List Deed) × (so_far : Option (List Note))
-        × Steps condition unread taken held p early turned
-        × Sheds condition unread taken held turned q time.second so_far tells
+    -- once each had its turn, the largest is closed where it has to be, by the last of the deeds
+    pub sheds : (turned : Position A R K S) × (early : List Deed) × (last : List Deed)
+        × (so_far : Option (List Note)) × (deeds ≡ early ++ last)
+        × Steps condition unread taken held p early turned × Grows told so_far (closings_of early)
+        × Sheds condition unread taken held turned q time.second last so_far tells
 
 -- who sits at a place has time left, and is not over
 abbrev pub HasTime : {R K S : Type 0} → (second : ℕ) → Limits → Option (Seat R K S) → Type 0

@@ -1,4 +1,5 @@
 pub mod Courses
+pub mod Causes
 pub mod Seats
 pub mod Notes
 pub mod Hosting

@@ -26,6 +26,7 @@ use Rattle.dep_host.specs.declared.serving.Ended.{Ended}
 use Rattle.dep_host.specs.declared.serving.Ended.TheVariants as ended
 use Rattle.dep_host.specs.Coming.{Call, origin, seated_from, seconds_in}
 use Rattle.dep_host.specs.Courses.{is_overdue}
+use Rattle.dep_host.specs.Causes.{Causes}
 use Rattle.dep_host.specs.Seats.{woken_seat}
 use Rattle.dep_host.specs.Hosting.{Comes, Deed, Opens, GoesRound, HasTime, IsEmpty, IsVacant, IsWaiting, Refused, Stays, Steps, position, slot}
 use Rattle.dep_host.specs.Notes.{Note, LetIn, TurnedAway, Grows}
@@ -141,15 +142,16 @@ module _ {A R K S : Type 0} (condition : A → Condition) (account : A → Accou
     pub asks : IsAsked p mid second
     pub works : Steps condition unread taken held (position mid) [] (position q)
     pub stays : Stays mid q
+    pub seats : q.seats ≡ p.seats
     pub ahead : IsNone mid.shut
         → Runs (WorkedAhead q.is_left) (account mid.hub.store) (account q.hub.store)
 
   -- each place had its turn at that time, and then it was asked whether the store is open
-  pub record MakesRound (size : S → ℕ) (p q : Host A R K S) (time : Time)
+  pub record MakesRound (size : S → ℕ) (causes : Causes R K S) (p q : Host A R K S) (time : Time)
       (told tells : Option (List Note)) : Type 0 where
     pub mid : Host A R K S
-    pub goes : GoesRound condition unread taken held size (position p) (position mid) time told
-        tells
+    pub goes : GoesRound condition unread taken held size causes (position p) (position mid) time
+        told tells
     pub left : (at : ℕ) → HasTime time.second mid.limits (slot at mid.seats.items)
     pub stays : Stays p mid
     pub asks : AsksOn mid q time.second
@@ -164,6 +166,9 @@ module _ {A R K S L : Type 0} (condition : A → Condition) (unread : R → Opti
     pub source : seat.source ≡ client.source
     pub wire : seat.wire ≡ client.wire
     pub address : seat.address ≡ client.address
+    -- its socket may be ready
+    pub readable : seat.course.is_readable ≡ true
+    pub writable : seat.course.is_writable ≡ true
     -- fewer sit there that come from its address than may
     pub room : seated_from (origin client.address) p.seats.items < p.limits.address_connections
     pub stays : Stays p q
@@ -185,7 +190,7 @@ module _ {A R K S L : Type 0} (condition : A → Condition) (unread : R → Opti
 
 module _ {A R K S L : Type 0} (condition : A → Condition) (account : A → Account)
     (unread : R → Option (List ℕ)) (taken : K → Option (List ℕ)) (held : S → Option (List ℕ))
-    (size : S → ℕ) (notes : L → Option (List Note)) where
+    (size : S → ℕ) (causes : Causes R K S) (notes : L → Option (List Note)) where
   -- what it makes of one event, before which this place was offered: who is let in sits there
   pub data Meets (p q : Host A R K S) (l m : L) : (offer : Option ℕ) → Event R K S → List Deed
       → Type 0 where
@@ -199,7 +204,7 @@ module _ {A R K S L : Type 0} (condition : A → Condition) (account : A → Acc
         → TurnsAway condition unread taken held notes p q l m client why
         → Meets p q l m offer (came.Client client) []
     makes_round : {offer : Option ℕ} {time : Time}
-        → (round : MakesRound condition account unread taken held size p q time (notes l) (notes m))
+        → (round : MakesRound condition account unread taken held size causes p q time (notes l) (notes m))
         → Meets p q l m offer (came.Round time) round.goes.deeds
     stops : {offer : Option ℕ} {second : ℕ} → Stops p q second → m ≡ l
         → Meets p q l m offer (came.Stop second) []

@@ -17,7 +17,8 @@ use Rattle.dep_host.specs.declared.course.Phase.{Phase}
 use Rattle.dep_host.specs.declared.course.Phase.TheVariants.{Open, Answering, Last, Draining, Over}
 use Rattle.dep_host.specs.declared.course.Duty.{Duty}
 use Rattle.dep_host.specs.declared.course.Duty.TheVariants as to
-use Rattle.dep_host.specs.Courses.{StaysOrEnds, duty, is_ended, is_held_back, woken}
+use Rattle.dep_host.specs.Courses.{StaysOrEnds, StaysOrIsOver, duty, is_ended, is_held_back, woken}
+use Rattle.dep_host.specs.Causes.{Causes, HasCauses}
 
 -- its socket may be ready
 abbrev pub woken_seat : {R K S : Type 0} → Seat R K S → (is_readable is_writable : Bool) → Seat R K S
@@ -70,12 +71,13 @@ SendsOn size before after = (owed_count size after.wire < owed_count size before
 
 -- what is owed was sent, as far as the socket takes it, and not more or less
 pub record Flushes {R K S : Type 0} (taken : K → Option (List ℕ)) (held : S → Option (List ℕ))
-    (size : S → ℕ) (before after : Seat R K S) : Type 0 where
+    (size : S → ℕ) (causes : Causes R K S) (before after : Seat R K S) : Type 0 where
   pub keeps : Keeps (told taken held before.wire) (told taken held after.wire)
   pub failures : after.wire.failures ≡ before.wire.failures
   pub same : after ≡ record before { wire = after.wire; course = after.course }
   pub course : StaysOrEnds before.course after.course
   pub sends : 0 < owed_count size before.wire → SendsOn size before after
+  pub caused : HasCauses causes ⊥ before after
 
 -- its client was told that nothing more is sent, and from here on what it sends is thrown away
 pub record Finishes {R K S : Type 0} (taken : K → Option (List ℕ)) (held : S → Option (List ℕ))
@@ -165,18 +167,24 @@ module _ {A R K S : Type 0} (condition : A → Condition) (unread : R → Option
 
   -- Why nothing comes to the hub in a turn, by what comes next. Where an item is to be answered, no
   -- connection is there; where a piece is to be read, it isn't to be read now, or the socket gave
-  -- none, or the connection is over, and no piece was thrown away.
+  -- none, or the connection is over, and no piece was thrown away. How far it is stays so, but where
+  -- it is over.
   abbrev pub MayRest : (S → ℕ) → Hub A → (before after : Seat R K S) → (is_full is_shut : Bool)
       → Duty → Type 0
-  MayRest size hub before after is_full is_shut to.Flush = SendsOn size before after
+  MayRest size hub before after is_full is_shut to.Flush =
+      SendsOn size before after × StaysOrIsOver before.course.phase after.course.phase
   MayRest size hub before after is_full is_shut to.Answer = IsUnknown hub before.connection
   MayRest size hub before after is_full is_shut to.Read =
-      (is_held_back before.course is_full is_shut ≡ true)
-      ⊎ ((after.course.is_readable ≡ false) ⊎ ((after.course.phase ≡ Over)
+      ((is_held_back before.course is_full is_shut ≡ true)
+      × (after.course.phase ≡ before.course.phase))
+      ⊎ (((after.course.is_readable ≡ false) × (after.course.phase ≡ before.course.phase))
+      ⊎ ((after.course.phase ≡ Over)
       × (Keeps (unread before.source) (unread after.source) ⊎ IsUnknown hub before.connection)))
   MayRest size hub before after is_full is_shut to.Finish = after.course.phase ≡ Draining
-  MayRest size hub before after is_full is_shut to.Drain = Unit {0}
-  MayRest size hub before after is_full is_shut to.Wait = Unit {0}
+  MayRest size hub before after is_full is_shut to.Drain =
+      StaysOrIsOver before.course.phase after.course.phase
+  MayRest size hub before after is_full is_shut to.Wait =
+      after.course.phase ≡ before.course.phase
 
   -- a turn is one of these, by what comes next: at most one piece is read, and at most one item
   -- answered
@@ -189,25 +197,28 @@ module _ {A R K S : Type 0} (condition : A → Condition) (unread : R → Option
       ⊎ ((Refuses old new before after moment is_full is_shut × (next_duty size before ≡ to.Read))
       ⊎ (Answers old new before after moment × (next_duty size before ≡ to.Answer))))
 
-  -- a turn of a connection, which stays the one that it was
-  pub record TakesTurn (size : S → ℕ) (old new : Hub A) (before after : Seat R K S) (moment : ℕ)
-      (is_full is_shut : Bool) : Type 0 where
+  -- a turn of a connection, which stays the one that it was, and waits for its socket, or is over, only
+  -- for a cause
+  pub record TakesTurn (size : S → ℕ) (causes : Causes R K S) (old new : Hub A)
+      (before after : Seat R K S) (moment : ℕ) (is_full is_shut : Bool) : Type 0 where
     pub client : SameClient before after
     pub hub : HubStays condition old new
     pub ended : is_ended before.course.phase ≡ true → is_ended after.course.phase ≡ true
     pub acts : ActsOnce size old new before after moment is_full is_shut
+    pub caused : HasCauses causes (IsUnknown old before.connection) before after
 
   -- a turn in which a piece may be read, where it may be
-  abbrev pub MayRead : (S → ℕ) → (old new : Hub A) → (before after : Seat R K S) → Type 0
-  MayRead size old new before after = (moment : ℕ) (is_full is_shut : Bool)
+  abbrev pub MayRead : (S → ℕ) → Causes R K S → (old new : Hub A) → (before after : Seat R K S)
+      → Type 0
+  MayRead size causes old new before after = (moment : ℕ) (is_full is_shut : Bool)
       → (is_full ≡ true → before.course.unfinished ≡ 0) → is_shut ≡ false
-      → TakesTurn size old new before after moment is_full is_shut
+      → TakesTurn size causes old new before after moment is_full is_shut
 
   -- a turn in which an item may be answered, also where no piece may be read
-  abbrev pub MayAnswer : (S → ℕ) → (old new : Hub A) → (before after : Seat R K S) → (moment : ℕ)
-      → Type 0
-  MayAnswer size old new before after moment = (is_full is_shut : Bool)
-      → TakesTurn size old new before after moment is_full is_shut
+  abbrev pub MayAnswer : (S → ℕ) → Causes R K S → (old new : Hub A) → (before after : Seat R K S)
+      → (moment : ℕ) → Type 0
+  MayAnswer size causes old new before after moment = (is_full is_shut : Bool)
+      → TakesTurn size causes old new before after moment is_full is_shut
 
   -- what becomes of a piece that was offered
   abbrev pub IsOffered : (old new : Hub A) → (before after : Seat R K S) → (piece : List ℕ) → Type 0

@@ -65,6 +65,8 @@ impl Course {
     /// A fresh connection, whose socket may be ready.
     pub fn new() -> Course
         ensures phase { result.phase ≡ Phase.Open }
+        ensures readable { result.is_readable ≡ true }
+        ensures writable { result.is_writable ≡ true }
         ensures moved { result.has_moved ≡ true }
         ensures due { result.is_due ≡ false }
         ensures unfinished { result.unfinished ≡ 0 }

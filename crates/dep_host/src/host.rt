@@ -35,13 +35,14 @@ pub struct Host<A, R, K, S> {
 }
 
 impl<A: Archive, R: Source + Drop, K: Sink + Drop, S: Spool + Drop> Host<A, R, K, S> {
-    ghost use Rattle.std.specs.Prelude.{◌⊎◌, ◌<◌, [], ◌∷◌, nat_lt, IfErr, IfSome, is_some, IsSome, IsNone, true, false};
+    ghost use Rattle.std.specs.Prelude.{◌⊎◌, ◌<◌, List, [], ◌∷◌, nat_lt, IfErr, IfSome, is_some, IsSome, IsNone, true, false};
     ghost use Rattle.std.specs.Io.KnownBytes.{IsAtEnd};
     ghost use Rattle.dep_outbox.specs.Wires.{told};
     ghost use Rattle.dep_hub.specs.Errands.{WorkedAhead, Runs};
-    ghost use Rattle.dep_host.specs.Hosting.{Steps, Serves, Closed, GoesRound, Sheds, Stays, HasTime, MayGo, IsEmpty, IsReadAt, farewell, IsVacant, IsWaiting, position, slot, unfinished_of, unfinished_in};
+    ghost use Rattle.dep_host.specs.Hosting.{Deed, Steps, Serves, Closed, GoesRound, Sheds, Stays, HasTime, MayGo, IsEmpty, IsReadAt, farewell, IsVacant, IsWaiting, position, slot, unfinished_of, unfinished_in};
     ghost use Rattle.dep_host.specs.Coming.{origin, seated_from};
     ghost use Rattle.dep_host.specs.Courses.{is_overdue};
+    ghost use Rattle.dep_host.specs.Causes.{causes_of};
     ghost use Rattle.dep_host.specs.Notes.{Grows};
     ghost use Rattle.dep_host.specs.Meeting.{Admits, IsAsked, IsOffer, MayEnd, Stops, Wakes, refusal_of};
 
@@ -250,8 +251,9 @@ impl<A: Archive, R: Source + Drop, K: Sink + Drop, S: Spool + Drop> Host<A, R, K
     /// slow. Where more bytes of unfinished requests are kept than may be, it reads no more of these, and
     /// closes the one that has most. It returns whether one of them can go on at once.
     pub fn round<L: HostLog>(&mut self, buffer: &mut ReadBuffer, time: &Time, log: &mut L) -> bool
-        ensures goes { GoesRound A.condition R.unread K.taken S.held S.size (position self.old)
-            (position self.new) time.now (L.notes log.old) (L.notes log.new) }
+        ensures goes { GoesRound A.condition R.unread K.taken S.held S.size
+            (causes_of R.halts K.halts S.failures) (position self.old) (position self.new)
+            time.now (L.notes log.old) (L.notes log.new) }
         ensures left { (at : ℕ)
             → HasTime time.now.second self.new.limits (slot at self.new.seats.items) }
         ensures waits { result ≡ false
@@ -285,9 +287,9 @@ impl<A: Archive, R: Source + Drop, K: Sink + Drop, S: Spool + Drop> Host<A, R, K
     ) -> bool
         requires there { at < length self.old.seats.items }
         requires shut { turn.now.is_shut ≡ is_some self.old.shut }
-        ensures goes { Serves A.condition R.unread K.taken S.held S.size (position self.old)
-            (position self.new) at turn.now.time turn.now.is_full (L.notes log.old)
-            (L.notes log.new) }
+        ensures goes { Serves A.condition R.unread K.taken S.held S.size
+            (causes_of R.halts K.halts S.failures) (position self.old) (position self.new) at
+            turn.now.time turn.now.is_full (L.notes log.old) (L.notes log.new) }
         ensures here { HasTime turn.now.time.second self.new.limits
             (slot at self.new.seats.items) }
         ensures waits { result ≡ false → IsWaiting S.size (slot at self.new.seats.items) }
@@ -329,8 +331,9 @@ impl<A: Archive, R: Source + Drop, K: Sink + Drop, S: Spool + Drop> Host<A, R, K
     /// Where more bytes of unfinished requests are kept than may be, closes the connection that has
     /// most of them, unless one of its requests may be complete, which is answered first.
     fn shed<L: HostLog>(&mut self, second: u64, log: &mut L)
-        ensures goes { Sheds A.condition R.unread K.taken S.held (position self.old)
-            (position self.new) second (L.notes log.old) (L.notes log.new) }
+        ensures goes { (deeds : List Deed) × Sheds A.condition R.unread K.taken S.held
+            (position self.old) (position self.new) second deeds (L.notes log.old)
+            (L.notes log.new) }
         ensures left { (at : ℕ) → (slot at self.new.seats.items ≡ slot at self.old.seats.items)
             ⊎ (slot at self.new.seats.items ≡ None) }
         ensures stays { Stays self.old self.new }

@@ -1,7 +1,7 @@
 //! What bytes are read into.
 ghost use Rattle.std.specs.Prelude.{◌≡◌, ◌<◌, ◌≤◌, IfOk, length, min, max};
 ghost use Rattle.dep_hub.specs.Turns.{most_read};
-ghost use Rattle.dep_outbox.specs.Sockets.{Receives};
+ghost use Rattle.dep_outbox.specs.Sockets.{Receives, after_receive};
 
 use dep_outbox::{Received, Source};
 use std::alloc::{AllocError, Global};
@@ -27,10 +27,11 @@ impl ReadBuffer {
         Ok(ReadBuffer { bytes })
     }
 
-    /// Receives what is there, into a front of it.
+    /// Receives what is there, into a front of it. The source is asked once.
     pub(crate) fn receive<R: Source>(&mut self, source: &mut R) -> Received
-        ensures { Receives (R.unread source.old) (R.unread source.new) self.new.bytes.items
-            result }
+        ensures bytes { Receives (R.unread source.old) (R.unread source.new)
+            self.new.bytes.items result }
+        ensures asks { R.halts source.new ≡ after_receive result (R.halts source.old) }
     {
         source.receive(self.bytes.as_mut_slice())
     }

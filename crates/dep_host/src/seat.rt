@@ -4,6 +4,7 @@ ghost use Rattle.std.specs.Io.KnownBytes.{Keeps, IsAtEnd};
 ghost use Rattle.dep_hub.specs.Holding.{ComesToNext};
 ghost use Rattle.dep_outbox.specs.Wires.{told, owed, owed_count};
 ghost use Rattle.dep_host.specs.Courses.{StaysOrEnds, is_ended, is_held_back, phase_begun};
+ghost use Rattle.dep_host.specs.Causes.{HasCauses, causes_of};
 ghost use Rattle.dep_host.specs.Hosting.{unfinished_of};
 ghost use Rattle.dep_host.specs.declared.course.Phase.TheVariants.{Open};
 ghost use Rattle.dep_host.specs.Seats.{Finishes, Flushes, HubStays, IsDue, TakesTurn, MayRead, MayAnswer, IsOffered, next_duty, phase_answered, left_unfinished, woken_seat};
@@ -58,6 +59,8 @@ impl<R: Source, K: Sink, S: Spool> Seat<R, K, S> {
         ensures source { result.source ≡ client.source }
         ensures wire { result.wire ≡ client.wire }
         ensures phase { result.course.phase ≡ Phase.Open }
+        ensures readable { result.course.is_readable ≡ true }
+        ensures writable { result.course.is_writable ≡ true }
         ensures moved { result.course.has_moved ≡ true }
         ensures due { result.course.is_due ≡ false }
         ensures unfinished { result.course.unfinished ≡ 0 }
@@ -133,8 +136,9 @@ impl<R: Source, K: Sink, S: Spool> Seat<R, K, S> {
         turn: &Turn,
         log: &mut L,
     )
-        ensures turn { TakesTurn A.condition R.unread K.taken S.held S.size hub.old hub.new
-            self.old self.new turn.now.time.moment turn.now.is_full turn.now.is_shut }
+        ensures turn { TakesTurn A.condition R.unread K.taken S.held S.size
+            (causes_of R.halts K.halts S.failures) hub.old hub.new self.old self.new
+            turn.now.time.moment turn.now.is_full turn.now.is_shut }
         // What its socket took counts.
         ensures stirs { self.old.wire.delivered < self.new.wire.delivered
             → self.new.course.has_moved ≡ true }
@@ -169,8 +173,9 @@ impl<R: Source, K: Sink, S: Spool> Seat<R, K, S> {
         turn: &Turn,
         log: &mut L,
     )
-        ensures turn { TakesTurn A.condition R.unread K.taken S.held S.size hub.old hub.new
-            self.old self.new turn.now.time.moment turn.now.is_full turn.now.is_shut }
+        ensures turn { TakesTurn A.condition R.unread K.taken S.held S.size
+            (causes_of R.halts K.halts S.failures) hub.old hub.new self.old self.new
+            turn.now.time.moment turn.now.is_full turn.now.is_shut }
         ensures moved { min self.old.course.moved (2 ^ 64 - 1) ≤ self.new.course.moved }
         ensures noted { L.notes log.new ≡ L.notes log.old }
     {
@@ -189,8 +194,8 @@ impl<R: Source, K: Sink, S: Spool> Seat<R, K, S> {
     /// Answers the next item, and sends what is owed for it.
     fn answer<A: Archive, L: HostLog>(&mut self, hub: &mut Hub<A>, moment: Moment, log: &mut L)
         requires { IsDue S.held S.size self.old Phase.Answering Duty.Answer }
-        ensures turn { MayAnswer A.condition R.unread K.taken S.held S.size hub.old hub.new
-            self.old self.new moment }
+        ensures turn { MayAnswer A.condition R.unread K.taken S.held S.size
+            (causes_of R.halts K.halts S.failures) hub.old hub.new self.old self.new moment }
         ensures moved { self.new.course.moved ≡ self.old.course.moved }
         ensures noted { L.notes log.new ≡ L.notes log.old }
     {
@@ -200,7 +205,8 @@ impl<R: Source, K: Sink, S: Spool> Seat<R, K, S> {
         let next = self.answer_next(hub, moment, &mut item);
         let sent = self.wire.written().saturating_sub(before);
         log.answered(item, next, Bytes { received, sent });
-        self.flush();
+        // Where it is stopped short, the next turn tries again, and takes note of that.
+        let _flushed = self.wire.flush();
     }
 
     /// Answers the next item.
@@ -220,6 +226,8 @@ impl<R: Source, K: Sink, S: Spool> Seat<R, K, S> {
             self.old.wire.failures self.new.wire.failures hub.old hub.new self.old.connection
             moment result }
         ensures phase { self.new.course.phase ≡ phase_answered result }
+        ensures readable { self.new.course.is_readable ≡ self.old.course.is_readable }
+        ensures writable { self.new.course.is_writable ≡ self.old.course.is_writable }
         ensures stirs { self.new.course.has_moved ≡ true }
         ensures moved { self.new.course.moved ≡ self.old.course.moved }
         ensures unfinished { self.new.course.unfinished
@@ -242,8 +250,8 @@ impl<R: Source, K: Sink, S: Spool> Seat<R, K, S> {
     /// Reads a piece, and offers it.
     fn read<A: Archive>(&mut self, hub: &mut Hub<A>, buffer: &mut ReadBuffer)
         requires { IsDue S.held S.size self.old Phase.Open Duty.Read }
-        ensures turn { MayRead A.condition R.unread K.taken S.held S.size hub.old hub.new
-            self.old self.new }
+        ensures turn { MayRead A.condition R.unread K.taken S.held S.size
+            (causes_of R.halts K.halts S.failures) hub.old hub.new self.old self.new }
         ensures moved { min self.old.course.moved (2 ^ 64 - 1) ≤ self.new.course.moved }
     {
         match buffer.receive(&mut self.source) {
@@ -264,6 +272,8 @@ impl<R: Source, K: Sink, S: Spool> Seat<R, K, S> {
         } }
         ensures offers { IsOffered A.condition R.unread K.taken S.held hub.old hub.new
             self.old self.new piece.now }
+        ensures readable { self.new.course.is_readable ≡ self.old.course.is_readable }
+        ensures writable { self.new.course.is_writable ≡ self.old.course.is_writable }
         ensures has_moved { self.new.course.has_moved
             ≡ (self.old.course.has_moved || nat_lt 0 (length piece.now)) }
         ensures moved { self.new.course.moved
@@ -284,7 +294,8 @@ impl<R: Source, K: Sink, S: Spool> Seat<R, K, S> {
 
     /// Sends what is owed, as far as the socket takes it.
     fn flush(&mut self)
-        ensures { Flushes K.taken S.held S.size self.old self.new }
+        ensures { Flushes K.taken S.held S.size (causes_of R.halts K.halts S.failures) self.old
+            self.new }
     {
         match self.wire.flush() {
             Flushed::All | Flushed::Part => {}
@@ -310,6 +321,7 @@ impl<R: Source, K: Sink, S: Spool> Seat<R, K, S> {
           course = self.new.course;
         } }
         ensures course { StaysOrEnds self.old.course self.new.course }
+        ensures caused { HasCauses (causes_of R.halts K.halts S.failures) ⊥ self.old self.new }
     {
         match buffer.receive(&mut self.source) {
             Received::Bytes(_) => {}

@@ -2,6 +2,7 @@
 ghost use Rattle.std.specs.Prelude.{◌≡◌, ◌≢◌, ℕ, List, [], ◌∷◌, Err, IfOk, IsNone, IsTrue, false};
 ghost use Rattle.std.specs.List.{AllByRecursion};
 ghost use Rattle.dep_host.specs.Coming.{IsFresh, seconds_of};
+ghost use Rattle.dep_host.specs.Causes.{causes_of};
 ghost use Rattle.dep_host.specs.Courses.{is_overdue};
 ghost use Rattle.dep_host.specs.Hosting.{Deed, GoesOn, IsWaiting, position, slot};
 ghost use Rattle.dep_host.specs.Meeting.{AsksOn, IsIdle, IsMet, IsOffer, MayEnd, Meets, Met, most_events};
@@ -46,7 +47,7 @@ pub fn serve<
 >(host: &mut Host<A, R, K, S>, events: &mut E, buffer: &mut ReadBuffer, log: &mut L) -> Ended
     // What came, and what was made of each.
     ensures met { (deeds : List Deed) × Met A.condition A.account R.unread K.taken S.held S.size
-        L.notes (E.given events.old) (E.given events.new) host.old host.new log.old log.new
+        (causes_of R.halts K.halts S.failures) L.notes (E.given events.old) (E.given events.new) host.old host.new log.old log.new
         deeds most_events result }
     ensures goes { GoesOn A.condition R.unread K.taken S.held (position host.old)
         (position host.new) }
@@ -82,8 +83,9 @@ fn meet<A: Archive, R: Source + Drop, K: Sink + Drop, S: Spool + Drop, L: HostLo
 ) -> Result<Now, Ended>
     requires fresh { IsFresh K.taken S.held event }
     requires vacant { IsOffer host.old now.vacancy }
-    ensures met { IsMet A.condition A.account R.unread K.taken S.held S.size L.notes host.old host.new
-        log.old log.new now.vacancy event result }
+    ensures met { IsMet A.condition A.account R.unread K.taken S.held S.size
+        (causes_of R.halts K.halts S.failures) L.notes host.old host.new log.old log.new
+        now.vacancy event result }
     ensures vacant { IfOk result (λ next. IsOffer host.new next.vacancy) }
     ensures idle { IfOk result (λ next. next.is_busy ≡ false → IsIdle S.size host.new) }
     ensures shut { (cause : Cause) → result ≡ Err (Ended.Shut cause)
@@ -195,7 +197,8 @@ fn let_in<A: Archive, R: Source + Drop, K: Sink + Drop, S: Spool + Drop, L: Host
     requires fresh { IsFresh K.taken S.held (Event.Client client) }
     requires vacant { IsOffer host.old vacancy }
     ensures { (deeds : List Deed) × Meets A.condition A.account R.unread K.taken S.held S.size
-        L.notes host.old host.new log.old log.new vacancy (Event.Client client) deeds }
+        (causes_of R.halts K.halts S.failures) L.notes host.old host.new log.old log.new vacancy
+        (Event.Client client) deeds }
 {
     match vacancy {
         Some(at) => {

@@ -1,7 +1,13 @@
 -- What a wire has sent, and what it still owes.
-use Rattle.std.specs.Prelude.{◌≡◌, ℕ, ◌+◌, ◌-◌, List, length, drop, Option, None, Some}
+use Rattle.std.specs.Prelude.{◌≡◌, ◌⊎◌, ℕ, ◌+◌, ◌-◌, List, length, drop, Option, None, Some}
 use Rattle.std.specs.Io.KnownBytes.{prepend_known}
+use Rattle.dep_types.specs.Writing.{HasRisen}
+use Rattle.dep_outbox.specs.Sockets.{after_send}
 use Rattle.dep_outbox.specs.declared.backlog.Backlog.{Backlog}
+use Rattle.dep_outbox.specs.declared.socket.Delivered.TheVariants as takes
+use Rattle.dep_outbox.specs.declared.socket.Halts.{Halts}
+use Rattle.dep_outbox.specs.declared.wire.Flushed.{Flushed}
+use Rattle.dep_outbox.specs.declared.wire.Flushed.TheVariants as flush
 use Rattle.dep_outbox.specs.declared.wire.Wire.{Wire}
 
 -- the first bytes and then the others, where both are known
@@ -39,3 +45,22 @@ module _ {K S : Type 0} where
   -- the bytes that the wire took: those that the socket took, and those that are owed behind them
   abbrev pub told : (K → Option (List ℕ)) → (S → Option (List ℕ)) → Wire K S → Option (List ℕ)
   told taken held w = joined (taken w.sink) (owed held w)
+
+-- the socket didn't fail, nor did the spool
+abbrev pub IsUnharmed : (old new : Halts) → (failures after : ℕ) → Type 0
+IsUnharmed old new failures after = (new.failed ≡ old.failed) × (after ≡ failures)
+
+-- the socket failed, or the spool, once more than before
+abbrev pub HasFailed : (old new : Halts) → (failures after : ℕ) → Type 0
+HasFailed old new failures after = HasRisen old.failed new.failed ⊎ HasRisen failures after
+
+-- why a flush came to an end, by how often the socket took no byte, and the spool failed, before and after:
+-- one that took no more, or failed, was asked
+abbrev pub Blames : (old new : Halts) → (failures after : ℕ) → Flushed → Type 0
+Blames old new failures after flush.All = (new ≡ old) × (after ≡ failures)
+Blames old new failures after flush.Part = (new ≡ old) × (after ≡ failures)
+Blames old new failures after flush.Later =
+    (new ≡ after_send takes.Later old) × (after ≡ failures)
+Blames old new failures after flush.Failed =
+    ((new ≡ after_send takes.Failed old) × (after ≡ failures))
+    ⊎ ((new ≡ old) × HasRisen failures after)

@@ -1,7 +1,7 @@
 //! The bytes that wait to be sent.
 ghost use Rattle.std.specs.Prelude.{◌≡◌, ◌==◌, ◌<◌, ◌≤◌, ◌+◌, ◌-◌, length, take, OnOk, OnErr, true, false};
 ghost use Rattle.std.specs.Io.KnownBytes.{Keeps, Appends, Consumes, IsAtEnd};
-ghost use Rattle.dep_types.specs.Writing.{TakesPart};
+ghost use Rattle.dep_types.specs.Writing.{TakesPart, HasRisen};
 
 use crate::spool::{Spool, SpoolFailed};
 use std::alloc::Global;
@@ -47,6 +47,9 @@ impl<S: Spool> Backlog<S> {
     pub fn fill(&mut self) -> Result<(), SpoolFailed>
         ensures keeps { Keeps (waiting S.held self.old) (waiting S.held self.new) }
         ensures count { waiting_count S.size self.new ≡ waiting_count S.size self.old }
+        ensures ok { OnOk result (S.failures self.new.spool ≡ S.failures self.old.spool) }
+        ensures cause { OnErr result (HasRisen (S.failures self.old.spool)
+            (S.failures self.new.spool)) }
     {
         if self.front.is_empty() {
             self.spool.pull(&mut self.front)?;
@@ -68,6 +71,7 @@ impl<S: Spool> Backlog<S> {
             (take count (front_of self.old)) }
         ensures count { waiting_count S.size self.new + count
             ≡ waiting_count S.size self.old }
+        ensures spool { self.new.spool ≡ self.old.spool }
     {
         self.sent += count;
         if self.sent == self.front.len() {
@@ -82,6 +86,9 @@ impl<S: Spool> Backlog<S> {
             (Appends (waiting S.held self.old) (waiting S.held self.new) bytes.now) }
         ensures err { OnErr result
             (TakesPart (waiting S.held self.old) (waiting S.held self.new) bytes.now) }
+        ensures count { OnOk result (S.failures self.new.spool ≡ S.failures self.old.spool) }
+        ensures cause { OnErr result (HasRisen (S.failures self.old.spool)
+            (S.failures self.new.spool)) }
     {
         let fits = self.spool.is_empty() && self.has_room(bytes);
         if fits && self.front.extend_from_slice(bytes).is_ok() {

@@ -6,6 +6,6 @@ mod socket;
 mod spool;
 mod wire;
 
-pub use socket::{Delivered, Received, Sink, Source};
+pub use socket::{Delivered, Halts, Received, Sink, Source};
 pub use spool::{Spool, SpoolFailed};
 pub use wire::{Flushed, Wire};

@@ -1,5 +1,5 @@
 //! The way to a client: its socket, and the bytes that the socket hasn't taken yet.
-ghost use Rattle.std.specs.Prelude.{◌≡◌, ◌≢◌, ◌<◌, ◌≤◌, ◌+◌, ◌-◌, ◌^◌, min, nat_lt, None, Some, OnOk, OnErr, false};
+ghost use Rattle.std.specs.Prelude.{◌≡◌, ◌≢◌, ◌<◌, ◌≤◌, ◌+◌, ◌-◌, ◌^◌, min, nat_lt, None, Some, IfSome, OnOk, OnErr, false};
 ghost use Rattle.std.specs.Io.KnownBytes.{Keeps, Appends, IsAtEnd};
 ghost use Rattle.dep_types.specs.Writing.{TakesPart};
 
@@ -37,7 +37,7 @@ pub struct Wire<K, S> {
 }
 
 impl<K: Sink, S: Spool> Wire<K, S> {
-    ghost use Rattle.dep_outbox.specs.Wires.{told, owed, owed_count};
+    ghost use Rattle.dep_outbox.specs.Wires.{told, owed, owed_count, Blames, HasFailed, IsUnharmed};
 
     /// A wire that owes what the spool holds.
     #[tactic(auto, using(crate::proofs::WireLemmas::nothing_told))]
@@ -72,6 +72,9 @@ impl<K: Sink, S: Spool> Wire<K, S> {
             ≤ self.old.delivered + owed_count S.size self.old }
         ensures no_more { owed_count S.size self.new ≤ owed_count S.size self.old }
         ensures failures { self.new.failures ≡ self.old.failures }
+        // What it reports has its cause.
+        ensures blames { Blames (K.halts self.old.sink) (K.halts self.new.sink)
+            (S.failures self.old.backlog.spool) (S.failures self.new.backlog.spool) result }
     {
         for sends in 0..MOST_SENDS {
             if let Some(flushed) = self.send_once() {
@@ -96,6 +99,12 @@ impl<K: Sink, S: Spool> Wire<K, S> {
             ≤ self.old.delivered + owed_count S.size self.old }
         ensures no_more { owed_count S.size self.new ≤ owed_count S.size self.old }
         ensures failures { self.new.failures ≡ self.old.failures }
+        ensures blames { IfSome result (λ flushed. Blames (K.halts self.old.sink)
+            (K.halts self.new.sink) (S.failures self.old.backlog.spool)
+            (S.failures self.new.backlog.spool) flushed) }
+        ensures halts { result ≡ None → K.halts self.new.sink ≡ K.halts self.old.sink }
+        ensures spool { result ≡ None
+            → S.failures self.new.backlog.spool ≡ S.failures self.old.backlog.spool }
     {
         if self.backlog.is_empty() {
             return Some(Flushed::All);
@@ -121,6 +130,10 @@ impl<K: Sink, S: Spool> Wire<K, S> {
         ensures err { OnErr result
             (TakesPart (told K.taken S.held self.old) (told K.taken S.held self.new) bytes.now) }
         ensures failures { self.new.failures ≡ self.old.failures }
+        ensures whole { OnOk result (IsUnharmed (K.halts self.old.sink) (K.halts self.new.sink)
+            (S.failures self.old.backlog.spool) (S.failures self.new.backlog.spool)) }
+        ensures blames { OnErr result (HasFailed (K.halts self.old.sink) (K.halts self.new.sink)
+            (S.failures self.old.backlog.spool) (S.failures self.new.backlog.spool)) }
     {
         if bytes.is_empty() {
             return Ok(());
@@ -133,6 +146,10 @@ impl<K: Sink, S: Spool> Wire<K, S> {
     fn make_room(&mut self, bytes: &[u8]) -> Result<(), WriteFailed>
         ensures keeps { Keeps (told K.taken S.held self.old) (told K.taken S.held self.new) }
         ensures failures { self.new.failures ≡ self.old.failures }
+        ensures whole { OnOk result (IsUnharmed (K.halts self.old.sink) (K.halts self.new.sink)
+            (S.failures self.old.backlog.spool) (S.failures self.new.backlog.spool)) }
+        ensures blames { OnErr result (HasFailed (K.halts self.old.sink) (K.halts self.new.sink)
+            (S.failures self.old.backlog.spool) (S.failures self.new.backlog.spool)) }
     {
         if self.backlog.would_spill(bytes) && self.flush() == Flushed::Failed {
             return Err(WriteFailed);
@@ -165,19 +182,34 @@ impl<K: Sink, S: Spool> Wire<K, S> {
     /// Shuts down the half that sends, so that the client sees that nothing more comes.
     pub fn finish(&mut self)
         ensures taken { told K.taken S.held self.new ≡ told K.taken S.held self.old }
+        ensures halts { K.halts self.new.sink ≡ K.halts self.old.sink }
+        ensures backlog { self.new.backlog ≡ self.old.backlog }
     {
         self.sink.finish();
     }
 }
 
 impl<K: Sink, S: Spool> Outlet for Wire<K, S> {
-    ghost use Rattle.dep_outbox.specs.Wires.{told};
+    ghost use Rattle.dep_types.specs.Writing.{HasRisen};
+    ghost use Rattle.dep_outbox.specs.Wires.{told, HasFailed, IsUnharmed};
 
     ghost taken = { λ w. told K.taken S.held w };
 
     ghost failures = { λ w. w.failures };
 
-    fn write(&mut self, bytes: &[u8]) -> Result<(), WriteFailed> {
+    // A write fails only where the socket or the spool did.
+    fn write(&mut self, bytes: &[u8]) -> Result<(), WriteFailed>
+        ensures ok { OnOk result
+            (Appends (told K.taken S.held self.old) (told K.taken S.held self.new) bytes.now) }
+        ensures err { OnErr result
+            (TakesPart (told K.taken S.held self.old) (told K.taken S.held self.new) bytes.now) }
+        ensures count { OnOk result (self.new.failures ≡ self.old.failures) }
+        ensures cause { OnErr result (HasRisen self.old.failures self.new.failures) }
+        ensures whole { OnOk result (IsUnharmed (K.halts self.old.sink) (K.halts self.new.sink)
+            (S.failures self.old.backlog.spool) (S.failures self.new.backlog.spool)) }
+        ensures blames { OnErr result (HasFailed (K.halts self.old.sink) (K.halts self.new.sink)
+            (S.failures self.old.backlog.spool) (S.failures self.new.backlog.spool)) }
+    {
         let taken = self.take(bytes);
         match taken {
             Ok(()) => self.written = self.written.saturating_add(bytes.len() as u64),

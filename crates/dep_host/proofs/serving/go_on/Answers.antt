@@ -12,6 +12,7 @@ returns-then-is_open-clause-asks g c = record {
   asks = c.is_open.ensures.asks;
   works = c.work_ahead-is_left.ensures.goes;
   stays = c.work_ahead-is_left.ensures.stays;
+  seats = c.work_ahead-is_left.ensures.seats ∙ c.is_open.ensures.seats;
   ahead = λ none. subst (λ (b : Bool). Runs (WorkedAhead b) (g.A.Archive.account c.is_open.new.self.hub.store) (g.A.Archive.account c.work_ahead-is_left.new.self.hub.store)) (sym c.work_ahead-is_left.ensures.left) c.work_ahead-is_left.ensures.asked;
 }
 
@@ -37,5 +38,6 @@ returns-clause-asks g c = record {
   asks = c.is_open.ensures.asks;
   works = stands_still g.A.Archive.condition g.R.Source.unread g.K.Sink.taken g.S.Spool.held _;
   stays = stays_same _;
+  seats = c.is_open.ensures.seats;
   ahead = λ none. absurd (not_told (c.is_open.new.self).shut (c.is_open.ensures.shut c.if-is_open.false) none);
 }

@@ -1,4 +1,5 @@
 use Rattle.std.proofs.Common.{◌≡◌, ℕ, Option, true, false, is_some, refl, sym, ap, subst, ◌∙◌, arith}
+use Rattle.dep_host.specs.Causes.{causes_of}
 use Rattle.dep_host.specs.declared.ending.Shut.{Shut}
 use Rattle.dep_host.specs.declared.limits.Limits.{Limits}
 use Rattle.dep_host.specs.Hosting.{GoesRound, HasTime, IsWaiting, Position, position, slot}
@@ -9,7 +10,7 @@ use Rattle.dep_host.proofs.host.Host.round.Goals as goal
 
 pub loop-at-init : goal.loop-at-init
 loop-at-init g c = record {
-  goes = round_begins g.A.Archive.condition g.R.Source.unread g.K.Sink.taken g.S.Spool.held g.S.Spool.size _ _ _ _;
+  goes = round_begins g.A.Archive.condition g.R.Source.unread g.K.Sink.taken g.S.Spool.held g.S.Spool.size (causes_of g.R.Source.halts g.K.Sink.halts g.S.Spool.failures) _ _ _ _;
   left = λ place h. absurd (let none : ⊥ = omega (arith, h) in none);
   waits = λ idle place h. absurd (let none : ⊥ = omega (arith, h) in none);
   stays = stays_same _;
@@ -17,7 +18,7 @@ loop-at-init g c = record {
 
 pub loop-at-preserved : goal.loop-at-preserved
 loop-at-preserved g c = record {
-  goes = round_goes_on g.A.Archive.condition g.R.Source.unread g.K.Sink.taken g.S.Spool.held g.S.Spool.size _ _ _ _ _ _ _ _ _ _ c.loop-at.invariant.goes c.serve_at.ensures.goes c.serve_at.ensures.others refl c.loop-at.invariant.stays.shut;
+  goes = round_goes_on g.A.Archive.condition g.R.Source.unread g.K.Sink.taken g.S.Spool.held g.S.Spool.size (causes_of g.R.Source.halts g.K.Sink.halts g.S.Spool.failures) _ _ _ _ _ _ _ _ _ _ c.loop-at.invariant.goes c.serve_at.ensures.goes c.serve_at.ensures.others refl c.loop-at.invariant.stays.shut;
   left = each_goes_on (HasTime c.args.time.now.second c.args.self.now.limits) _ _ _ _ c.loop-at.invariant.left
       (subst (λ (n : Limits). HasTime c.args.time.now.second n (slot c.loop-at.at c.serve_at.new.self.seats.items)) (c.serve_at.ensures.stays.limits ∙ c.loop-at.invariant.stays.limits) c.serve_at.ensures.here)
       c.serve_at.ensures.others refl;
@@ -33,8 +34,8 @@ pub serve_at-requires-clause-shut : goal.serve_at-requires-clause-shut
 serve_at-requires-clause-shut g c = c.is_some.ensures ∙ ap (λ (o : Option Shut). is_some o) (sym c.loop-at.invariant.stays.shut)
 
 pub returns-clause-goes : goal.returns-clause-goes
-returns-clause-goes g c = subst (λ (q : Position _ _ _ _). GoesRound g.A.Archive.condition g.R.Source.unread g.K.Sink.taken g.S.Spool.held g.S.Spool.size (position c.args.self.now) q c.args.time.now (g.L.HostLog.notes c.args.log.now) (g.L.HostLog.notes c.shed.new.log)) (sym c.draw_in.ensures.0)
-    (round_ends g.A.Archive.condition g.R.Source.unread g.K.Sink.taken g.S.Spool.held g.S.Spool.size _ _ _ _ _ _ _ _ _ c.loop-at.invariant.goes c.is_full.ensures (λ place h. c.args.self.now.free place (omega (arith, h))) c.shed.ensures.goes)
+returns-clause-goes g c = subst (λ (q : Position _ _ _ _). GoesRound g.A.Archive.condition g.R.Source.unread g.K.Sink.taken g.S.Spool.held g.S.Spool.size (causes_of g.R.Source.halts g.K.Sink.halts g.S.Spool.failures) (position c.args.self.now) q c.args.time.now (g.L.HostLog.notes c.args.log.now) (g.L.HostLog.notes c.shed.new.log)) (sym c.draw_in.ensures.0)
+    (round_ends g.A.Archive.condition g.R.Source.unread g.K.Sink.taken g.S.Spool.held g.S.Spool.size (causes_of g.R.Source.halts g.K.Sink.halts g.S.Spool.failures) _ _ _ _ _ _ c.shed.ensures.goes.0 _ _ _ c.loop-at.invariant.goes c.is_full.ensures (λ place h. c.args.self.now.free place (omega (arith, h))) c.shed.ensures.goes.1)
 
 pub returns-clause-left : goal.returns-clause-left
 returns-clause-left g c = subst (λ (q : Position _ _ _ _). (at : ℕ) → HasTime c.args.time.now.second q.limits (slot at q.seats)) (sym c.draw_in.ensures.0)

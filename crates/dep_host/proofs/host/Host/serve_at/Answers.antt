@@ -1,5 +1,6 @@
 use Rattle.std.proofs.Common.{Option, None, Some, refl, sym, subst, ◌∙◌, arith}
 use Rattle.std.proofs.Math.ListN.{length-set}
+use Rattle.dep_host.specs.Causes.{causes_of}
 use Rattle.dep_host.specs.declared.seat.Seat.{Seat}
 use Rattle.dep_host.specs.Hosting.{HasTime, IsWaiting}
 use Rattle.std.proofs.lemmas.List.{get_or-set_same, get_or-set_other}
@@ -9,12 +10,12 @@ use Rattle.dep_host.proofs.host.Host.serve_at.Goals as goal
 
 pub returns-in_default-clause-goes : goal.returns-in_default-clause-goes
 returns-in_default-clause-goes g c =
-    served_none g.A.Archive.condition g.R.Source.unread g.K.Sink.taken g.S.Spool.held g.S.Spool.size _ _ c.args.at c.args.turn.now.time c.args.turn.now.is_full _ _ c.index_mut.result.now refl refl refl refl refl c.requires.there c.index_mut.ensures.value c.in_default.is
+    served_none g.A.Archive.condition g.R.Source.unread g.K.Sink.taken g.S.Spool.held g.S.Spool.size (causes_of g.R.Source.halts g.K.Sink.halts g.S.Spool.failures) _ _ c.args.at c.args.turn.now.time c.args.turn.now.is_full _ _ c.index_mut.result.now refl refl refl refl refl c.requires.there c.index_mut.ensures.value c.in_default.is
 
 pub returns-clause-goes : goal.returns-clause-goes
 returns-clause-goes g c =
     let begins = c.begin_turn.ensures in
-    served g.A.Archive.condition g.R.Source.unread g.K.Sink.taken g.S.Spool.held g.S.Spool.size _ _ c.args.at c.args.turn.now.time c.args.turn.now.is_full c.args.turn.now.is_shut _ _ c.in-Some.seat c.begin_turn.new.self c.take_turn.new.self
+    served g.A.Archive.condition g.R.Source.unread g.K.Sink.taken g.S.Spool.held g.S.Spool.size (causes_of g.R.Source.halts g.K.Sink.halts g.S.Spool.failures) _ _ c.args.at c.args.turn.now.time c.args.turn.now.is_full c.args.turn.now.is_shut _ _ c.in-Some.seat c.begin_turn.new.self c.take_turn.new.self
     c.take_turn.ensures.noted c.requires.there (slot_read _ _ _ c.requires.there c.index_mut.ensures.value ∙ c.in-Some.is) refl refl refl begins.same begins.opens begins.ended begins.unfinished begins.phase begins.readable begins.writable c.requires.shut c.take_turn.ensures.turn
 
 pub returns-clause-here : goal.returns-clause-here
@@ -37,9 +38,9 @@ close-requires-clause-done g c =
 pub returns-in-Some-closing-clause-goes : goal.returns-in-Some-closing-clause-goes
 returns-in-Some-closing-clause-goes g c =
     let begins = c.begin_turn.ensures in
-    closes_served g.A.Archive.condition g.R.Source.unread g.K.Sink.taken g.S.Spool.held g.S.Spool.size _ _ _ c.args.at c.args.turn.now.time c.args.turn.now.is_full _ _ _ c.in-Some-closing.closing _ c.close.ensures.goes.goes
+    closes_served g.A.Archive.condition g.R.Source.unread g.K.Sink.taken g.S.Spool.held g.S.Spool.size (causes_of g.R.Source.halts g.K.Sink.halts g.S.Spool.failures) _ _ _ c.args.at c.args.turn.now.time c.args.turn.now.is_full _ _ _ c.in-Some-closing.closing _ c.close.ensures.goes.goes
     (closes_there _ c.args.at c.args.turn.now.time.second c.take_turn.new.self c.closing-closing.result c.in-Some-closing.closing (get_or-set_same _ c.args.at _ None c.requires.there) c.closing-closing.ensures c.in-Some-closing.is)
-    (served g.A.Archive.condition g.R.Source.unread g.K.Sink.taken g.S.Spool.held g.S.Spool.size _ _ c.args.at c.args.turn.now.time c.args.turn.now.is_full c.args.turn.now.is_shut _ _ c.in-Some.seat c.begin_turn.new.self c.take_turn.new.self
+    (served g.A.Archive.condition g.R.Source.unread g.K.Sink.taken g.S.Spool.held g.S.Spool.size (causes_of g.R.Source.halts g.K.Sink.halts g.S.Spool.failures) _ _ c.args.at c.args.turn.now.time c.args.turn.now.is_full c.args.turn.now.is_shut _ _ c.in-Some.seat c.begin_turn.new.self c.take_turn.new.self
     c.take_turn.ensures.noted c.requires.there (slot_read _ _ _ c.requires.there c.index_mut.ensures.value ∙ c.in-Some.is) refl refl refl begins.same begins.opens begins.ended begins.unfinished begins.phase begins.readable begins.writable c.requires.shut c.take_turn.ensures.turn)
     c.close.ensures.noted
 

@@ -3,4 +3,4 @@ use Rattle.std.proofs.KnownBytes.{Keeps-refl}
 use Rattle.dep_outbox.proofs.wire.Wire.flush.Goals as goal
 
 pub loop-sends-init : goal.loop-sends-init
-loop-sends-init g c = record { keeps = Keeps-refl _; failures = refl; delivers = omega arith; no_less = omega arith; no_more = omega arith }
+loop-sends-init g c = record { keeps = Keeps-refl _; failures = refl; delivers = omega arith; no_less = omega arith; halts = refl; spool = refl; no_more = omega arith }

@@ -12,5 +12,7 @@ invariant-loop-sends g l = record {
       + (owed_count g.S.Spool.size l.fn.self - owed_count g.S.Spool.size l.self)) (2 ^ 64 - 1) ≤ l.self.delivered;
   no_less : l.self.delivered + owed_count g.S.Spool.size l.self
       ≤ l.fn.self.delivered + owed_count g.S.Spool.size l.fn.self;
+  halts : g.K.Sink.halts l.self.sink ≡ g.K.Sink.halts l.fn.self.sink;
+  spool : g.S.Spool.failures l.self.backlog.spool ≡ g.S.Spool.failures l.fn.self.backlog.spool;
   no_more : owed_count g.S.Spool.size l.self + l.sends ≤ owed_count g.S.Spool.size l.fn.self;
 }
