@@ -1,5 +1,5 @@
 -- How the machine answers the turns of a connection, as the hub answered them.
-use Rattle.std.proofs.Common.{Vec, Global, inl, inr, ◌≡◌, ℕ, List, [], ◌∷◌, ◌++◌, map, refl, sym, ap, subst, ◌∙◌, append_assoc}
+use Rattle.std.proofs.Common.{Bool, Vec, Global, inl, inr, ◌≡◌, ℕ, List, [], ◌∷◌, ◌++◌, map, refl, sym, ap, subst, ◌∙◌, append_assoc}
 use Rattle.std.proofs.lemmas.List.{append-nil}
 use Rattle.std.proofs.lemmas.Bool.{both_ways, cases_Bool}
 use Rattle.dep_types.specs.State.{State}
@@ -112,8 +112,8 @@ exchanged_along {n} {first} {w} {turns} given config same e found l =
 
 module _ {A : Type 0} (condition : A → Condition) where
   -- the hub keeps the lines that it kept, where its store worked ahead
-  keeps_ahead : (old new : Hub A) (lines : ℕ → Line) → WorksAhead condition old new → KeepsLines condition old lines → KeepsLines condition new lines
-  keeps_ahead old new lines a kept number =
+  keeps_ahead : (may_commit : A → Bool) (old new : Hub A) (lines : ℕ → Line) → WorksAhead condition may_commit old new → KeepsLines condition old lines → KeepsLines condition new lines
+  keeps_ahead may_commit old new lines a kept number =
       subst (λ (x : Config). IsKeptAs x.max_upload (lines number) (intake_of new.connections.items number)) (sym a.same_config)
       (subst (λ (cs : Vec Connection Global). IsKeptAs old.config.max_upload (lines number) (intake_of cs.items number)) (sym a.same_connections) (kept number))
 
@@ -165,10 +165,10 @@ module _ {A : Type 0} (condition : A → Condition) where
       }
 
   -- what the hub answered is what the machine answers
-  pub talks_exchange : (shown : Outflow → Type 0) (n : ℕ) (old new : Hub A) (first last : Outflow) (turns : List Turn) → Settles (store_of condition old)
-      → Talks condition shown n old first turns new last
+  pub talks_exchange : (may_commit : A → Bool) (shown : Outflow → Type 0) (n : ℕ) (old new : Hub A) (first last : Outflow) (turns : List Turn) → Settles (store_of condition old)
+      → Talks condition may_commit shown n old first turns new last
       → IsHonest condition new → (w : World) → StandsAt condition old w → Exchanged old.config n new turns w
-  talks_exchange shown n old new first last turns settles silent honest w at = record {
+  talks_exchange may_commit shown n old new first last turns settles silent honest w at = record {
     talked = w;
     exchanges = none_yet;
     kept = λ _. at.kept;
@@ -177,14 +177,14 @@ module _ {A : Type 0} (condition : A → Condition) where
     rests = λ _. stays_as (store_of condition old) w.state settles at.state;
     stop = stays_as (store_of condition old) w.state settles at.state;
   }
-  talks_exchange shown n old new first last turns settles (turn {mid = mid} {before = between} {turns = before} t talks stays out same a sends flushed shows) honest w at =
-      let h = talks_exchange shown n old mid first between before settles talks (a.honest honest) w at in
+  talks_exchange may_commit shown n old new first last turns settles (turn {mid = mid} {before = between} {turns = before} t talks stays out same a sends flushed shows) honest w at =
+      let h = talks_exchange may_commit shown n old mid first between before settles talks (a.honest honest) w at in
       elim (cases_Bool (store_of condition mid).is_open) [
         | inl is_open ↦ exchange_open old.config n mid new between.failures last.failures before t w stays same a honest is_open h
         | inr shut ↦ exchange_shut old.config n mid new between.failures last.failures before t w stays same a honest (both_ways (store_of condition mid).is_open shut) h
       ]
-  talks_exchange shown n old new first last turns settles (ahead {mid = mid} talks stays out a) honest w at =
-      let h = talks_exchange shown n old mid first last turns settles talks (a.store.honest honest) w at in
+  talks_exchange may_commit shown n old new first last turns settles (ahead {mid = mid} talks stays out a) honest w at =
+      let h = talks_exchange may_commit shown n old mid first last turns settles talks (a.store.honest honest) w at in
       let left : Leaves (store_of condition new) (λ found. found ≡ h.talked.state) = elim (cases_Bool (store_of condition mid).is_open) [
         | inl is_open ↦ a.store.stop honest h.talked.state (h.at is_open).state
         | inr shut ↦ leaves_before (store_of condition mid) (store_of condition new) _ (a.store.left honest (both_ways (store_of condition mid).is_open shut)) (h.stays stays)
@@ -192,20 +192,20 @@ module _ {A : Type 0} (condition : A → Condition) where
       record {
         talked = h.talked;
         exchanges = h.exchanges;
-        kept = λ e. keeps_ahead mid new h.talked.line a (h.kept e);
+        kept = λ e. keeps_ahead may_commit mid new h.talked.line a (h.kept e);
         stays = λ e. left;
         at = λ clean.
             let stood = h.at (a.store.was_open clean) in
-            record { state = a.store.kept clean h.talked.state stood.state; kept = keeps_ahead mid new h.talked.line a stood.kept };
+            record { state = a.store.kept clean h.talked.state stood.state; kept = keeps_ahead may_commit mid new h.talked.line a stood.kept };
         rests = λ clean. left;
         stop = leaves_wider (store_of condition new) _ _ (λ found e. subst (LeftByExchanges h.exchanges) (sym e) (end_left h.exchanges)) left;
       }
 
   -- what a stop now leaves goes on from the turns
-  pub talks_stop : (shown : Outflow → Type 0) (n : ℕ) (old new : Hub A) (out last : Outflow) (turns : List Turn) → Settles (store_of condition old)
-      → Talks condition shown n old out turns new last
+  pub talks_stop : (may_commit : A → Bool) (shown : Outflow → Type 0) (n : ℕ) (old new : Hub A) (out last : Outflow) (turns : List Turn) → Settles (store_of condition old)
+      → Talks condition may_commit shown n old out turns new last
       → IsHonest condition new → (first : State) (records : List Record) (w : World) → Run old.config first records w → StandsAt condition old w
       → Leaves (store_of condition new) (λ found. Run old.config first ((records ++ map (record_of n) turns) ++ stopped ∷ []) (first_world found))
-  talks_stop shown n old new out last turns settles talks honest first records w run at =
-      let h = talks_exchange shown n old new out last turns settles talks honest w at in
+  talks_stop may_commit shown n old new out last turns settles talks honest first records w run at =
+      let h = talks_exchange may_commit shown n old new out last turns settles talks honest w at in
       leaves_wider (store_of condition new) _ _ (λ found l. exchanges_stop old.config n first records w h.talked turns run h.exchanges found l) h.stop

@@ -107,9 +107,9 @@ few_made unread has_failed turns WriteFault ends = ends.1
 few_made unread has_failed turns Bound ends = omega (arith, ends.2)
 few_made unread has_failed turns Unserved ends = absurd ends
 
-module _ {A : Type 0} (condition : A → Condition) (shown : Outflow → Type 0) where
+module _ {A : Type 0} (condition : A → Condition) (may_commit : A → Bool) (shown : Outflow → Type 0) where
   -- no turn yet
-  pub talk_none : {C : Type 0} (ticks : C → ℕ → C → Type 0) (n : ℕ) (at : Session A C) → Talk condition shown ticks n at at 0 StaysOpen
+  pub talk_none : {C : Type 0} (ticks : C → ℕ → C → Type 0) (n : ℕ) (at : Session A C) → Talk condition may_commit shown ticks n at at 0 StaysOpen
   talk_none ticks n at = record {
     turns = [];
     counted = refl;
@@ -123,9 +123,9 @@ module _ {A : Type 0} (condition : A → Condition) (shown : Outflow → Type 0)
 
   -- one turn more
   pub talk_more : {C : Type 0} (ticks : C → ℕ → C → Type 0) (n : ℕ) (old mid new : Session A C) (answer : Arrived) (k : ℕ)
-      → Talk condition shown ticks n old mid k StaysOpen → (k ≡ 0) ⊎ (mid.wire.out.has_failed ≡ false)
-      → OneTurn condition shown ticks n mid new answer
-      → Talk condition shown ticks n old new (k + 1) answer
+      → Talk condition may_commit shown ticks n old mid k StaysOpen → (k ≡ 0) ⊎ (mid.wire.out.has_failed ≡ false)
+      → OneTurn condition may_commit shown ticks n mid new answer
+      → Talk condition may_commit shown ticks n old new (k + 1) answer
   talk_more ticks n old mid new answer k t out o =
       let u : Turn = record { piece = o.piece; moment = o.moment; sent = o.sent; answer = answer } in
       record {
@@ -143,9 +143,9 @@ module _ {A : Type 0} (condition : A → Condition) (shown : Outflow → Type 0)
 
   -- one turn more that leaves the connection open, and then the store works ahead
   pub talk_open : {C : Type 0} (ticks : C → ℕ → C → Type 0) (n : ℕ) (old mid new : Session A C) (k : ℕ)
-      → Talk condition shown ticks n old mid k StaysOpen → (k ≡ 0) ⊎ (mid.wire.out.has_failed ≡ false)
-      → OpenTurn condition shown ticks n mid new
-      → Talk condition shown ticks n old new (k + 1) StaysOpen
+      → Talk condition may_commit shown ticks n old mid k StaysOpen → (k ≡ 0) ⊎ (mid.wire.out.has_failed ≡ false)
+      → OpenTurn condition may_commit shown ticks n mid new
+      → Talk condition may_commit shown ticks n old new (k + 1) StaysOpen
   talk_open ticks n old mid new k t out o =
       let u = talk_more ticks n old mid (session o.served new.wire new.clock) StaysOpen k t out o.turn in
       record {
@@ -161,18 +161,18 @@ module _ {A : Type 0} (condition : A → Condition) (shown : Outflow → Type 0)
 
   -- a turn of the same connection
   pub turn_at : {C : Type 0} (ticks : C → ℕ → C → Type 0) (n m : ℕ) (old new : Session A C) (served : Option Served) → n ≡ m
-      → TurnsTo condition shown ticks n old new served → TurnsTo condition shown ticks m old new served
-  turn_at ticks n m old new served same t = subst (λ (k : ℕ). TurnsTo condition shown ticks k old new served) same t
+      → TurnsTo condition may_commit shown ticks n old new served → TurnsTo condition may_commit shown ticks m old new served
+  turn_at ticks n m old new served same t = subst (λ (k : ℕ). TurnsTo condition may_commit shown ticks k old new served) same t
 
   -- nothing more was read
   pub talk_same : {C : Type 0} (ticks : C → ℕ → C → Type 0) (n : ℕ) (old mid new : Session A C) (k : ℕ)
-      → Talk condition shown ticks n old mid k StaysOpen → NoTurn condition mid new → Talk condition shown ticks n old new k StaysOpen
+      → Talk condition may_commit shown ticks n old mid k StaysOpen → NoTurn condition mid new → Talk condition may_commit shown ticks n old new k StaysOpen
   talk_same ticks n old mid new k t o = record {
     turns = t.turns;
     counted = t.counted;
     sizes = t.sizes;
-    talks = subst (λ h. Talks condition shown n old.hub old.wire.out t.turns h new.wire.out) (sym o.same_hub)
-        (subst (λ out. Talks condition shown n old.hub old.wire.out t.turns mid.hub out) (sym o.nothing.out) t.talks);
+    talks = subst (λ h. Talks condition may_commit shown n old.hub old.wire.out t.turns h new.wire.out) (sym o.same_hub)
+        (subst (λ out. Talks condition may_commit shown n old.hub old.wire.out t.turns mid.hub out) (sym o.nothing.out) t.talks);
     transfers = subst (λ l. Transfers old.wire new.wire l (replies_of t.turns)) (append-nil (pieces_of t.turns))
         (subst (λ l. Transfers old.wire new.wire (pieces_of t.turns ++ []) l) (append-nil (replies_of t.turns))
         (transfers_both old.wire mid.wire new.wire (pieces_of t.turns) [] (replies_of t.turns) [] t.transfers (rests_transfers mid.wire new.wire o.nothing)));
@@ -189,8 +189,8 @@ module _ {A : Type 0} (condition : A → Condition) (shown : Outflow → Type 0)
   -- a turn that was the last
   pub talk_last : {C : Type 0} (ticks : C → ℕ → C → Type 0) (n : ℕ) (old mid new : Session A C) (served : Served) (k : ℕ)
       → k < most_reads → mid.wire.reads ≡ reads_after old.wire.reads k
-      → Talk condition shown ticks n old mid k StaysOpen → (k ≡ 0) ⊎ (mid.wire.out.has_failed ≡ false)
-      → TurnsTo condition shown ticks n mid new (Some served) → TalksUntil condition shown ticks n old new served
+      → Talk condition may_commit shown ticks n old mid k StaysOpen → (k ≡ 0) ⊎ (mid.wire.out.has_failed ≡ false)
+      → TurnsTo condition may_commit shown ticks n mid new (Some served) → TalksUntil condition may_commit shown ticks n old new served
   talk_last ticks n old mid new Closed k b count t out o =
       let u = talk_more ticks n old mid new HasClosed k t out o.0 in
       record { count = k + 1; answer = HasClosed; talk = u; ends = (u.answered, gone_out u.turns (k + 1) new.wire.out.has_failed u.counted (inr o.1), (omega (arith, b, u.counted))); reads = one_read old.wire.reads mid.wire.reads new.wire.reads k (length u.turns) u.counted count o.0.reads; last = o.0.last }
@@ -213,7 +213,7 @@ module _ {A : Type 0} (condition : A → Condition) (shown : Outflow → Type 0)
   -- as many turns as there may be
   pub talk_bound : {C : Type 0} (ticks : C → ℕ → C → Type 0) (n : ℕ) (old new : Session A C) (k : ℕ)
       → k ≡ most_reads → new.wire.reads ≡ reads_after old.wire.reads k → (k ≡ 0) ⊎ (new.wire.last ≡ Bytes)
-      → Talk condition shown ticks n old new k StaysOpen → (k ≡ 0) ⊎ (new.wire.out.has_failed ≡ false) → TalksUntil condition shown ticks n old new Bound
+      → Talk condition may_commit shown ticks n old new k StaysOpen → (k ≡ 0) ⊎ (new.wire.out.has_failed ≡ false) → TalksUntil condition may_commit shown ticks n old new Bound
   talk_bound ticks n old new k e count last t out = record {
     count = k;
     answer = StaysOpen;
@@ -225,7 +225,7 @@ module _ {A : Type 0} (condition : A → Condition) (shown : Outflow → Type 0)
 
   -- whoever was served took one number
   pub next_served : {C : Type 0} (ticks : C → ℕ → C → Type 0) (n : ℕ) (old new : Session A C) (end : Served)
-      → TalksUntil condition shown ticks n old new end → (next : ℕ) → next_after next end ≡ next + 1
+      → TalksUntil condition may_commit shown ticks n old new end → (next : ℕ) → next_after next end ≡ next + 1
   next_served ticks n old new Ended t next = refl
   next_served ticks n old new Closed t next = refl
   next_served ticks n old new ReadFault t next = refl
@@ -337,9 +337,9 @@ closed_is : {config : Config} {w : World} {n : ℕ} {v : World} {sent : List ℕ
 closed_is closes = refl
 
 module _ {A : Type 0} (condition : A → Condition) where
-  module _ (shown : Outflow → Type 0) (n : ℕ) (old opened talked new : Hub A) (out out_after : Outflow) (turns : List Turn)
+  module _ (may_commit : A → Bool) (shown : Outflow → Type 0) (n : ℕ) (old opened talked new : Hub A) (out out_after : Outflow) (turns : List Turn)
       (opens : Moves condition old opened (Connect n) []) (closes : Moves condition talked new (Close n) []) (settles : Settles (store_of condition opened))
-      (same_opened : opened.config ≡ old.config) (same_new : new.config ≡ old.config) (same_store : new.store ≡ talked.store) (talks : Talks condition shown n opened out turns talked out_after) where
+      (same_opened : opened.config ≡ old.config) (same_new : new.config ≡ old.config) (same_store : new.store ≡ talked.store) (talks : Talks condition may_commit shown n opened out turns talked out_after) where
     to_talked : (P : Condition → Type 0) → P (store_of condition new) → P (store_of condition talked)
     to_talked P h = subst (λ (x : A). P (condition x)) same_store h
 
@@ -349,7 +349,7 @@ module _ {A : Type 0} (condition : A → Condition) where
     answered : IsHonest condition new → (w : World) → StandsAt condition old w → IsAnswered condition old new n turns w
     answered honest w at =
         let o = opens w at in
-        let t = talks_exchange condition shown n opened talked out out_after turns settles talks (to_talked HasCleanDisk honest) (with_opened n w) (subst (λ v. StandsAt condition opened v) (opened_is o.1) o.2) in
+        let t = talks_exchange condition may_commit shown n opened talked out out_after turns settles talks (to_talked HasCleanDisk honest) (with_opened n w) (subst (λ v. StandsAt condition opened v) (opened_is o.1) o.2) in
         record {
           talked = t.talked;
           exchanges = subst (λ (x : Config). Exchanges x n (with_opened n w) turns t.talked) same_opened t.exchanges;
@@ -380,15 +380,15 @@ module _ {A : Type 0} (condition : A → Condition) where
         (leaves_wider (store_of condition talked) _ _
         (λ found r. subst (λ rs. Run old.config first (rs ++ stopped ∷ []) (first_world found)) (append_assoc records (c ∷ []) (map (record_of n) turns))
         (subst (λ (x : Config). Run x first (((records ++ c ∷ []) ++ map (record_of n) turns) ++ stopped ∷ []) (first_world found)) same_opened r))
-        (talks_stop condition shown n opened talked out out_after turns settles talks (to_talked HasCleanDisk honest) first (records ++ c ∷ []) o.0 from o.2))
+        (talks_stop condition may_commit shown n opened talked out out_after turns settles talks (to_talked HasCleanDisk honest) first (records ++ c ∷ []) o.0 from o.2))
 
-  module _ (shown : Outflow → Type 0) {C : Type 0} (ticks : C → ℕ → C → Type 0) (n : ℕ) (old : Session A C) (opened talked new : Hub A) (wire : Wire) (now : C)
+  module _ (may_commit : A → Bool) (shown : Outflow → Type 0) {C : Type 0} (ticks : C → ℕ → C → Type 0) (n : ℕ) (old : Session A C) (opened talked new : Hub A) (wire : Wire) (now : C)
       (is_next : n ≡ old.hub.next) (fresh : intake_of old.hub.connections.items n ≡ None)
       (opens : Moves condition old.hub opened (Connect n) []) (closes : Moves condition talked new (Close n) []) (settles : Settles (store_of condition opened)) (law : IsClean condition new → IsHonest condition new)
       (same_opened : opened.config ≡ old.hub.config) (same_new : new.config ≡ old.hub.config) (same_store : new.store ≡ talked.store) (same_first : opened.store ≡ old.hub.store)
       (gone : intake_of new.connections.items n ≡ None) where
-    converses : (end : Served) → TalksUntil condition shown ticks n (session opened old.wire old.clock) (session talked wire now) end
-        → Converses condition shown ticks old (session new wire now) end
+    converses : (end : Served) → TalksUntil condition may_commit shown ticks n (session opened old.wire old.clock) (session talked wire now) end
+        → Converses condition may_commit shown ticks old (session new wire now) end
     converses end u =
         let t = u.talk in
         record {
@@ -402,9 +402,9 @@ module _ {A : Type 0} (condition : A → Condition) where
           talks = t.talks;
           closes = closes;
           gone = gone;
-          answers = answered shown n old.hub opened talked new old.wire.out wire.out t.turns opens closes settles same_opened same_new same_store t.talks;
-          adds = all_added shown n old.hub opened talked new old.wire.out wire.out t.turns opens closes settles same_opened same_new same_store t.talks law;
-          stops = all_stops shown n old.hub opened talked new old.wire.out wire.out t.turns opens closes settles same_opened same_new same_store t.talks;
+          answers = answered may_commit shown n old.hub opened talked new old.wire.out wire.out t.turns opens closes settles same_opened same_new same_store t.talks;
+          adds = all_added may_commit shown n old.hub opened talked new old.wire.out wire.out t.turns opens closes settles same_opened same_new same_store t.talks law;
+          stops = all_stops may_commit shown n old.hub opened talked new old.wire.out wire.out t.turns opens closes settles same_opened same_new same_store t.talks;
           transfers = t.transfers;
           moments = t.moments;
           ends = u.ends;
@@ -412,11 +412,11 @@ module _ {A : Type 0} (condition : A → Condition) where
           reads = u.reads;
           few_reads = few_more old.wire.reads wire.reads (reads_made t.turns end) u.reads (few_made wire.unread wire.out.has_failed t.turns end u.ends);
           last = u.last;
-          shut = conversation_shut condition shown n old.hub opened talked new old.wire.out wire.out t.turns same_first same_store t.talks;
+          shut = conversation_shut condition may_commit shown n old.hub opened talked new old.wire.out wire.out t.turns same_first same_store t.talks;
         }
 
-    pub serves_whole : (served : Served) → TalksUntil condition shown ticks n (session opened old.wire old.clock) (session talked wire now) served
-        → ConversesOver condition shown ticks old (session new wire now) served
+    pub serves_whole : (served : Served) → TalksUntil condition may_commit shown ticks n (session opened old.wire old.clock) (session talked wire now) served
+        → ConversesOver condition may_commit shown ticks old (session new wire now) served
     serves_whole Closed t = converses Closed t
     serves_whole WriteFault t = converses WriteFault t
     serves_whole Ended t = converses Ended t
@@ -440,13 +440,13 @@ module _ {A : Type 0} (condition : A → Condition) where
 
   -- ---- over an outlet of which less is said
 
-  module _ (shown wider : Outflow → Type 0) (shows : (out : Outflow) → shown out → wider out) where
-    talks_wider : {n : ℕ} {old new : Hub A} {first last : Outflow} {turns : List Turn} → Talks condition shown n old first turns new last → Talks condition wider n old first turns new last
+  module _ (may_commit : A → Bool) (shown wider : Outflow → Type 0) (shows : (out : Outflow) → shown out → wider out) where
+    talks_wider : {n : ℕ} {old new : Hub A} {first last : Outflow} {turns : List Turn} → Talks condition may_commit shown n old first turns new last → Talks condition may_commit wider n old first turns new last
     talks_wider silent = silent
     talks_wider (turn {after = after} t talks stays out same a sends flushed its) = turn t (talks_wider talks) stays out same a sends flushed (shows after its)
     talks_wider (ahead talks stays out a) = ahead (talks_wider talks) stays out a
 
-    converses_as : {C : Type 0} (ticks : C → ℕ → C → Type 0) (before after : Session A C) (end : Served) → Converses condition shown ticks before after end → Converses condition wider ticks before after end
+    converses_as : {C : Type 0} (ticks : C → ℕ → C → Type 0) (before after : Session A C) (end : Served) → Converses condition may_commit shown ticks before after end → Converses condition may_commit wider ticks before after end
     converses_as ticks before after end v = record {
       number = v.number;
       turns = v.turns;
@@ -472,7 +472,7 @@ module _ {A : Type 0} (condition : A → Condition) where
     }
 
     pub converses_wider : {C : Type 0} (ticks : C → ℕ → C → Type 0) (before after : Session A C) (end : Served)
-        → ConversesOver condition shown ticks before after end → ConversesOver condition wider ticks before after end
+        → ConversesOver condition may_commit shown ticks before after end → ConversesOver condition may_commit wider ticks before after end
     converses_wider ticks before after Unserved v = v
     converses_wider ticks before after Ended v = converses_as ticks before after Ended v
     converses_wider ticks before after Closed v = converses_as ticks before after Closed v

@@ -1,5 +1,5 @@
 -- One turn of a connection.
-use Rattle.std.proofs.Common.{◌≡◌, ◌≤◌, ◌<◌, ℕ, zero, suc, Ok, List, ◌++◌, length, take, sym, ap, subst, ◌∙◌, arith, Option, Some, None, refl, take_at}
+use Rattle.std.proofs.Common.{Bool, ◌≡◌, ◌≤◌, ◌<◌, ℕ, zero, suc, Ok, List, ◌++◌, length, take, sym, ap, subst, ◌∙◌, arith, Option, Some, None, refl, take_at}
 use Rattle.std.proofs.KnownBytes.{Appends-kept}
 use Rattle.std.specs.Io.KnownBytes.{Consumes, Keeps}
 use Rattle.dep_types.specs.Conditions.{Condition}
@@ -99,7 +99,7 @@ module _ {A : Type 0} (condition : A → Condition) where
   arrived_there held holds failures failed old new number piece moment Cut there a = a
 
   -- a piece was read, it arrived, and the outlet was flushed
-  pub one_turn : (shown : Outflow → Type 0) {C : Type 0} (ticks : C → ℕ → C → Type 0) (number : ℕ) (before after : Session A C) (answer : Arrived)
+  pub one_turn : (may_commit : A → Bool) (shown : Outflow → Type 0) {C : Type 0} (ticks : C → ℕ → C → Type 0) (number : ℕ) (before after : Session A C) (answer : Arrived)
       (n moment : ℕ) (buffer whole : List ℕ) → whole ≡ buffer → length buffer ≡ most_read
       → n ≤ length buffer → n ≡ length (take n buffer) → (n ≡ 0 → ⊥)
       → Consumes before.wire.unread after.wire.unread (take n buffer)
@@ -108,8 +108,8 @@ module _ {A : Type 0} (condition : A → Condition) where
       → IsFlushed after.wire.out.held after.wire.out.has_failed → shown after.wire.out
       → ArrivesOver condition before.wire.out.taken after.wire.out.taken before.wire.out.failures after.wire.out.failures
       before.hub after.hub number (take n whole) moment answer
-      → OneTurn condition shown ticks number before after answer
-  one_turn shown ticks number before after answer n moment buffer whole is_whole room fits long not_none read count last ticked flushed shows arrival =
+      → OneTurn condition may_commit shown ticks number before after answer
+  one_turn may_commit shown ticks number before after answer n moment buffer whole is_whole room fits long not_none read count last ticked flushed shows arrival =
       let came : ArrivesOver condition before.wire.out.taken after.wire.out.taken before.wire.out.failures after.wire.out.failures
       before.hub after.hub number (take n buffer) moment answer = subst (λ (xs : List ℕ). ArrivesOver condition before.wire.out.taken after.wire.out.taken before.wire.out.failures after.wire.out.failures
       before.hub after.hub number (take n xs) moment answer) is_whole arrival in

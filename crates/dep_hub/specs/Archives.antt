@@ -1,13 +1,15 @@
 -- What a call on an archive does, from how the archive stood before it to how it stands behind it.
-use Rattle.std.specs.Prelude.{◌≡◌, ◌≢◌, ◌⊎◌, ℕ, List, Option, IsTrue, Result, Err, OnOk, IfOk, OnErr}
+use Rattle.std.specs.Prelude.{◌≡◌, ◌≢◌, ◌⊎◌, ℕ, Bool, true, false, List, Option, None, IsTrue, Result, Ok, Err, OnOk, IfOk, OnErr}
 use Rattle.std.specs.Io.KnownBytes.{Appends}
 use Rattle.dep_types.specs.State.{State, tick}
 use Rattle.dep_types.specs.Streams.{IsStreamed}
 use Rattle.dep_types.specs.Writing.{HasRisen}
 use Rattle.dep_types.specs.Conditions.{Condition, StandsFor, HasCleanDisk, Leaves}
+use Rattle.dep_types.specs.Methods.{is_safe}
 use Rattle.dep_types.specs.declared.config.Config.{Config}
 use Rattle.dep_types.specs.declared.stream_fault.StreamFault.{StreamFault}
 use Rattle.dep_types.specs.declared.stream_fault.StreamFault.TheVariants.{Writer}
+use Rattle.dep_decisions.specs.declared.operation.Operation.{Operation}
 use Rattle.dep_answers.specs.Steps.{Stepped}
 use Rattle.dep_answers.specs.Performing.{IsReady}
 use Rattle.dep_answers.specs.declared.performed.Performed.{Performed}
@@ -77,6 +79,22 @@ pub record KeepsEachState (old new : Condition) : Type 0 where
   pub was_open : IsTrue new.is_open → IsTrue old.is_open
   pub stop : HasCleanDisk new → (s : State) → StandsFor old s → Leaves new (λ left. left ≡ s)
   pub left : IfShut old new (LeavesNoMore old new)
+
+-- What work ahead commits. Where nothing is due nothing is committed, and nothing falls due. Where it is due,
+-- nothing is committed, or what is kept once more, and then nothing is due.
+abbrev pub CommitsIfDue : (due due_after : Bool) → (old new : Condition) → Type 0
+CommitsIfDue false due_after old new = KeepsAll old new × (due_after ≡ false)
+CommitsIfDue true due_after old new = KeepsAll old new ⊎ (due_after ≡ false)
+
+-- the request was accepted, and is not one that only reads
+abbrev pub IsAcceptedChange : {E : Type 0} → Operation → Result Performed E → Type 0
+IsAcceptedChange op (Ok p) = (is_safe op.target.method ≡ false) × (p.refusal ≡ None)
+IsAcceptedChange op (Err fault) = ⊥
+
+-- it is due only where it was before, or behind an accepted change
+abbrev pub FallsDue : {E : Type 0} → (due due_after : Bool) → Operation → Result Performed E → Type 0
+FallsDue due due_after op result =
+    due_after ≡ true → (due ≡ true) ⊎ IsAcceptedChange op result
 
 -- an outlet took these bytes of the file of this number
 abbrev pub Streams : {A : Type 0} → (old new : Condition) → (taken takes : Option (List ℕ))

@@ -12,7 +12,7 @@ use Rattle.dep_types.specs.declared.outlet.Outlet as outlet
 use Rattle.dep_hub.specs.Records.{World, Connect, Close, Record, stopped, Run, first_world}
 use Rattle.dep_hub.specs.Standing.{StandsAt, StandsAfter, IsClean, IsHonest, Moves, IsArrival, GoesOnAs, intake_of, store_of}
 use Rattle.dep_hub.specs.Turns.{Turn, pieces_of, replies_of, record_of, records_of, most_read, most_reads, reads_made, reads_after, HasLastRead, ArePieces, last_answer, HasGoneOut, with_opened, with_closed, Exchanges, LeftByExchanges, EndsAs}
-use Rattle.dep_hub.specs.Archives.{KeepsEachState}
+use Rattle.dep_hub.specs.Archives.{KeepsEachState, CommitsIfDue}
 use Rattle.dep_hub.specs.Shut.{LeavesNoMore, IfShut, SendsFixed}
 use Rattle.dep_hub.specs.Flushing.{IsFlushed}
 use Rattle.dep_hub.specs.declared.hub.Hub.{Hub}
@@ -133,11 +133,13 @@ module _ {A : Type 0} (condition : A → Condition) where
       (λ found. Run old.config first ((records ++ more) ++ stopped ∷ []) (first_world found))
 
   -- between two calls the store did a part of its later work: the hub stands for what it stood for,
-  -- and a crash leaves just that
-  pub record WorksAhead (old new : Hub A) : Type 0 where
+  -- and a crash leaves just that; only what was due was committed
+  pub record WorksAhead (may_commit : A → Bool) (old new : Hub A) : Type 0 where
     pub same_config : new.config ≡ old.config
     pub same_connections : new.connections ≡ old.connections
     pub store : KeepsEachState (store_of condition old) (store_of condition new)
+    pub commits : CommitsIfDue (may_commit old.store) (may_commit new.store)
+        (store_of condition old) (store_of condition new)
 
   -- nothing was read
   pub record NoTurn {C : Type 0} (before after : Session A C) : Type 0 where
@@ -168,7 +170,7 @@ module _ {A : Type 0} (condition : A → Condition) where
     pub same_clock : after.clock ≡ before.clock
 
 -- over an outlet that stands, behind each turn, in one of these ways
-module _ {A : Type 0} (condition : A → Condition) (shown : Outflow → Type 0) where
+module _ {A : Type 0} (condition : A → Condition) (may_commit : A → Bool) (shown : Outflow → Type 0) where
   -- The turns leave the connection open, one after another, each with the outlet as the one before left
   -- it. Behind each the outlet was flushed; no other follows, nor does the store work ahead, where the
   -- outlet has given up.
@@ -186,7 +188,7 @@ module _ {A : Type 0} (condition : A → Condition) (shown : Outflow → Type 0)
     ahead : {hub mid new : Hub A} {first after : Outflow} {turns : List Turn}
         → Talks number hub first turns mid after
         → last_answer turns ≡ StaysOpen → HasGoneOut turns after.has_failed
-        → WorksAhead condition mid new
+        → WorksAhead condition may_commit mid new
         → Talks number hub first turns new after
 
   -- turns so far: what they add, read, write, and when
@@ -227,7 +229,7 @@ module _ {A : Type 0} (condition : A → Condition) (shown : Outflow → Type 0)
     pub served : Hub A
     pub turn : OneTurn ticks number before (session served after.wire after.clock) StaysOpen
     pub gone_out : after.wire.out.has_failed ≡ false
-    pub ahead : WorksAhead condition served after.hub
+    pub ahead : WorksAhead condition may_commit served after.hub
     pub goes : GoesOnAs condition before.hub after.hub
 
   -- one turn whose reply was cut, or behind which the outlet has given up

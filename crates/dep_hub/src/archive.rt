@@ -1,13 +1,13 @@
 //! An archive, as those who serve it see it.
 
-ghost use Rattle.std.specs.Prelude.{◌≡◌, IsTrue, IfOk, IfErr};
+ghost use Rattle.std.specs.Prelude.{◌≡◌, Bool, IsTrue, IfOk, IfErr};
 ghost use Rattle.dep_types.specs.State.{State};
 ghost use Rattle.dep_fields.specs.Fit.{AreFit};
 ghost use Rattle.dep_answers.specs.Steps.{operation_step};
 ghost use Rattle.dep_types.specs.Conditions.{Condition, StandsFor, HasCleanDisk, Leaves};
 ghost use Rattle.dep_hub.specs.Shut.{TellsOpen};
 ghost use Rattle.dep_hub.specs.Errands.{Account, Asked, WorkedAhead, Runs, FailsToTell};
-ghost use Rattle.dep_hub.specs.Archives.{Ticks, MakesStep, Streams, KeepsState, KeepsAll, KeepsEachState, FailsIfShut, CountsFailures};
+ghost use Rattle.dep_hub.specs.Archives.{Ticks, MakesStep, Streams, KeepsState, KeepsAll, KeepsEachState, CommitsIfDue, FallsDue, FailsIfShut, CountsFailures};
 
 use dep_answers::{Performed, Service};
 use dep_decisions::Operation;
@@ -27,10 +27,14 @@ pub trait Archive {
     /// What it shows of what it is asked for beside the steps.
     ghost account: { Self → Account };
 
+    /// Whether a commit by `work_ahead` is due.
+    ghost may_commit: { Self → Bool };
+
     /// Moves the clock to the moment, and never back, and ends the uploads that were left idle. It returns
     /// the clock.
     fn tick(&mut self, config: &Config, moment: Moment) -> Result<Moment, StoreFault>
         ensures does { Ticks (condition self.old) (condition self.new) config.now moment result }
+        ensures commits { may_commit self.new ≡ may_commit self.old }
         ensures shut { FailsIfShut (condition self.old) (condition self.new) result };
 
     /// Does what a request asks for, once the clock has gone on, all of it or nothing. The reply is
@@ -43,6 +47,9 @@ pub trait Archive {
         ensures does { MakesStep (condition self.old) (condition self.new)
             (λ s. AreFit operation.now.fields)
             (λ s. operation_step service.now s operation.now) result }
+        // A commit by work ahead falls due behind an accepted change alone.
+        ensures commits { FallsDue (may_commit self.old) (may_commit self.new)
+            operation.now result }
         ensures shut { FailsIfShut (condition self.old) (condition self.new) result };
 
     /// Sends the content of the file of this number, one block at a time.
@@ -50,6 +57,7 @@ pub trait Archive {
         ensures streams { Streams (condition self.old) (condition self.new)
             (O.taken out.old) (O.taken out.new) file result }
         ensures does { KeepsState (condition self.old) (condition self.new) result }
+        ensures commits { may_commit self.new ≡ may_commit self.old }
         ensures shut { FailsIfShut (condition self.old) (condition self.new) result }
         ensures count { CountsFailures (O.failures out.old) (O.failures out.new) result };
 
@@ -60,13 +68,18 @@ pub trait Archive {
         ensures cause { HasCleanDisk (condition self.new)
             → IfErr result (FailsToTell (account self.old) (account self.new)) }
         ensures asked { Runs (Asked result) (account self.old) (account self.new) }
+        ensures commits { may_commit self.new ≡ may_commit self.old }
         ensures rests { KeepsAll (condition self.old) (condition self.new) };
 
     /// Does a bounded part of the work that a later request would have to wait for, and returns whether
-    /// more is left. It changes nothing that is kept, which it may commit once more, but a fault may shut
-    /// it, which `is_open` returns. What it returns is about time alone, and noted among what it was asked for.
+    /// more is left. It changes nothing that is kept, but a fault may shut it, which `is_open` returns. It may commit
+    /// what is kept once more, as a long log is copied by the next commit: once behind an accepted change, and not
+    /// behind what only reads, is refused or fails. What it returns is about time alone, and noted among what it was
+    /// asked for.
     fn work_ahead(&mut self) -> bool
         ensures asked { Runs (WorkedAhead result) (account self.old) (account self.new) }
+        ensures commits { CommitsIfDue (may_commit self.old) (may_commit self.new)
+            (condition self.old) (condition self.new) }
         ensures rests { KeepsEachState (condition self.old) (condition self.new) };
 
     // An open archive has an honest disk.

@@ -57,7 +57,7 @@ pub fn serve_connection<A: Archive, R: Inlet, W: Flush, C: FnMut() -> Moment>(
     requires { C.IsAlwaysCallable clock.old }
     ensures call { C.IsAlwaysCallable clock.new }
     ensures goes { ServesAs A.condition hub.old hub.new }
-    ensures converses { ConversesOver A.condition (MayShow W.Outlet W.held W.has_failed) C.step
+    ensures converses { ConversesOver A.condition A.may_commit (MayShow W.Outlet W.held W.has_failed) C.step
         (standing R.Inlet W.Outlet W.held W.has_failed hub.old reader.old writer.old clock.old)
         (standing R.Inlet W.Outlet W.held W.has_failed hub.new reader.new writer.new clock.new)
         result }
@@ -87,7 +87,7 @@ fn converse<A: Archive, R: Inlet, W: Flush, C: FnMut() -> Moment>(
     incoming: &mut Incoming,
 ) -> Served
     requires { CanGoOn C.IsAlwaysCallable incoming.old.connection hub.old clock.old }
-    ensures talks { TalksUntil A.condition (MayShow W.Outlet W.held W.has_failed) C.step
+    ensures talks { TalksUntil A.condition A.may_commit (MayShow W.Outlet W.held W.has_failed) C.step
         incoming.old.connection
         (standing R.Inlet W.Outlet W.held W.has_failed hub.old reader.old writer.old clock.old)
         (standing R.Inlet W.Outlet W.held W.has_failed hub.new reader.new writer.new clock.new)
@@ -115,7 +115,7 @@ fn turn<A: Archive, R: Inlet, W: Flush, C: FnMut() -> Moment>(
     requires { CanGoOn C.IsAlwaysCallable incoming.old.connection hub.old clock.old }
     ensures there { IsSome (intake_of hub.new.connections.items incoming.old.connection) }
     ensures same { incoming.new.connection ≡ incoming.old.connection }
-    ensures turn { TurnsTo A.condition (MayShow W.Outlet W.held W.has_failed) C.step
+    ensures turn { TurnsTo A.condition A.may_commit (MayShow W.Outlet W.held W.has_failed) C.step
         incoming.old.connection
         (standing R.Inlet W.Outlet W.held W.has_failed hub.old reader.old writer.old clock.old)
         (standing R.Inlet W.Outlet W.held W.has_failed hub.new reader.new writer.new clock.new)

@@ -37,7 +37,7 @@ const LAST_NUMBER: u64 = 4_000_000_000_000_000_000;
 impl<A: Archive> Hub<A> {
     ghost use Rattle.dep_hub.specs.Standing.{StandsAfter, StandsAt, GoesOnFrom, GoesOnAs, IsHonest, KeepsStore, LeavesStore, LeavesItsState, store_of, Adds, Moves, ComesTo, intake_of};
     ghost use Rattle.dep_hub.specs.Holding.{HoldsOn, RestsOn, MovesLine, OffersTo, ComesToNext, with_held};
-    ghost use Rattle.dep_hub.specs.Archives.{KeepsAll, KeepsEachState};
+    ghost use Rattle.dep_hub.specs.Archives.{KeepsAll, KeepsEachState, CommitsIfDue};
     ghost use Rattle.dep_hub.specs.Shut.{TellsOpen};
     ghost use Rattle.dep_hub.specs.Errands.{Asked, WorkedAhead, Runs, FailsToTell};
 
@@ -223,6 +223,10 @@ impl<A: Archive> Hub<A> {
     pub fn work_ahead(&mut self) -> bool
         ensures asked { Runs (WorkedAhead result) (A.account self.old.store)
             (A.account self.new.store) }
+        // It commits only what is due.
+        ensures commits { CommitsIfDue (A.may_commit self.old.store)
+            (A.may_commit self.new.store)
+            (store_of A.condition self.old) (store_of A.condition self.new) }
         ensures rests { RestsOn A.condition KeepsEachState self.old self.new }
     {
         self.store.work_ahead()

@@ -1,5 +1,5 @@
 -- Connections that are served one after another.
-use Rattle.std.proofs.Common.{◌≡◌, ℕ, ◌+◌, false, List, [], ◌∷◌, ◌++◌, refl, sym, subst, ◌∙◌, arith}
+use Rattle.std.proofs.Common.{◌≡◌, ℕ, ◌+◌, Bool, false, List, [], ◌∷◌, ◌++◌, refl, sym, subst, ◌∙◌, arith}
 use Rattle.std.proofs.lemmas.List.{append-nil, length-append, flat_map_more}
 use Rattle.std.proofs.lemmas.List.Elements.{All-nil, All-append, All-cons}
 use Rattle.std.specs.Prelude.{None}
@@ -41,8 +41,8 @@ module _ {A : Type 0} (condition : A → Condition) {C : Type 0} (ticks : C → 
   }
 
   module _ (now later : C) (mid new : Hub A) (count : ℕ) (p : Progress now mid count) (back : IsClean condition new → IsClean condition mid) where
-    unserved_more : (before after : Wire) → ConversesOver condition AnyOut ticks (session mid before now) (session new after later) Unserved → Progress later new (count + 1)
-    unserved_more before after v = record {
+    unserved_more : (may_commit : A → Bool) (before after : Wire) → ConversesOver condition may_commit AnyOut ticks (session mid before now) (session new after later) Unserved → Progress later new (count + 1)
+    unserved_more may_commit before after v = record {
       talks = p.talks;
       among = (p.among.0 + 1, let e = p.among.1 in omega arith);
       these = record {
@@ -53,8 +53,8 @@ module _ {A : Type 0} (condition : A → Condition) {C : Type 0} (ticks : C → 
       moments = subst (λ c. Clocks ticks clock (all_turns_of p.talks) c) (sym v.same_clock) p.moments;
     }
 
-    talk_more : (before after : Wire) (end : Served) → Converses condition AnyOut ticks (session mid before now) (session new after later) end → Progress later new (count + 1)
-    talk_more before after end v =
+    talk_more : (may_commit : A → Bool) (before after : Wire) (end : Served) → Converses condition may_commit AnyOut ticks (session mid before now) (session new after later) end → Progress later new (count + 1)
+    talk_more may_commit before after end v =
         let talk : Conversation = record { number = v.number; turns = v.turns } in
         let long = length-append p.talks (talk ∷ []) in
         let counted = p.among.1 in
@@ -71,36 +71,36 @@ module _ {A : Type 0} (condition : A → Condition) {C : Type 0} (ticks : C → 
               (folds_join (λ before (t : Turn) after. ticks before t.moment after) clock (all_turns_of p.talks) v.turns now later p.moments v.moments);
         }
 
-    more : (served : Served) (before after : Wire) → ConversesOver condition AnyOut ticks (session mid before now) (session new after later) served → Progress later new (count + 1)
-    more Unserved before after v = unserved_more before after v
-    more Ended before after v = talk_more before after Ended v
-    more Closed before after v = talk_more before after Closed v
-    more ReadFault before after v = talk_more before after ReadFault v
-    more WriteFault before after v = talk_more before after WriteFault v
-    more Bound before after v = talk_more before after Bound v
+    more : (may_commit : A → Bool) (served : Served) (before after : Wire) → ConversesOver condition may_commit AnyOut ticks (session mid before now) (session new after later) served → Progress later new (count + 1)
+    more may_commit Unserved before after v = unserved_more may_commit before after v
+    more may_commit Ended before after v = talk_more may_commit before after Ended v
+    more may_commit Closed before after v = talk_more may_commit before after Closed v
+    more may_commit ReadFault before after v = talk_more may_commit before after ReadFault v
+    more may_commit WriteFault before after v = talk_more may_commit before after WriteFault v
+    more may_commit Bound before after v = talk_more may_commit before after Bound v
 
-    pub one_served : (served : Served) (v : ServesOne condition ticks now later mid new served) → Progress later new (count + 1)
-    one_served served v = more served _ v.after v.converses
+    pub one_served : (may_commit : A → Bool) (served : Served) (v : ServesOne condition may_commit ticks now later mid new served) → Progress later new (count + 1)
+    one_served may_commit served v = more may_commit served _ v.after v.converses
 
 -- a connection over a socket at which nothing was read, and to which nothing was written
-pub over_socket : {A : Type 0} (condition : A → Condition) (shown : Outflow → Type 0) {C : Type 0} (ticks : C → ℕ → C → Type 0) (clock now : C) (old new : Hub A) (end : Served)
+pub over_socket : {A : Type 0} (condition : A → Condition) (may_commit : A → Bool) (shown : Outflow → Type 0) {C : Type 0} (ticks : C → ℕ → C → Type 0) (clock now : C) (old new : Hub A) (end : Served)
     (before after : Wire) → before.unread ≡ None → before.reads ≡ 0 → before.last ≡ NoneYet
     → before.out.taken ≡ None → before.out.failures ≡ 0 → before.out.held ≡ [] → before.out.has_failed ≡ false
-    → ConversesOver condition shown ticks (session old before clock) (session new after now) end
-    → ServesOne condition ticks clock now old new end
-over_socket condition shown ticks clock now old new end before after unread reads last taken failures held going converses =
+    → ConversesOver condition may_commit shown ticks (session old before clock) (session new after now) end
+    → ServesOne condition may_commit ticks clock now old new end
+over_socket condition may_commit shown ticks clock now old new end before after unread reads last taken failures held going converses =
     let out : before.out ≡ socket_out = λ i. record { taken = taken i; failures = failures i; held = held i; has_failed = going i } in
     let same : before ≡ socket_wire = λ i. record { unread = unread i; reads = reads i; last = last i; out = out i } in
     record {
       after = after;
-      converses = subst (λ (w : Wire). ConversesOver condition AnyOut ticks (session old w clock) (session new after now) end) same
-          (converses_wider condition shown AnyOut (λ o its. tt) ticks (session old before clock) (session new after now) end converses);
+      converses = subst (λ (w : Wire). ConversesOver condition may_commit AnyOut ticks (session old w clock) (session new after now) end) same
+          (converses_wider condition may_commit shown AnyOut (λ o its. tt) ticks (session old before clock) (session new after now) end converses);
     }
 
 -- a connection that is let go before anything was read of it
-pub not_served : {A : Type 0} (condition : A → Condition) {C : Type 0} (ticks : C → ℕ → C → Type 0) (clock : C) (hub : Hub A)
-    → Settles (condition hub.store) → ServesOne condition ticks clock clock hub hub Unserved
-not_served condition ticks clock hub settles = record {
+pub not_served : {A : Type 0} (condition : A → Condition) (may_commit : A → Bool) {C : Type 0} (ticks : C → ℕ → C → Type 0) (clock : C) (hub : Hub A)
+    → Settles (condition hub.store) → ServesOne condition may_commit ticks clock clock hub hub Unserved
+not_served condition may_commit ticks clock hub settles = record {
   after = socket_wire;
   converses = unserved condition clock hub hub socket_wire (λ w at. at) refl (λ w at. stays_as (condition hub.store) w.state settles at.state) (λ first records h. h);
 }

@@ -1,5 +1,5 @@
 -- Connections that are accepted at a listener and served one after another.
-use Rattle.std.specs.Prelude.{◌≡◌, ◌⊎◌, ◌<◌, ◌+◌, ℕ, false, List, [], All, None, length}
+use Rattle.std.specs.Prelude.{◌≡◌, ◌⊎◌, ◌<◌, ◌+◌, ℕ, Bool, false, List, [], All, None, length}
 use Rattle.std.specs.List.{flat_map}
 use Rattle.dep_hub.specs.Records.{Record}
 use Rattle.dep_hub.specs.Turns.{Turn, records_of, ArePieces}
@@ -48,10 +48,11 @@ AnyOut out = Unit {0}
 
 module _ {A : Type 0} (condition : A → Condition) where
   -- one connection over an accepted socket
-  pub record ServesOne {C : Type 0} (ticks : C → ℕ → C → Type 0) (clock now : C)
+  pub record ServesOne (may_commit : A → Bool) {C : Type 0} (ticks : C → ℕ → C → Type 0) (clock now : C)
       (old new : Hub A) (served : Served) : Type 0 where
     pub after : Wire
-    pub converses : ConversesOver condition AnyOut ticks (session old socket_wire clock)
+    pub converses : ConversesOver condition may_commit AnyOut ticks
+        (session old socket_wire clock)
         (session new after now) served
 
   -- For all records that it stood for, the hub stands for them with those of the connections behind

@@ -42,7 +42,8 @@ fn serve_stream<A: Archive, C: FnMut() -> Moment>(
     requires { C.IsAlwaysCallable clock.old }
     ensures call { C.IsAlwaysCallable clock.new }
     ensures goes { ServesAs A.condition hub.old hub.new }
-    ensures one { ServesOne A.condition C.step clock.old clock.new hub.old hub.new result }
+    ensures one { ServesOne A.condition A.may_commit C.step clock.old clock.new
+        hub.old hub.new result }
 {
     // Else a short content would wait until its client has acknowledged the head.
     let _ = stream.set_nodelay(true);

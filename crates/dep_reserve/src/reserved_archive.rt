@@ -4,7 +4,7 @@ ghost use Rattle.std.specs.Prelude.{◌≡◌, ◌≢◌, Err, IsTrue, false, is
 ghost use Rattle.dep_types.specs.declared.store_fault.StoreFault.TheVariants.{Store};
 ghost use Rattle.dep_fields.specs.Fit.{AreFit};
 ghost use Rattle.dep_answers.specs.Steps.{operation_step};
-ghost use Rattle.dep_hub.specs.Archives.{Ticks, MakesStep, FailsIfShut};
+ghost use Rattle.dep_hub.specs.Archives.{Ticks, MakesStep, FallsDue, FailsIfShut};
 ghost use Rattle.dep_reserve.specs.Reserving.{brings_content, is_low, turns_away};
 
 use crate::reserve::Reserve;
@@ -111,10 +111,13 @@ impl<A: Archive, R: Reserve + Drop> Archive for ReservedArchive<A, R> {
 
     ghost account = { λ its. A.account its.archive };
 
+    ghost may_commit = { λ its. A.may_commit its.archive };
+
     // The clock is written before the reserve is taken anew, at most once in each second.
     fn tick(&mut self, config: &Config, moment: Moment) -> Result<Moment, StoreFault>
         ensures does { Ticks (A.condition self.old.archive) (A.condition self.new.archive)
             config.now moment result }
+        ensures commits { A.may_commit self.new.archive ≡ A.may_commit self.old.archive }
         ensures shut { FailsIfShut (A.condition self.old.archive) (A.condition self.new.archive)
             result }
         // With a reserve it is low once the store has failed. Else the reserve stays as it was, but that one which is given up
@@ -148,6 +151,8 @@ impl<A: Archive, R: Reserve + Drop> Archive for ReservedArchive<A, R> {
         ensures does { MakesStep (A.condition self.old.archive) (A.condition self.new.archive)
             (λ s. AreFit operation.now.fields)
             (λ s. operation_step service.now s operation.now) result }
+        ensures commits { FallsDue (A.may_commit self.old.archive) (A.may_commit self.new.archive)
+            operation.now result }
         ensures shut { FailsIfShut (A.condition self.old.archive) (A.condition self.new.archive)
             result }
         // What is turned away is told by the fault of the store, before the archive is asked.

@@ -91,13 +91,16 @@ keeps_each old new settles it = record {
 }
 
 -- where nothing was asked
-pub keeps_itself : (c : Condition) → Settles c → KeepsEachState c c
-keeps_itself c settles = keeps_each c c settles (record {
+pub keeps_all : (c : Condition) → KeepsAll c c
+keeps_all c = record {
   kept = λ is_open s at. at;
   honest = λ clean. clean;
   was_open = λ is_open. is_open;
   left = λ clean image h. (image, h, λ s. (λ x. x, λ x. x));
-})
+}
+
+pub keeps_itself : (c : Condition) → Settles c → KeepsEachState c c
+keeps_itself c settles = keeps_each c c settles (keeps_all c)
 
 -- and one that keeps the state, whatever it returns
 pub keeps_either : {A E : Type 0} (old new : Condition) (r : Result A E) → (IsTrue new.is_open → HasCleanDisk new) → KeepsState old new r → FailsIfShut old new r → KeepsEachState old new

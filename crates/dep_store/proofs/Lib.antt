@@ -13,3 +13,4 @@ pub mod Copied
 pub mod Exported
 pub mod KeepingLemmas
 pub mod StartingLemmas
+pub mod LogLemmas

@@ -1,5 +1,5 @@
 -- How a store that hashes segments ahead stands, as those who serve it see it.
-use Rattle.std.specs.Prelude.{◌≡◌, Option, None, is_some, IsTrue}
+use Rattle.std.specs.Prelude.{◌≡◌, Bool, Option, None, is_some, IsTrue}
 use Rattle.sqlite.specs.State as db
 use Rattle.sqlite.specs.Held.{state}
 use Rattle.sqlite.specs.Tree.{Trees}
@@ -11,6 +11,7 @@ use Rattle.dep_staging.specs.HashedAhead.{AreRunning}
 use Rattle.dep_staging.specs.declared.running.RunningHashes.{RunningHashes}
 use Rattle.dep_schema.specs.States.{StandsFor, IsLeftAs}
 use Rattle.dep_hub.specs.Errands.{Account}
+use Rattle.dep_store.specs.LogCopies.{has_call}
 use Rattle.dep_store.specs.declared.archive.HashingStore.{HashingStore}
 
 -- the database stands for the state, and what was hashed is what was received there
@@ -35,11 +36,12 @@ shown_by d running = record {
 abbrev pub condition_of : {S : Type 0} → (g : Ghosts S) → HashingStore S → Condition
 condition_of g archive = shown_by (state g archive.store) archive.running
 
--- what was hashed is what was received, as it was before, and the store stays; of a request that was refused nothing
--- is noted
+-- what was hashed is what was received, as it was before, and the store and the copy of its log stay; of a request
+-- that was refused nothing is noted
 pub record NotesUpload {S : Type 0} (old new : HashingStore S) (refusal : Option Refusal) : Type 0 where
   pub running : (s : State) → AreRunning s old.running → AreRunning s new.running
   pub store : new.store ≡ old.store
+  pub log_copy : new.log_copy ≡ old.log_copy
   pub refused : IsTrue (is_some refusal) → new ≡ old
 
 -- what its database says of its answers: it shows nothing of what it is asked for
@@ -48,3 +50,7 @@ told_by d = record { errands = None; is_busy = d.in_transaction; faults = d.faul
 
 abbrev pub account_of : {S : Type 0} → (g : Ghosts S) → HashingStore S → Account
 account_of g archive = told_by (state g archive.store)
+
+-- a commit of its work ahead is due while a copy of its log is
+abbrev pub may_commit : {S : Type 0} → HashingStore S → Bool
+may_commit archive = has_call archive.log_copy

@@ -1,12 +1,12 @@
 //! A store as an archive, which hashes the segments of uploads before a deposit names them, and has a long log copied
 //! before the next commit.
 
-ghost use Rattle.std.specs.Prelude.{◌≡◌};
+ghost use Rattle.std.specs.Prelude.{◌≡◌, false};
 ghost use Rattle.sqlite.proofs.StateLemmas.{clean_if_open};
 ghost use Rattle.dep_types.specs.State.{State};
 ghost use Rattle.dep_staging.specs.HashedAhead.{AreRunning};
 ghost use Rattle.dep_schema.proofs.Transacting.{leaves_as_was};
-ghost use Rattle.dep_store.specs.HashingStores.{NotesUpload, account_of, condition_of};
+ghost use Rattle.dep_store.specs.HashingStores.{NotesUpload, account_of, condition_of, may_commit};
 
 use crate::log_copy::LogCopy;
 use crate::store::Store;
@@ -38,6 +38,7 @@ impl<S: Alter> HashingStore<S> {
     pub fn new(alloc: Global, store: Store<S>) -> HashingStore<S>
         ensures store { result.store ≡ store }
         ensures running { (s : State) → AreRunning s result.running }
+        ensures commits { may_commit result ≡ false }
     {
         HashingStore {
             store,
@@ -81,6 +82,8 @@ impl<S: Alter> Archive for HashingStore<S> {
     ghost condition = { condition_of S.Store };
 
     ghost account = { account_of S.Store };
+
+    ghost may_commit = { λ archive. may_commit archive };
 
     fn tick(&mut self, config: &Config, moment: Moment) -> Result<Moment, StoreFault> {
         self.store.tick(config, moment)

@@ -55,7 +55,7 @@ world_at_first (stops {records} r) e = absurd (not_nil records stopped e)
 world_at_first (breaks {records} {n} {moment} {piece} {sent} found r a shut l) e =
     absurd (not_nil_more records (record { event = Arrive n piece moment; sent = sent }) stopped e)
 
-module _ {A : Type 0} (condition : A → Condition) (shown : Outflow → Type 0) {C : Type 0} (ticks : C → ℕ → C → Type 0) (moment : ℕ) (tells : C → Type 0)
+module _ {A : Type 0} (condition : A → Condition) (may_commit : A → Bool) (shown : Outflow → Type 0) {C : Type 0} (ticks : C → ℕ → C → Type 0) (moment : ℕ) (tells : C → Type 0)
     (same : (before after : C) (m : ℕ) → tells before → ticks before m after → (m ≡ moment) × tells after) where
   -- a clock that tells one moment tells it at each turn
   all_at : (turns : List Turn) (clock last : C) → tells clock → FoldsTo (λ before (t : Turn) after. ticks before t.moment after) clock turns last
@@ -67,7 +67,7 @@ module _ {A : Type 0} (condition : A → Condition) (shown : Outflow → Type 0)
 
   module _ (base : List ℕ) (before after : Session A C) (first : StandsAfter condition before.hub empty_state [])
       (honest : IsHonest condition after.hub) (given : before.hub.config ≡ program_config base) (told : tells before.clock) where
-    replays : (end : Served) → Converses condition shown ticks before after end → IsReplayed base moment before.wire after.wire end
+    replays : (end : Served) → Converses condition may_commit shown ticks before after end → IsReplayed base moment before.wire after.wire end
     replays end v =
         let fresh = world_at_first first.run refl in
         let answers = v.answers honest (first_world empty_state) (subst (λ w. StandsAt condition before.hub w) fresh first.at) in
@@ -88,7 +88,7 @@ module _ {A : Type 0} (condition : A → Condition) (shown : Outflow → Type 0)
           last = v.last;
         }
 
-    pub comes_to : (end : Served) → ConversesOver condition shown ticks before after end → Replays base moment before.wire after.wire (outcome_of end)
+    pub comes_to : (end : Served) → ConversesOver condition may_commit shown ticks before after end → Replays base moment before.wire after.wire (outcome_of end)
     comes_to Unserved v = not_begun v.rests
     comes_to Ended v = replayed Ended (replays Ended v)
     comes_to Closed v = replayed Closed (replays Closed v)

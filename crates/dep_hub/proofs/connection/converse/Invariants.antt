@@ -17,7 +17,7 @@ invariant-loop-count g l = record {
   flushed : IsFlushed (g.W.Flush.held l.fn.writer) (g.W.Flush.has_failed l.fn.writer)
       → IsFlushed (g.W.Flush.held l.writer) (g.W.Flush.has_failed l.writer);
   out : (l.count ≡ 0) ⊎ (g.W.Flush.has_failed l.writer ≡ false);
-  talk : Talk g.A.Archive.condition (MayShow g.W.Outlet g.W.Flush.held g.W.Flush.has_failed) (goal.C-step g) l.fn.incoming.connection
+  talk : Talk g.A.Archive.condition g.A.Archive.may_commit (MayShow g.W.Outlet g.W.Flush.held g.W.Flush.has_failed) (goal.C-step g) l.fn.incoming.connection
       (standing g.R.Inlet g.W.Outlet g.W.Flush.held g.W.Flush.has_failed l.fn.hub l.fn.reader l.fn.writer l.fn.clock)
       (standing g.R.Inlet g.W.Outlet g.W.Flush.held g.W.Flush.has_failed l.hub l.reader l.writer l.clock) l.count StaysOpen;
 }

@@ -24,7 +24,7 @@ returns g c =
             subst (λ (x : _). HasCleanDisk (g.A.Archive.condition x)) c.connect.ensures.store
             (talks.talk.goes.honest (subst (λ (x : _). HasCleanDisk (g.A.Archive.condition x)) c.close.ensures.kept.store honest));
       };
-      converses = serves_whole g.A.Archive.condition (MayShow g.W.Outlet g.W.Flush.held g.W.Flush.has_failed) _ c.in-Ok-connect.connection
+      converses = serves_whole g.A.Archive.condition g.A.Archive.may_commit (MayShow g.W.Outlet g.W.Flush.held g.W.Flush.has_failed) _ c.in-Ok-connect.connection
           (standing g.R.Inlet g.W.Outlet g.W.Flush.held g.W.Flush.has_failed c.args.hub.now c.args.reader.now c.args.writer.now c.args.clock.now)
           c.connect.new.self c.converse-served.new.hub c.close.new.self _ c.converse-served.new.clock
           c.in-Ok-connect.ensures.next.0 c.in-Ok-connect.ensures.fresh c.in-Ok-connect.ensures.moves c.close.ensures.moves
@@ -33,7 +33,7 @@ returns g c =
           c.connect.ensures.config (c.close.ensures.kept.config ∙ (talks.talk.goes.config ∙ c.connect.ensures.config)) c.close.ensures.kept.store c.connect.ensures.store c.close.ensures.gone
           c.converse-served.result talks;
       next = c.close.ensures.kept.next ∙ (talks.talk.goes.next ∙ (c.in-Ok-connect.ensures.next.1
-          ∙ sym (next_served g.A.Archive.condition _ _ c.in-Ok-connect.connection _ _ c.converse-served.result talks c.args.hub.now.next)));
+          ∙ sym (next_served g.A.Archive.condition _ _ _ c.in-Ok-connect.connection _ _ c.converse-served.result talks c.args.hub.now.next)));
       flushed = c.converse-served.ensures.flushed;
     }
 

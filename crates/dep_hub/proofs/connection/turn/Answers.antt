@@ -17,7 +17,7 @@ returns-in-Open-clause-there g c = subst (λ (cs : Vec Connection Global). IsSom
 pub returns-in-Open-clause-turn : goal.returns-in-Open-clause-turn
 returns-in-Open-clause-turn g c = record {
   served = c.arrive-arrived.new.self;
-  turn = one_turn g.A.Archive.condition (MayShow g.W.Outlet g.W.Flush.held g.W.Flush.has_failed) (given.C-step g) c.args.incoming.now.connection
+  turn = one_turn g.A.Archive.condition g.A.Archive.may_commit (MayShow g.W.Outlet g.W.Flush.held g.W.Flush.has_failed) (given.C-step g) c.args.incoming.now.connection
       (standing g.R.Inlet g.W.Outlet g.W.Flush.held g.W.Flush.has_failed c.args.hub.now c.args.reader.now c.args.writer.now c.args.clock.now)
       (standing g.R.Inlet g.W.Outlet g.W.Flush.held g.W.Flush.has_failed c.arrive-arrived.new.self c.read.new.self c.flush.new.self c.clock-moment.new.self)
       StaysOpen c.in-Ok.n c.clock-moment.result c.read.new.buffer c.deref.result.now
@@ -29,6 +29,7 @@ returns-in-Open-clause-turn g c = record {
     same_config = c.work_ahead-left.ensures.rests.config;
     same_connections = c.work_ahead-left.ensures.rests.connections;
     store = c.work_ahead-left.ensures.rests.store;
+    commits = c.work_ahead-left.ensures.commits;
   };
   goes = goes_then g.A.Archive.condition c.in-Open.ensures.arrival.goes (goes_ahead g.A.Archive.condition c.work_ahead-left.ensures.rests);
 }
@@ -36,7 +37,7 @@ returns-in-Open-clause-turn g c = record {
 -- a reply has closed it
 pub returns-in-Closed-clause-turn : goal.returns-in-Closed-clause-turn
 returns-in-Closed-clause-turn g c = (
-  one_turn g.A.Archive.condition (MayShow g.W.Outlet g.W.Flush.held g.W.Flush.has_failed) (given.C-step g) c.args.incoming.now.connection
+  one_turn g.A.Archive.condition g.A.Archive.may_commit (MayShow g.W.Outlet g.W.Flush.held g.W.Flush.has_failed) (given.C-step g) c.args.incoming.now.connection
       (standing g.R.Inlet g.W.Outlet g.W.Flush.held g.W.Flush.has_failed c.args.hub.now c.args.reader.now c.args.writer.now c.args.clock.now)
       (standing g.R.Inlet g.W.Outlet g.W.Flush.held g.W.Flush.has_failed c.arrive-arrived.new.self c.read.new.self c.flush.new.self c.clock-moment.new.self)
       HasClosed c.in-Ok.n c.clock-moment.result c.read.new.buffer c.deref.result.now
@@ -50,7 +51,7 @@ returns-in-Closed-clause-turn g c = (
 pub returns-in-Cut-clause-turn : goal.returns-in-Cut-clause-turn
 returns-in-Cut-clause-turn g c = record {
   answer = Cut;
-  turn = one_turn g.A.Archive.condition (MayShow g.W.Outlet g.W.Flush.held g.W.Flush.has_failed) (given.C-step g) c.args.incoming.now.connection
+  turn = one_turn g.A.Archive.condition g.A.Archive.may_commit (MayShow g.W.Outlet g.W.Flush.held g.W.Flush.has_failed) (given.C-step g) c.args.incoming.now.connection
       (standing g.R.Inlet g.W.Outlet g.W.Flush.held g.W.Flush.has_failed c.args.hub.now c.args.reader.now c.args.writer.now c.args.clock.now)
       (standing g.R.Inlet g.W.Outlet g.W.Flush.held g.W.Flush.has_failed c.arrive-arrived.new.self c.read.new.self c.flush.new.self c.clock-moment.new.self)
       Cut c.in-Ok.n c.clock-moment.result c.read.new.buffer c.deref.result.now
@@ -68,7 +69,7 @@ returns-in-Err-flush-clause-there g c =
 pub returns-in-Err-flush-clause-turn : goal.returns-in-Err-flush-clause-turn
 returns-in-Err-flush-clause-turn g c = record {
   answer = c.arrive-arrived.result;
-  turn = one_turn g.A.Archive.condition (MayShow g.W.Outlet g.W.Flush.held g.W.Flush.has_failed) (given.C-step g) c.args.incoming.now.connection
+  turn = one_turn g.A.Archive.condition g.A.Archive.may_commit (MayShow g.W.Outlet g.W.Flush.held g.W.Flush.has_failed) (given.C-step g) c.args.incoming.now.connection
       (standing g.R.Inlet g.W.Outlet g.W.Flush.held g.W.Flush.has_failed c.args.hub.now c.args.reader.now c.args.writer.now c.args.clock.now)
       (standing g.R.Inlet g.W.Outlet g.W.Flush.held g.W.Flush.has_failed c.arrive-arrived.new.self c.read.new.self c.flush.new.self c.clock-moment.new.self)
       c.arrive-arrived.result c.in-Ok.n c.clock-moment.result c.read.new.buffer c.deref.result.now

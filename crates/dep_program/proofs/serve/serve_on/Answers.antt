@@ -9,7 +9,7 @@ pub loop-preserved : goal.loop-preserved
 loop-preserved g c = record {
   call = c.serve_stream.ensures.call;
   goes = serves_then _ _ _ _ c.loop.invariant.goes c.serve_stream.ensures.goes;
-  served = one_served _ _ _ _ _ _ _ _ _ c.loop.invariant.served c.serve_stream.ensures.goes.clean c.serve_stream.result c.serve_stream.ensures.one;
+  served = one_served _ _ _ _ _ _ _ _ _ c.loop.invariant.served c.serve_stream.ensures.goes.clean _ c.serve_stream.result c.serve_stream.ensures.one;
 }
 
 pub returns-in_default-clause-goes : goal.returns-in_default-clause-goes

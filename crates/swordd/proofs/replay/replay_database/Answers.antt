@@ -29,7 +29,7 @@ returns-in-Ok-open_hub-clause-replays g c none clean =
     let after = wire_of g.R.Inlet g.W.Outlet g.W.Flush.held g.W.Flush.has_failed run.new.reader run.new.writer in
     let honest : IsHonest (condition_of g.S.Store) run.new.hub = subst (λ (h : Held _). HasCleanDisk (state g.S.Store h)) c.close_hub.ensures clean in
     subst (λ (o : Outcome). Replays c.args.setting.base.now c.args.setting.moment before after o) (sym c.outcome_of.ensures)
-    (comes_to _ _ _ c.args.setting.moment (λ f. f.0 ≡ c.args.setting.moment) (λ before after m p e. ((search of_calls), (search of_calls)))
+    (comes_to _ _ _ _ c.args.setting.moment (λ f. f.0 ≡ c.args.setting.moment) (λ before after m p e. ((search of_calls), (search of_calls)))
     c.args.setting.base.now (session c.in-Ok-open_hub.hub before _) (session run.new.hub after _)
     (c.in-Ok-open_hub.ensures.fresh (run.ensures.goes.honest honest) none) honest (c.in-Ok-open_hub.ensures.config ∙ c.in-Ok.ensures) refl
     run.result run.ensures.converses)

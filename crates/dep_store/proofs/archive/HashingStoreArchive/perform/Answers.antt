@@ -1,4 +1,4 @@
-use Rattle.std.proofs.Common.{Result, Ok, sym, subst}
+use Rattle.std.proofs.Common.{inl, Result, Ok, sym, subst}
 use Rattle.sqlite.specs.Held.{Held, state}
 use Rattle.dep_types.specs.declared.store_fault.StoreFault.{StoreFault}
 use Rattle.dep_answers.specs.Performing.{IsReady}
@@ -6,8 +6,11 @@ use Rattle.dep_answers.specs.declared.performed.Performed.{Performed}
 use Rattle.dep_answers.specs.Steps.{operation_step}
 use Rattle.dep_answers.proofs.SegmentsStay.{step_keeps_segments}
 use Rattle.dep_fields.specs.Fit.{AreFit}
-use Rattle.dep_hub.specs.Archives.{MakesStep, FailsIfShut}
+use Rattle.dep_hub.specs.Archives.{MakesStep, FallsDue, FailsIfShut}
 use Rattle.dep_store.specs.HashingStores.{shown_by}
+use Rattle.dep_store.specs.LogCopies.{has_call}
+use Rattle.dep_store.specs.declared.log_copy.LogCopy.{LogCopy}
+use Rattle.dep_store.proofs.LogLemmas.{note_falls_due}
 use Rattle.dep_store.proofs.KeepingLemmas.{are_running_still, tries_hashed, tries_failed, shut_hashed, fails_failed}
 use Rattle.dep_store.proofs.archive.HashingStoreArchive.perform.Goals as goal
 
@@ -54,3 +57,14 @@ returns-clause-shut g c =
     let done : Result Performed StoreFault = Ok c.in_ok-performed.performed in
     subst (λ (h : Held _). FailsIfShut (shown_by old runs) (shown_by (state g.S.Store h) later) done) (sym c.note.ensures.store)
     (shut_hashed old (state g.S.Store c.perform.new.self) runs later done c.in_ok-performed.ensures.shut)
+
+-- what was due stays due
+pub returns-in_err-performed-clause-commits : goal.returns-in_err-performed-clause-commits
+returns-in_err-performed-clause-commits g c = λ due. inl due
+
+pub returns-clause-commits : goal.returns-clause-commits
+returns-clause-commits g c =
+    let op = c.args.operation.now in
+    let done : Result Performed StoreFault = Ok c.in_ok-performed.performed in
+    subst (λ (l : LogCopy). FallsDue (has_call l) (has_call c.note-2.new.self) op done) c.note.ensures.log_copy
+    (note_falls_due op c.in_ok-performed.performed _ _ c.note-2.ensures)

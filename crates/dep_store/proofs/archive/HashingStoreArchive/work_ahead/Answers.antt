@@ -1,9 +1,13 @@
+use Rattle.std.proofs.Common.{sym, subst}
 use Rattle.sqlite.specs.Held.{state}
 use Rattle.sqlite.proofs.StateLemmas.{clean_if_open}
 use Rattle.dep_schema.proofs.Transacting.{leaves_as_was}
-use Rattle.dep_hub.specs.Archives.{Always}
+use Rattle.dep_hub.specs.Archives.{Always, CommitsIfDue}
 use Rattle.dep_store.specs.HashingStores.{shown_by}
-use Rattle.dep_store.proofs.KeepingLemmas.{keeps_each, keeps_either, keeps_itself, keeps_hashed, tries_hashed, shut_hashed}
+use Rattle.dep_store.specs.LogCopies.{has_call}
+use Rattle.dep_store.specs.declared.log_copy.LogCopy.{LogCopy}
+use Rattle.dep_store.proofs.LogLemmas.{copy_commits, call_commits}
+use Rattle.dep_store.proofs.KeepingLemmas.{keeps_each, keeps_either, keeps_itself, keeps_all, keeps_hashed, tries_hashed, shut_hashed}
 use Rattle.dep_store.proofs.archive.HashingStoreArchive.work_ahead.Goals as goal
 
 -- the log was copied
@@ -37,3 +41,31 @@ returns-clause-rests g c =
     keeps_each (shown_by old runs) (shown_by new later)
     (λ s keeps. leaves_as_was _ s (λ trees h. g.met.S.Store.settled store.store trees keeps.stands.stands.is_open h) keeps.stands)
     (keeps_hashed old new runs later c.hash_ahead.ensures.running c.hash_ahead.ensures.rests)
+
+-- ---- what was due
+
+pub returns-then-count-clause-commits : goal.returns-then-count-clause-commits
+returns-then-count-clause-commits g c =
+    let runs = c.args.self.now.running in
+    let log = c.args.self.now.log_copy in
+    let old = shown_by (state g.S.Store c.args.self.now.store) runs in
+    let new = shown_by (state g.S.Store c.copy_log-copied.new.self) runs in
+    subst (λ (l : LogCopy). CommitsIfDue (has_call log) (has_call l) old new) (sym c.count.ensures.counted)
+    (copy_commits log old new (c.count.ensures.due.0 c.if-count.true))
+
+pub returns-then-waits-self-clause-commits : goal.returns-then-waits-self-clause-commits
+returns-then-waits-self-clause-commits g c =
+    let log = c.args.self.now.log_copy in
+    let at = shown_by (state g.S.Store c.args.self.now.store) c.args.self.now.running in
+    subst (λ (l : LogCopy). CommitsIfDue (has_call log) (has_call l) at at) (sym c.count.ensures.counted)
+    (call_commits log at at (keeps_all at))
+
+pub returns-clause-commits : goal.returns-clause-commits
+returns-clause-commits g c =
+    let log = c.args.self.now.log_copy in
+    let runs = c.args.self.now.running in
+    let later = c.hash_ahead.new.running in
+    let old = state g.S.Store c.args.self.now.store in
+    let new = state g.S.Store c.hash_ahead.new.self in
+    subst (λ (l : LogCopy). CommitsIfDue (has_call log) (has_call l) (shown_by old runs) (shown_by new later)) (sym c.count.ensures.counted)
+    (call_commits log (shown_by old runs) (shown_by new later) (keeps_hashed old new runs later c.hash_ahead.ensures.running c.hash_ahead.ensures.rests))
