@@ -18,7 +18,8 @@ Without PART all parts are played, one after another. Each has a line, and what 
     ended        what a host says that ends for a fault of its disk or of its sockets
     failing      a disk whose writes fail for a while, where the host goes on
     segments     uploads of segments of 7 to 16 MiB
-    waits        what makes others wait no longer: a deposit of 64 MiB that is refused, 400,000 texts that nobody asked for
+    waits        what makes others wait no longer: a deposit of 64 MiB that is refused, 400,000 texts that nobody asked for, and
+                 deposits of 41 uploads that a host had time to hash behind a restart
     killed       a host that is killed under the load of 20 clients, and opened again
     examples     the example files over sockets, 50 examples at once over one store
     statuses     its names, what it prints of a configuration, each fault of one by its field, and each exit status

@@ -8,7 +8,7 @@ import time
 
 from depositing import JSON, Client, by_reference, exchange
 from expectations import expect
-from hosted import MIB, PATIENCE, Host
+from hosted import MIB, PATIENCE, Host, rest
 
 # ---- segments ----
 
@@ -43,6 +43,9 @@ def segments():
 # So many milliseconds may another client wait at most. One that is seldom longer is measured up to TRIES times.
 MOST, TRIES = 100, 5
 SIZE, SEGMENT_SIZE, TEXTS = 64 * MIB, 16 * MIB, 400_000
+# Beside the large upload there are so many of this size. Where they, or it, are hashed already, a request for their digests takes
+# so many seconds of the processor at most; else it takes twice as many and more.
+SMALL, SMALL_SIZE, LITTLE = 40, 2 * MIB, 0.15
 
 
 class Other:
@@ -89,26 +92,50 @@ def is_short(what, host, *request):
     return shortest
 
 
+def refused(host, paths):
+    """A deposit of these uploads, which is refused for a digest of the last one."""
+    body, fields = by_reference({host.base + path: f"attachment; filename={at}" for at, path in enumerate(paths)})
+    entries = json.loads(body)["byReferenceFiles"]
+    entries[-1]["digest"] = f"SHA-256={64 * '0'}"
+    return 412, "POST", "/service", json.dumps({"byReferenceFiles": entries}), fields
+
+
+def is_known(what, host, *requests):
+    """These requests hash nothing anew. Returns how many seconds of the processor they take."""
+    before = host.seconds()
+    with Client(host, PATIENCE) as client:
+        for request in requests:
+            client.ask(*request)
+    took = host.seconds() - before
+    expect(f"whether {what} takes at most {LITTLE} s of the processor, {took:.2f} s", took <= LITTLE, True)
+    return took
+
+
 def waits():
     """What is refused without a look at an upload's bytes, or once they were hashed, and what shows none of an object's many texts,
-    holds nobody up."""
+    holds nobody up. Nor does what a host had time to hash, also behind a restart, of more than a few uploads."""
     with tempfile.TemporaryDirectory() as folder:
         with Host(folder) as host, Client(host, PATIENCE) as client:
             path = host.path_of(upload(client, os.urandom(SIZE), SEGMENT_SIZE))
+            small = [host.path_of(upload(client, os.urandom(SMALL_SIZE), SMALL_SIZE)) for _ in range(SMALL)]
             texts = json.dumps({"dc:subject": TEXTS * [""]})
             reply, _ = client.ask(201, "POST", "/service", texts, {"Content-Disposition": "attachment; metadata=true", **JSON})
             described = host.path_of(reply.headers["Location"])
         # What was hashed ahead of a deposit is forgotten here.
         with Host(folder) as host:
             body, fields = by_reference({host.base + path: "attachment; filename=a"})
-            entry = json.loads(body)["byReferenceFiles"][0]
-            other = json.dumps({"byReferenceFiles": [{**entry, "digest": f"SHA-256={64 * '0'}"}]})
             told = [is_short("a refused deposit of an upload", host, 404, "POST", "/objects/999", body, fields),
-                    is_short("one that is refused for a digest, again", host, 412, "POST", "/service", other, fields),
+                    is_short("one that is refused for a digest, again", host, *refused(host, [path])),
                     is_short("a HEAD of many texts", host, 200, "HEAD", described),
                     is_short("the bagit.txt of many texts", host, 200, "GET", f"{described}/bag/bagit.txt"),
                     is_short("the manifest of many texts", host, 200, "GET", f"{described}/bag/manifest-sha512.txt")]
-    return f"others waited {max(told):.0f} ms at most for refused deposits of {SIZE // MIB} MiB, and beside {TEXTS:,} texts"
+        with Host(folder) as host:
+            expect("whether a host rests behind a restart", rest(host), True)
+            took = [is_known("a deposit behind a restart", host, refused(host, [path])),
+                    is_known(f"a deposit of {SMALL} uploads", host, refused(host, small)),
+                    is_known(f"{SMALL} deposits, one after another", host, *(refused(host, [it]) for it in small))]
+    return (f"others waited {max(told):.0f} ms at most for refused deposits of {SIZE // MIB} MiB, and beside {TEXTS:,} texts; what was "
+            f"hashed behind a restart took {max(took):.2f} s")
 
 
 PARTS = {it.__name__: it for it in (segments, waits)}

@@ -33,6 +33,15 @@ def until(holds, patience=PATIENCE):
     return bool(held or holds())
 
 
+def rest(server):
+    """Waits until a server takes hardly any processor time: it has nothing left to do. Returns whether it comes to that."""
+    def is_idle():
+        before = server.seconds()
+        time.sleep(0.5)
+        return server.seconds() - before <= 0.02
+    return until(is_idle)
+
+
 class Host(Served):
     """A host by the configuration of these settings, and of others where they are not given, in this folder or in one of its
     own. It begins with a copy of this store, where one is given. `how` is what `subprocess.Popen` takes besides."""

@@ -1,6 +1,7 @@
 """Starts `swordd serve` for the checks of a client: on a free port, over a store in a folder of its own."""
 
 import http.client
+import os
 import pathlib
 import random
 import socket
@@ -14,6 +15,8 @@ from expectations import expect
 
 # Ports with as many digits as that of the examples, so that no length changes.
 FOUR_DIGITS = range(8081, 9999)
+# So many ticks of the processor's clock are a second.
+TICK = os.sysconf("SC_CLK_TCK")
 
 
 def never_given():
@@ -78,6 +81,11 @@ class Served:
             if line.startswith("VmHWM:"):
                 return int(line.split()[1]) / 1024
         return 0.0
+
+    def seconds(self):
+        """The processor seconds that it has taken."""
+        fields = pathlib.Path(f"/proc/{self.process.pid}/stat").read_text().rpartition(")")[2].split()
+        return (int(fields[11]) + int(fields[12])) / TICK
 
     def ask(self, status, method, path, body=None, headers=None):
         """One request over a connection of its own: its status has to be this one. Returns the reply and its content."""

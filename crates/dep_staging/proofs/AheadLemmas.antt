@@ -1,5 +1,5 @@
--- Uploads that are hashed while their segments come.
-use Rattle.std.proofs.Common.{◌≡◌, ◌≢◌, ◌⊎◌, inl, inr, ℕ, zero, suc, ◌+◌, ◌<◌, ◌≤◌, Bool, List, [], ◌++◌, unwrap_or, Option, Some, None, refl, sym, ap, subst, ◌∙◌, nat_cmp, append-nil, append_assoc, arith}
+-- How far uploads were hashed before a request needs their digests.
+use Rattle.std.proofs.Common.{◌≡◌, ◌≢◌, ◌⊎◌, inl, inr, ℕ, zero, suc, ◌+◌, ◌<◌, ◌≤◌, List, [], ◌++◌, unwrap_or, Option, Some, None, refl, sym, ap, subst, ◌∙◌, nat_cmp, append-nil, append_assoc, arith}
 use Rattle.std.specs.Prelude.{slice_get}
 use Rattle.std.specs.List.{flat_map, range_with_len}
 use Rattle.std.specs.Option.{option_map_or}
@@ -109,11 +109,6 @@ still_hashed before after run stay h = record {
     part (suc n) is = ap (first_blocks (suc n)) (kept (run.segments + 1) (h.begun (λ none. let no = sym is ∙ none in cc no)))
 
 -- ---- what is running
-
--- what came of it is told of the same hash, whether or not it is due
-pub due_too : (s : State) (run : RunningHash) (is_due : Bool) → IsRunning s run → IsRunning s (record run { is_due = is_due })
-due_too s run is_due (inl fresh) = inl (record { segments = fresh.segments; blocks = fresh.blocks; holds = fresh.holds })
-due_too s run is_due (inr begun) = inr (record { given = begun.given; hashed = λ it there. let h = begun.hashed it there in record { holds = h.holds; whole = h.whole; begun = h.begun } })
 
 -- nothing of an upload is hashed at first
 pub nothing_hashed : (segments : Numbered (List ℕ)) (run : RunningHash) → IsFresh run → HasHashed segments run

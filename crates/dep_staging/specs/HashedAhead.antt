@@ -1,6 +1,7 @@
--- Uploads that are hashed while their segments come.
-use Rattle.std.specs.Prelude.{◌≡◌, ◌≢◌, ◌⊎◌, ℕ, ◌+◌, ◌<◌, ◌≤◌, List, [], ◌++◌, take, Some, unwrap_or}
-use Rattle.std.specs.List.{All, flat_map, range_with_len}
+-- How far uploads were hashed before a request needs their digests.
+use Rattle.std.specs.Prelude.{◌≡◌, ◌≢◌, ◌⊎◌, ℕ, ◌+◌, ◌<◌, ◌≤◌, List, [], ◌++◌, take, Contains, Some, unwrap_or}
+use Rattle.std.specs.List.{flat_map, range_with_len}
+use Rattle.std.specs.Option.{option_map_or}
 use Rattle.std.specs.FinMap as map
 use Rattle.dep_types.specs.Maps.{Numbered}
 use Rattle.dep_types.specs.Sound.{IsSound}
@@ -51,9 +52,14 @@ IsRunning s run = IsFresh run ⊎ IsBegun s run
 abbrev pub HasGoneOn : State → (before now : RunningHash) → Type 0
 HasGoneOn s before now = IsRunning s now × (now.upload ≡ before.upload)
 
--- so it is of each of them
+-- those that are kept, each with the number under which it is found
+abbrev pub kept_of : RunningHashes → List (ℕ × RunningHash)
+kept_of runs = option_map_or (λ cache. cache.entries) runs.kept []
+
+-- each of them is so, and is found under the number of its own upload
 abbrev pub AreRunning : State → RunningHashes → Type 0
-AreRunning s runs = All (IsRunning s) runs.uploads.items
+AreRunning s runs = (kept : ℕ × RunningHash) → Contains (kept_of runs) kept
+    → IsRunning s kept.1 × (kept.1.upload ≡ kept.0)
 
 -- so it stays, and this holds too
 abbrev pub Hashes : State → (before now : RunningHashes) → (told : Type 0) → Type 0

@@ -9,7 +9,7 @@ ghost use Rattle.dep_staging.specs.HashedAhead.{AreRunning, HasGoneOn, Hashes, I
 use crate::blocks::stored_block;
 use crate::running::{RunningHash, RunningHashes};
 use dep_fixity::Digests;
-use dep_tables::Statements;
+use dep_tables::{Statements, next_upload};
 use dep_types::{StoreFault, UploadRow};
 
 /// How many blocks are hashed ahead at once.
@@ -33,22 +33,21 @@ fn hash_block<T: Statements>(tx: &mut T, run: &mut RunningHash) -> Result<bool, 
     Ok(true)
 }
 
-// Hashes so many blocks of an upload, as far as no segment is missing.
+// Hashes so many blocks of an upload, as far as no segment is missing, and returns whether more may be left.
 fn hash_blocks<T: Statements>(
     tx: &mut T,
     run: &mut RunningHash,
     most: u64,
-) -> Result<(), StoreFault>
+) -> Result<bool, StoreFault>
     ensures does { MayReadOver T.lenders T.state tx.old tx.new result
         (λ s. IsSound s → IsRunning s run.old → HasGoneOn s run.old run.new) }
 {
     for _ in 0..most {
         if !hash_block(tx, run)? {
-            run.is_due = false;
-            return Ok(());
+            return Ok(false);
         }
     }
-    Ok(())
+    Ok(true)
 }
 
 /// Returns the SHA-256 and the SHA-512 (FIPS 180-4) of the assembled bytes of the upload of this row, none of whose
@@ -74,8 +73,22 @@ pub fn hash_upload<T: Statements>(
     Ok(digests)
 }
 
-/// Hashes up to four blocks (256 KiB) of an upload to which a segment came, and returns whether more may be
-/// left. A number of 2^63 or more is a fault of the store.
+// Notes the next upload of the store since it was opened, and returns whether there is one.
+fn note_next<T: Statements>(tx: &mut T, running: &mut RunningHashes) -> Result<bool, StoreFault>
+    ensures does { MayReadOver T.lenders T.state tx.old tx.new result
+        (λ s. AreRunning s running.old → AreRunning s running.new) }
+{
+    let Some(number) = running.noted_up_to() else {
+        return Ok(false);
+    };
+    let next = next_upload(tx, number)?;
+    running.note_next(next);
+    Ok(next.is_some())
+}
+
+/// Hashes up to four blocks (256 KiB) of an upload to which a segment came. Where there is none, it notes the next upload
+/// that was in the store when it was opened, if not all were noted and there is room for more. Returns whether more may
+/// be left. A number of 2^63 or more is a fault of the store.
 pub fn hash_ahead<T: Statements>(
     tx: &mut T,
     running: &mut RunningHashes,
@@ -84,10 +97,10 @@ pub fn hash_ahead<T: Statements>(
         (λ s. IsSound s → AreRunning s running.old → AreRunning s running.new) }
 {
     let Some(mut run) = running.take_due() else {
-        return Ok(false);
+        return note_next(tx, running);
     };
     let hashed = hash_blocks(tx, &mut run, BLOCKS_AHEAD);
-    running.put(run);
+    running.put_back(run, hashed.unwrap_or(true));
     hashed?;
     Ok(true)
 }

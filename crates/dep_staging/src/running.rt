@@ -1,15 +1,18 @@
-//! Uploads that are hashed while their segments come.
+//! How far uploads were hashed before a request needs their digests.
 
-ghost use Rattle.std.specs.Prelude.{◌≡◌, ◌<◌, ◌+◌, ◌^◌, ◌++◌, ℕ, List, IfSome, length, get_or, true};
+ghost use Rattle.std.specs.Prelude.{◌≡◌, ◌<◌, ◌+◌, ◌^◌, ◌++◌, ℕ, List, IfSome};
 ghost use Rattle.dep_types.specs.State.{State};
 ghost use Rattle.dep_fixity.specs.Fixity.{Holds};
 ghost use Rattle.dep_staging.specs.HashedAhead.{AreRunning, IsFresh, IsRunning};
 
 use dep_fixity::Hasher;
+use lru::LruCache;
 use std::alloc::Global;
+use std::collections::BTreeSet;
+use std::num::NonZeroUsize;
 
-/// How many uploads are hashed while their segments come.
-const MOST_RUNNING: usize = 16;
+/// Of so many uploads it is kept how far they were hashed. Each takes about 430 bytes, so all take less than 1 MiB.
+const MOST_RUNNING: usize = 2_048;
 
 /// How far an upload was hashed: its first segments, as far as none is missing.
 #[derive(Drop)]
@@ -20,8 +23,6 @@ pub struct RunningHash {
     pub(crate) segments: u64,
     /// How many blocks of the next one were.
     pub(crate) blocks: u64,
-    /// Whether a segment has come that may not be hashed yet.
-    pub(crate) is_due: bool,
 }
 
 impl RunningHash {
@@ -35,15 +36,7 @@ impl RunningHash {
             hasher: Hasher::new(),
             segments: 0,
             blocks: 0,
-            is_due: true,
         }
-    }
-
-    // Has it go on.
-    fn resume(&mut self)
-        ensures { (s : State) → IsRunning s self.old → IsRunning s self.new }
-    {
-        self.is_due = true;
     }
 
     /// Hashes the next block.
@@ -72,11 +65,20 @@ impl RunningHash {
     }
 }
 
-/// The running hashes of the uploads to which segments came last, of 16 at most. They are lost with
-/// the process, and hold about a kilobyte each.
+/// How far uploads were hashed, of the 2,048 of which that was needed last: segments came to them, a request needed
+/// their digests, or they were in the store when it was opened. A whole upload's digests are read off it at once. It is
+/// lost with the process. Memory is claimed for one upload at a time; where it is refused, one is forgotten.
 #[derive(Drop)]
 pub struct RunningHashes {
-    pub(crate) uploads: Vec<RunningHash>,
+    alloc: Global,
+    /// Each under its number, if any was kept yet.
+    pub(crate) kept: Option<LruCache<u64, RunningHash>>,
+    /// The numbers of those of which a segment may be there that isn't hashed.
+    due: BTreeSet<u64>,
+    /// From this number on the next one is taken.
+    turn: u64,
+    /// Up to this number the uploads of the store were noted as it was opened, or all of them.
+    noted: Option<u64>,
 }
 
 impl RunningHashes {
@@ -85,74 +87,122 @@ impl RunningHashes {
         ensures { (s : State) → AreRunning s result }
     {
         RunningHashes {
-            uploads: Vec::new(alloc),
+            alloc,
+            kept: None,
+            due: BTreeSet::new(alloc),
+            turn: 0,
+            noted: Some(0),
         }
     }
 
-    /// Notes that a segment of the upload came. The upload that was noted first gives way where there
-    /// are too many, and so it does where memory is refused.
+    /// Notes that a segment of the upload may be there that isn't hashed. Nothing is noted of more than 2,048 at once,
+    /// nor where memory is refused.
     pub fn note(&mut self, upload: u64)
         ensures { (s : State) → AreRunning s self.old → AreRunning s self.new }
     {
-        match self.place_of(upload) {
-            Some(at) => self.uploads[at].resume(),
-            None => self.put(RunningHash::new(upload)),
-        }
-    }
-
-    // Forgets the first one where there are as many as may be.
-    fn make_room(&mut self)
-        ensures { (s : State) → AreRunning s self.old → AreRunning s self.new }
-    {
-        if self.uploads.len() >= MOST_RUNNING {
-            drop(self.uploads.remove(0));
+        if self.due.len() < MOST_RUNNING {
+            let _ = self.due.insert(upload);
         }
     }
 
     /// Takes out how far the upload was hashed.
     pub(crate) fn take(&mut self, upload: u64) -> RunningHash
         ensures others { (s : State) → AreRunning s self.old → AreRunning s self.new }
-        ensures taken { (s : State) → AreRunning s self.old → IsRunning s result }
-        ensures upload { result.upload ≡ upload }
+        ensures taken { (s : State) → AreRunning s self.old
+            → IsRunning s result × (result.upload ≡ upload) }
     {
-        match self.place_of(upload) {
-            Some(at) => self.uploads.remove(at),
+        let Some(kept) = &mut self.kept else {
+            return RunningHash::new(upload);
+        };
+        match kept.pop(&upload) {
+            Some(run) => run,
             None => RunningHash::new(upload),
         }
     }
 
-    /// Takes out the first one that is due.
+    /// Takes out one that is due, each in its turn, by number.
     pub(crate) fn take_due(&mut self) -> Option<RunningHash>
         ensures others { (s : State) → AreRunning s self.old → AreRunning s self.new }
         ensures taken { IfSome result (λ run. (s : State) → AreRunning s self.old → IsRunning s run) }
     {
-        for at in 0..self.uploads.len() {
-            if self.uploads[at].is_due {
-                return Some(self.uploads.remove(at));
-            }
-        }
-        None
+        let upload = self.next_due()?;
+        self.turn = upload.saturating_add(1);
+        Some(self.take(upload))
     }
 
-    /// Puts one behind the others, of which the first gives way where there are too many, or drops it where memory is
-    /// refused.
+    fn next_due(&self) -> Option<u64> {
+        match self.due.range(self.turn..).next() {
+            Some(upload) => Some(*upload),
+            None => self.due.first().copied(),
+        }
+    }
+
+    /// Puts back one that was due, and is so still where more of it may be left.
+    pub(crate) fn put_back(&mut self, run: RunningHash, is_left: bool)
+        ensures { (s : State) → AreRunning s self.old → IsRunning s run → AreRunning s self.new }
+    {
+        let upload = run.upload;
+        self.put(run);
+        if !is_left {
+            self.due.remove(&upload);
+        }
+    }
+
+    /// Puts one in, for which the one that was put in the longest ago gives way where there are too many. It is dropped
+    /// where memory is refused, and where nothing was hashed.
     pub(crate) fn put(&mut self, run: RunningHash)
         ensures { (s : State) → AreRunning s self.old → IsRunning s run → AreRunning s self.new }
     {
-        self.make_room();
-        let _ = self.uploads.push(run);
+        if run.segments == 0 && run.blocks == 0 {
+            return;
+        }
+        if let Some(forgotten) = self.keep(run) {
+            self.due.remove(&forgotten);
+        }
     }
 
-    fn place_of(&self, upload: u64) -> Option<usize>
-        ensures within { IfSome result (λ at. at < length self.now.uploads.items) }
-        ensures its { IfSome result (λ at. (none : RunningHash)
-            → (get_or self.now.uploads.items at none).upload ≡ upload) }
+    // Returns the number of the one that is forgotten, if one is: where memory is refused, that is the one put in.
+    fn keep(&mut self, run: RunningHash) -> Option<u64>
+        ensures { (s : State) → AreRunning s self.old → IsRunning s run → AreRunning s self.new }
     {
-        for at in 0..self.uploads.len() {
-            if self.uploads[at].upload == upload {
-                return Some(at);
-            }
+        let upload = run.upload;
+        self.claim();
+        let Some(kept) = &mut self.kept else {
+            return Some(upload);
+        };
+        match kept.push(upload, run) {
+            Ok(Some((forgotten, _))) => Some(forgotten),
+            Ok(None) => None,
+            Err(_) => Some(upload),
         }
-        None
+    }
+
+    // Claims what the first one needs beside its own memory.
+    fn claim(&mut self)
+        ensures { (s : State) → AreRunning s self.old → AreRunning s self.new }
+    {
+        if self.kept.is_none() {
+            let most = NonZeroUsize::new(MOST_RUNNING).unwrap();
+            self.kept = LruCache::sparse(self.alloc, most).ok();
+        }
+    }
+
+    /// Returns the number behind which the next upload of the store is to be noted, if any is: not where so many are
+    /// kept that one had to give way.
+    pub(crate) fn noted_up_to(&self) -> Option<u64> {
+        match &self.kept {
+            Some(kept) if kept.len() >= MOST_RUNNING => None,
+            _ => self.noted,
+        }
+    }
+
+    /// Notes the next upload of the store, or that there is none.
+    pub(crate) fn note_next(&mut self, next: Option<u64>)
+        ensures { (s : State) → AreRunning s self.old → AreRunning s self.new }
+    {
+        self.noted = next;
+        if let Some(upload) = next {
+            self.note(upload);
+        }
     }
 }

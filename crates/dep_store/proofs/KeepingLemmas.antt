@@ -1,5 +1,5 @@
 -- What was hashed of uploads is what was received of them, as the state goes on.
-use Rattle.std.proofs.Common.{◌≢◌, inl, inr, Result, Ok, Err, IsErr, IfOk, OnErr, IsTrue, arith, get_or, refl, sym, subst}
+use Rattle.std.proofs.Common.{◌≢◌, inl, inr, Result, Ok, Err, IsErr, IfOk, OnErr, IsTrue, arith, refl, sym, subst}
 use Rattle.std.proofs.lemmas.Result.{IfOk-weaker, on_err_weaker}
 use Rattle.sqlite.specs.State as db
 use Rattle.sqlite.specs.declared.error.ErrorCode.TheVariants as code
@@ -36,7 +36,7 @@ still_running s t run keeps (inr begun) = inr (record {
 })
 
 pub are_running_still : (s t : State) (runs : RunningHashes) → KeepsSegments s t → AreRunning s runs → AreRunning t runs
-are_running_still s t runs keeps are k d within = still_running s t (get_or runs.uploads.items k d) keeps (are k d within)
+are_running_still s t runs keeps are kept there = let it = are kept there in (still_running s t kept.1 keeps it.0, it.1)
 
 -- ---- what a call leaves, as what was hashed is what was received
 

@@ -19,16 +19,12 @@ use dep_types::{Config, Method, Outlet, Resource, StoreFault, StreamFault};
 use sqlite::Alter;
 use std::alloc::Global;
 
-/// An upload is hashed ahead once a segment of so many octets has come: the digests of smaller ones take little, and
-/// to read each for itself takes more.
-const LEAST_SEGMENT: usize = 4_096;
-
-/// A store, with how far the uploads were hashed to which segments came last.
+/// A store, with how far uploads were hashed.
 #[derive(Drop)]
 pub struct HashingStore<S: Alter> {
     store: Store<S>,
     running: RunningHashes,
-    /// Whether a block may be left that can be hashed.
+    /// Whether a block may be left that can be hashed, or an upload that wasn't looked at since the store was opened.
     is_due: bool,
     log_copy: LogCopy,
 }
@@ -43,7 +39,7 @@ impl<S: Alter> HashingStore<S> {
         HashingStore {
             store,
             running: RunningHashes::new(alloc),
-            is_due: false,
+            is_due: true,
             log_copy: LogCopy::NotDue,
         }
     }
@@ -60,12 +56,11 @@ impl<S: Alter> HashingStore<S> {
         self.store
     }
 
-    /// Notes the upload to which the request sent a segment, if it sent one that is large enough, and it was kept.
+    /// Notes the upload to which the request sent a segment, if it sent one that was kept.
     fn note(&mut self, operation: &Operation<'_>, performed: &Performed)
         ensures { NotesUpload self.old self.new performed.now.refusal }
     {
-        let is_small = operation.content.as_slice().len() < LEAST_SEGMENT;
-        if is_small || performed.refusal.is_some() {
+        if performed.refusal.is_some() {
             return;
         }
         if let (Method::Post, Resource::Upload(upload)) = (

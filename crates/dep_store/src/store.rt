@@ -191,8 +191,8 @@ impl<S: Alter> Store<S> {
         Ok(done.performed)
     }
 
-    /// Hashes a few blocks of an upload to which a segment came, and returns whether more may be left. It
-    /// changes nothing that is kept.
+    /// Hashes a few blocks of an upload to which a segment came, or looks for the next one that was there before, and
+    /// returns whether more may be left. It changes nothing that is kept.
     pub fn hash_ahead(&mut self, running: &mut RunningHashes) -> Result<bool, StoreFault>
         ensures { HashesOn (state S.Store self.old) (state S.Store self.new) running.old running.new }
     {

@@ -136,6 +136,11 @@ abbrev pub IsUploadRowAt : ℕ → Tables → Option UploadColumns → Type 0
 IsUploadRowAt upload t found =
     option_map upload_values found ≡ option_map shown_upload (row_at t.uploads upload)
 
+-- the least number of an upload above this one was found, if there is one
+abbrev pub IsUploadAfter : ℕ → Tables → Option ℕ → Type 0
+IsUploadAfter after t found =
+    option_map (λ n. Int (pos n)) found ≡ option_map rowid (find (is_after after) t.uploads)
+
 -- of those that were last written to before this moment, the one that was left the longest
 abbrev pub IsLeftBefore : ℕ → Tables → Option LeftUpload → Type 0
 IsLeftBefore moment t found =

@@ -85,6 +85,10 @@ delete_upload_text = codes "DELETE FROM uploads WHERE upload = ?1"
 abbrev pub find_upload_text : List ℕ
 find_upload_text = codes "SELECT upload, size, count, segment_size, sha256, last FROM uploads WHERE upload = ?1"
 
+-- the text that asks for the number of the next upload
+abbrev pub next_upload_text : List ℕ
+next_upload_text = codes "SELECT upload FROM uploads WHERE upload > ?1 ORDER BY upload LIMIT 1"
+
 -- the text that asks for the upload that was left the longest, of those left before a moment
 abbrev pub left_before_text : List ℕ
 left_before_text = codes "SELECT upload, last FROM uploads WHERE last < ?1 ORDER BY last, upload LIMIT 1"

@@ -40,5 +40,6 @@ pub use sha512s::{FileSha512, delete_sha512, find_sha512, insert_sha512};
 pub use state::{StateRow, read_state, write_state};
 pub use timed_out::{find_timed_out, insert_timed_out};
 pub use uploads::{
-    LeftUpload, UploadColumns, delete_upload, find_upload, insert_upload, left_before, write_upload,
+    LeftUpload, UploadColumns, delete_upload, find_upload, insert_upload, left_before, next_upload,
+    write_upload,
 };

@@ -5,7 +5,7 @@ ghost use Rattle.sqlite.specs.Values.{bound};
 ghost use Rattle.dep_tables.specs.Rows.{IsStorableUpload, columns_of_upload, upload_values};
 ghost use Rattle.dep_tables.specs.Edits.{LacksUploadRow};
 ghost use Rattle.dep_tables.specs.Clauses.{Shows, Writes, Queries};
-ghost use Rattle.dep_tables.specs.Statements.{insertion_of_upload, update_of_upload, deletion_of_upload, query_of_upload, query_of_left_upload};
+ghost use Rattle.dep_tables.specs.Statements.{insertion_of_upload, update_of_upload, deletion_of_upload, query_of_upload, query_of_next_upload, query_of_left_upload};
 
 use crate::calls::Statements;
 use crate::columns::ColumnKind::{self, Number, Sha256OrNull};
@@ -161,6 +161,21 @@ pub fn find_upload<T: Statements>(
         tx,
         "SELECT upload, size, count, segment_size, sha256, last FROM uploads WHERE upload = ?1",
         &key_param(upload),
+    )
+}
+
+/// Returns the least number of an upload above this one, if there is one. A number of 2^63 or more is a fault
+/// of the store.
+pub fn next_upload<T: Statements>(tx: &mut T, after: u64) -> Result<Option<u64>, StoreFault>
+    ensures does { Queries T.lenders T.state tx.old tx.new result (query_of_next_upload after) }
+{
+    if after >= LIMIT {
+        return Err(StoreFault::Store);
+    }
+    ask_one(
+        tx,
+        "SELECT upload FROM uploads WHERE upload > ?1 ORDER BY upload LIMIT 1",
+        &key_param(after),
     )
 }
 

@@ -1,9 +1,8 @@
-use Rattle.std.proofs.Common.{false, refl, sym, subst, ◌∙◌}
+use Rattle.std.proofs.Common.{refl, sym, subst, ◌∙◌}
 use Rattle.dep_tables.specs.Tables.{Tables}
 use Rattle.dep_tables.proofs.Chains.{clean_before, still_ours, may_put, may_ok, may_then, may_read, may_err}
 use Rattle.dep_row_maps.specs.TablesAre.{TablesAre}
 use Rattle.dep_files.proofs.Results.{same_tables}
-use Rattle.dep_staging.proofs.AheadLemmas.{due_too}
 use Rattle.dep_staging.proofs.hashing.hash_blocks.Goals as goal
 
 pub returns-then-not-branch : goal.returns-then-not-branch
@@ -17,7 +16,7 @@ returns-then-not-branch g c = record {
         let are_mid = subst (λ (t : Tables). TablesAre t s) (sym (same_tables old mid same)) are in
         let so_far = c.loop.invariant.1 is_open earlier ours s are sound running in
         let more = c.hash_block.ensures.does.map clean (still_ours old mid same ours) s are_mid sound so_far.0 in
-        (due_too s c.hash_block.new.run false more.0, more.1 ∙ so_far.1);
+        (more.0, more.1 ∙ so_far.1);
     keeps = may_ok (may_then c.loop.invariant.0 (may_read c.in_ok-hash_block.ensures.does.keeps));
   };
 }

@@ -11,7 +11,7 @@ pub returns-in_err-hashed : goal.returns-in_err-hashed
 returns-in_err-hashed g c = record {
   does = record {
     map = λ is_open clean ours s are sound running. (
-      c.put.ensures s (c.take-run.ensures.others s running) (c.hash_blocks-hashed.ensures.does.map is_open clean ours s are sound (c.take-run.ensures.taken s running)).0,
+      c.put.ensures s (c.take-run.ensures.others s running) (c.hash_blocks-hashed.ensures.does.map is_open clean ours s are sound (c.take-run.ensures.taken s running).0).0,
       IfOk-from_err c.from_residual.result _ c.from_residual.ensures.0,
     );
     keeps = may_err c.from_residual.ensures.0 c.hash_blocks-hashed.ensures.does.keeps;
@@ -22,7 +22,7 @@ pub returns-then-not-is_whole : goal.returns-then-not-is_whole
 returns-then-not-is_whole g c = record {
   does = record {
     map = λ is_open clean ours s are sound running. (
-      c.put.ensures s (c.take-run.ensures.others s running) (c.hash_blocks-hashed.ensures.does.map is_open clean ours s are sound (c.take-run.ensures.taken s running)).0,
+      c.put.ensures s (c.take-run.ensures.others s running) (c.hash_blocks-hashed.ensures.does.map is_open clean ours s are sound (c.take-run.ensures.taken s running).0).0,
       tt,
     );
     keeps = may_ok (subst (MayReadWithin g.T.Statements.lenders g.T.Statements.state c.args.tx.now c.hash_blocks-hashed.new.tx) c.in_ok-hashed.was c.hash_blocks-hashed.ensures.does.keeps);
@@ -33,9 +33,9 @@ pub returns : goal.returns
 returns g c = record {
   does = record {
     map = λ is_open clean ours s are sound running.
-        let run = c.hash_blocks-hashed.ensures.does.map is_open clean ours s are sound (c.take-run.ensures.taken s running) in (
+        let run = c.hash_blocks-hashed.ensures.does.map is_open clean ours s are sound (c.take-run.ensures.taken s running).0 in (
           c.put.ensures s (c.take-run.ensures.others s running) run.0,
-          digests_told s c.args.row.now c.hash_blocks-hashed.new.run c.finish-digests.result sound run.0 (run.1 ∙ c.take-run.ensures.upload) c.if-not-is_whole.false
+          digests_told s c.args.row.now c.hash_blocks-hashed.new.run c.finish-digests.result sound run.0 (run.1 ∙ (c.take-run.ensures.taken s running).1) c.if-not-is_whole.false
               (subst (λ (h : Hasher). (message : List ℕ) → Holds h message → c.finish-digests.result ≡ digests_of message) c.copied.ensures c.finish-digests.ensures),
         );
     keeps = may_ok (subst (MayReadWithin g.T.Statements.lenders g.T.Statements.state c.args.tx.now c.hash_blocks-hashed.new.tx) c.in_ok-hashed.was c.hash_blocks-hashed.ensures.does.keeps);

@@ -1,0 +1,10 @@
+use Rattle.std.proofs.Common.{arith}
+use Rattle.dep_tables.proofs.Done.{refuses_query, asks}
+use Rattle.dep_tables.proofs.UploadsTable.{nexts_upload, next_is}
+use Rattle.dep_tables.proofs.uploads.next_upload.Goals as goal
+
+pub returns-then-after-ge-LIMIT : goal.returns-then-after-ge-LIMIT
+returns-then-after-ge-LIMIT g c = record { does = refuses_query _ (omega (arith, c.if-after-ge-LIMIT.true)) }
+
+pub returns : goal.returns
+returns g c = record { does = asks _ 1 (omega (arith, c.if-after-ge-LIMIT.false)) c.key_param.ensures next_is.plain c.ask_one.ensures.shown c.ask_one.ensures.cause c.ask_one.ensures.keeps (nexts_upload _ _ c.args.after) }
