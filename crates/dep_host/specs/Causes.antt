@@ -1,4 +1,4 @@
--- Why a connection waits for its socket, or is over: what its socket and its spool said when they were asked.
+-- Why a connection waits for its socket, or is over: what its socket and its spool said once asked.
 use Rattle.std.specs.Prelude.{◌≡◌, ◌⊎◌, ℕ, false}
 use Rattle.dep_types.specs.Writing.{HasRisen}
 use Rattle.dep_outbox.specs.Sockets.{after_receive, after_send}
@@ -36,8 +36,8 @@ module _ {R K S : Type 0} (causes : Causes R K S) where
       ⊎ ((causes.sink after.wire.sink ≡ after_send takes.Failed (causes.sink before.wire.sink))
       ⊎ HasRisen (causes.spool before.wire.backlog.spool) (causes.spool after.wire.backlog.spool)))
 
-  -- It is read, and sent to, as before, but where its socket said in between that it has nothing, or
-  -- takes no more; and it is over only where it was, is broken, or was lost.
+  -- It is read, and sent to, as before, but where its socket said in between that it has nothing,
+  -- or takes no more; and it is over only where it was, is broken, or was lost.
   pub record HasCauses (lost : Type 0) (before after : Seat R K S) : Type 0 where
     pub readable : (after.course.is_readable ≡ before.course.is_readable)
         ⊎ ((after.course.is_readable ≡ false) × HasNone before after)

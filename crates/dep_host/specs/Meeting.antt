@@ -204,7 +204,8 @@ module _ {A R K S L : Type 0} (condition : A → Condition) (account : A → Acc
         → TurnsAway condition unread taken held notes p q l m client why
         → Meets p q l m offer (came.Client client) []
     makes_round : {offer : Option ℕ} {time : Time}
-        → (round : MakesRound condition account unread taken held size causes p q time (notes l) (notes m))
+        → (round : MakesRound condition account unread taken held size causes p q time (notes l)
+        (notes m))
         → Meets p q l m offer (came.Round time) round.goes.deeds
     stops : {offer : Option ℕ} {second : ℕ} → Stops p q second → m ≡ l
         → Meets p q l m offer (came.Stop second) []

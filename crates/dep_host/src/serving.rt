@@ -47,8 +47,8 @@ pub fn serve<
 >(host: &mut Host<A, R, K, S>, events: &mut E, buffer: &mut ReadBuffer, log: &mut L) -> Ended
     // What came, and what was made of each.
     ensures met { (deeds : List Deed) × Met A.condition A.account R.unread K.taken S.held S.size
-        (causes_of R.halts K.halts S.failures) L.notes (E.given events.old) (E.given events.new) host.old host.new log.old log.new
-        deeds most_events result }
+        (causes_of R.halts K.halts S.failures) L.notes (E.given events.old) (E.given events.new)
+        host.old host.new log.old log.new deeds most_events result }
     ensures goes { GoesOn A.condition R.unread K.taken S.held (position host.old)
         (position host.new) }
     // The archive promise, for all connections.

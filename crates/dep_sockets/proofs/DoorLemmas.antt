@@ -17,6 +17,7 @@ use Rattle.dep_host.specs.Runs as runs
 use Rattle.dep_program.specs.declared.outcome.Outcome.{Outcome}
 use Rattle.dep_sockets.specs.Outcomes.{outcome_at}
 use Rattle.dep_host.specs.Coming.{Call}
+use Rattle.dep_host.specs.Causes.{Causes}
 use Rattle.dep_host.specs.Meeting.{Met}
 use Rattle.dep_host.specs.Notes.{Note}
 use Rattle.dep_host.specs.declared.host.Host.{Host}
@@ -63,20 +64,20 @@ module _ {A R K S : Type 0} (condition : A → Condition) (unread : R → Option
     };
   }
 
-  module _ {L : Type 0} (account : A → Account) (size : S → ℕ) (notes : L → Option (List Note)) where
+  module _ {L : Type 0} (account : A → Account) (size : S → ℕ) (causes : Causes R K S) (notes : L → Option (List Note)) where
     -- nothing came meanwhile
     pub met_since : {told mid after : Option (List (Call R K S))} {p q : Host A R K S} {l m : L} {deeds : List Deed} {most : ℕ} {end : Ended} → mid ≡ told
-        → Met condition account unread taken held size notes mid after p q l m deeds most end → Met condition account unread taken held size notes told after p q l m deeds most end
+        → Met condition account unread taken held size causes notes mid after p q l m deeds most end → Met condition account unread taken held size causes notes told after p q l m deeds most end
     met_since {after = after} {p = p} {q = q} {l = l} {m = m} {deeds = deeds} {most = most} {end = end} same h =
-        subst (λ (t : Option (List (Call R K S))). Met condition account unread taken held size notes t after p q l m deeds most end) same h
+        subst (λ (t : Option (List (Call R K S))). Met condition account unread taken held size causes notes t after p q l m deeds most end) same h
 
     went_by : {before after : Doorway R K S} {l m : L} {limits : Limits} (old : Hub A) (store : A) {deeds : List Deed} {end : Ended}
-        → ServesFrom condition account unread taken held size notes before after l m limits old store deeds end → MakesRuns → HoldsNothing → WentOn condition old store deeds
+        → ServesFrom condition account unread taken held size causes notes before after l m limits old store deeds end → MakesRuns → HoldsNothing → WentOn condition old store deeds
     went_by old store it makes none = went_from old store (position it.first) (position it.last) it.over it.left it.met.steps makes none
 
     -- what was done, whatever it came to
     pub went_on : {before after : Doorway R K S} {l m : L} {limits : Limits} (old : Hub A) (store : A) {deeds : List Deed} {outcome : Outcome}
-        → EndsHub condition account unread taken held size notes before after l m limits old store deeds outcome → MakesRuns → HoldsNothing → WentOn condition old store deeds
+        → EndsHub condition account unread taken held size causes notes before after l m limits old store deeds outcome → MakesRuns → HoldsNothing → WentOn condition old store deeds
     went_on old store (served it over uncut) makes none = went_by old store it makes none
     went_on old store (shut it closed) makes none = went_by old store it makes none
     went_on old store (stopped it) makes none = went_by old store it makes none
@@ -87,9 +88,9 @@ module _ {A R K S : Type 0} (condition : A → Condition) (unread : R → Option
 
     -- what serving comes to, by why it ended
     ends_by : {before after : Doorway R K S} {l m : L} {limits : Limits} (old : Hub A) (store : A) {deeds : List Deed} (why : Ended)
-        (it : ServesFrom condition account unread taken held size notes before after l m limits old store deeds why)
+        (it : ServesFrom condition account unread taken held size causes notes before after l m limits old store deeds why)
         → (why ≡ ended.Events → IsTrue after.is_over) → (why ≡ ended.Shut cause.Store → ¬ IsTrue (condition it.last.hub.store).is_open)
-        → (is_cut : Bool) → is_cut ≡ after.is_cut → EndsHub condition account unread taken held size notes before after l m limits old store deeds (outcome_at why is_cut)
+        → (is_cut : Bool) → is_cut ≡ after.is_cut → EndsHub condition account unread taken held size causes notes before after l m limits old store deeds (outcome_at why is_cut)
     ends_by old store ended.Events it over closed false same = served it (over refl) (sym same)
     ends_by old store ended.Events it over closed true same = broken_off it (sym same)
     ends_by old store ended.Spent it over closed is_cut same = spent it
@@ -97,9 +98,9 @@ module _ {A R K S : Type 0} (condition : A → Condition) (unread : R → Option
     ends_by old store (ended.Shut cause.Store) it over closed is_cut same = shut it (λ is_open. closed refl (subst (λ (s : A). IsTrue (condition s).is_open) it.left is_open))
 
     pub ends_at : {before after : Doorway R K S} {l m : L} {limits : Limits} (old : Hub A) (store : A) {deeds : List Deed} (why : Ended)
-        (it : ServesFrom condition account unread taken held size notes before after l m limits old store deeds why)
+        (it : ServesFrom condition account unread taken held size causes notes before after l m limits old store deeds why)
         → (why ≡ ended.Events → IsTrue after.is_over) → (why ≡ ended.Shut cause.Store → ¬ IsTrue (condition it.last.hub.store).is_open)
         → (is_cut : Bool) → is_cut ≡ after.is_cut → (outcome : Outcome) → outcome ≡ outcome_at why is_cut
-        → EndsHub condition account unread taken held size notes before after l m limits old store deeds outcome
+        → EndsHub condition account unread taken held size causes notes before after l m limits old store deeds outcome
     ends_at {before = before} {after = after} {l = l} {m = m} {limits = limits} old store {deeds = deeds} why it over closed is_cut same outcome is =
-        subst (λ (o : Outcome). EndsHub condition account unread taken held size notes before after l m limits old store deeds o) (sym is) (ends_by old store why it over closed is_cut same)
+        subst (λ (o : Outcome). EndsHub condition account unread taken held size causes notes before after l m limits old store deeds o) (sym is) (ends_by old store why it over closed is_cut same)

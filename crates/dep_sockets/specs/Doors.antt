@@ -6,6 +6,7 @@ use Rattle.dep_hub.specs.Records.{Record}
 use Rattle.dep_hub.specs.Errands.{Account}
 use Rattle.dep_hub.specs.Standing.{StandsAfter, IsClean, IsHonest}
 use Rattle.dep_hub.specs.declared.hub.Hub.{Hub}
+use Rattle.dep_host.specs.Causes.{Causes}
 use Rattle.dep_host.specs.Coming.{Call}
 use Rattle.dep_host.specs.Hosting.{Deed, IsEmpty, position}
 use Rattle.dep_host.specs.Meeting.{Met, most_events}
@@ -42,7 +43,7 @@ doorway given is_open is_over is_cut door = record {
 
 module _ {A R K S L : Type 0} (condition : A → Condition) (account : A → Account)
     (unread : R → Option (List ℕ)) (taken : K → Option (List ℕ)) (held : S → Option (List ℕ))
-    (size : S → ℕ) (notes : L → Option (List Note)) where
+    (size : S → ℕ) (causes : Causes R K S) (notes : L → Option (List Note)) where
   -- A host without connections over this hub, within these limits, met all that came by the door, up to
   -- the end, by these deeds. The store was then let go.
   pub record ServesFrom (before after : Doorway R K S) (l m : L) (limits : Limits) (old : Hub A)
@@ -58,8 +59,8 @@ module _ {A R K S L : Type 0} (condition : A → Condition) (account : A → Acc
     pub empty : IsEmpty (position first)
     pub noted : notes log ≡ notes l
     pub last_noted : notes m ≡ notes last_log
-    pub met : Met condition account unread taken held size notes before.given after.given first last
-        log last_log deeds most_events end
+    pub met : Met condition account unread taken held size causes notes before.given after.given
+        first last log last_log deeds most_events end
     pub left : store ≡ last.hub.store
 
   -- what serving from a hub does, by a door
@@ -109,10 +110,11 @@ pub record WentOn {A : Type 0} (condition : A → Condition) (old : Hub A) (stor
 
 module _ {A R K S L : Type 0} (condition : A → Condition) (account : A → Account)
     (unread : R → Option (List ℕ)) (taken : K → Option (List ℕ)) (held : S → Option (List ℕ))
-    (size : S → ℕ) (notes : L → Option (List Note)) where
+    (size : S → ℕ) (causes : Causes R K S) (notes : L → Option (List Note)) where
   -- what serving from a hub does, by some deeds, and where these led
   abbrev pub ServesHub : (before after : Doorway R K S) → (l m : L) → Limits → Hub A → (store : A)
       → Outcome → Type 0
   ServesHub before after l m limits old store outcome = (deeds : List Deed)
-      × EndsHub condition account unread taken held size notes before after l m limits old store deeds outcome
+      × EndsHub condition account unread taken held size causes notes before after l m limits old
+      store deeds outcome
       × WentOn condition old store deeds

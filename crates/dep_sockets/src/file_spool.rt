@@ -1,5 +1,5 @@
 //! A spool in a file without a name.
-ghost use Rattle.std.specs.Prelude.{◌≡◌, ◌≤◌, ◌<◌, ◌+◌, ◌-◌, OnOk, OnErr, vec_len};
+ghost use Rattle.std.specs.Prelude.{◌≡◌, ◌≤◌, ◌<◌, ◌+◌, ◌-◌, OnOk, OnErr, length, vec_len, true, false};
 ghost use Rattle.dep_sockets.specs.Totals.{HoldsTheSame};
 
 use crate::spools::Spools;
@@ -17,6 +17,8 @@ pub struct FileSpool<'a, R: Files> {
     /// The bytes that it holds stand between these places of the file.
     begin: u64,
     end: u64,
+    /// How often it failed, up to 2^64 - 1. Clauses alone read it.
+    failures: u64,
     ghost within: { begin ≤ end },
 }
 
@@ -30,13 +32,15 @@ impl<'a, R: Files> FileSpool<'a, R> {
             file: None,
             begin: 0,
             end: 0,
+            failures: 0,
         }
     }
 
     /// Writes the bytes behind those that it holds, which takes them once they are counted. It returns whether it
     /// could.
     fn write_behind(&mut self, bytes: &[u8]) -> bool
-        ensures { HoldsTheSame self.old.begin self.old.end self.new.begin self.new.end }
+        ensures same { HoldsTheSame self.old.begin self.old.end self.new.begin self.new.end }
+        ensures failures { self.new.failures ≡ self.old.failures }
     {
         if self.file.is_none() {
             self.file = self.spools.open().ok();
@@ -56,6 +60,7 @@ impl<'a, R: Files> FileSpool<'a, R> {
         ensures same { OnErr result (self.new.begin ≡ self.old.begin) }
         ensures kept { OnErr result (vec_len into.new ≡ vec_len into.old) }
         ensures end { self.new.end ≡ self.old.end }
+        ensures failures { self.new.failures ≡ self.old.failures }
     {
         let count = (self.end - self.begin).min(MOST_PULLED);
         let Some(file) = &mut self.file else {
@@ -66,9 +71,49 @@ impl<'a, R: Files> FileSpool<'a, R> {
         Ok(())
     }
 
+    /// Moves some of its first bytes behind those of the vector, and gives the file up once none is left.
+    fn take_out(&mut self, into: &mut Vec<u8>) -> Result<(), SpoolFailed>
+        ensures some { OnOk result (vec_len into.old < vec_len into.new) }
+        ensures same { vec_len into.new + (self.new.end - self.new.begin)
+            ≡ vec_len into.old + (self.old.end - self.old.begin) }
+        ensures failures { self.new.failures ≡ self.old.failures }
+    {
+        if self.begin == self.end {
+            return Err(SpoolFailed);
+        }
+        self.read_into(into)?;
+        if self.begin == self.end {
+            self.forget_file();
+        }
+        Ok(())
+    }
+
+    /// Takes the bytes behind those that it holds, and returns whether it could.
+    fn keep(&mut self, bytes: &[u8]) -> bool
+        ensures begin { self.new.begin ≡ self.old.begin }
+        ensures all { result ≡ true → self.new.end ≡ self.old.end + length bytes.now }
+        ensures same { result ≡ false → self.new.end ≡ self.old.end }
+        ensures failures { self.new.failures ≡ self.old.failures }
+    {
+        let count = bytes.len() as u64;
+        let Some(end) = self.end.checked_add(count) else {
+            return false;
+        };
+        if !self.spools.charge(count) {
+            return false;
+        }
+        if !self.write_behind(bytes) {
+            self.spools.give_back(count);
+            return false;
+        }
+        self.end = end;
+        true
+    }
+
     /// Gives the file up, once all that it holds was taken.
     fn forget_file(&mut self)
-        ensures { self.new.begin ≡ self.new.end }
+        ensures empty { self.new.begin ≡ self.new.end }
+        ensures failures { self.new.failures ≡ self.old.failures }
     {
         self.spools.give_back(self.end);
         self.begin = 0;
@@ -108,6 +153,7 @@ impl<R: Files> Drop for FileSpool<'_, R> {
             file,
             begin: _,
             end,
+            failures: _,
         } = self;
         spools.give_back(end);
         drop(file);
@@ -117,6 +163,8 @@ impl<R: Files> Drop for FileSpool<'_, R> {
 impl<R: Files> Spool for FileSpool<'_, R> {
     ghost size = { λ s. s.end - s.begin };
 
+    ghost failures = { λ s. s.failures };
+
     fn is_empty(&self) -> bool {
         self.end - self.begin == 0
     }
@@ -125,29 +173,19 @@ impl<R: Files> Spool for FileSpool<'_, R> {
         if bytes.is_empty() {
             return Ok(());
         }
-        let count = bytes.len() as u64;
-        let Some(end) = self.end.checked_add(count) else {
-            return Err(SpoolFailed);
-        };
-        if !self.spools.charge(count) {
+        if !self.keep(bytes) {
+            self.failures = self.failures.saturating_add(1);
             return Err(SpoolFailed);
         }
-        if !self.write_behind(bytes) {
-            self.spools.give_back(count);
-            return Err(SpoolFailed);
-        }
-        self.end = end;
         Ok(())
     }
 
     fn pull(&mut self, into: &mut Vec<u8>) -> Result<(), SpoolFailed> {
-        if self.begin == self.end {
-            return Err(SpoolFailed);
+        let pulled = self.take_out(into);
+        match pulled {
+            Ok(()) => {}
+            Err(SpoolFailed) => self.failures = self.failures.saturating_add(1),
         }
-        self.read_into(into)?;
-        if self.begin == self.end {
-            self.forget_file();
-        }
-        Ok(())
+        pulled
     }
 }

@@ -1,5 +1,6 @@
 //! A hub that is served by a door.
 ghost use Rattle.std.specs.Prelude.{◌≡◌};
+ghost use Rattle.dep_host.specs.Causes.{causes_of};
 ghost use Rattle.dep_sockets.specs.Doors.{ServesHub, doorway};
 ghost use Rattle.dep_sockets.specs.Outcomes.{outcome_at};
 
@@ -34,8 +35,9 @@ pub fn serve_hub<
     L: DoorLog,
 >(alloc: Global, hub: Hub<A>, limits: Limits, door: &mut E, log: &mut L) -> (Outcome, A)
     ensures ends { let at = doorway E.given E.is_open E.is_over E.is_cut in
-        ServesHub A.condition A.account R.unread K.taken P.held P.size L.notes
-        (at door.old) (at door.new) log.old log.new limits hub result.1 result.0 }
+        ServesHub A.condition A.account R.unread K.taken P.held P.size
+        (causes_of R.halts K.halts P.failures) L.notes (at door.old) (at door.new) log.old log.new
+        limits hub result.1 result.0 }
 {
     nothing_held::<A>();
     hosts_make_a_run::<A, R, K, P>();
