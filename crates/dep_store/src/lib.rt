@@ -10,7 +10,7 @@ mod exporting;
 mod glancing;
 mod lines;
 mod log_copy;
-mod opening;
+mod migrating;
 mod reading;
 mod remembering;
 mod reporting;
