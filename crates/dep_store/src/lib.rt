@@ -28,6 +28,6 @@ pub use archive::HashingStore;
 pub use dep_files::{Unwatched, Watch};
 pub use exporting::export_object;
 pub use reporting::audit_all;
-pub use starting::{StartFault, close_hub, open_hub};
+pub use starting::{StartFault, check_config, close_hub, open_hub};
 pub use store::Store;
 pub use working::{Work, work_on_file};

@@ -24,8 +24,7 @@ impl Work for JobHere<'_> {
     // standard error.
     fn work<S: Alter>(self, connection: Connection<S>) -> (Outcome, Connection<S>)
         requires settled { (state S.Store connection).in_transaction ≡ false }
-        ensures works { WorksOn self.entry.job (state S.Store connection)
-            (state S.Store result.1) result.0 }
+        ensures works { WorksOn S.Store self.entry.job connection result.1 result.0 }
     {
         let JobHere { rt, job } = self;
         let mut watch = Told(Progress::new(rt));
