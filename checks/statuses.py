@@ -69,7 +69,7 @@ def commands_over(store, folder):
 
 
 def store_faults(store, folder):
-    """Status 2: a file that can't be opened, is none of ours, is of another version, or is open elsewhere."""
+    """Status 2: a file that can't be opened, is none of ours, is of another version, or is open elsewhere, and so locked."""
     other, version, missing = folder / "other.db", folder / "version.db", folder / "no-such-folder/deposits.db"
     other.write_text("no database at all, but a text that is longer than a head of one: " + 200 * "0")
     version.write_bytes(store.read_bytes())
@@ -155,13 +155,23 @@ def no_connection(store, folder):
         expect("the end of a server that can't accept", server.ends(), (3, TRANSFER_FAULT))
 
 
+def failed_close(store, folder):
+    """Status 2, behind an audit that is done: a server was killed, and its log can't be copied into the file of the store."""
+    with Server(2, folder) as server:
+        server.ask(201, "POST", "/service", 200_000 * b"y", as_file("b.txt"))
+    found = b"files 2 damaged 0\n"
+    expect("an audit of a store that can't be closed", ends(2, STORE_FAULT, "audit", store, preexec_fn=allow_short_files), found)
+    expect("the same once it can", ends(0, "", "audit", store), found)
+
+
 def main():
     with tempfile.TemporaryDirectory() as name:
         folder = pathlib.Path(name)
         with Server(1, folder) as server:
             server.ask(201, "POST", "/service", 200_000 * b"x", as_file("a.txt"))
             expect("the end of the server", server.ends(), (0, ""))
-        for check in (done, wrong_words, no_such_object, store_faults, want_of_memory, transfer_faults, no_connection):
+        for check in (done, wrong_words, no_such_object, store_faults, want_of_memory, transfer_faults, no_connection,
+                      failed_close):
             check(server.store, folder)
         too_many_reads()
     return status_of("statuses: each with its line")

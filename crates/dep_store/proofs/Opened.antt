@@ -36,6 +36,18 @@ opened_stood old new found s finds (inr (t, holds, means)) =
 pub first_means : TablesStandFor first_tables empty_state
 first_means = record { are = first_stands (stored_format our_version ∷ []) refl; sound = empty_sound }
 
+-- between transactions a crash leaves what is there
+module _ (d : db.State) (settled : IsTrue d.is_open → IsSettled d) (between : IsTrue d.is_open → d.now ≡ d.committed) where
+  left_now : (is_open : IsTrue d.is_open) → (trees : Trees) → d.may_leave trees → trees ≡ d.now.trees
+  left_now is_open trees h = settled is_open trees h ∙ ap (λ (b : Database). b.trees) (sym (between is_open))
+
+  -- so it is of a database that is left alone
+  pub leaves_alone : OpenLeaves d d
+  leaves_alone = record {
+    fresh = λ clean is_open none trees h. inl (subst HoldsNone (sym (left_now is_open trees h)) none);
+    found = λ clean is_open s left trees h. (s, subst (λ (t : Trees). IsLeftAs t s) (sym (left_now is_open trees h)) left, refl);
+  }
+
 -- a crash leaves what was committed before, or what the open commits
 pub leaves_opened : (old new : db.State) → (IsTrue old.is_open → IsSettled old) → (IsTrue old.is_open → old.now ≡ old.committed) → Survives old new (CommitsOpen old) → OpenLeaves old new
 leaves_opened old new settled between survives = record {

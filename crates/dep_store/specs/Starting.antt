@@ -2,8 +2,10 @@
 use Rattle.std.specs.Prelude.{◌≡◌, ◌⊎◌, List, [], ◌∷◌, ◌++◌, IsTrue}
 use Rattle.sqlite.specs.State as db
 use Rattle.sqlite.specs.State.{HasCleanDisk}
+use Rattle.sqlite.specs.Held.{Held, state}
 use Rattle.sqlite.specs.Tree.{Trees}
 use Rattle.dep_types.specs.State.{State, empty_state}
+use Rattle.dep_types.specs.Config.{IsChecked}
 use Rattle.dep_types.specs.declared.config.Config.{Config}
 use Rattle.dep_schema.specs.Standing.{HoldsNone}
 use Rattle.sqlite_trees.specs.declared.store.Store.{Ghosts}
@@ -39,10 +41,20 @@ GoesOnFromStop g config old hub = IsHonest (condition_of g) hub
     → (first : State) (records : List Record) → Run config first records (first_world found)
     → StandsAfter (condition_of g) hub first records
 
+-- The configuration breaks a rule, which was found before the database was opened.
+abbrev pub RefusesConfig : {S : Type 0} → Config → (given : Held S) → StartFault × Held S → Type 0
+RefusesConfig config given e =
+    e.0 ≡ fault.Hub refused.Config → (¬ IsChecked config) × (e.1 ≡ given)
+
 -- the database is one of a store: a new one where it had no table, and else of what a stop left
 abbrev pub IsStore : (old new : db.State) → Type 0
 IsStore old new = HasCleanDisk new → (HoldsNone old.now.trees → StandsFor new empty_state)
     × ((found : State) → IsLeftAs old.now.trees found → StandsFor new found)
+
+-- There was no memory for a hub. The database is as it was given, or, where the configuration was checked, one of a store.
+abbrev pub IsGivenOrStore : {S : Type 0} → (g : Ghosts S) → Config → (given back : Held S) → Type 0
+IsGivenOrStore g config given back =
+    (back ≡ given) ⊎ (IsChecked config × IsStore (state g given) (state g back))
 
 -- how a run ends where no hub is made
 abbrev pub outcome_of_start : StartFault → Outcome

@@ -1,5 +1,5 @@
 //! A hub over a database, also over what a stop left.
-ghost use Rattle.std.specs.Prelude.{◌≡◌, [], false, IfOk, IfErr, IsTrue, MatchResult};
+ghost use Rattle.std.specs.Prelude.{◌≡◌, [], false, IfOk, IfErr, OnOk, IsTrue, MatchResult};
 ghost use Rattle.sqlite.specs.Held.{state};
 ghost use Rattle.sqlite.specs.State.{HasCleanDisk};
 ghost use Rattle.dep_types.specs.State.{empty_state};
@@ -7,7 +7,7 @@ ghost use Rattle.dep_types.specs.Config.{IsChecked};
 ghost use Rattle.dep_schema.specs.Standing.{HoldsNone, IsOpenable};
 ghost use Rattle.dep_store.specs.Causes.{FailsToOpenTables};
 ghost use Rattle.dep_store.specs.Migrating.{Keeps};
-ghost use Rattle.dep_store.specs.Starting.{GoesOnFromStop, IsStore, OpeningLeaves, outcome_of_start};
+ghost use Rattle.dep_store.specs.Starting.{GoesOnFromStop, IsGivenOrStore, OpeningLeaves, RefusesConfig, outcome_of_start};
 ghost use Rattle.dep_hub.specs.Standing.{StandsAfter, IsClean, IsHonest};
 ghost use Rattle.dep_store.specs.HashingStores.{condition_of};
 
@@ -17,7 +17,7 @@ use dep_files::Watch;
 use dep_hub::{Hub, HubFault};
 use dep_program::Outcome;
 use dep_schema::OpenFault;
-use dep_types::Config;
+use dep_types::{Config, ConfigFault};
 use sqlite::{Alter, Connection};
 use std::alloc::Global;
 use std::error::Error;
@@ -55,8 +55,21 @@ impl StartFault {
     }
 }
 
-/// Opens the database as a store, and makes a hub over it, without connections. A refusal hands
-/// the connection back. The watch is told of what is read where version 1 becomes version 2.
+/// Checks the configuration, before a database is opened for it. It is refused as by `Hub::new`.
+pub fn check_config(alloc: Global, config: &Config) -> Result<(), HubFault>
+    ensures checked { OnOk result (IsChecked config.now) }
+    ensures refused { IfErr result (λ fault. fault ≡ HubFault.Config → ¬ IsChecked config.now) }
+{
+    match config.check(alloc) {
+        Ok(()) => Ok(()),
+        Err(ConfigFault::Memory) => Err(HubFault::Memory),
+        Err(ConfigFault::Base | ConfigFault::Limit) => Err(HubFault::Config),
+    }
+}
+
+/// Checks the configuration, opens the database as a store, and makes a hub over it, without
+/// connections. A refusal hands the connection back. The watch is told of what is read where
+/// version 1 becomes version 2.
 pub fn open_hub<S: Alter, W: Watch>(
     alloc: Global,
     config: Config,
@@ -71,7 +84,9 @@ pub fn open_hub<S: Alter, W: Watch>(
     // may have left.
     ensures again { IfOk result (GoesOnFromStop S.Store config (state S.Store connection)) }
     ensures config { IfOk result (λ hub. hub.config ≡ config) }
-    ensures checked { IfOk result (λ _. IsChecked config) }
+    // No database is opened for a configuration that is refused.
+    ensures checked { MatchResult result (λ _. IsChecked config)
+        (λ e. (fault : OpenFault) → e.0 ≡ StartFault.Open fault → IsChecked config) }
     ensures next { IfOk result (λ hub. hub.next ≡ 0) }
     // A database that is not opened is handed back as it was, in the version that it had, unless version 1 is shown of other
     // tables than ours.
@@ -86,11 +101,11 @@ pub fn open_hub<S: Alter, W: Watch>(
     ensures known { IfErr result (λ e. HasCleanDisk (state S.Store e.1)
         → e.0 ≡ StartFault.Open OpenFault.UnknownVersion → IsOpenable (state S.Store connection)
         → ⊥) }
-    // One that is opened for a hub which is refused is handed back as a store.
-    ensures kept { IfErr result (λ e. (fault : HubFault) → e.0 ≡ StartFault.Hub fault
-        → IsStore (state S.Store connection) (state S.Store e.1)) }
-    ensures refused { IfErr result (λ e. e.0 ≡ StartFault.Hub HubFault.Config
-        → ¬ IsChecked config) }
+    // The configuration is refused before that, so its database is handed back as it was given.
+    ensures refused { IfErr result (RefusesConfig config connection) }
+    // Where memory runs out it may have been opened.
+    ensures kept { IfErr result (λ e. e.0 ≡ StartFault.Hub HubFault.Memory
+        → IsGivenOrStore S.Store config connection e.1) }
     ensures honest { MatchResult result
         (λ hub. IsHonest (condition_of S.Store) hub → HasCleanDisk (state S.Store connection))
         (λ e. HasCleanDisk (state S.Store e.1) → HasCleanDisk (state S.Store connection)) }
@@ -102,6 +117,12 @@ pub fn open_hub<S: Alter, W: Watch>(
         (λ hub. OpeningLeaves config (state S.Store connection) (state S.Store hub.store.store))
         (λ e. OpeningLeaves config (state S.Store connection) (state S.Store e.1)) }
 {
+    // For the proof alone: there is nothing that was not committed.
+    let _between = connection.is_autocommit();
+    if let Err(fault) = check_config(alloc, &config) {
+        drop(config);
+        return Err((StartFault::Hub(fault), connection));
+    }
     match Store::open(alloc, connection, watch) {
         Ok(store) => match Hub::new(alloc, config, HashingStore::new(alloc, store)) {
             Ok(hub) => Ok(hub),

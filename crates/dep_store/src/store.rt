@@ -3,17 +3,14 @@
 ghost use Rattle.std.specs.Prelude.{◌≡◌, IsTrue, OnOk, IfOk, IfErr, MatchResult, option_map, false};
 ghost use Rattle.sqlite.specs.State.{HasCleanDisk};
 ghost use Rattle.sqlite.specs.Held.{state};
-ghost use Rattle.dep_types.specs.State.{State, empty_state};
+ghost use Rattle.dep_types.specs.State.{State};
 ghost use Rattle.dep_fields.specs.Fit.{AreFit};
 ghost use Rattle.dep_bag.specs.Source.{view_at};
 ghost use Rattle.dep_answers.specs.Steps.{operation_step};
 ghost use Rattle.dep_row_maps.specs.Keyed.{next_entry};
-ghost use Rattle.dep_tables.specs.Tables.{Tables};
 ghost use Rattle.dep_tables.specs.Edits.{IsObjectAfter};
-ghost use Rattle.dep_tables.specs.Versions.{our_version, HasVersion};
 ghost use Rattle.dep_staging.specs.HashedAhead.{AreRunning};
-ghost use Rattle.dep_schema.specs.Standing.{Holds, HoldsOlder, HoldsNone, IsOpenable, Stands};
-ghost use Rattle.dep_schema.specs.States.{StandsFor, IsLeftAs, Leaves};
+ghost use Rattle.dep_schema.specs.States.{StandsFor, Leaves};
 ghost use Rattle.dep_schema.specs.Performing.{IsKeptUnchanged, KeepsRunning};
 ghost use Rattle.dep_store.specs.Causes.{OpensFor, RefusesFor};
 ghost use Rattle.dep_store.specs.Migrating.{FindsOlder, FindsState, FindsTables, KeepsState, KeepsTables, OfEither, OpenLeaves, RefusesNoState, RefusesNone, StartsEmpty};
@@ -26,7 +23,7 @@ ghost use Rattle.dep_store.specs.Shut.{FailsIfShut, FailsToTell, SendsFile, Tick
 ghost use Rattle.dep_store.specs.Staying.{TablesStay, TellsTables, LeavesOnly, HashesOn};
 
 use crate::glancing::glance_at;
-use crate::opening::open_tables;
+use crate::migrating::migrate;
 use crate::reading::{NextObject, ViewObject};
 use crate::remembering::{look, tell_open};
 use crate::sending::stream_known;
@@ -38,7 +35,7 @@ use dep_decisions::Operation;
 use dep_files::{Audit, Watch, audit_files};
 use dep_moment::Moment;
 use dep_requests::{Remembered, clock_still, file_shown, recalled, show_service, still_known};
-use dep_schema::{OpenFault, check_open};
+use dep_schema::{OpenFault, Schema, check_open};
 use dep_staging::RunningHashes;
 use dep_types::{Config, ObjectView, Outlet, StoreFault, StreamFault};
 use sqlite::{Alter, Connection};
@@ -104,14 +101,29 @@ impl<S: Alter> Store<S> {
         ensures stop { OfEither result
             (λ left. OpenLeaves (state S.Store connection) (state S.Store left)) }
     {
-        match open_tables(alloc, connection, watch) {
-            Ok(connection) => Ok(Store {
-                alloc,
-                connection,
-                remembered: None,
-                shown: None,
-            }),
-            Err(refused) => Err(refused),
+        let _schema = connection.schema();
+        let _between = connection.is_autocommit();
+        let schema = dep_schema::open(connection)?;
+        let version = schema.version();
+        let Schema { mut connection, .. } = schema;
+        if version == 2 {
+            return Ok(Store::over(alloc, connection));
+        }
+        match migrate(&mut connection, alloc, watch) {
+            Ok(()) => Ok(Store::over(alloc, connection)),
+            Err(fault) => Err((OpenFault::from(fault), connection)),
+        }
+    }
+
+    // Over the tables of version 2, of which nothing is remembered.
+    fn over(alloc: Global, connection: Connection<S>) -> Store<S>
+        ensures { result ≡ connection }
+    {
+        Store {
+            alloc,
+            connection,
+            remembered: None,
+            shown: None,
         }
     }
 

@@ -1,7 +1,5 @@
 -- What opening, serving and looking through a store make of its database.
 use Rattle.std.proofs.Common.{◌≡◌, ℕ, List, [], ◌∷◌, ◌++◌, inl, inr, IsTrue, refl, sym, ap, subst, ◌∙◌}
-use Rattle.sqlite.specs.Effect.{Database}
-use Rattle.sqlite.specs.Tree.{Trees}
 use Rattle.sqlite.specs.State as db
 use Rattle.sqlite.specs.State.{HasCleanDisk}
 use Rattle.sqlite.specs.Held.{Held, state}
@@ -16,17 +14,16 @@ use Rattle.dep_schema.specs.declared.opening.OpenFault.{OpenFault}
 use Rattle.dep_store.specs.HashingStores.{condition_of}
 use Rattle.dep_store.specs.declared.archive.HashingStore.{HashingStore}
 use Rattle.dep_store.specs.Migrating.{Keeps, OpenLeaves}
-use Rattle.dep_store.specs.Starting.{OpeningLeaves, outcome_of_start}
+use Rattle.dep_store.specs.Starting.{IsGivenOrStore, IsStore, OpeningLeaves, RefusesConfig, outcome_of_start}
 use Rattle.dep_store.specs.declared.starting.StartFault.{StartFault}
 use Rattle.dep_store.specs.declared.starting.StartFault.TheVariants as fault
 use Rattle.dep_hub.specs.Records.{World, Record, Run, begins, stops, stopped, first_world}
 use Rattle.dep_hub.specs.Standing.{StandsAfter, IsClean, IsHonest}
-use Rattle.dep_hub.specs.declared.faults.HubFault.{HubFault}
 use Rattle.dep_hub.specs.declared.faults.HubFault.TheVariants as refused
 use Rattle.dep_hub.specs.declared.hub.Hub.{Hub}
 use Rattle.dep_program.specs.Serves.{all_records_of, ServesAt}
 use Rattle.dep_program.specs.declared.outcome.Outcome.{Outcome}
-use Rattle.swordd.specs.Databases.{IsKept, IsRefused, LedTo, GoesOn, ServesDatabase, serves, not_bound, unchecked, not_begun, not_opened}
+use Rattle.swordd.specs.Databases.{IsKept, LedTo, GoesOn, ServesDatabase, serves, not_bound, unchecked, left_alone, not_begun, not_opened}
 use Rattle.swordd.proofs.ReplayLemmas.{world_at_first}
 
 -- a stop leaves of an opening for a hub what it leaves of an opening
@@ -36,19 +33,6 @@ opening_left old new leaves = record {
   found = λ clean is_open s left trees h.
       let l = leaves.again clean is_open s left s [] begins trees h in (l.0, l.1, l.2.0);
 }
-
--- between transactions a database that is left alone is as it was committed
-pub left_alone : (d : db.State) → (IsTrue d.is_open → IsSettled d) → (IsTrue d.is_open → d.now ≡ d.committed) → IsRefused d d
-left_alone d settled between = record {
-  back = λ is_open. inl (between is_open, refl);
-  stop = record {
-    fresh = λ clean is_open none trees h. inl (subst HoldsNone (sym (same is_open trees h)) none);
-    found = λ clean is_open s left trees h. (s, subst (λ (t : Trees). IsLeftAs t s) (sym (same is_open trees h)) left, refl);
-  };
-}
-  where
-    same : (is_open : IsTrue d.is_open) → (trees : Trees) → d.may_leave trees → trees ≡ d.now.trees
-    same is_open trees h = settled is_open trees h ∙ ap (λ (b : Database). b.trees) (sym (between is_open))
 
 module _ {S : Type 0} (g : Ghosts S) (clean : (h : Held S) → IsTrue (state g h).is_open → HasCleanDisk (state g h))
     (settled : (h : Held S) → IsTrue (state g h).is_open → IsSettled (state g h)) (given : Held S) where
@@ -96,24 +80,20 @@ module _ {S : Type 0} (g : Ghosts S) (clean : (h : Held S) → IsTrue (state g h
     }
 
     -- what a run at the port comes to
-    pub served : (count : ℕ) (hub : Hub (HashingStore S)) (back : Held S) (outcome : Outcome) → back ≡ hub.store.store → hub.config ≡ opened.config
+    pub served : IsChecked config → (count : ℕ) (hub : Hub (HashingStore S)) (back : Held S) (outcome : Outcome) → back ≡ hub.store.store → hub.config ≡ opened.config
         → (IsHonest (condition_of g) hub → IsHonest (condition_of g) opened) → OpenLeaves (state g given) (state g opened.store.store)
-        → ServesAt (condition_of g) opened hub count outcome → ServesDatabase config count (state g given) (state g back) outcome
-    served count hub back outcome same same_config honest stop (inl (talks, are, these)) =
-        subst (λ (h : Held S). ServesDatabase config count (state g given) (state g h) outcome) (sym same)
-        (serves talks outcome are these.sizes (goes_on hub (all_records_of talks) same_config honest these.adds))
-    served count hub back outcome same same_config honest stop (inr (same_hub, fault)) =
-        subst (λ (h : Held S). ServesDatabase config count (state g given) (state g h) outcome) (sym (same ∙ ap (λ (h : Hub (HashingStore S)). h.store.store) same_hub))
-        (subst (λ (o : Outcome). ServesDatabase config count (state g given) (state g opened.store.store) o) (sym fault) (not_bound (kept_by_hub stop)))
+        → ServesAt (condition_of g) opened hub count outcome → ServesDatabase g config count given back outcome
+    served checked count hub back outcome same same_config honest stop (inl (talks, are, these)) =
+        subst (λ (h : Held S). ServesDatabase g config count given h outcome) (sym same)
+        (serves talks outcome checked are these.sizes (goes_on hub (all_records_of talks) same_config honest these.adds))
+    served checked count hub back outcome same same_config honest stop (inr (same_hub, fault)) =
+        subst (λ (h : Held S). ServesDatabase g config count given h outcome) (sym (same ∙ ap (λ (h : Hub (HashingStore S)). h.store.store) same_hub))
+        (subst (λ (o : Outcome). ServesDatabase g config count given opened.store.store o) (sym fault) (not_bound checked (kept_by_hub stop)))
 
--- what is told of a database that was opened for a hub which was refused
-abbrev IsKeptFor : (given new : db.State) → Type 0
-IsKeptFor given new = HasCleanDisk new → (HoldsNone given.now.trees → StandsFor new empty_state)
-    × ((found : State) → IsLeftAs given.now.trees found → StandsFor new found)
-
-module _ (given new : db.State) (clean : IsTrue new.is_open → HasCleanDisk new) (stop : OpenLeaves given new) where
-  pub kept_refused : IsKeptFor given new → IsKept given new
-  kept_refused kept = record {
+module _ {S : Type 0} (g : Ghosts S) (given back : Held S) (clean : IsTrue (state g back).is_open → HasCleanDisk (state g back))
+    (stop : OpenLeaves (state g given) (state g back)) where
+  kept_as_store : IsStore (state g given) (state g back) → IsKept (state g given) (state g back)
+  kept_as_store kept = record {
     fresh = λ is_open. (kept (clean is_open)).0;
     found = λ is_open. (kept (clean is_open)).1;
     stop = stop;
@@ -121,13 +101,18 @@ module _ (given new : db.State) (clean : IsTrue new.is_open → HasCleanDisk new
 
   -- no hub was made
   pub fails : (config : Config) (count : ℕ) (start : StartFault)
-      → ((f : OpenFault) → start ≡ fault.Open f → IsTrue new.is_open → Keeps given new)
-      → ((f : HubFault) → start ≡ fault.Hub f → IsKeptFor given new)
-      → (start ≡ fault.Hub refused.Config → ¬ IsChecked config)
-      → ServesDatabase config count given new (outcome_of_start start)
-  fails config count (fault.Open f) left kept refuses = not_opened (record { back = λ is_open. inr (left f refl is_open); stop = stop })
-  fails config count (fault.Hub refused.Config) left kept refuses = unchecked (refuses refl) (kept_refused (kept refused.Config refl))
-  fails config count (fault.Hub refused.Memory) left kept refuses = not_begun (kept_refused (kept refused.Memory refl))
+      → ((f : OpenFault) → start ≡ fault.Open f → IsChecked config)
+      → ((f : OpenFault) → start ≡ fault.Open f → IsTrue (state g back).is_open → Keeps (state g given) (state g back))
+      → RefusesConfig config given (start, back)
+      → (start ≡ fault.Hub refused.Memory → IsGivenOrStore g config given back)
+      → ServesDatabase g config count given back (outcome_of_start start)
+  fails config count (fault.Open f) checked left refuses kept = not_opened (checked f refl) (record { kept = left f refl; stop = stop })
+  fails config count (fault.Hub refused.Config) checked left refuses kept = let it = refuses refl in unchecked it.0 it.1
+  fails config count (fault.Hub refused.Memory) checked left refuses kept =
+      elim (kept refl) [
+        | inl same ↦ left_alone same
+        | inr it ↦ not_begun it.0 (kept_as_store it.1)
+      ]
 
 -- a store that was opened, and stays as it is
 module _ (given mid new : db.State) (clean : IsTrue new.is_open → HasCleanDisk new) (honest : HasCleanDisk new → HasCleanDisk mid)

@@ -1,5 +1,5 @@
 -- What a host makes of the database of the hub that it serves from.
-use Rattle.std.proofs.Common.{◌≡◌, ℕ, List, [], ◌∷◌, ◌++◌, append-nil, IsTrue, refl, sym, subst, ◌∙◌}
+use Rattle.std.proofs.Common.{◌≡◌, ℕ, List, [], ◌∷◌, ◌++◌, append-nil, inl, inr, IsTrue, refl, sym, subst, ◌∙◌}
 use Rattle.sqlite.specs.State as db
 use Rattle.sqlite.specs.State.{HasCleanDisk}
 use Rattle.sqlite.specs.Held.{Held, state}
@@ -8,15 +8,13 @@ use Rattle.std.specs.Prelude.{Option}
 use Rattle.dep_types.specs.State.{State, empty_state}
 use Rattle.dep_types.specs.Config.{IsChecked}
 use Rattle.dep_types.specs.declared.config.Config.{Config}
-use Rattle.dep_schema.specs.Standing.{HoldsNone}
-use Rattle.dep_schema.specs.States.{StandsFor, IsLeftAs}
+use Rattle.dep_schema.specs.States.{StandsFor}
 use Rattle.dep_schema.specs.declared.opening.OpenFault.{OpenFault}
 use Rattle.dep_schema.proofs.Transacting.{IsSettled, leaves_as_was}
 use Rattle.dep_store.specs.Migrating.{Keeps}
-use Rattle.dep_store.specs.Starting.{OpeningLeaves, outcome_of_start}
+use Rattle.dep_store.specs.Starting.{IsGivenOrStore, IsStore, OpeningLeaves, RefusesConfig, outcome_of_start}
 use Rattle.dep_store.specs.declared.starting.StartFault.{StartFault}
 use Rattle.dep_store.specs.declared.starting.StartFault.TheVariants as fault
-use Rattle.dep_hub.specs.declared.faults.HubFault.{HubFault}
 use Rattle.dep_hub.specs.declared.faults.HubFault.TheVariants as refused_by
 use Rattle.dep_hub.specs.Records.{Record, Run, stops, stopped, first_world}
 use Rattle.dep_hub.specs.Records as records_of
@@ -29,7 +27,7 @@ use Rattle.dep_host.specs.declared.limits.Limits.{Limits as Bounds}
 use Rattle.dep_sockets.specs.Doors.{Doorway, EndsHub, WentOn}
 use Rattle.swordd.specs.declared.host_log.StandardErrorLog.{StandardErrorLog}
 use Rattle.dep_configuration.specs.declared.configuration.Limits.{Limits}
-use Rattle.swordd.specs.Hosted.{account_of, condition_of, HostStore, LedBy, IsHosted, IsOpened, HostsDatabase, hosts, host_limits, not_checked, not_made, not_opened, unshown}
+use Rattle.swordd.specs.Hosted.{account_of, condition_of, HostStore, LedBy, IsHosted, IsOpened, HostsDatabase, hosts, host_limits, left_alone, not_checked, not_made, not_opened, unshown}
 
 module _ {S : Type 0} (g : Ghosts S) (clean : (h : Held S) → IsTrue (state g h).is_open → HasCleanDisk (state g h))
     (settled : (h : Held S) → IsTrue (state g h).is_open → IsSettled (state g h)) (given : Held S) (config : Config) (opened : Hub (HostStore S))
@@ -92,26 +90,28 @@ stays config d s first records settled stands went =
 module _ {S R K P : Type 0} (g : Ghosts S) (unread : R → Option (List ℕ)) (taken : K → Option (List ℕ)) (held : P → Option (List ℕ)) (size : P → ℕ)
     (clean : (h : Held S) → IsTrue (state g h).is_open → HasCleanDisk (state g h)) (settled : (h : Held S) → IsTrue (state g h).is_open → IsSettled (state g h))
     (config : Config) (given back : Held S) where
-  abbrev KeptFor : HubFault → Type 0
-  KeptFor why = HasCleanDisk (state g back) → (HoldsNone (state g given).now.trees → StandsFor (state g back) empty_state)
-      × ((found : State) → IsLeftAs (state g given).now.trees found → StandsFor (state g back) found)
-
-  unserved : (why : HubFault) → KeptFor why → IsHosted config (state g given) (state g back) []
-  unserved why kept = record {
+  unserved : IsStore (state g given) (state g back) → IsHosted config (state g given) (state g back) []
+  unserved kept = record {
     fresh = λ is_open none. stays config (state g back) empty_state empty_state [] (settled back is_open) ((kept (clean back is_open)).0 none) records_of.begins;
     again = λ is_open found left first records went. stays config (state g back) found first records (settled back is_open) ((kept (clean back is_open)).1 found left) went;
   }
 
-  without : {before after : Doorway R K P} {limits : Limits} (why : StartFault) → ((f : OpenFault) → why ≡ fault.Open f → IsTrue (state g back).is_open → Keeps (state g given) (state g back))
-      → ((f : HubFault) → why ≡ fault.Hub f → KeptFor f) → (why ≡ fault.Hub refused_by.Config → ¬ IsChecked config) → OpeningLeaves config (state g given) (state g back) → after ≡ before
+  without : {before after : Doorway R K P} {limits : Limits} (why : StartFault) → ((f : OpenFault) → why ≡ fault.Open f → IsChecked config)
+      → ((f : OpenFault) → why ≡ fault.Open f → IsTrue (state g back).is_open → Keeps (state g given) (state g back))
+      → RefusesConfig config given (why, back) → (why ≡ fault.Hub refused_by.Memory → IsGivenOrStore g config given back) → OpeningLeaves config (state g given) (state g back) → after ≡ before
       → HostsDatabase g unread taken held size before after limits config given back (outcome_of_start why)
-  without (fault.Open f) left kept checked stop alone = not_opened (left f refl) stop alone
-  without (fault.Hub refused_by.Config) left kept checked stop alone = not_checked (checked refl) (unserved refused_by.Config (kept refused_by.Config refl)) alone
-  without (fault.Hub refused_by.Memory) left kept checked stop alone = not_made (unserved refused_by.Memory (kept refused_by.Memory refl)) alone
+  without (fault.Open f) checked left refuses kept stop alone = not_opened (checked f refl) (left f refl) stop alone
+  without (fault.Hub refused_by.Config) checked left refuses kept stop alone = let it = refuses refl in not_checked it.0 it.1 alone
+  without (fault.Hub refused_by.Memory) checked left refuses kept stop alone =
+      elim (kept refl) [
+        | inl same ↦ left_alone same alone
+        | inr it ↦ not_made it.0 (unserved it.1) alone
+      ]
 
   -- no hub was made
-  pub without_hub : {before after : Doorway R K P} {limits : Limits} (why : StartFault) → ((f : OpenFault) → why ≡ fault.Open f → IsTrue (state g back).is_open → Keeps (state g given) (state g back))
-      → ((f : HubFault) → why ≡ fault.Hub f → KeptFor f) → (why ≡ fault.Hub refused_by.Config → ¬ IsChecked config) → OpeningLeaves config (state g given) (state g back) → after ≡ before
+  pub without_hub : {before after : Doorway R K P} {limits : Limits} (why : StartFault) → ((f : OpenFault) → why ≡ fault.Open f → IsChecked config)
+      → ((f : OpenFault) → why ≡ fault.Open f → IsTrue (state g back).is_open → Keeps (state g given) (state g back))
+      → RefusesConfig config given (why, back) → (why ≡ fault.Hub refused_by.Memory → IsGivenOrStore g config given back) → OpeningLeaves config (state g given) (state g back) → after ≡ before
       → (outcome : Outcome) → outcome ≡ outcome_of_start why → HostsDatabase g unread taken held size before after limits config given back outcome
-  without_hub {before = before} {after = after} {limits = limits} why left kept checked stop alone outcome same =
-      subst (λ (o : Outcome). HostsDatabase g unread taken held size before after limits config given back o) (sym same) (without why left kept checked stop alone)
+  without_hub {before = before} {after = after} {limits = limits} why checked left refuses kept stop alone outcome same =
+      subst (λ (o : Outcome). HostsDatabase g unread taken held size before after limits config given back o) (sym same) (without why checked left refuses kept stop alone)

@@ -1,10 +1,12 @@
 -- What is made of the database of a store that is opened and served, and what a stop then leaves of it.
-use Rattle.std.specs.Prelude.{◌⊎◌, ℕ, List, [], ◌∷◌, ◌++◌, All, IsTrue}
+use Rattle.std.specs.Prelude.{◌≡◌, ℕ, List, [], ◌∷◌, ◌++◌, All, IsTrue}
 use Rattle.sqlite.specs.State as db
+use Rattle.sqlite.specs.Held.{Held, state}
+use Rattle.sqlite_trees.specs.declared.store.Store.{Ghosts}
 use Rattle.dep_types.specs.State.{State, empty_state}
 use Rattle.dep_types.specs.Config.{IsChecked}
 use Rattle.dep_types.specs.declared.config.Config.{Config}
-use Rattle.dep_schema.specs.Standing.{HoldsNone, IsBack}
+use Rattle.dep_schema.specs.Standing.{HoldsNone}
 use Rattle.dep_schema.specs.States.{StandsFor, IsLeftAs, Leaves}
 use Rattle.dep_store.specs.Migrating.{Keeps, OpenLeaves}
 use Rattle.dep_hub.specs.Records.{World, Record, Run, first_world, stopped}
@@ -20,10 +22,9 @@ pub record IsKept (old new : db.State) : Type 0 where
   pub found : IsTrue new.is_open → (s : State) → IsLeftAs old.now.trees s → StandsFor new s
   pub stop : OpenLeaves old new
 
--- It was not opened as a store: it is as it was committed, or keeps what an open that failed keeps. What a stop leaves
--- is that of an open.
+-- It was not opened as a store: it keeps what an open that failed keeps. What a stop leaves is that of an open.
 pub record IsRefused (old new : db.State) : Type 0 where
-  pub back : IsTrue new.is_open → IsBack old new ⊎ Keeps old new
+  pub kept : IsTrue new.is_open → Keeps old new
   pub stop : OpenLeaves old new
 
 -- these records led from the first state to the one for which it stands; with a stop they lead to what a stop leaves
@@ -41,15 +42,22 @@ pub record GoesOn (config : Config) (old new : db.State) (more : List Record) : 
       → (first : State) (records : List Record) → Run config first records (first_world found)
       → LedTo config new first (records ++ more)
 
--- how serving so many connections ends, and what it does
-pub data ServesDatabase (config : Config) (count : ℕ) (old new : db.State) : Outcome → Type 0 where
-  serves : (talks : List Conversation) (outcome : Outcome) → AreServed talks count outcome
-      → All (λ t. ArePieces t.turns) talks → GoesOn config old new (all_records_of talks)
-      → ServesDatabase config count old new outcome
+-- How serving so many connections ends, and what it does. The configuration is checked before the database is opened.
+pub data ServesDatabase {S : Type 0} (g : Ghosts S) (config : Config) (count : ℕ) (given back : Held S)
+    : Outcome → Type 0 where
+  serves : (talks : List Conversation) (outcome : Outcome) → IsChecked config
+      → AreServed talks count outcome → All (λ t. ArePieces t.turns) talks
+      → GoesOn config (state g given) (state g back) (all_records_of talks)
+      → ServesDatabase g config count given back outcome
   -- the port could not be had
-  not_bound : IsKept old new → ServesDatabase config count old new TransferFault
-  -- the configuration is refused
-  unchecked : ¬ IsChecked config → IsKept old new → ServesDatabase config count old new Usage
+  not_bound : IsChecked config → IsKept (state g given) (state g back)
+      → ServesDatabase g config count given back TransferFault
+  -- the configuration is refused, and the database left alone
+  unchecked : ¬ IsChecked config → back ≡ given → ServesDatabase g config count given back Usage
+  -- there was no memory to check it, and the database was left alone
+  left_alone : back ≡ given → ServesDatabase g config count given back StoreFault
   -- there was no memory to serve it
-  not_begun : IsKept old new → ServesDatabase config count old new StoreFault
-  not_opened : IsRefused old new → ServesDatabase config count old new StoreFault
+  not_begun : IsChecked config → IsKept (state g given) (state g back)
+      → ServesDatabase g config count given back StoreFault
+  not_opened : IsChecked config → IsRefused (state g given) (state g back)
+      → ServesDatabase g config count given back StoreFault

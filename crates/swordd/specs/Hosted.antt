@@ -73,10 +73,11 @@ GoesOnFromLeft g config old hub = IsHonest (condition_of g) hub
     → (first : State) (records : List Record) → Run config first records (first_world found)
     → StandsAfter (condition_of g) hub first records
 
--- the hub is configured so, and goes on from what this database was given as, also where a fault shuts it later
+-- the hub is configured so, which was checked, and goes on from what this database was given as, also where a fault shuts it later
 pub record IsOpened {S R : Type 0} (g : Ghosts S) (config : Config) (old : db.State)
     (hub : Hub (ReservedArchive (HashingStore S) R)) : Type 0 where
   pub configured : hub.config ≡ config
+  pub checked : IsChecked config
   pub fresh : IsHonest (condition_of g) hub → HoldsNone old.now.trees
       → StandsAfter (condition_of g) hub empty_state []
   pub again : GoesOnFromLeft g config old hub
@@ -108,14 +109,18 @@ module _ {S R K P : Type 0} (g : Ghosts S) (unread : R → Option (List ℕ)) (t
         → back ≡ left.archive.store
         → IsHosted config (state g given) (state g back) deeds
         → HostsDatabase before after limits config given back outcome
-    -- the configuration is refused, and the door left alone
-    not_checked : ¬ IsChecked config → IsHosted config (state g given) (state g back) []
-        → after ≡ before → HostsDatabase before after limits config given back Usage
-    -- there was no memory for a hub, which nothing shows
-    not_made : IsHosted config (state g given) (state g back) [] → after ≡ before
+    -- the configuration is refused, and the database and the door left alone
+    not_checked : ¬ IsChecked config → back ≡ given → after ≡ before
+        → HostsDatabase before after limits config given back Usage
+    -- there was no memory to check it, and they were left alone
+    left_alone : back ≡ given → after ≡ before
         → HostsDatabase before after limits config given back StoreFault
+    -- there was no memory for a hub, which nothing shows
+    not_made : IsChecked config → IsHosted config (state g given) (state g back) []
+        → after ≡ before → HostsDatabase before after limits config given back StoreFault
     -- it was not opened as a store
-    not_opened : (IsTrue (state g back).is_open → Keeps (state g given) (state g back))
+    not_opened : IsChecked config
+        → (IsTrue (state g back).is_open → Keeps (state g given) (state g back))
         → OpeningLeaves config (state g given) (state g back) → after ≡ before
         → HostsDatabase before after limits config given back StoreFault
 

@@ -1,6 +1,7 @@
 -- What a job makes of the database of a store.
 use Rattle.std.specs.Prelude.{ℕ, List}
-use Rattle.sqlite.specs.State as db
+use Rattle.sqlite.specs.Held.{Held, state}
+use Rattle.sqlite_trees.specs.declared.store.Store.{Ghosts}
 use Rattle.dep_program.specs.Setup.{program_config, base_at}
 use Rattle.dep_program.specs.declared.command.Job.{Job}
 use Rattle.dep_program.specs.declared.command.Job.TheVariants.{Serve, Export, Audit}
@@ -9,8 +10,10 @@ use Rattle.swordd.specs.Databases.{ServesDatabase}
 use Rattle.swordd.specs.Examinations.{AuditsDatabase, ExportsDatabase}
 
 -- connections are served at the port, an object is exported, or all files are audited
-abbrev pub WorksOn : Job → (old new : db.State) → Outcome → Type 0
-WorksOn (Serve door) old new outcome =
-    ServesDatabase (program_config (base_at door.port)) door.count old new outcome
-WorksOn (Export object folder) old new outcome = ExportsDatabase old new object outcome
-WorksOn Audit old new outcome = (written : List ℕ) × AuditsDatabase old new written outcome
+abbrev pub WorksOn : {S : Type 0} → (g : Ghosts S) → Job → (given back : Held S) → Outcome → Type 0
+WorksOn g (Serve door) given back outcome =
+    ServesDatabase g (program_config (base_at door.port)) door.count given back outcome
+WorksOn g (Export object folder) given back outcome =
+    ExportsDatabase (state g given) (state g back) object outcome
+WorksOn g Audit given back outcome =
+    (written : List ℕ) × AuditsDatabase (state g given) (state g back) written outcome

@@ -2,7 +2,7 @@
 ghost use Rattle.std.specs.Prelude.{◌≡◌, false};
 ghost use Rattle.sqlite.specs.Held.{state};
 ghost use Rattle.dep_sockets.specs.Doors.{doorway};
-ghost use Rattle.swordd.specs.Hosted.{HostsDatabase, IsEntranceOf, IsPlaceOf, ServesPlace, host_limits};
+ghost use Rattle.swordd.specs.Hosted.{HostsDatabase, IsEntranceOf, IsPlaceOf, host_limits};
 
 use crate::host_log::StandardErrorLog;
 use crate::logged_reserve::LoggedReserve;
@@ -87,9 +87,9 @@ impl Place {
     }
 }
 
-type Net = SocketDoor<'static, HostRuntime>;
+type HostDoor = SocketDoor<'static, HostRuntime>;
 
-type File = FileSpool<'static, HostRuntime>;
+type HostSpool = FileSpool<'static, HostRuntime>;
 
 /// What serves the store in a database.
 #[derive(Drop)]
@@ -136,17 +136,19 @@ fn fails(rt: &HostRuntime, what: &str) -> Outcome {
 }
 
 impl Work for Service<'_> {
+    ghost use Rattle.dep_sockets.specs.Doors.{doorway};
+    ghost use Rattle.swordd.specs.Hosted.{ServesPlace};
+
+    ghost does = { λ it S g given back.
+        let door = ⟦<HostDoor as Door<SocketSource, SocketSink, HostSpool>>⟧ in
+        let spool = ⟦<HostSpool as Spool>⟧ in
+        ServesPlace g ⟦<SocketSource as Source>⟧.unread ⟦<SocketSink as Sink>⟧.taken
+        spool.held spool.size (doorway door.given door.is_open door.is_over door.is_cut)
+        (λ d. d.entrance) (λ d. d.spools.now.folder.now) (λ d. d.spools.now.most)
+        it.place it.config given back };
+
     // Serves whoever connects at the place.
-    fn work<S: Alter>(self, connection: Connection<S>) -> (Outcome, Connection<S>)
-        requires settled { (state S.Store connection).in_transaction ≡ false }
-        ensures serves { let net = ⟦<Net as Door<SocketSource, SocketSink, File>>⟧ in
-            let file = ⟦<File as Spool>⟧ in
-            ServesPlace S.Store ⟦<SocketSource as Source>⟧.unread ⟦<SocketSink as Sink>⟧.taken
-            file.held file.size (doorway net.given net.is_open net.is_over net.is_cut)
-            (λ door. door.entrance) (λ door. door.spools.now.folder.now)
-            (λ door. door.spools.now.most)
-            self.entry.place self.entry.config connection result.1 result.0 }
-    {
+    fn work<S: Alter>(self, connection: Connection<S>) -> (Outcome, Connection<S>) {
         let Service {
             rt,
             place,

@@ -1,24 +1,24 @@
 //! A hub over a database with a reserve.
-ghost use Rattle.std.specs.Prelude.{◌≡◌, [], false, IfOk, IfErr, IsTrue};
+ghost use Rattle.std.specs.Prelude.{◌≡◌, [], false, IfOk, IfErr, IsTrue, MatchResult};
 ghost use Rattle.sqlite.specs.Held.{state};
 ghost use Rattle.dep_types.specs.State.{empty_state};
 ghost use Rattle.dep_types.specs.Config.{IsChecked};
 ghost use Rattle.dep_schema.specs.Standing.{HoldsNone};
 ghost use Rattle.dep_store.specs.Migrating.{Keeps};
-ghost use Rattle.dep_store.specs.Starting.{IsStore, OpeningLeaves};
+ghost use Rattle.dep_store.specs.Starting.{IsGivenOrStore, OpeningLeaves, RefusesConfig};
 ghost use Rattle.dep_hub.specs.Standing.{StandsAfter, IsHonest};
 ghost use Rattle.swordd.specs.Hosted.{condition_of, GoesOnFromLeft};
 
 use dep_hub::{Hub, HubFault};
 use dep_reserve::{Reserve, ReservedArchive};
 use dep_schema::OpenFault;
-use dep_store::{HashingStore, StartFault, Store, Unwatched};
+use dep_store::{HashingStore, StartFault, Store, Unwatched, check_config};
 use dep_types::Config;
 use sqlite::{Alter, Connection};
 use std::alloc::Global;
 
-/// Opens the database as a store, takes the reserve, if there is one, and makes a hub over both, without connections. A
-/// refusal hands the connection back, as one of `dep_store::open_hub` does.
+/// Checks the configuration, opens the database as a store, takes the reserve, if there is one, and makes a hub over both,
+/// without connections. A refusal hands the connection back, as one of `dep_store::open_hub` does.
 pub fn open_reserved_hub<S: Alter, R: Reserve + Drop>(
     alloc: Global,
     config: Config,
@@ -31,16 +31,24 @@ pub fn open_reserved_hub<S: Alter, R: Reserve + Drop>(
         → StandsAfter (condition_of S.Store) hub empty_state []) }
     ensures again { IfOk result (GoesOnFromLeft S.Store config (state S.Store connection)) }
     ensures config { IfOk result (λ hub. hub.config ≡ config) }
+    ensures checked { MatchResult result (λ _. IsChecked config)
+        (λ e. (fault : OpenFault) → e.0 ≡ StartFault.Open fault → IsChecked config) }
     ensures left { IfErr result (λ e. (fault : OpenFault) → e.0 ≡ StartFault.Open fault
         → IsTrue (state S.Store e.1).is_open
         → Keeps (state S.Store connection) (state S.Store e.1)) }
-    ensures kept { IfErr result (λ e. (fault : HubFault) → e.0 ≡ StartFault.Hub fault
-        → IsStore (state S.Store connection) (state S.Store e.1)) }
-    ensures refused { IfErr result (λ e. e.0 ≡ StartFault.Hub HubFault.Config
-        → ¬ IsChecked config) }
+    ensures refused { IfErr result (RefusesConfig config connection) }
+    ensures kept { IfErr result (λ e. e.0 ≡ StartFault.Hub HubFault.Memory
+        → IsGivenOrStore S.Store config connection e.1) }
     ensures stop { IfErr result (λ e.
         OpeningLeaves config (state S.Store connection) (state S.Store e.1)) }
 {
+    // For the proof alone: there is nothing that was not committed.
+    let _between = connection.is_autocommit();
+    if let Err(fault) = check_config(alloc, &config) {
+        drop(config);
+        drop(reserve);
+        return Err((StartFault::Hub(fault), connection));
+    }
     match Store::open(alloc, connection, &mut Unwatched) {
         Ok(store) => {
             let archive = ReservedArchive::new(HashingStore::new(alloc, store), reserve);

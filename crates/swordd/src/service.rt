@@ -19,15 +19,13 @@ pub fn serve_database<S: Alter>(
     watch: &mut Told<'_>,
 ) -> (Outcome, Connection<S>)
     requires settled { (state S.Store connection).in_transaction ≡ false }
-    ensures serves { ServesDatabase (program_config (base_at door.port)) door.count
-        (state S.Store connection) (state S.Store result.1) result.0 }
+    ensures serves { ServesDatabase S.Store (program_config (base_at door.port)) door.count
+        connection result.1 result.0 }
     ensures honest { HasCleanDisk (state S.Store result.1) → HasCleanDisk (state S.Store connection) }
     ensures open { IsTrue (state S.Store result.1).is_open
         → IsTrue (state S.Store connection).is_open }
 {
     let alloc = rt.alloc();
-    // For the proof alone: there is nothing that was not committed.
-    let _between = connection.is_autocommit();
     let Ok(config) = configuration_at(alloc, u64::from(door.port)) else {
         return (Outcome::StoreFault, connection);
     };

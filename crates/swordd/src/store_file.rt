@@ -1,7 +1,4 @@
 //! What is done with the store in a file.
-ghost use Rattle.std.specs.Prelude.{◌≡◌, false};
-ghost use Rattle.sqlite.specs.Held.{state};
-ghost use Rattle.swordd.specs.Jobs.{WorksOn};
 
 use crate::examination::{audit_database, export_database};
 use crate::progress::Told;
@@ -20,13 +17,13 @@ struct JobHere<'a> {
 }
 
 impl Work for JobHere<'_> {
+    ghost use Rattle.swordd.specs.Jobs.{WorksOn};
+
+    ghost does = { λ it S g given back. WorksOn g it.job given back };
+
     // Does the job, and hands the database back. The lines of an audit go to standard output, and how far it came to
     // standard error.
-    fn work<S: Alter>(self, connection: Connection<S>) -> (Outcome, Connection<S>)
-        requires settled { (state S.Store connection).in_transaction ≡ false }
-        ensures works { WorksOn self.entry.job (state S.Store connection)
-            (state S.Store result.1) result.0 }
-    {
+    fn work<S: Alter>(self, connection: Connection<S>) -> (Outcome, Connection<S>) {
         let JobHere { rt, job } = self;
         let mut watch = Told(Progress::new(rt));
         match job {

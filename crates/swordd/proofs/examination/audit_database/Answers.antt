@@ -1,4 +1,4 @@
-use Rattle.std.proofs.Common.{[], inr, refl, sym, subst}
+use Rattle.std.proofs.Common.{[], refl, sym, subst}
 use Rattle.std.proofs.KnownBytes.{Appends-nil}
 use Rattle.sqlite.specs.Held.{Held, state}
 use Rattle.sqlite.specs.State.{HasCleanDisk}
@@ -23,7 +23,7 @@ pub returns-in-Err-clause-audits : goal.returns-in-Err-clause-audits
 returns-in-Err-clause-audits g c = (
   [],
   Appends-nil (g.W.Outlet.taken c.args.lines.now),
-  audits_none (state g.S.Store c.args.connection) (state g.S.Store c.in-Err.connection) (record { back = λ is_open. inr (c.in-Err.ensures.left is_open); stop = c.in-Err.ensures.stop }),
+  audits_none (state g.S.Store c.args.connection) (state g.S.Store c.in-Err.connection) (record { kept = c.in-Err.ensures.left; stop = c.in-Err.ensures.stop }),
 )
 
 pub returns-in-Ok-clause-honest : goal.returns-in-Ok-clause-honest

@@ -1,4 +1,4 @@
-use Rattle.std.proofs.Common.{IsTrue, inl, inr, sym, subst}
+use Rattle.std.proofs.Common.{IsTrue, inl, sym, subst}
 use Rattle.sqlite.specs.Held.{Held, state}
 use Rattle.sqlite.specs.State.{HasCleanDisk}
 use Rattle.sqlite.proofs.StateLemmas.{clean_if_open}
@@ -44,7 +44,7 @@ returns-in-Err-new-clause-open g c is_open =
 
 pub returns-in-Err-clause-exports : goal.returns-in-Err-clause-exports
 returns-in-Err-clause-exports g c =
-    exports_none (state g.S.Store c.args.connection) (state g.S.Store c.in-Err.connection) (record { back = λ is_open. inr (c.in-Err.ensures.left is_open); stop = c.in-Err.ensures.stop }) c.args.object
+    exports_none (state g.S.Store c.args.connection) (state g.S.Store c.in-Err.connection) (record { kept = c.in-Err.ensures.left; stop = c.in-Err.ensures.stop }) c.args.object
 
 pub returns-in-Err-clause-honest : goal.returns-in-Err-clause-honest
 returns-in-Err-clause-honest g c = c.in-Err.ensures.honest

@@ -8,7 +8,7 @@ pub returns-in-Ok : goal.returns-in-Ok
 returns-in-Ok g c = record {
   hosts = over_hub g.S.Store (λ h is_open. clean_if_open (g.S.Store.view h.store) (g.met.S.Store.shut_if_dirty h.store) is_open)
       (λ h is_open trees may. g.met.S.Store.settled h.store trees is_open may) c.args.connection c.args.config c.in-Ok.hub
-      (record { configured = c.in-Ok.ensures.config; fresh = c.in-Ok.ensures.fresh; again = c.in-Ok.ensures.again })
+      (record { configured = c.in-Ok.ensures.config; checked = c.in-Ok.ensures.checked; fresh = c.in-Ok.ensures.fresh; again = c.in-Ok.ensures.again })
       g.R.Source.unread g.K.Sink.taken g.P.Spool.held g.P.Spool.size
       c.serve_hub-outcome.result.1 c.close.result c.serve_hub-outcome.ensures.ends.0 c.serve_hub-outcome.result.0 (c.close.ensures ∙ c.into_store.ensures ∙ ap (λ (a : HashingStore _). a.store) c.into_archive.ensures) c.host_limits.ensures
       c.serve_hub-outcome.ensures.ends.1 c.serve_hub-outcome.ensures.ends.2;
@@ -21,5 +21,5 @@ returns-in-Err g c =
       hosts = without_hub g.S.Store g.R.Source.unread g.K.Sink.taken g.P.Spool.held g.P.Spool.size
           (λ h is_open. clean_if_open (g.S.Store.view h.store) (g.met.S.Store.shut_if_dirty h.store) is_open)
           (λ h is_open trees may. g.met.S.Store.settled h.store trees is_open may) c.args.config c.args.connection it.connection
-          it.fault it.ensures.left it.ensures.kept it.ensures.refused it.ensures.stop refl c.outcome.result c.outcome.ensures;
+          it.fault it.ensures.checked it.ensures.left it.ensures.refused it.ensures.kept it.ensures.stop refl c.outcome.result c.outcome.ensures;
     }

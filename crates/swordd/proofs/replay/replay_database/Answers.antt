@@ -20,7 +20,7 @@ returns-in-Err-clause-replays g c none clean =
     let at = wire_of g.R.Inlet g.W.Outlet g.W.Flush.held g.W.Flush.has_failed c.args.reader.now c.args.writer.now in
     subst (λ (o : Outcome). Replays c.args.setting.base.now c.args.setting.moment at at o) (sym c.outcome.ensures)
     (not_replayed c.args.setting.base.now c.args.setting.moment at c.in-Err.fault
-    (λ same checked. c.in-Err.ensures.refused same (subst (λ (x : Config). IsChecked x) (sym c.in-Ok.ensures) checked)))
+    (λ same checked. (c.in-Err.ensures.refused same).0 (subst (λ (x : Config). IsChecked x) (sym c.in-Ok.ensures) checked)))
 
 pub returns-in-Ok-open_hub-clause-replays : goal.returns-in-Ok-open_hub-clause-replays
 returns-in-Ok-open_hub-clause-replays g c none clean =

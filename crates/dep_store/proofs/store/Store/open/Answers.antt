@@ -11,7 +11,7 @@ use Rattle.dep_store.proofs.Older.{never_unknown, one_left, tells_older, known_s
 use Rattle.dep_schema.specs.OpenFaults.{begun, ShowsOrMakes}
 use Rattle.dep_schema.specs.Standing.{Stands, first_tables}
 use Rattle.dep_files.proofs.Told.{passed_on}
-use Rattle.dep_store.proofs.opening.open_tables.Goals as goal
+use Rattle.dep_store.proofs.store.Store.open.Goals as goal
 
 pub returns-then-version-eq2 : goal.returns-then-version-eq2
 returns-then-version-eq2 g c =
@@ -20,7 +20,7 @@ returns-then-version-eq2 g c =
     let new = state g.S.Store c.in_ok-schema.schema.connection in
     let did = c.in_ok-schema.ensures in
     let two : c.in_ok-schema.schema.found ≡ our_version = omega (arith, c.if-version-eq2.true, c.version-version.ensures) in
-    record {
+    rw c.over.ensures record {
       fresh = λ clean none. record { tables = first_tables; stands = (did.fresh clean none).0; means = first_means };
       found = λ clean s left. elim (opened_stood old new c.in_ok-schema.schema.found s (did.found clean) left) [
         | inl it ↦ it.1
@@ -54,7 +54,7 @@ returns-in-Ok g c =
     let moved = c.in-Ok.ensures in
     let it = moved.migrates in
     let one = one_left found did.known (λ two. omega (arith, two, c.if-version-eq2.false, c.version-version.ensures)) in
-    record {
+    rw c.over-in-Ok.ensures record {
       -- an empty database has version 2
       fresh = λ clean none. absurd (not_older (sym (did.fresh (it.honest clean) none).1 ∙ one));
       found = λ clean s left. elim (opened_stood old mid found s (did.found (it.honest clean)) left) [

@@ -5,7 +5,7 @@ use Rattle.sqlite.proofs.StateLemmas.{clean_if_open}
 use Rattle.dep_tables.proofs.Results.{if_err, ok_then}
 use Rattle.dep_files.proofs.Told.{passed_on}
 use Rattle.dep_store.proofs.Migrated.{not_computed, was_tried, kept_back, back_behind}
-use Rattle.dep_store.proofs.opening.migrate.Goals as goal
+use Rattle.dep_store.proofs.migrating.migrate.Goals as goal
 
 -- the values were not computed
 pub returns-in_err-values : goal.returns-in_err-values
