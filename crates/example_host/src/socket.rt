@@ -2,7 +2,7 @@
 
 use crate::client::Client;
 use crate::fate::Fate;
-use dep_outbox::{Delivered, Received, Sink, Source};
+use dep_outbox::{Delivered, Halts, Received, Sink, Source};
 use example_text::{Exchange, Trouble};
 use std::alloc::{AllocError, Global};
 use std::cell::RefCell;
@@ -12,6 +12,8 @@ use std::rc::Rc;
 #[derive(Drop)]
 pub struct Shared {
     client: Rc<RefCell<Client>>,
+    /// How often this half gave or took no byte.
+    halts: Halts,
 }
 
 impl Shared {
@@ -19,6 +21,7 @@ impl Shared {
     pub fn new(alloc: Global, client: Client) -> Result<Shared, AllocError> {
         Ok(Shared {
             client: Rc::new(alloc, RefCell::new(client))?,
+            halts: Halts::new(),
         })
     }
 
@@ -26,6 +29,7 @@ impl Shared {
     pub fn share(&self) -> Result<Shared, AllocError> {
         Ok(Shared {
             client: Rc::clone(&self.client)?,
+            halts: Halts::new(),
         })
     }
 
@@ -61,20 +65,28 @@ impl Shared {
 }
 
 impl Source for Shared {
+    ghost halts = { λ s. s.halts };
+
     fn receive(&mut self, room: &mut [u8]) -> Received {
-        match self.client.try_borrow_mut() {
+        let received = match self.client.try_borrow_mut() {
             Ok(mut client) => client.receive(room),
             Err(_) => Received::Failed,
-        }
+        };
+        self.halts.count_received(received);
+        received
     }
 }
 
 impl Sink for Shared {
+    ghost halts = { λ s. s.halts };
+
     fn send(&mut self, bytes: &[u8]) -> Delivered {
-        match self.client.try_borrow_mut() {
+        let delivered = match self.client.try_borrow_mut() {
             Ok(mut client) => client.send(bytes),
             Err(_) => Delivered::Failed,
-        }
+        };
+        self.halts.count_delivered(delivered);
+        delivered
     }
 
     fn finish(&mut self) {

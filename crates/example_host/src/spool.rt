@@ -14,6 +14,8 @@ pub struct MemorySpool {
     client: Shared,
     bytes: Vec<u8>,
     begin: usize,
+    /// How often it failed, up to 2^64 - 1.
+    failures: u64,
     ghost within: { begin ≤ length bytes.items },
 }
 
@@ -26,6 +28,7 @@ impl MemorySpool {
             client,
             bytes: Vec::new(alloc),
             begin: 0,
+            failures: 0,
         }
     }
 }
@@ -36,6 +39,8 @@ impl Spool for MemorySpool {
     ghost held = { λ s. Some (drop s.begin s.bytes.items) };
 
     ghost size = { λ s. length s.bytes.items - s.begin };
+
+    ghost failures = { λ s. s.failures };
 
     #[tactic(auto, using(crate::proofs::ByteLemmas::left_counted))]
     fn is_empty(&self) -> bool {
@@ -49,6 +54,7 @@ impl Spool for MemorySpool {
         }
         let room = self.client.spool().saturating_sub(self.bytes.len());
         if bytes.len() > room || self.bytes.extend_from_slice(bytes).is_err() {
+            self.failures = self.failures.saturating_add(1);
             return Err(SpoolFailed);
         }
         Ok(())
@@ -58,6 +64,7 @@ impl Spool for MemorySpool {
     fn pull(&mut self, into: &mut Vec<u8>) -> Result<(), SpoolFailed> {
         let end = self.begin.saturating_add(AT_ONCE).min(self.bytes.len());
         if self.begin >= end {
+            self.failures = self.failures.saturating_add(1);
             return Err(SpoolFailed);
         }
         match into.extend_from_slice(&self.bytes[self.begin..end]) {
@@ -65,7 +72,10 @@ impl Spool for MemorySpool {
                 self.begin = end;
                 Ok(())
             }
-            Err(_) => Err(SpoolFailed),
+            Err(_) => {
+                self.failures = self.failures.saturating_add(1);
+                Err(SpoolFailed)
+            }
         }
     }
 }

@@ -19,6 +19,7 @@ use Rattle.dep_hub.specs.declared.faults.HubFault.TheVariants as refused_by
 use Rattle.dep_hub.specs.Records.{Record, Run, stops, stopped, first_world}
 use Rattle.dep_hub.specs.Records as records_of
 use Rattle.dep_hub.specs.declared.hub.Hub.{Hub}
+use Rattle.dep_host.specs.Causes.{Causes}
 use Rattle.dep_host.specs.Hosting.{Deed}
 use Rattle.dep_host.specs.Runs.{StandsBehind}
 use Rattle.dep_host.specs.Runs as runs
@@ -57,14 +58,14 @@ module _ {S : Type 0} (g : Ghosts S) (clean : (h : Held S) → IsTrue (state g h
             (it.behind is_open first records (is.again (it.honest (clean it.new.store.archive.store is_open)) found left first records run));
       })
 
-  module _ {R K P : Type 0} (unread : R → Option (List ℕ)) (taken : K → Option (List ℕ)) (held : P → Option (List ℕ)) (size : P → ℕ) where
+  module _ {R K P : Type 0} (unread : R → Option (List ℕ)) (taken : K → Option (List ℕ)) (held : P → Option (List ℕ)) (size : P → ℕ) (causes : Causes R K P) where
     -- what was done over the hub is done over its database
     pub over_hub : {before after : Doorway R K P} {limits : Limits} {bounds : Bounds} {log_before log_after : StandardErrorLog} (store : HostStore S) (back : Held S) (deeds : List Deed) (outcome : Outcome) → back ≡ store.archive.store
-        → bounds ≡ host_limits limits → EndsHub (condition_of g) (account_of g) unread taken held size unshown before after log_before log_after bounds opened store deeds outcome → WentOn (condition_of g) opened store deeds
-        → HostsDatabase g unread taken held size before after limits config given back outcome
+        → bounds ≡ host_limits limits → EndsHub (condition_of g) (account_of g) unread taken held size causes unshown before after log_before log_after bounds opened store deeds outcome → WentOn (condition_of g) opened store deeds
+        → HostsDatabase g unread taken held size causes before after limits config given back outcome
     over_hub {before = before} {after = after} {limits = limits} {log_before = log_before} {log_after = log_after} store back deeds outcome same bounded it went =
         hosts opened store deeds log_before log_after
-        (subst (λ (b : Bounds). EndsHub (condition_of g) (account_of g) unread taken held size unshown before after log_before log_after b opened store deeds outcome) bounded it)
+        (subst (λ (b : Bounds). EndsHub (condition_of g) (account_of g) unread taken held size causes unshown before after log_before log_after b opened store deeds outcome) bounded it)
         is same (subst (λ (h : Held S). IsHosted config (state g given) (state g h) deeds) (sym same) (hosted_by store deeds went))
 
 -- nobody was served
@@ -87,7 +88,7 @@ stays config d s first records settled stands went =
           );
     }
 
-module _ {S R K P : Type 0} (g : Ghosts S) (unread : R → Option (List ℕ)) (taken : K → Option (List ℕ)) (held : P → Option (List ℕ)) (size : P → ℕ)
+module _ {S R K P : Type 0} (g : Ghosts S) (unread : R → Option (List ℕ)) (taken : K → Option (List ℕ)) (held : P → Option (List ℕ)) (size : P → ℕ) (causes : Causes R K P)
     (clean : (h : Held S) → IsTrue (state g h).is_open → HasCleanDisk (state g h)) (settled : (h : Held S) → IsTrue (state g h).is_open → IsSettled (state g h))
     (config : Config) (given back : Held S) where
   unserved : IsStore (state g given) (state g back) → IsHosted config (state g given) (state g back) []
@@ -99,7 +100,7 @@ module _ {S R K P : Type 0} (g : Ghosts S) (unread : R → Option (List ℕ)) (t
   without : {before after : Doorway R K P} {limits : Limits} (why : StartFault) → ((f : OpenFault) → why ≡ fault.Open f → IsChecked config)
       → ((f : OpenFault) → why ≡ fault.Open f → IsTrue (state g back).is_open → Keeps (state g given) (state g back))
       → RefusesConfig config given (why, back) → (why ≡ fault.Hub refused_by.Memory → IsGivenOrStore g config given back) → OpeningLeaves config (state g given) (state g back) → after ≡ before
-      → HostsDatabase g unread taken held size before after limits config given back (outcome_of_start why)
+      → HostsDatabase g unread taken held size causes before after limits config given back (outcome_of_start why)
   without (fault.Open f) checked left refuses kept stop alone = not_opened (checked f refl) (left f refl) stop alone
   without (fault.Hub refused_by.Config) checked left refuses kept stop alone = let it = refuses refl in not_checked it.0 it.1 alone
   without (fault.Hub refused_by.Memory) checked left refuses kept stop alone =
@@ -112,6 +113,6 @@ module _ {S R K P : Type 0} (g : Ghosts S) (unread : R → Option (List ℕ)) (t
   pub without_hub : {before after : Doorway R K P} {limits : Limits} (why : StartFault) → ((f : OpenFault) → why ≡ fault.Open f → IsChecked config)
       → ((f : OpenFault) → why ≡ fault.Open f → IsTrue (state g back).is_open → Keeps (state g given) (state g back))
       → RefusesConfig config given (why, back) → (why ≡ fault.Hub refused_by.Memory → IsGivenOrStore g config given back) → OpeningLeaves config (state g given) (state g back) → after ≡ before
-      → (outcome : Outcome) → outcome ≡ outcome_of_start why → HostsDatabase g unread taken held size before after limits config given back outcome
+      → (outcome : Outcome) → outcome ≡ outcome_of_start why → HostsDatabase g unread taken held size causes before after limits config given back outcome
   without_hub {before = before} {after = after} {limits = limits} why checked left refuses kept stop alone outcome same =
-      subst (λ (o : Outcome). HostsDatabase g unread taken held size before after limits config given back o) (sym same) (without why checked left refuses kept stop alone)
+      subst (λ (o : Outcome). HostsDatabase g unread taken held size causes before after limits config given back o) (sym same) (without why checked left refuses kept stop alone)

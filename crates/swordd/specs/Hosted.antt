@@ -20,6 +20,7 @@ use Rattle.dep_store.specs.Starting.{OpeningLeaves}
 use Rattle.dep_hub.specs.Records.{World, Record, Run, first_world, stopped}
 use Rattle.dep_hub.specs.Standing.{StandsAfter, IsHonest}
 use Rattle.dep_hub.specs.declared.hub.Hub.{Hub}
+use Rattle.dep_host.specs.Causes.{Causes}
 use Rattle.dep_host.specs.Hosting.{Deed}
 use Rattle.dep_host.specs.Runs.{Follows}
 use Rattle.dep_host.specs.Notes.{Note}
@@ -96,15 +97,15 @@ host_limits limits = record {
 }
 
 module _ {S R K P : Type 0} (g : Ghosts S) (unread : R → Option (List ℕ)) (taken : K → Option (List ℕ))
-    (held : P → Option (List ℕ)) (size : P → ℕ) where
+    (held : P → Option (List ℕ)) (size : P → ℕ) (causes : Causes R K P) where
   -- how serving many clients from a database ends, by a door, and what it does
   pub data HostsDatabase (before after : Doorway R K P) (limits : Limits) (config : Config)
       (given back : Held S) : Outcome → Type 0 where
     -- it was served from a hub over the store, and the machine went on with what was done
     hosts : {outcome : Outcome} (hub : Hub (HostStore S)) (left : HostStore S) (deeds : List Deed)
         (log_before log_after : StandardErrorLog)
-        → EndsHub (condition_of g) (account_of g) unread taken held size unshown before after
-        log_before log_after (host_limits limits) hub left deeds outcome
+        → EndsHub (condition_of g) (account_of g) unread taken held size causes unshown before
+        after log_before log_after (host_limits limits) hub left deeds outcome
         → IsOpened g config (state g given) hub
         → back ≡ left.archive.store
         → IsHosted config (state g given) (state g back) deeds
@@ -148,12 +149,13 @@ pub record IsEntranceOf (place : Place) (entrance : Entrance) : Type 0 where
 -- which hold no more than they may
 pub record ServesPlace {S D R K P : Type 0} (g : Ghosts S) (unread : R → Option (List ℕ))
     (taken : K → Option (List ℕ)) (held : P → Option (List ℕ)) (size : P → ℕ)
-    (shown : D → Doorway R K P) (entrance : D → Entrance) (folder : D → List ℕ) (most : D → ℕ)
-    (place : Place) (config : Config) (given back : Held S) (outcome : Outcome) : Type 0 where
+    (causes : Causes R K P) (shown : D → Doorway R K P) (entrance : D → Entrance)
+    (folder : D → List ℕ) (most : D → ℕ) (place : Place) (config : Config)
+    (given back : Held S) (outcome : Outcome) : Type 0 where
   pub before : D
   pub after : D
   pub comes_in : IsEntranceOf place (entrance before)
   pub in_folder : folder before ≡ place.spool_folder
   pub within : most before ≡ place.limits.spool_bytes
-  pub hosts : HostsDatabase g unread taken held size (shown before) (shown after) place.limits
-      config given back outcome
+  pub hosts : HostsDatabase g unread taken held size causes (shown before) (shown after)
+      place.limits config given back outcome

@@ -1,6 +1,7 @@
 //! A store in a file, served at an address.
 ghost use Rattle.std.specs.Prelude.{◌≡◌, false};
 ghost use Rattle.sqlite.specs.Held.{state};
+ghost use Rattle.dep_host.specs.Causes.{causes_of};
 ghost use Rattle.dep_sockets.specs.Doors.{doorway};
 ghost use Rattle.swordd.specs.Hosted.{HostsDatabase, IsEntranceOf, IsPlaceOf, host_limits};
 
@@ -136,14 +137,18 @@ fn fails(rt: &HostRuntime, what: &str) -> Outcome {
 }
 
 impl Work for Service<'_> {
+    ghost use Rattle.dep_host.specs.Causes.{causes_of};
     ghost use Rattle.dep_sockets.specs.Doors.{doorway};
     ghost use Rattle.swordd.specs.Hosted.{ServesPlace};
 
     ghost does = { λ it S g given back.
         let door = ⟦<HostDoor as Door<SocketSource, SocketSink, HostSpool>>⟧ in
         let spool = ⟦<HostSpool as Spool>⟧ in
-        ServesPlace g ⟦<SocketSource as Source>⟧.unread ⟦<SocketSink as Sink>⟧.taken
-        spool.held spool.size (doorway door.given door.is_open door.is_over door.is_cut)
+        let source = ⟦<SocketSource as Source>⟧ in
+        let sink = ⟦<SocketSink as Sink>⟧ in
+        ServesPlace g source.unread sink.taken spool.held spool.size
+        (causes_of source.halts sink.halts spool.failures)
+        (doorway door.given door.is_open door.is_over door.is_cut)
         (λ d. d.entrance) (λ d. d.spools.now.folder.now) (λ d. d.spools.now.most)
         it.place it.config given back };
 
@@ -180,7 +185,8 @@ fn host_database<S: Alter, R: Source + Drop, K: Sink + Drop, P: Spool + Drop, E:
     requires settled { (state S.Store connection).in_transaction ≡ false }
     ensures hosts { let at = doorway E.given E.is_open E.is_over E.is_cut in
         HostsDatabase S.Store R.unread K.taken P.held P.size
-        (at door.old) (at door.new) place.now.limits config connection result.1 result.0 }
+        (causes_of R.halts K.halts P.failures) (at door.old) (at door.new) place.now.limits config
+        connection result.1 result.0 }
 {
     let reserve = LoggedReserve::of(rt, place);
     match open_reserved_hub(rt.alloc(), config, connection, reserve) {

@@ -1,5 +1,6 @@
 use Rattle.std.proofs.Common.{ap, refl, ◌∙◌}
 use Rattle.sqlite.proofs.StateLemmas.{clean_if_open}
+use Rattle.dep_host.specs.Causes.{causes_of}
 use Rattle.dep_store.specs.declared.archive.HashingStore.{HashingStore}
 use Rattle.swordd.proofs.HostedLemmas.{over_hub, without_hub}
 use Rattle.swordd.proofs.hosting.host_database.Goals as goal
@@ -9,7 +10,7 @@ returns-in-Ok g c = record {
   hosts = over_hub g.S.Store (λ h is_open. clean_if_open (g.S.Store.view h.store) (g.met.S.Store.shut_if_dirty h.store) is_open)
       (λ h is_open trees may. g.met.S.Store.settled h.store trees is_open may) c.args.connection c.args.config c.in-Ok.hub
       (record { configured = c.in-Ok.ensures.config; checked = c.in-Ok.ensures.checked; fresh = c.in-Ok.ensures.fresh; again = c.in-Ok.ensures.again })
-      g.R.Source.unread g.K.Sink.taken g.P.Spool.held g.P.Spool.size
+      g.R.Source.unread g.K.Sink.taken g.P.Spool.held g.P.Spool.size (causes_of g.R.Source.halts g.K.Sink.halts g.P.Spool.failures)
       c.serve_hub-outcome.result.1 c.close.result c.serve_hub-outcome.ensures.ends.0 c.serve_hub-outcome.result.0 (c.close.ensures ∙ c.into_store.ensures ∙ ap (λ (a : HashingStore _). a.store) c.into_archive.ensures) c.host_limits.ensures
       c.serve_hub-outcome.ensures.ends.1 c.serve_hub-outcome.ensures.ends.2;
 }
@@ -18,7 +19,7 @@ pub returns-in-Err : goal.returns-in-Err
 returns-in-Err g c =
     let it = c.in-Err in
     record {
-      hosts = without_hub g.S.Store g.R.Source.unread g.K.Sink.taken g.P.Spool.held g.P.Spool.size
+      hosts = without_hub g.S.Store g.R.Source.unread g.K.Sink.taken g.P.Spool.held g.P.Spool.size (causes_of g.R.Source.halts g.K.Sink.halts g.P.Spool.failures)
           (λ h is_open. clean_if_open (g.S.Store.view h.store) (g.met.S.Store.shut_if_dirty h.store) is_open)
           (λ h is_open trees may. g.met.S.Store.settled h.store trees is_open may) c.args.config c.args.connection it.connection
           it.fault it.ensures.checked it.ensures.left it.ensures.refused it.ensures.kept it.ensures.stop refl c.outcome.result c.outcome.ensures;
