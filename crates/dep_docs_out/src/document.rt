@@ -8,6 +8,7 @@ ghost use Rattle.dep_docs_out.specs.Made.{MakesText};
 ghost use Rattle.dep_docs_out.specs.Json as spec;
 ghost use Rattle.dep_docs_out.specs.Json.{Adds, AddsItems, AddsMember, nothing};
 
+use crate::spelled_moment::SpelledMoment;
 use dep_moment::Moment;
 use itoa::Buffer;
 use json::Writer;
@@ -23,6 +24,8 @@ pub(crate) const CONTEXT: &str = "https://swordapp.github.io/swordv3/swordv3.jso
 pub(crate) struct Document {
     out: Writer,
     has_failed: bool,
+    // The moment that was added last. Many files come at one moment, which is spelled once.
+    last: Option<SpelledMoment>,
 }
 
 impl Model for Document {
@@ -46,6 +49,7 @@ impl Document {
         let mut document = Document {
             out: Writer::new(Vec::with_capacity(alloc, 1024)?),
             has_failed: false,
+            last: None,
         };
         document.begin_object();
         Ok(document)
@@ -131,11 +135,9 @@ impl Document {
     pub fn moment(&mut self, name: &str, moment: Moment)
         ensures { AddsMember self.old self.new name.now (spec.text (rfc3339_text moment)) }
     {
-        let bytes = moment.rfc3339();
-        let Ok(text) = str::from_utf8(&bytes) else {
-            unreachable!();
-        };
-        self.text(name, text);
+        let spelled = SpelledMoment::behind(self.last, moment);
+        self.last = Some(spelled);
+        self.text(name, spelled.as_str());
     }
 
     /// Adds a member that is a whole number.

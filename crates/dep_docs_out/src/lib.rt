@@ -7,6 +7,7 @@ mod error;
 pub mod laws;
 mod metadata;
 mod service;
+mod spelled_moment;
 mod status;
 mod upload;
 mod urls;

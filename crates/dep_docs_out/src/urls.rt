@@ -6,11 +6,16 @@ use dep_types::Config;
 use itoa::Buffer;
 use std::alloc::{AllocError, Global};
 
-/// Returns the URL with this path: the base with the path behind it.
+/// So many octets has the longest path behind the base: that of a file, where each number has 20 digits.
+const LONGEST_PATH: usize = 56;
+
+/// Returns the URL with this path: the base with the path behind it. It has room for all that a path can go on with.
 pub(crate) fn url(alloc: Global, config: &Config, path: &str) -> Result<String, AllocError>
     ensures { MakesText result (url config.now path.now) }
 {
-    let mut text = String::from_str(alloc, config.base.as_str())?;
+    let base = config.base.as_str();
+    let mut text = String::with_capacity(alloc, base.len().saturating_add(LONGEST_PATH))?;
+    text.push_str(base)?;
     text.push_str(path)?;
     Ok(text)
 }
