@@ -78,10 +78,7 @@ fn declared(alloc: Global) -> Result<Answer, AllocError>
     ensures { IfOk result (λ a. a ≡ answer 200 (Some (PlainText bagit_text)) None None) }
 {
     let text = Octets::from_vec(declaration(alloc)?);
-    Ok(Answer::showing(
-        Status::Ok,
-        ReplyText::new(Form::PlainText, text),
-    ))
+    Ok(Answer::showing(Status::Ok, ReplyText::new(Form::PlainText, text)))
 }
 
 // The metadata of an object, as it stands in the object's bag.
