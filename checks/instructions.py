@@ -86,6 +86,7 @@ KINDS = {
     "GET an object of 100 files": (FULL, lambda _: request("GET", "/objects/1")),
     "GET the list of a bag of 100": (FULL, lambda _: request("GET", "/objects/1/bag")),
     "GET a manifest of 100": (FULL, lambda _: request("GET", "/objects/1/bag/manifest-sha256.txt")),
+    "GET the bagit.txt of 100": (FULL, lambda _: request("GET", "/objects/1/bag/bagit.txt")),
     "GET a payload of 1 KiB of 100": (FULL, lambda _: request("GET", "/objects/1/bag/data/1/a.txt")),
 }
 
