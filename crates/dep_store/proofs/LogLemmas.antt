@@ -20,10 +20,10 @@ noted false true None old new is due = inr (refl, refl)
 noted false true (Some r) old new is due = inl (sym (ap has_call is) ∙ due)
 
 -- a request that was noted made the log long, or nothing fell due
-pub note_falls_due : {E : Type 0} (op : Operation) (p : Performed) (old new : LogCopy)
+pub note_falls_due : (E : Type 0) (op : Operation) (p : Performed) (old new : LogCopy)
     → new ≡ (if writes_much op && not (is_some p.refusal) then DueAfter 3 else old)
-    → FallsDue {E} (has_call old) (has_call new) op (Ok p)
-note_falls_due op p old new is due =
+    → FallsDue {E = E} (has_call old) (has_call new) op (Ok p)
+note_falls_due E op p old new is due =
     noted (is_safe op.target.method) (nat_le 4194304 (length op.content) || is_by_reference op.fields.disposition) p.refusal old new is due
 
 -- a call in which the log was copied

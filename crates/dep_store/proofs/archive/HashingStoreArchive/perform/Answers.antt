@@ -67,4 +67,4 @@ returns-clause-commits g c =
     let op = c.args.operation.now in
     let done : Result Performed StoreFault = Ok c.in_ok-performed.performed in
     subst (λ (l : LogCopy). FallsDue (has_call l) (has_call c.note-2.new.self) op done) c.note.ensures.log_copy
-    (note_falls_due op c.in_ok-performed.performed _ _ c.note-2.ensures)
+    (note_falls_due StoreFault op c.in_ok-performed.performed _ _ c.note-2.ensures)
