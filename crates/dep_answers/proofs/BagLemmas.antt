@@ -1,5 +1,5 @@
 -- What stands at the paths of a bag.
-use Rattle.std.proofs.Common.{◌≡◌, ℕ, Bool, true, false, ◌||◌, codes, cond, List, [], ◌∷◌, ◌++◌, Option, Some, None, refl, sym, ap, ◌∙◌, map as each, All}
+use Rattle.std.proofs.Common.{◌≡◌, ℕ, Bool, true, false, codes, cond, List, [], ◌∷◌, ◌++◌, Option, Some, None, refl, sym, ap, ◌∙◌, map as each, All}
 use Rattle.std.specs.Prelude.{find, bytes_eq, option_map}
 use Rattle.std.specs.Cmp.{nat_cmp_total}
 use Rattle.std.specs.FinMap as finmap

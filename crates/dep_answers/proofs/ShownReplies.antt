@@ -3,9 +3,8 @@ use Rattle.std.proofs.Common.{◌≡◌, ℕ, List, Option, Some, None, refl, sy
 use Rattle.std.specs.Option.{option_map, option_map_or, option_and_then}
 use Rattle.std.specs.FinMap as finmap
 use Rattle.dep_types.specs.State.{State, Object, File, file_at}
-use Rattle.dep_types.specs.Rows.{file_row, object_view}
+use Rattle.dep_types.specs.Rows.{file_row}
 use Rattle.dep_types.specs.declared.rows.FileRow.{FileRow}
-use Rattle.dep_types.specs.declared.rows.ObjectView.{ObjectView}
 use Rattle.dep_types.specs.declared.config.Config.{Config}
 use Rattle.dep_types.specs.declared.target.Resource.{Resource}
 use Rattle.dep_answers.specs.Answers.{Answer, StoredContent, answer, is_silent}

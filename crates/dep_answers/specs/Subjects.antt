@@ -1,5 +1,5 @@
 -- What has to be read of the archive for a reply, and what is read.
-use Rattle.std.specs.Prelude.{ℕ, ◌-◌, List, [], Option, Some, None}
+use Rattle.std.specs.Prelude.{ℕ, ◌-◌, List, [], Option, Some}
 use Rattle.std.specs.Option.{option_map_or}
 use Rattle.std.specs.FinMap as finmap
 use Rattle.dep_types.specs.State.{State, Object as Kept, file_at}
