@@ -1,6 +1,5 @@
 //! Replies that show the bag of an object (RFC 8493).
 ghost use Rattle.std.specs.Prelude.{◌≡◌, ℕ, IfOk, IfSome, Some, None};
-ghost use Rattle.std.specs.FinMap as map;
 ghost use Rattle.dep_types.specs.State.{State};
 ghost use Rattle.dep_types.specs.Sound.{IsSound};
 ghost use Rattle.dep_docs_out.specs.Documents.{bag_metadata_document};
