@@ -38,6 +38,8 @@ UPLOADS = (0, 100, 1000)
 MOST_TIMES = 1.5
 # So many segments an upload has before it is measured, twice at most.
 SEGMENTS = (10, 10_000 - 2 * (WARM_UP + ROUNDS))
+# Behind a start each request has up to four blocks hashed that were uploaded before: so many come to the end of that.
+BEHIND_START = 6_000
 LARGE_OPENING = as_upload(1_000_000, 10_000, 100)
 SEGMENT_ROWS = (
     "segments SELECT upload, n, size FROM numbers, segments WHERE number = 1",
@@ -112,6 +114,13 @@ def are_filled_as_served(room):
     expect("the rows of an upload that was filled", rows_of(filled), rows_of(served))
 
 
+def rest(stores):
+    """Asks each until nothing is left that it would hash ahead of a request."""
+    for it in stores:
+        for _ in range(BEHIND_START):
+            it.client.ask(200, "GET", "/service")
+
+
 def compare(stores, kinds, growths):
     """Measures, once more where it has to, and tells what grows. `growths` has a name for what a store has more of, and the
     places of the stores that have the least and the most of it."""
@@ -131,6 +140,7 @@ def compare_archives(stack, room):
     """Stores of more and more objects, and of more and more open uploads."""
     sizes = [(it, 0) for it in OBJECTS] + [(OBJECTS[0], it) for it in UPLOADS[1:]]
     stores = list(served_archives(stack, room, sizes))
+    rest(stores)
     print(f"{'microseconds at':<28}" + "".join(f"{n:>8,}" for n in OBJECTS) + " objects," + "".join(f"{n:>8,}" for n in UPLOADS[1:])
           + " uploads; growth with each")
     compare(stores, KINDS, [("objects", 0, 2), ("uploads", 0, 4)])
@@ -145,6 +155,7 @@ def compare_uploads(stack, room):
         folder = room()
         fill_segments(serve_segments(folder, 1), segments)
         stores.append(Segmented(stack.enter_context(Server(1, folder)), segments))
+    rest(stores)
     print(f"{'microseconds at':<28}" + "".join(f"{n:>8,}" for n in SEGMENTS) + " segments; growth")
     for kinds in (SEGMENT_KINDS, TICK):
         compare(stores, kinds, [("segments", 0, 1)])

@@ -34,7 +34,7 @@ class Acts:
         self.host = Host(folder).wait_until_it_listens()
 
     def restart(self, **settings):
-        self.host.stop()
+        self.host.kill()
         self.host = Host(self.folder, **settings).wait_until_it_listens()
 
     def client(self):
@@ -152,7 +152,6 @@ def main():
             if before:
                 before()
             acts.host.forget_peak()
-            began = time.monotonic()
             with Other(acts.host) as other:
                 began = time.monotonic()
                 act()
@@ -161,7 +160,7 @@ def main():
             longer += other.longest > most
             print(f"{line:<44} took {took:6.2f} s, others waited {other.longest:6.0f} ms of {most:5.0f}, {acts.host.peak():5.0f} MiB"
                   f"{'  LONGER' if other.longest > most else ''}", flush=True)
-        acts.host.stop()
+        acts.host.kill()
     print(f"hold: {longer} acts above their bound")
     return 1 if options.check and longer else 0
 
