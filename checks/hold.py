@@ -78,6 +78,16 @@ class Acts:
                 client.ask(200, "POST", path, b"x", as_file("a"))
         return path
 
+    def remake(self):
+        """A file of the size, in an object of its own."""
+        self.upload = self.send()
+        self.remade = self.deposit()
+
+    def remove(self, method, is_set):
+        """Puts a byte in the place of that file, or of its file set, or deletes it."""
+        path = f"{self.remade.rpartition('/')[0]}" if is_set else self.remade
+        self.ask(204, method, path, *((b"x", as_file("a")) if method == "PUT" else ()))
+
     def read_at_once(self):
         threads = [threading.Thread(target=self.ask, args=(200, "GET", self.file)) for _ in range(CLIENTS)]
         for it in threads:
@@ -123,6 +133,9 @@ class Acts:
         yield f"{CLIENTS} GETs of {size} at once", 0, kept, self.read_at_once
         yield f"GET of {size} that isn't read", 0, kept, self.leave_unread
         yield f"DELETE of its object, {size}", self.size, kept, lambda: self.ask(204, "DELETE", self.file.partition("/files")[0])
+        for method, is_set in (("PUT", False), ("DELETE", False), ("PUT", True), ("DELETE", True)):
+            yield (f"{method} of a file{' set' * is_set}, {size}", self.size, self.remake,
+                   lambda method=method, is_set=is_set: self.remove(method, is_set))
         yield f"metadata of {self.options.texts:,} texts", 3 * self.options.texts, None, described
         yield "HEAD of its object", 0, described, lambda: self.ask(200, "HEAD", self.described)
         for it in ("bagit.txt", "manifest-sha512.txt", "tagmanifest-sha256.txt"):

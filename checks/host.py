@@ -6,12 +6,12 @@
 Without PART all parts are played, one after another. Each has a line, and what came otherwise has one before it:
 
     busy         50 clients with deposits beside 300 that are silent, and the line of each request in the log
-    unread       20 clients that ask for 16 MiB three times at once, and don't read
+    unread       20 clients that ask for 16 MiB three times at once, and don't read, also while the file changes
     crowd        1,100 connections at once, where 1,024 have room
     slow         clients that are silent, send a byte now and then, or read so
     broken       one that stops in the midst of a segment, and comes back with the rest of the upload
     refused      a deposit that is too large, whose client goes on sending
-    spools       more bytes than the spools may have, and a folder of spools that is gone
+    spools       more bytes of a file that changes than the spools may have, and a folder of spools that is gone
     address      more connections from one address than it may have
     unfinished   more bytes of unfinished requests than there may be
     stopped      a host that is told to stop under the load of 20 clients, and opened again
@@ -20,6 +20,7 @@ Without PART all parts are played, one after another. Each has a line, and what 
     segments     uploads of segments of 7 to 16 MiB
     waits        what makes others wait no longer: a deposit of 64 MiB that is refused, 400,000 texts that nobody asked for, and
                  deposits of 41 uploads that a host had time to hash behind a restart
+    fair         ten clients that do what takes the host most, beside one that asks for the service document
     killed       a host that is killed under the load of 20 clients, and opened again
     examples     the example files over sockets, 50 examples at once over one store
     statuses     its names, what it prints of a configuration, each fault of one by its field, and each exit status

@@ -158,32 +158,48 @@ def look_at_log(host, asked):
 
 # ---- unread ----
 
-def ask_and_wait(host, path, times=1):
+def ask_and_wait(host, path, times=1, source=ADDRESS):
     """A client that asks for a file so often at once, and doesn't read."""
-    wire = host.connect(room=SMALL_ROOM)
+    wire = host.connect(source, room=SMALL_ROOM)
     wire.sendall((times - 1) * request_head(path) + request_head(path, "Connection: close\r\n"))
     return wire
 
 
+def contents_of(wire):
+    """The contents of all replies that come to a client, each of which is 200."""
+    came = read_to_end(wire)[0].split(b"HTTP/1.1 200 OK\r\n")
+    expect("what comes before the replies of the one that reads", came[0], b"")
+    return [it.partition(b"\r\n\r\n")[2] for it in came[1:]]
+
+
 def unread():
-    content, count, times = os.urandom(16 * MIB), 20, 3
+    content, other, count, times = os.urandom(16 * MIB), os.urandom(1000), 20, 3
     with Host(idle_seconds=600) as host:
         with Client(host) as client:
             path, _ = client.deposit(content)
         before = host.peak()
         lazy = [ask_and_wait(host, path, times) for _ in range(count)]
-        expect("whether each client has its spool", until(lambda: len(host.spools()) == count), True)
-        longest, spooled = are_served(host), sum(host.spools())
-        expect("whether the spools have more than one reply for each", spooled > count * (len(content) + 1000), False)
+        longest = are_served(host)
+        expect("whether what isn't read needs a spool", host.spools(), [])
+        expect(f"whether memory holds what they don't read: {host.peak():.0f} MiB", host.peak() > before + 64, False)
+        expect("whether one that reads gets every byte", contents_of(lazy.pop()) == times * [content], True)
+        # What is sent of a file that changes goes into spools, so that the change doesn't wait for those who don't read.
+        with Client(host) as client:
+            client.ask(204, "PUT", path, other, as_file("b"))
+            changed = client.longest
+        expect("whether each has its spool, once the file has changed", len(host.spools()), count - 1)
+        spooled = sum(host.spools())
+        expect("whether the spools have more than one reply for each", spooled > (count - 1) * (len(content) + 1000), False)
         expect("the names in the folder of spools", list(host.spool_folder.iterdir()), [])
-        expect(f"whether memory holds what they don't read: {host.peak():.0f} MiB", host.peak() > before + 100, False)
-        came = read_to_end(lazy[0])[0].split(b"HTTP/1.1 200 OK\r\n")
-        expect("what comes before the replies of the one that reads", came[0], b"")
-        expect("whether it gets every byte", [it.partition(b"\r\n\r\n")[2] == content for it in came[1:]], [True] * times)
+        longest = max(longest, are_served(host))
+        expect(f"whether memory holds what they don't read: {host.peak():.0f} MiB", host.peak() > before + 64, False)
+        expect("whether one gets what it asked for first, and then what is there",
+               contents_of(lazy.pop()) == [content] + (times - 1) * [other], True)
         for wire in lazy:
             wire.close()
         expect("whether the spools go with their connections", until(lambda: not host.spools()), True)
-        return f"{spooled / MIB:.0f} MiB in {count} spools, others waited {longest:.2f} s at most, {host.peak():.0f} MiB of memory"
+        return (f"a PUT of what {count - 1} don't read took {changed:.2f} s, {spooled / MIB:.0f} MiB in their spools, others waited "
+                f"{longest:.2f} s at most, {host.peak():.0f} MiB of memory")
 
 
 # ---- crowd ----
@@ -260,15 +276,14 @@ def drop_by_drop(host, began):
 
 
 def sip_by_sip(host, path, began):
-    """A client that reads some bytes now and then is closed: its spool is gone."""
-    with ask_and_wait(host, path) as wire:
-        expect("whether a client that doesn't read has a spool", until(host.spools), True)
-        ends = time.monotonic() + PATIENCE
-        while host.spools() and time.monotonic() < ends:
+    """A client that reads some bytes now and then is closed."""
+    with ask_and_wait(host, path, source=ELSEWHERE) as wire:
+        def is_closed():
             with contextlib.suppress(OSError):
                 wire.recv(20)
             time.sleep(0.5)
-        expect("whether a client that reads 40 bytes a second is closed", host.spools(), [])
+            return [it["reason"] for it in host.lines("closed") if it["peer"] == ELSEWHERE]
+        expect("why a client that reads 40 bytes a second is closed", until(is_closed) and is_closed(), ["slow"])
         return time.monotonic() - began
 
 
@@ -360,24 +375,30 @@ def fronts(lazy, content):
     return cut
 
 
+def put_over(host, path):
+    """Changes a file that clients are being sent. What they don't read goes into the spools, as far as these have room."""
+    with Client(host) as client:
+        client.ask(204, "PUT", path, b"x", as_file("x"))
+        return client.longest
+
+
 def spools():
     content, most, count = os.urandom(16 * MIB), 24 * MIB, 8
-    with Host(spool_bytes=most, idle_seconds=600) as host:
-        with Client(host) as client:
-            path, _ = client.deposit(content)
-        lazy = [ask_and_wait(host, path) for _ in range(count)]
-        longest = are_served(host)
+    with Host(spool_bytes=most, idle_seconds=600) as host, Client(host) as client:
+        paths = [client.deposit(content)[0] for _ in range(3)]
+        lazy = [ask_and_wait(host, paths[0]) for _ in range(count)]
+        longest = max(are_served(host), put_over(host, paths[0]))
         spooled = sum(host.spools())
         expect(f"whether the spools keep to their limit, {spooled / MIB:.1f} MiB", spooled <= most, True)
         cut = fronts(lazy, content)
         expect(f"whether some replies are cut, {cut}", 0 < cut < count, True)
         expect("whether the spools are gone", until(lambda: not host.spools()), True)
-        lazy = [ask_and_wait(host, path)]
-        longest = max(longest, are_served(host))
+        lazy = [ask_and_wait(host, paths[1])]
+        longest = max(longest, put_over(host, paths[1]))
         expect("how many are cut once there is room", fronts(lazy, content), 0)
         shutil.rmtree(host.spool_folder)
-        lazy = [ask_and_wait(host, path) for _ in range(4)]
-        longest = max(longest, are_served(host))
+        lazy = [ask_and_wait(host, paths[2]) for _ in range(4)]
+        longest = max(longest, are_served(host), put_over(host, paths[2]))
         gone = fronts(lazy, content)
         expect("how many are cut where the folder is gone", gone, 4)
         expect("the lines of the log for replies that were cut", host.reasons()["reply_cut"], cut + gone)

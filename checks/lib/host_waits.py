@@ -5,8 +5,9 @@ import os
 import tempfile
 import threading
 import time
+from concurrent.futures import ThreadPoolExecutor
 
-from depositing import JSON, Client, by_reference, exchange
+from depositing import JSON, Client, as_file, by_reference, exchange, first_file
 from expectations import expect
 from hosted import MIB, PATIENCE, Host, rest
 
@@ -49,18 +50,26 @@ SMALL, SMALL_SIZE, LITTLE = 40, 2 * MIB, 0.15
 
 
 class Other:
-    """A client that asks for the service document over and over, and notes how long it waited at most, in milliseconds."""
+    """A client that asks for the service document over and over, and notes how long it waited, in milliseconds."""
 
     def __init__(self, host):
-        self.host, self.longest, self.is_over = host, 0, threading.Event()
+        self.host, self.waits, self.is_over = host, [], threading.Event()
         self.thread = threading.Thread(target=self.go_on)
+
+    @property
+    def longest(self):
+        return max(self.waits, default=0)
+
+    def hundredth(self, number):
+        """So many hundredths of its requests waited no longer."""
+        return sorted(self.waits)[len(self.waits) * number // 100]
 
     def go_on(self):
         with Client(self.host, PATIENCE) as client:
             while not self.is_over.is_set():
                 began = time.monotonic()
                 exchange(client.connection, "GET", "/service")
-                self.longest = max(self.longest, 1000 * (time.monotonic() - began))
+                self.waits.append(1000 * (time.monotonic() - began))
                 time.sleep(0.001)
 
     def __enter__(self):
@@ -138,4 +147,37 @@ def waits():
             f"hashed behind a restart took {max(took):.2f} s")
 
 
-PARTS = {it.__name__: it for it in (segments, waits)}
+# ---- fair ----
+
+# So many milliseconds an eleventh client waits at most, but for one request in a hundred, beside ten who do so for so many seconds.
+FAIR, BUSY_CLIENTS, BUSY_SECONDS = 500, 10, 8
+
+
+def keeps_busy(host, number, ends):
+    """Does what takes the host most, over and over: each client one thing."""
+    content = os.urandom(SEGMENT_SIZE)
+    with Client(host, PATIENCE) as client:
+        reply, document = client.ask(201, "POST", "/service", content, as_file("a"))
+        path, file, count = host.path_of(reply.headers["Location"]), host.path_of(first_file(document)), 0
+        acts = [lambda: client.ask(201, "POST", "/service", content, as_file("a")), lambda: client.ask(200, "GET", file),
+                lambda: client.ask(204, "PUT", file, content, as_file("a")),
+                lambda: client.ask(200, "GET", f"{path}/bag/manifest-sha512.txt"),
+                lambda: client.ask(201, "POST", "/service", *by_reference({upload(client, content, SEGMENT_SIZE): "attachment; filename=b"}))]
+        while time.monotonic() < ends:
+            acts[number % len(acts)]()
+            count += 1
+        return count
+
+
+def fair():
+    with Host() as host:
+        with Other(host) as other, ThreadPoolExecutor(BUSY_CLIENTS) as pool:
+            ends = time.monotonic() + BUSY_SECONDS
+            counts = list(pool.map(lambda it: keeps_busy(host, it, ends), range(BUSY_CLIENTS)))
+        waited = other.hundredth(99)
+        expect(f"whether an eleventh client waits at most {FAIR} ms by the 99th hundredth, {waited:.0f} ms", waited <= FAIR, True)
+        return (f"beside {BUSY_CLIENTS} clients with {sum(counts)} large requests another waited {waited:.0f} ms by the 99th hundredth, "
+                f"{other.longest:.0f} ms at most")
+
+
+PARTS = {it.__name__: it for it in (segments, waits, fair)}
