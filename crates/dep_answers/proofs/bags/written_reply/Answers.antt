@@ -8,7 +8,7 @@ use Rattle.dep_answers.specs.declared.answer.Form.{Form}
 use Rattle.dep_answers.proofs.BagLemmas.{text_shown, file_shown, nothing_shown}
 use Rattle.dep_answers.proofs.NumberedReplies.{no_payload}
 use Rattle.dep_answers.proofs.ShownReplies.{nothing_said, says_as}
-use Rattle.dep_answers.proofs.bags.tag_file_reply.Goals as goal
+use Rattle.dep_answers.proofs.bags.written_reply.Goals as goal
 
 pub returns-in-Some-Bytes-clause-says : goal.returns-in-Some-Bytes-clause-says
 returns-in-Some-Bytes-clause-says c =
