@@ -11,6 +11,8 @@ use Rattle.dep_types.specs.declared.rows.ObjectView.{ObjectView}
 use Rattle.dep_types.specs.Sinks.{Entry}
 use Rattle.dep_docs_out.specs.Documents.{bag_metadata_document}
 use Rattle.dep_manifest.specs.TagFiles.{bagit_text}
+use Rattle.dep_manifest.specs.Manifest.{digest_by, manifest_of}
+use Rattle.dep_manifest.specs.declared.algorithm.Algorithm.{Algorithm}
 use Rattle.dep_manifest.specs.declared.algorithm.Algorithm.TheVariants.{Sha256, Sha512}
 use Rattle.dep_bag.specs.Parts.{tag_file_at, told_parts, told_part, text_part, stored_part}
 use Rattle.dep_bag.specs.declared.part.BagPart.{BagPart}
@@ -18,13 +20,13 @@ use Rattle.dep_bag.specs.declared.part.BagPart.TheVariants.{Bytes, Stored}
 use Rattle.dep_bag.specs.declared.part.TagFile.{TagFile}
 use Rattle.dep_bag.specs.declared.part.TagFile.TheVariants as tag
 use Rattle.dep_bag.proofs.Keys.{entries-held}
-use Rattle.dep_bag.specs.Bag.{tag_files, bag_files}
+use Rattle.dep_bag.specs.Bag.{tag_files, bag_files, listed_files, payload}
 use Rattle.dep_bag.proofs.Files.{payload_entry}
 use Rattle.dep_bag.proofs.TagFileParts.{part_of as at_tag_file, by_tag_file}
 use Rattle.dep_bag.proofs.ToldBag.{same_tag_files}
 use Rattle.dep_answers.specs.Answers.{Document, PlainText, ReplyContent, StoredContent, bytes_of}
 use Rattle.dep_answers.specs.Bags.{BagEntry, bag_entries, tags_shown, payload_shown, shown_in_bag}
-use Rattle.dep_answers.specs.Telling.{tag_view, view_by}
+use Rattle.dep_answers.specs.Telling.{IsTagView, tag_view, view_by}
 use Rattle.dep_answers.specs.Told.{content_of, form_at}
 
 -- a path, and what is shown there, if it is known
@@ -68,10 +70,10 @@ shown_files o = ap (λ (l : List Entry). tag_files o ++ l) (same_payload (finmap
 -- ---- what is read of an object shows what all of it does
 
 module _ (n : ℕ) (o : Object) (path : List ℕ) where
-  pub same_part : told_part (tag_view path n o) path ≡ told_part (object_view n o) path
-  same_part = sym (by_tag_file (tag_view path n o) path) ∙ (go (tag_file_at path) ∙ by_tag_file (object_view n o) path)
+  pub same_part : told_part (tag_view path n o false) path ≡ told_part (object_view n o) path
+  same_part = sym (by_tag_file (tag_view path n o false) path) ∙ (go (tag_file_at path) ∙ by_tag_file (object_view n o) path)
     where
-      go : (file : Option TagFile) → at_tag_file (view_by n o file) path file ≡ at_tag_file (object_view n o) path file
+      go : (file : Option TagFile) → at_tag_file (view_by n o file false) path file ≡ at_tag_file (object_view n o) path file
       go (Some tag.Declaration) = refl
       go (Some tag.Information) = refl
       go (Some (tag.Manifest Sha256)) = refl
@@ -172,29 +174,29 @@ by_none o None (Some place) e is = absurd (cc)
 by_none o (Some x) q e is = absurd (cc)
 
 -- what is read shows what all of the object does
-part_of : (n : ℕ) (o : Object) (path : List ℕ) (view : ObjectView) → view ≡ tag_view path n o → told_part view path ≡ told_part (object_view n o) path
+part_of : (n : ℕ) (o : Object) (path : List ℕ) (view : ObjectView) → IsTagView path view false n o → told_part view path ≡ told_part (object_view n o) path
 part_of n o path view e = ap (λ (v : ObjectView). told_part v path) e ∙ same_part n o path
 
 -- a text of the bag
-pub text_shown : (n : ℕ) (o : Object) (view : ObjectView) (path text : List ℕ) → view ≡ tag_view path n o
+pub text_shown : (n : ℕ) (o : Object) (view : ObjectView) (path text : List ℕ) → IsTagView path view false n o
     → Some (Bytes text) ≡ told_part view path → shown_in_bag o path ≡ Some (content_of (form_at path) text)
 text_shown n o view path text e is =
     by_bytes o path (part n o path) (place n o path) (both_found n o path) (right_path n o path) text
     (is ∙ part_of n o path view e)
 
 -- the content of a file of the object
-pub file_shown : (n : ℕ) (o : Object) (view : ObjectView) (path : List ℕ) (f : ℕ) → view ≡ tag_view path n o
+pub file_shown : (n : ℕ) (o : Object) (view : ObjectView) (path : List ℕ) (f : ℕ) → IsTagView path view false n o
     → Some (Stored f) ≡ told_part view path
     → (it : File) × ((finmap.get o.files f ≡ Some it) × (shown_in_bag o path ≡ Some (StoredContent it.media it.content)))
 file_shown n o view path f e is =
     by_stored o (part n o path) (place n o path) (both_found n o path) f (is ∙ part_of n o path view e)
 
-pub nothing_shown : (n : ℕ) (o : Object) (view : ObjectView) (path : List ℕ) → view ≡ tag_view path n o
+pub nothing_shown : (n : ℕ) (o : Object) (view : ObjectView) (path : List ℕ) → IsTagView path view false n o
     → None ≡ told_part view path → shown_in_bag o path ≡ None
 nothing_shown n o view path e is =
     by_none o (part n o path) (place n o path) (both_found n o path) (is ∙ part_of n o path view e)
 
--- ---- the tag files that are made of no files
+-- ---- the tag files by their kinds
 
 -- where each tag file stands
 abbrev place_of : TagFile → List ℕ
@@ -225,6 +227,14 @@ module _ (path : List ℕ) where
   module _ (o : Object) where
     pub declaration_shown : tag_file_at path ≡ Some tag.Declaration → shown_in_bag o path ≡ Some (PlainText bagit_text)
     declaration_shown is = ap (shown_in_bag o) (its_place tag.Declaration is)
+
+    pub manifest_shown : (a : Algorithm) → tag_file_at path ≡ Some (tag.Manifest a) → shown_in_bag o path ≡ Some (PlainText (manifest_of (digest_by a) (payload o)))
+    manifest_shown Sha256 is = ap (shown_in_bag o) (its_place (tag.Manifest Sha256) is)
+    manifest_shown Sha512 is = ap (shown_in_bag o) (its_place (tag.Manifest Sha512) is)
+
+    pub tag_manifest_shown : (a : Algorithm) → tag_file_at path ≡ Some (tag.TagManifest a) → shown_in_bag o path ≡ Some (PlainText (manifest_of (digest_by a) (listed_files o)))
+    tag_manifest_shown Sha256 is = ap (shown_in_bag o) (its_place (tag.TagManifest Sha256) is)
+    tag_manifest_shown Sha512 is = ap (shown_in_bag o) (its_place (tag.TagManifest Sha512) is)
 
     pub metadata_shown : tag_file_at path ≡ Some tag.Metadata → shown_in_bag o path ≡ Some (Document (bag_metadata_document o.metadata))
     metadata_shown is = ap (shown_in_bag o) (its_place tag.Metadata is)

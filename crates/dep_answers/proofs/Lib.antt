@@ -4,6 +4,7 @@ pub mod ToldLemmas
 pub mod BagLemmas
 pub mod ShownReplies
 pub mod NumberedReplies
+pub mod ManifestLengths
 pub mod Unbroken
 pub mod Made
 pub mod WrittenOut

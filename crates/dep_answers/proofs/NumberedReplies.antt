@@ -13,7 +13,6 @@ use Rattle.dep_types.specs.declared.rows.FileRow.{FileRow}
 use Rattle.dep_types.specs.declared.rows.ObjectRow.{ObjectRow}
 use Rattle.dep_types.specs.declared.rows.ObjectView.{ObjectView}
 use Rattle.dep_docs_out.specs.Documents.{bag_metadata_document}
-use Rattle.dep_manifest.specs.TagFiles.{bagit_text}
 use Rattle.dep_manifest.specs.declared.algorithm.Algorithm.TheVariants.{Sha256, Sha512}
 use Rattle.dep_bag.specs.Numbered.{file_number}
 use Rattle.dep_bag.specs.Parts.{tag_file_at}
@@ -21,15 +20,15 @@ use Rattle.dep_bag.specs.declared.part.TagFile.{TagFile}
 use Rattle.dep_bag.specs.declared.part.TagFile.TheVariants as tag
 use Rattle.dep_bag.proofs.Lines.{All-none}
 use Rattle.dep_bag.proofs.Numbered.{HasStorable, files_storable, found_by_number, none_by_number, numbered}
-use Rattle.dep_answers.specs.Answers.{Document, PlainText, ReplyContent, StoredContent, answer}
+use Rattle.dep_answers.specs.Answers.{Document, ReplyContent, StoredContent, answer}
 use Rattle.dep_answers.specs.Bags.{BagEntry, bag_entries, payload_shown, shown_in_bag, tags_shown}
 use Rattle.dep_answers.specs.Subjects.{files_view, payload_view, shown_at, subject_in_bag, tag_subject}
-use Rattle.dep_answers.specs.Telling.{tag_view, view_by}
+use Rattle.dep_answers.specs.Telling.{IsShownByRow, IsTagView, view_by}
 use Rattle.dep_answers.specs.Told.{bag_answer}
 use Rattle.dep_answers.specs.declared.subject.Shown.{Shown}
 use Rattle.dep_answers.specs.declared.subject.Shown.TheVariants as shown
 use Rattle.dep_answers.specs.declared.subject.Subject.TheVariants as subject
-use Rattle.dep_answers.proofs.BagLemmas.{declaration_shown, found_through, metadata_shown}
+use Rattle.dep_answers.proofs.BagLemmas.{found_through, metadata_shown}
 use Rattle.dep_answers.proofs.ShownReplies.{file_in, no_bag_answer, no_file}
 
 abbrev has_number : BagEntry → Bool
@@ -155,85 +154,96 @@ not_shown sh show other something None e = something e
 not_shown sh show other something (Some x) e = other x e
 
 -- what a tag file of an object is shown by
-abbrev show_by : ℕ → Option TagFile → Object → Shown
-show_by n (Some tag.Declaration) o = shown.ObjectRow (object_row n o)
-show_by n (Some tag.Metadata) o = shown.Metadata (object_row n o) o.metadata
-show_by n (Some (tag.Manifest Sha512)) o = shown.Files (payload_view n o)
-show_by n (Some (tag.TagManifest a)) o = shown.Object (object_view n o)
-show_by n file o = shown.Files (files_view n o)
+abbrev show_by : ℕ → Option TagFile → (is_bare : Bool) → Object → Shown
+show_by n (Some tag.Declaration) is_bare o = shown.ObjectRow (object_row n o)
+show_by n (Some tag.Metadata) is_bare o = shown.Metadata (object_row n o) o.metadata
+show_by n (Some (tag.Manifest Sha512)) false o = shown.Files (payload_view n o)
+show_by n (Some (tag.TagManifest a)) false o = shown.Object (object_view n o)
+show_by n (Some (tag.TagManifest a)) true o = shown.ObjectRow (object_row n o)
+show_by n file is_bare o = shown.Files (files_view n o)
 
-read_by : (s : State) (n : ℕ) (file : Option TagFile) → shown_at s (tag_subject n file) ≡ option_map_or (show_by n file) (finmap.get s.objects n) shown.Nothing
-read_by s n (Some tag.Declaration) = refl
-read_by s n (Some tag.Information) = refl
-read_by s n (Some (tag.Manifest Sha256)) = refl
-read_by s n (Some (tag.Manifest Sha512)) = refl
-read_by s n (Some tag.Metadata) = refl
-read_by s n (Some (tag.TagManifest a)) = refl
-read_by s n None = refl
+read_by : (s : State) (n : ℕ) (file : Option TagFile) (b : Bool) → shown_at s (tag_subject n file b) ≡ option_map_or (show_by n file b) (finmap.get s.objects n) shown.Nothing
+read_by s n (Some tag.Declaration) b = refl
+read_by s n (Some tag.Information) b = refl
+read_by s n (Some (tag.Manifest Sha256)) b = refl
+read_by s n (Some (tag.Manifest Sha512)) true = refl
+read_by s n (Some (tag.Manifest Sha512)) false = refl
+read_by s n (Some tag.Metadata) b = refl
+read_by s n (Some (tag.TagManifest a)) true = refl
+read_by s n (Some (tag.TagManifest a)) false = refl
+read_by s n None b = refl
 
-view_shown : (n : ℕ) (view : ObjectView) (file : Option TagFile) (o : Object) → (shown.Object view ≡ show_by n file o) ⊎ (shown.Files view ≡ show_by n file o)
-    → view ≡ view_by n o file
-view_shown n view (Some tag.Declaration) o (inl e) = absurd (cc)
-view_shown n view (Some tag.Declaration) o (inr e) = absurd (cc)
-view_shown n view (Some tag.Information) o (inl e) = absurd (cc)
-view_shown n view (Some tag.Information) o (inr e) = cc
-view_shown n view (Some (tag.Manifest Sha256)) o (inl e) = absurd (cc)
-view_shown n view (Some (tag.Manifest Sha256)) o (inr e) = cc
-view_shown n view (Some (tag.Manifest Sha512)) o (inl e) = absurd (cc)
-view_shown n view (Some (tag.Manifest Sha512)) o (inr e) = cc
-view_shown n view (Some tag.Metadata) o (inl e) = absurd (cc)
-view_shown n view (Some tag.Metadata) o (inr e) = absurd (cc)
-view_shown n view (Some (tag.TagManifest a)) o (inl e) = cc
-view_shown n view (Some (tag.TagManifest a)) o (inr e) = absurd (cc)
-view_shown n view None o (inl e) = absurd (cc)
-view_shown n view None o (inr e) = cc
+view_shown : (n : ℕ) (view : ObjectView) (file : Option TagFile) (b : Bool) (o : Object) → (shown.Object view ≡ show_by n file b o) ⊎ (shown.Files view ≡ show_by n file b o)
+    → view ≡ view_by n o file b
+view_shown n view (Some tag.Declaration) b o (inl e) = absurd (cc)
+view_shown n view (Some tag.Declaration) b o (inr e) = absurd (cc)
+view_shown n view (Some tag.Information) b o (inl e) = absurd (cc)
+view_shown n view (Some tag.Information) b o (inr e) = cc
+view_shown n view (Some (tag.Manifest Sha256)) b o (inl e) = absurd (cc)
+view_shown n view (Some (tag.Manifest Sha256)) b o (inr e) = cc
+view_shown n view (Some (tag.Manifest Sha512)) true o (inl e) = absurd (cc)
+view_shown n view (Some (tag.Manifest Sha512)) true o (inr e) = cc
+view_shown n view (Some (tag.Manifest Sha512)) false o (inl e) = absurd (cc)
+view_shown n view (Some (tag.Manifest Sha512)) false o (inr e) = cc
+view_shown n view (Some tag.Metadata) b o (inl e) = absurd (cc)
+view_shown n view (Some tag.Metadata) b o (inr e) = absurd (cc)
+view_shown n view (Some (tag.TagManifest a)) true o (inl e) = absurd (cc)
+view_shown n view (Some (tag.TagManifest a)) true o (inr e) = absurd (cc)
+view_shown n view (Some (tag.TagManifest a)) false o (inl e) = cc
+view_shown n view (Some (tag.TagManifest a)) false o (inr e) = absurd (cc)
+view_shown n view None b o (inl e) = absurd (cc)
+view_shown n view None b o (inr e) = cc
 
-row_shown : (n : ℕ) (row : ObjectRow) (file : Option TagFile) (o : Object) → shown.ObjectRow row ≡ show_by n file o → file ≡ Some tag.Declaration
-row_shown n row (Some tag.Declaration) o e = refl
-row_shown n row (Some tag.Information) o e = absurd (cc)
-row_shown n row (Some (tag.Manifest Sha256)) o e = absurd (cc)
-row_shown n row (Some (tag.Manifest Sha512)) o e = absurd (cc)
-row_shown n row (Some tag.Metadata) o e = absurd (cc)
-row_shown n row (Some (tag.TagManifest a)) o e = absurd (cc)
-row_shown n row None o e = absurd (cc)
+row_shown : (n : ℕ) (row : ObjectRow) (file : Option TagFile) (b : Bool) (o : Object) → shown.ObjectRow row ≡ show_by n file b o → tag_subject n file b ≡ subject.ObjectRow n
+row_shown n row (Some tag.Declaration) b o e = refl
+row_shown n row (Some tag.Information) b o e = absurd (cc)
+row_shown n row (Some (tag.Manifest Sha256)) b o e = absurd (cc)
+row_shown n row (Some (tag.Manifest Sha512)) true o e = absurd (cc)
+row_shown n row (Some (tag.Manifest Sha512)) false o e = absurd (cc)
+row_shown n row (Some tag.Metadata) b o e = absurd (cc)
+row_shown n row (Some (tag.TagManifest a)) true o e = refl
+row_shown n row (Some (tag.TagManifest a)) false o e = absurd (cc)
+row_shown n row None b o e = absurd (cc)
 
-texts_shown : (n : ℕ) (row : ObjectRow) (texts : Texts) (file : Option TagFile) (o : Object) → shown.Metadata row texts ≡ show_by n file o
+texts_shown : (n : ℕ) (row : ObjectRow) (texts : Texts) (file : Option TagFile) (b : Bool) (o : Object) → shown.Metadata row texts ≡ show_by n file b o
     → (file ≡ Some tag.Metadata) × (texts ≡ o.metadata)
-texts_shown n row texts (Some tag.Metadata) o e = (refl, cc)
-texts_shown n row texts (Some tag.Declaration) o e = absurd (cc)
-texts_shown n row texts (Some tag.Information) o e = absurd (cc)
-texts_shown n row texts (Some (tag.Manifest Sha256)) o e = absurd (cc)
-texts_shown n row texts (Some (tag.Manifest Sha512)) o e = absurd (cc)
-texts_shown n row texts (Some (tag.TagManifest a)) o e = absurd (cc)
-texts_shown n row texts None o e = absurd (cc)
+texts_shown n row texts (Some tag.Metadata) b o e = (refl, cc)
+texts_shown n row texts (Some tag.Declaration) b o e = absurd (cc)
+texts_shown n row texts (Some tag.Information) b o e = absurd (cc)
+texts_shown n row texts (Some (tag.Manifest Sha256)) b o e = absurd (cc)
+texts_shown n row texts (Some (tag.Manifest Sha512)) true o e = absurd (cc)
+texts_shown n row texts (Some (tag.Manifest Sha512)) false o e = absurd (cc)
+texts_shown n row texts (Some (tag.TagManifest a)) true o e = absurd (cc)
+texts_shown n row texts (Some (tag.TagManifest a)) false o e = absurd (cc)
+texts_shown n row texts None b o e = absurd (cc)
 
-module _ (s : State) (n : ℕ) (path : List ℕ) (sh : Shown) where
+module _ (s : State) (n : ℕ) (path : List ℕ) (is_bare : Bool) (sh : Shown) where
   abbrev IsRead : Type 0
-  IsRead = sh ≡ shown_at s (subject_in_bag n path)
+  IsRead = sh ≡ shown_at s (subject_in_bag n path is_bare)
 
   -- no file can stand at the path, and what is shown of the object is what its tag file is shown by
   abbrev IsTagRead : Object → Type 0
-  IsTagRead o = (file_number path ≡ None) × ((finmap.get s.objects n ≡ Some o) × (sh ≡ show_by n (tag_file_at path) o))
+  IsTagRead o = (file_number path ≡ None) × ((finmap.get s.objects n ≡ Some o) × (sh ≡ show_by n (tag_file_at path) is_bare o))
 
   -- the row of the one file that can stand at the path, or else what the tag file there is shown by
   abbrev IsFileRead : ℕ → Type 0
   IsFileRead f = (file_number path ≡ Some f) × (sh ≡ option_map_or (λ (it : File). shown.File (file_row n f it)) (file_at s n f) shown.Nothing)
 
   abbrev IsObjectRead : Type 0
-  IsObjectRead = (file_number path ≡ None) × (sh ≡ option_map_or (show_by n (tag_file_at path)) (finmap.get s.objects n) shown.Nothing)
+  IsObjectRead = (file_number path ≡ None) × (sh ≡ option_map_or (show_by n (tag_file_at path) is_bare) (finmap.get s.objects n) shown.Nothing)
 
   either_read : IsRead → ((f : ℕ) × IsFileRead f) ⊎ IsObjectRead
   either_read read = go (file_number path) refl read
     where
-      go : (k : Option ℕ) → file_number path ≡ k → sh ≡ shown_at s (option_map_or (λ f. subject.File (record { object = n; file = f })) k (tag_subject n (tag_file_at path)))
+      go : (k : Option ℕ) → file_number path ≡ k → sh ≡ shown_at s (option_map_or (λ f. subject.File (record { object = n; file = f })) k (tag_subject n (tag_file_at path) is_bare))
           → ((f : ℕ) × IsFileRead f) ⊎ IsObjectRead
       go (Some f) of e = inl (f, (of, e))
-      go None of e = inr (of, e ∙ read_by s n (tag_file_at path))
+      go None of e = inr (of, e ∙ read_by s n (tag_file_at path) is_bare)
 
   tag_read : (sh ≡ shown.Nothing → ⊥) → ((row : FileRow) → sh ≡ shown.File row → ⊥) → IsRead → (o : Object) × IsTagRead o
   tag_read something no_row read = go (either_read read)
     where
-      there : file_number path ≡ None → (x : Option Object) → finmap.get s.objects n ≡ x → sh ≡ option_map_or (show_by n (tag_file_at path)) x shown.Nothing
+      there : file_number path ≡ None → (x : Option Object) → finmap.get s.objects n ≡ x → sh ≡ option_map_or (show_by n (tag_file_at path) is_bare) x shown.Nothing
           → (o : Object) × IsTagRead o
       there of None is e = absurd (something e)
       there of (Some o) is e = (o, (of, (is, e)))
@@ -242,30 +252,31 @@ module _ (s : State) (n : ℕ) (path : List ℕ) (sh : Shown) where
       go (inl (f, (of, e))) = absurd (not_shown sh (λ (it : File). shown.File (file_row n f it)) (λ it. no_row (file_row n f it)) something (file_at s n f) e)
       go (inr (of, e)) = there of (finmap.get s.objects n) refl e
 
-  -- where an object was shown with its files, this is what its tag file is made of
-  abbrev pub IsTagView : ObjectView → Type 0
-  IsTagView view = (file_number path ≡ None) × ((o : Object) × ((finmap.get s.objects n ≡ Some o) × (view ≡ tag_view path n o)))
+  -- no file can stand at the path, and this is known of the object
+  abbrev pub IsKnown : (ℕ → Object → Type 0) → Type 0
+  IsKnown known = (file_number path ≡ None) × ((o : Object) × ((finmap.get s.objects n ≡ Some o) × known n o))
 
-  pub object_read : (view : ObjectView) → (sh ≡ shown.Object view) ⊎ (sh ≡ shown.Files view) → IsRead → IsTagView view
+  -- where an object was shown with its files, this is what its tag file is made of
+  pub object_read : (view : ObjectView) → (sh ≡ shown.Object view) ⊎ (sh ≡ shown.Files view) → IsRead → IsKnown (IsTagView path view is_bare)
   object_read view (inl is) read =
       let found = tag_read (λ e. cc) (λ row e. cc) read in
-      (found.1.0, (found.0, (found.1.1.0, view_shown n view (tag_file_at path) found.0 (inl (sym is ∙ found.1.1.1)))))
+      (found.1.0, (found.0, (found.1.1.0, view_shown n view (tag_file_at path) is_bare found.0 (inl (sym is ∙ found.1.1.1)))))
   object_read view (inr is) read =
       let found = tag_read (λ e. cc) (λ row e. cc) read in
-      (found.1.0, (found.0, (found.1.1.0, view_shown n view (tag_file_at path) found.0 (inr (sym is ∙ found.1.1.1)))))
+      (found.1.0, (found.0, (found.1.1.0, view_shown n view (tag_file_at path) is_bare found.0 (inr (sym is ∙ found.1.1.1)))))
 
-  -- where the object's row was shown alone, the declaration stands at the path
-  pub row_read : (row : ObjectRow) → sh ≡ shown.ObjectRow row → IsRead → (o : Object) × ((finmap.get s.objects n ≡ Some o) × (shown_in_bag o path ≡ Some (PlainText bagit_text)))
+  -- where its row was shown alone, that is all that its tag file is shown by
+  pub row_read : (row : ObjectRow) → sh ≡ shown.ObjectRow row → IsRead → IsKnown (IsShownByRow path is_bare)
   row_read row is read =
       let found = tag_read (λ e. cc) (λ row e. cc) read in
-      (found.0, (found.1.1.0, declaration_shown path found.0 (row_shown n row (tag_file_at path) found.0 (sym is ∙ found.1.1.1))))
+      (found.1.0, (found.0, (found.1.1.0, row_shown n row (tag_file_at path) is_bare found.0 (sym is ∙ found.1.1.1))))
 
   -- where its metadata was shown with it, that stands there
   pub texts_read : (row : ObjectRow) (texts : Texts) → sh ≡ shown.Metadata row texts → IsRead
       → (o : Object) × ((finmap.get s.objects n ≡ Some o) × (shown_in_bag o path ≡ Some (Document (bag_metadata_document texts))))
   texts_read row texts is read =
       let found = tag_read (λ e. cc) (λ row e. cc) read in
-      let shows = texts_shown n row texts (tag_file_at path) found.0 (sym is ∙ found.1.1.1) in
+      let shows = texts_shown n row texts (tag_file_at path) is_bare found.0 (sym is ∙ found.1.1.1) in
       (found.0, (found.1.1.0, metadata_shown path found.0 shows.0 ∙ ap (λ (t : Texts). Some (Document (bag_metadata_document t))) (sym shows.1)))
 
   -- where a file was shown, it is the one that was read
@@ -273,36 +284,40 @@ module _ (s : State) (n : ℕ) (path : List ℕ) (sh : Shown) where
       → (f : ℕ) × (file_number path ≡ Some f) × (it : File) × (file_at s n f ≡ Some it) × (row ≡ file_row n f it)
   file_read row is read = go (either_read read)
     where
-      no_row : (file : Option TagFile) (o : Object) → shown.File row ≡ show_by n file o → ⊥
-      no_row (Some tag.Declaration) o e = cc
-      no_row (Some tag.Information) o e = cc
-      no_row (Some (tag.Manifest Sha256)) o e = cc
-      no_row (Some (tag.Manifest Sha512)) o e = cc
-      no_row (Some tag.Metadata) o e = cc
-      no_row (Some (tag.TagManifest a)) o e = cc
-      no_row None o e = cc
+      no_row : (file : Option TagFile) (b : Bool) (o : Object) → shown.File row ≡ show_by n file b o → ⊥
+      no_row (Some tag.Declaration) b o e = cc
+      no_row (Some tag.Information) b o e = cc
+      no_row (Some (tag.Manifest Sha256)) b o e = cc
+      no_row (Some (tag.Manifest Sha512)) true o e = cc
+      no_row (Some (tag.Manifest Sha512)) false o e = cc
+      no_row (Some tag.Metadata) b o e = cc
+      no_row (Some (tag.TagManifest a)) true o e = cc
+      no_row (Some (tag.TagManifest a)) false o e = cc
+      no_row None b o e = cc
 
       go : ((f : ℕ) × IsFileRead f) ⊎ IsObjectRead → (f : ℕ) × (file_number path ≡ Some f) × (it : File) × (file_at s n f ≡ Some it) × (row ≡ file_row n f it)
       go (inl (f, (of, e))) = let found = file_in n f row (file_at s n f) (sym is ∙ e) in (f, of, found.0, found.1.0, found.1.1)
       go (inr (of, e)) =
-          absurd (not_shown sh (show_by n (tag_file_at path)) (λ o e. no_row (tag_file_at path) o (sym is ∙ e)) (λ e. cc) (finmap.get s.objects n) e)
+          absurd (not_shown sh (show_by n (tag_file_at path) is_bare) (λ o e. no_row (tag_file_at path) is_bare o (sym is ∙ e)) (λ e. cc) (finmap.get s.objects n) e)
 
   -- where none of them was shown, nothing stands at the path
   module _ (no_view : (view : ObjectView) → sh ≡ shown.Object view → ⊥) (no_files : (view : ObjectView) → sh ≡ shown.Files view → ⊥)
       (no_object_row : (row : ObjectRow) → sh ≡ shown.ObjectRow row → ⊥) (no_texts : (row : ObjectRow) (texts : Texts) → sh ≡ shown.Metadata row texts → ⊥)
       (no_row : (row : FileRow) → sh ≡ shown.File row → ⊥) where
-    no_show : (file : Option TagFile) (o : Object) → sh ≡ show_by n file o → ⊥
-    no_show (Some tag.Declaration) o e = no_object_row (object_row n o) e
-    no_show (Some tag.Information) o e = no_files (files_view n o) e
-    no_show (Some (tag.Manifest Sha256)) o e = no_files (files_view n o) e
-    no_show (Some (tag.Manifest Sha512)) o e = no_files (payload_view n o) e
-    no_show (Some tag.Metadata) o e = no_texts (object_row n o) o.metadata e
-    no_show (Some (tag.TagManifest a)) o e = no_view (object_view n o) e
-    no_show None o e = no_files (files_view n o) e
+    no_show : (file : Option TagFile) (b : Bool) (o : Object) → sh ≡ show_by n file b o → ⊥
+    no_show (Some tag.Declaration) b o e = no_object_row (object_row n o) e
+    no_show (Some tag.Information) b o e = no_files (files_view n o) e
+    no_show (Some (tag.Manifest Sha256)) b o e = no_files (files_view n o) e
+    no_show (Some (tag.Manifest Sha512)) true o e = no_files (files_view n o) e
+    no_show (Some (tag.Manifest Sha512)) false o e = no_files (payload_view n o) e
+    no_show (Some tag.Metadata) b o e = no_texts (object_row n o) o.metadata e
+    no_show (Some (tag.TagManifest a)) true o e = no_object_row (object_row n o) e
+    no_show (Some (tag.TagManifest a)) false o e = no_view (object_view n o) e
+    no_show None b o e = no_files (files_view n o) e
 
-    no_object : (x : Option Object) → sh ≡ option_map_or (show_by n (tag_file_at path)) x shown.Nothing → x ≡ None
+    no_object : (x : Option Object) → sh ≡ option_map_or (show_by n (tag_file_at path) is_bare) x shown.Nothing → x ≡ None
     no_object None e = refl
-    no_object (Some o) e = absurd (no_show (tag_file_at path) o e)
+    no_object (Some o) e = absurd (no_show (tag_file_at path) is_bare o e)
 
     pub nothing_read : IsSound s → IsRead → answer 200 None None None ≡ bag_answer s n path
     nothing_read sound read = go (either_read read)

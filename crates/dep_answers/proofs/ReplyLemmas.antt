@@ -6,9 +6,10 @@ use Rattle.dep_types.specs.State.{State, File, file_at}
 use Rattle.dep_types.specs.Rows.{file_row}
 use Rattle.dep_types.specs.declared.rows.FileRow.{FileRow}
 use Rattle.dep_reply.specs.Head.{ReplyHead, head_text}
-use Rattle.dep_answers.specs.Answers.{Answer, ReplyContent, StoredContent, bytes_of, document_of, stored_of, answer, head_of, is_silent}
+use Rattle.dep_answers.specs.Answers.{Answer, PlainText, ReplyContent, StoredContent, bytes_of, document_of, media_of, stored_of, answer, head_of, is_silent}
 use Rattle.dep_answers.specs.Replies.{unless_bare, front_text, stored_text}
 use Rattle.dep_answers.specs.Performing.{HasEnd, HasStatus, IsReply, stored_in, stored_behind, stored_file}
+use Rattle.dep_answers.specs.Telling.{SaysLength}
 use Rattle.dep_answers.specs.declared.performed.Delivery.{Delivery}
 use Rattle.dep_answers.specs.declared.performed.Performed.{Performed}
 use Rattle.dep_answers.specs.declared.performed.StoredFile.{StoredFile}
@@ -107,11 +108,42 @@ stored_ready s file row tag delivery p there is front stored =
           (sized_behind delivery.is_bare file.content it (ap (λ (r : FileRow). r.size) is));
     }
 
-pub stored_ends : (row : FileRow) (tag : Option ℕ) (delivery : Delivery) (p : Performed) → p.front.items ≡ head_text (head_by row tag delivery) → HasStatus 200 None p → HasEnd p
-stored_ends row tag delivery p front status = record {
-  head = head_by row tag delivery;
+-- a head with a length tells where its reply ends
+ends_alone : (head : ReplyHead) (p : Performed) → p.front.items ≡ head_text head → is_some head.content_length ≡ true → HasStatus head.status None p → HasEnd p
+ends_alone head p front sized status = record {
+  head = head;
   behind = [];
-  front = front ∙ sym (append-nil (head_text (head_by row tag delivery)));
+  front = front ∙ sym (append-nil (head_text head));
   status = status;
-  ends = refl;
+  ends = ap (λ b. b || (head.status == 204)) sized;
 }
+
+pub stored_ends : (row : FileRow) (tag : Option ℕ) (delivery : Delivery) (p : Performed) → p.front.items ≡ head_text (head_by row tag delivery) → HasStatus 200 None p → HasEnd p
+stored_ends row tag delivery p front status = ends_alone (head_by row tag delivery) p front refl status
+
+-- ---- the length of a text
+
+-- the head by the length
+abbrev pub length_head : (size : ℕ) → Delivery → ReplyHead
+length_head size delivery = record {
+  status = 200;
+  date = delivery.clock;
+  content_type = Some (media_of (PlainText []));
+  content_length = Some size;
+  tag = None;
+  location = None;
+  allow = None;
+  closes = delivery.closes;
+}
+
+pub length_ready : (size : ℕ) (delivery : Delivery) (p : Performed) → p.front.items ≡ head_text (length_head size delivery) → p.stored ≡ None → SaysLength size delivery p
+length_ready size delivery p front nothing bare s text sized =
+    text_reply s (answer 200 (Some (PlainText text)) None None) delivery p
+    (front
+    ∙ ap (λ (n : ℕ). head_text (length_head n delivery)) (sym sized)
+    ∙ sym (append-nil (head_text (length_head (length text) delivery)))
+    ∙ ap (λ (b : Bool). head_text (length_head (length text) delivery) ++ unless_bare b text) (sym bare))
+    refl nothing
+
+pub length_ends : (size : ℕ) (delivery : Delivery) (p : Performed) → p.front.items ≡ head_text (length_head size delivery) → HasStatus 200 None p → HasEnd p
+length_ends size delivery p front status = ends_alone (length_head size delivery) p front refl status

@@ -1,17 +1,21 @@
 -- Replies that show files, by what was read of them.
-use Rattle.std.proofs.Common.{◌≡◌, ℕ, List, Option, Some, None, refl, sym, ap, subst, ◌∙◌, true}
+use Rattle.std.proofs.Common.{◌≡◌, ℕ, Bool, List, Option, Some, None, refl, sym, ap, subst, ◌∙◌, true}
 use Rattle.std.specs.Option.{option_map, option_map_or, option_and_then}
 use Rattle.std.specs.FinMap as finmap
 use Rattle.dep_types.specs.State.{State, Object, File, file_at}
 use Rattle.dep_types.specs.Rows.{file_row}
 use Rattle.dep_types.specs.declared.rows.FileRow.{FileRow}
+use Rattle.dep_types.specs.Methods.{is_safe}
 use Rattle.dep_types.specs.declared.config.Config.{Config}
+use Rattle.dep_types.specs.declared.target.Method.{Method}
+use Rattle.dep_types.specs.declared.target.Method.TheVariants.{Get, Head, Post, Put, Delete}
 use Rattle.dep_types.specs.declared.target.Resource.{Resource}
 use Rattle.dep_answers.specs.Answers.{Answer, StoredContent, answer, is_silent}
 use Rattle.dep_answers.specs.Bags.{shown_in_bag}
 use Rattle.dep_answers.specs.Performing.{IsReply, Says}
-use Rattle.dep_answers.specs.Replies.{shown_answer}
-use Rattle.dep_answers.specs.Subjects.{shown_at, subject_at}
+use Rattle.dep_answers.specs.Replies.{answer_to, shown_answer}
+use Rattle.dep_answers.specs.Steps.{is_head}
+use Rattle.dep_answers.specs.Subjects.{shown_at, subject_at, subject_of}
 use Rattle.dep_answers.specs.Told.{file_answer, bag_answer}
 use Rattle.dep_answers.specs.declared.performed.Delivery.{Delivery}
 use Rattle.dep_answers.specs.declared.performed.FileId.{FileId}
@@ -24,7 +28,7 @@ use Rattle.dep_answers.specs.declared.subject.Subject.TheVariants as subject
 pub says_as : (s : State) (a b : Answer) (delivery : Delivery) (said : Option Performed) → a ≡ b → Says s a delivery said → Says s b delivery said
 says_as s a b delivery said e r = subst (λ (x : Answer). Says s x delivery said) e r
 
-replies_as : (s : State) (a b : Answer) (delivery : Delivery) (p : Performed) → a ≡ b → IsReply s a delivery p → IsReply s b delivery p
+pub replies_as : (s : State) (a b : Answer) (delivery : Delivery) (p : Performed) → a ≡ b → IsReply s a delivery p → IsReply s b delivery p
 replies_as s a b delivery p e r = subst (λ (x : Answer). IsReply s x delivery p) e r
 
 -- an answer with nothing to show
@@ -89,7 +93,18 @@ no_bag_answer s n path none =
 
 -- the reply that shows a resource that is this one
 pub shows : (config : Config) (s : State) (sh : Shown) (delivery : Delivery) (said : Option Performed) (r q : Resource) → r ≡ q
-    → (sh ≡ shown_at s (subject_at q) → Says s (shown_answer config s q) delivery said)
-    → sh ≡ shown_at s (subject_at r) → Says s (shown_answer config s r) delivery said
+    → (sh ≡ shown_at s (subject_at q delivery.is_bare) → Says s (shown_answer config s q) delivery said)
+    → sh ≡ shown_at s (subject_at r delivery.is_bare) → Says s (shown_answer config s r) delivery said
 shows config s sh delivery said r q is says =
-    subst (λ (x : Resource). sh ≡ shown_at s (subject_at x) → Says s (shown_answer config s x) delivery said) (sym is) says
+    subst (λ (x : Resource). sh ≡ shown_at s (subject_at x delivery.is_bare) → Says s (shown_answer config s x) delivery said) (sym is) says
+
+-- what a GET shows, or in a bare reply a HEAD, is the answer to it
+pub shows_safe : (config : Config) (s : State) (sh : Shown) (delivery : Delivery) (said : Option Performed) (r : Resource) (m : Method)
+    → is_safe m ≡ true → delivery.is_bare ≡ is_head m
+    → (sh ≡ shown_at s (subject_at r delivery.is_bare) → Says s (shown_answer config s r) delivery said)
+    → sh ≡ shown_at s (subject_of s.next r m) → Says s (answer_to config s r m) delivery said
+shows_safe config s sh delivery said r Get safe bare says e = says (e ∙ ap (λ (b : Bool). shown_at s (subject_at r b)) (sym bare))
+shows_safe config s sh delivery said r Head safe bare says e = says (e ∙ ap (λ (b : Bool). shown_at s (subject_at r b)) (sym bare))
+shows_safe config s sh delivery said r Post safe bare says e = absurd (cc)
+shows_safe config s sh delivery said r Put safe bare says e = absurd (cc)
+shows_safe config s sh delivery said r Delete safe bare says e = absurd (cc)

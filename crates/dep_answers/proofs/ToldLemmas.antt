@@ -138,18 +138,18 @@ list_is config s n sh e = ap told_list e ∙ list_by n (finmap.get s.objects n)
 
 -- ---- by the resource and the method
 
-pub text_is : (config : Config) (s : State) → IsSound s → (r : Resource) (sh : Shown)
+pub text_is : (config : Config) (s : State) → IsSound s → (r : Resource) (is_bare : Bool) (sh : Shown)
     → ((n f : ℕ) → r ≡ resource.File n f → ⊥) → ((n : ℕ) (path : List ℕ) → r ≡ resource.BagFile n path → ⊥)
-    → sh ≡ shown_at s (subject_at r) → told_text config r sh ≡ shown_answer config s r
-text_is config s sound resource.Service sh not_file not_path e = refl
-text_is config s sound (resource.Object n) sh not_file not_path e = status_is config s n sh e
-text_is config s sound (resource.Metadata n) sh not_file not_path e = metadata_is config s n sh e
-text_is config s sound (resource.FileSet n) sh not_file not_path e = refl
-text_is config s sound (resource.File n f) sh not_file not_path e = absurd (not_file n f refl)
-text_is config s sound resource.Staging sh not_file not_path e = refl
-text_is config s sound (resource.Upload u) sh not_file not_path e = upload_is config s sound u sh e
-text_is config s sound (resource.BagList n) sh not_file not_path e = list_is config s n sh e
-text_is config s sound (resource.BagFile n path) sh not_file not_path e = absurd (not_path n path refl)
+    → sh ≡ shown_at s (subject_at r is_bare) → told_text config r sh ≡ shown_answer config s r
+text_is config s sound resource.Service is_bare sh not_file not_path e = refl
+text_is config s sound (resource.Object n) is_bare sh not_file not_path e = status_is config s n sh e
+text_is config s sound (resource.Metadata n) is_bare sh not_file not_path e = metadata_is config s n sh e
+text_is config s sound (resource.FileSet n) is_bare sh not_file not_path e = refl
+text_is config s sound (resource.File n f) is_bare sh not_file not_path e = absurd (not_file n f refl)
+text_is config s sound resource.Staging is_bare sh not_file not_path e = refl
+text_is config s sound (resource.Upload u) is_bare sh not_file not_path e = upload_is config s sound u sh e
+text_is config s sound (resource.BagList n) is_bare sh not_file not_path e = list_is config s n sh e
+text_is config s sound (resource.BagFile n path) is_bare sh not_file not_path e = absurd (not_path n path refl)
 
 abbrev tagged : Option ℕ → Answer
 tagged tag = answer 204 None tag None

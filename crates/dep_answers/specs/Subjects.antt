@@ -1,5 +1,5 @@
 -- What has to be read of the archive for a reply, and what is read.
-use Rattle.std.specs.Prelude.{ℕ, ◌-◌, List, [], Option, Some}
+use Rattle.std.specs.Prelude.{ℕ, ◌-◌, Bool, true, false, List, [], Option, Some}
 use Rattle.std.specs.Option.{option_map_or}
 use Rattle.std.specs.FinMap as finmap
 use Rattle.dep_types.specs.State.{State, Object as Kept, file_at}
@@ -20,34 +20,35 @@ use Rattle.dep_answers.specs.declared.subject.Subject.TheVariants as subject
 use Rattle.dep_answers.specs.declared.subject.Shown.{Shown}
 use Rattle.dep_answers.specs.declared.subject.Shown.TheVariants as shown
 
--- what is read to show a tag file
-abbrev pub tag_subject : ℕ → Option TagFile → Subject
-tag_subject n (Some tag.Declaration) = subject.ObjectRow n
-tag_subject n (Some tag.Metadata) = subject.Metadata n
-tag_subject n (Some (tag.Manifest Sha512)) = subject.Payload n
-tag_subject n (Some (tag.TagManifest a)) = subject.Object n
-tag_subject n file = subject.Files n
+-- What is read to show a tag file. A bare reply says how long it is alone: that of a manifest no digest tells.
+abbrev pub tag_subject : ℕ → Option TagFile → (is_bare : Bool) → Subject
+tag_subject n (Some tag.Declaration) is_bare = subject.ObjectRow n
+tag_subject n (Some tag.Metadata) is_bare = subject.Metadata n
+tag_subject n (Some (tag.Manifest Sha512)) false = subject.Payload n
+tag_subject n (Some (tag.TagManifest a)) false = subject.Object n
+tag_subject n (Some (tag.TagManifest a)) true = subject.ObjectRow n
+tag_subject n file is_bare = subject.Files n
 
 -- what is read to show what stands at a path of a bag: the one file that can, or else what its tag file is made of
-abbrev pub subject_in_bag : ℕ → (path : List ℕ) → Subject
-subject_in_bag n path =
+abbrev pub subject_in_bag : ℕ → (path : List ℕ) → (is_bare : Bool) → Subject
+subject_in_bag n path is_bare =
     option_map_or (λ f. subject.File (record { object = n; file = f })) (file_number path)
-    (tag_subject n (tag_file_at path))
+    (tag_subject n (tag_file_at path) is_bare)
 
 -- what is read to show a resource
-abbrev pub subject_at : Resource → Subject
-subject_at (Object n) = subject.Files n
-subject_at (Metadata n) = subject.Metadata n
-subject_at (File n f) = subject.File (record { object = n; file = f })
-subject_at (Upload u) = subject.Upload u
-subject_at (BagList n) = subject.Files n
-subject_at (BagFile n path) = subject_in_bag n path
-subject_at resource = subject.Nothing
+abbrev pub subject_at : Resource → (is_bare : Bool) → Subject
+subject_at (Object n) is_bare = subject.Files n
+subject_at (Metadata n) is_bare = subject.Metadata n
+subject_at (File n f) is_bare = subject.File (record { object = n; file = f })
+subject_at (Upload u) is_bare = subject.Upload u
+subject_at (BagList n) is_bare = subject.Files n
+subject_at (BagFile n path) is_bare = subject_in_bag n path is_bare
+subject_at resource is_bare = subject.Nothing
 
 -- what is read for the reply to a request that was accepted, by the counters that it left
 abbrev pub subject_of : (next : Counters) → Resource → Method → Subject
-subject_of next resource Get = subject_at resource
-subject_of next resource Head = subject_at resource
+subject_of next resource Get = subject_at resource false
+subject_of next resource Head = subject_at resource true
 subject_of next Service Post = subject.Files (next.object - 1)
 subject_of next (Object n) Post = subject.Files n
 subject_of next (Object n) Put = subject.Files n

@@ -1,5 +1,5 @@
 -- What a reply shows of a state that what it was made of was read from.
-use Rattle.std.specs.Prelude.{◌≡◌, ℕ, List, Option, Some, None}
+use Rattle.std.specs.Prelude.{◌≡◌, ℕ, Bool, true, false, List, length, Option, Some, None}
 use Rattle.std.specs.FinMap as map
 use Rattle.dep_types.specs.State.{State, Object, File, file_at}
 use Rattle.dep_types.specs.Sound.{IsSound}
@@ -8,20 +8,22 @@ use Rattle.dep_types.specs.declared.config.Config.{Config}
 use Rattle.dep_types.specs.declared.rows.FileRow.{FileRow}
 use Rattle.dep_types.specs.declared.rows.ObjectView.{ObjectView}
 use Rattle.dep_types.specs.declared.target.Target.{Target}
+use Rattle.dep_manifest.specs.declared.algorithm.Algorithm.{Algorithm}
 use Rattle.dep_manifest.specs.declared.algorithm.Algorithm.TheVariants.{Sha512}
 use Rattle.dep_bag.specs.Numbered.{file_number}
 use Rattle.dep_bag.specs.Parts.{tag_file_at}
 use Rattle.dep_bag.specs.declared.part.TagFile.{TagFile}
 use Rattle.dep_bag.specs.declared.part.TagFile.TheVariants as tag
-use Rattle.dep_answers.specs.Answers.{answer, StoredContent}
+use Rattle.dep_answers.specs.Answers.{answer, PlainText, StoredContent}
 use Rattle.dep_answers.specs.Bags.{shown_in_bag}
 use Rattle.dep_answers.specs.Performing.{IsReply, Says}
 use Rattle.dep_answers.specs.Replies.{answer_to}
-use Rattle.dep_answers.specs.Subjects.{files_view, payload_view, shown_at, subject_of}
+use Rattle.dep_answers.specs.Subjects.{files_view, payload_view, shown_at, subject_of, tag_subject}
 use Rattle.dep_answers.specs.Told.{bag_answer}
 use Rattle.dep_answers.specs.declared.performed.Delivery.{Delivery}
 use Rattle.dep_answers.specs.declared.performed.Performed.{Performed}
 use Rattle.dep_answers.specs.declared.subject.Shown.{Shown}
+use Rattle.dep_answers.specs.declared.subject.Subject.TheVariants.{ObjectRow}
 
 -- where this is shown of the state, the answer that a request gets there is said
 abbrev pub SaysShown : Config → Target → Shown → Delivery → Option Performed → Type 0
@@ -35,22 +37,41 @@ SaysPayload path row delivery said = (s : State) (n : ℕ) (f : ℕ) (it : File)
     → file_number path ≡ Some f → file_at s n f ≡ Some it → row ≡ file_row n f it
     → Says s (bag_answer s n path) delivery said
 
--- what a tag file of an object is made of
-abbrev pub view_by : ℕ → Object → Option TagFile → ObjectView
-view_by n o (Some tag.Metadata) = object_view n o
-view_by n o (Some (tag.Manifest Sha512)) = payload_view n o
-view_by n o (Some (tag.TagManifest a)) = object_view n o
-view_by n o file = files_view n o
+-- what a tag file of an object is made of, where its files are read, or how long it is in a bare reply
+abbrev pub view_by : ℕ → Object → Option TagFile → (is_bare : Bool) → ObjectView
+view_by n o (Some tag.Metadata) is_bare = object_view n o
+view_by n o (Some (tag.Manifest Sha512)) false = payload_view n o
+view_by n o (Some (tag.TagManifest a)) is_bare = object_view n o
+view_by n o file is_bare = files_view n o
 
 -- the same of the tag file at a path
-abbrev pub tag_view : (path : List ℕ) → ℕ → Object → ObjectView
-tag_view path n o = view_by n o (tag_file_at path)
+abbrev pub tag_view : (path : List ℕ) → ℕ → Object → (is_bare : Bool) → ObjectView
+tag_view path n o is_bare = view_by n o (tag_file_at path) is_bare
 
--- where no file can stand at the path, and this is read of the object, its tag file there is said
-abbrev pub SaysTagFile : (path : List ℕ) → ObjectView → Delivery → Option Performed → Type 0
-SaysTagFile path view delivery said = (s : State) (n : ℕ) (o : Object) → IsSound s
-    → file_number path ≡ None → map.get s.objects n ≡ Some o → view ≡ tag_view path n o
+-- where no file can stand at the path, and this is known of the object, its tag file there is said
+abbrev pub SaysTagFile : (path : List ℕ) → (known : ℕ → Object → Type 0) → Delivery → Option Performed
+    → Type 0
+SaysTagFile path known delivery said = (s : State) (n : ℕ) (o : Object) → IsSound s
+    → file_number path ≡ None → map.get s.objects n ≡ Some o → known n o
     → Says s (answer 200 (shown_in_bag o path) None None) delivery said
+
+-- this is the view that was read of it
+abbrev pub IsTagView : (path : List ℕ) → ObjectView → (is_bare : Bool) → ℕ → Object → Type 0
+IsTagView path view is_bare n o = view ≡ tag_view path n o is_bare
+
+-- the algorithm of the payload's manifest, where that is the tag file, and a bare reply says how long it is
+abbrev pub measured_by : Option TagFile → (is_bare : Bool) → Option Algorithm
+measured_by (Some (tag.Manifest a)) true = Some a
+measured_by file is_bare = None
+
+-- its row alone was read
+abbrev pub IsShownByRow : (path : List ℕ) → (is_bare : Bool) → ℕ → Object → Type 0
+IsShownByRow path is_bare n o = tag_subject n (tag_file_at path) is_bare ≡ ObjectRow n
+
+-- how long a plain text is that has so many bytes, where the reply is a bare one
+abbrev pub SaysLength : (size : ℕ) → Delivery → Performed → Type 0
+SaysLength size delivery p = delivery.is_bare ≡ true → (s : State) (text : List ℕ) → length text ≡ size
+    → IsReply s (answer 200 (Some (PlainText text)) None None) delivery p
 
 -- where this is the row of a file, its content is the reply, perhaps with a tag
 abbrev pub IsContentOf : FileRow → (tag : Option ℕ) → Delivery → Performed → Type 0

@@ -6,6 +6,7 @@ ghost use Rattle.dep_docs_out.specs.Documents.{service_document};
 ghost use Rattle.dep_answers.specs.Answers.{answer, Document};
 ghost use Rattle.dep_answers.specs.Performing.{HasEnd, Says};
 ghost use Rattle.dep_answers.specs.Replies.{shown_answer};
+ghost use Rattle.dep_answers.specs.Steps.{is_head};
 ghost use Rattle.dep_answers.specs.Subjects.{shown_at, subject_at};
 ghost use Rattle.dep_answers.specs.Telling.{SaysShown};
 ghost use Rattle.dep_answers.specs.Told.{told_change, told_text};
@@ -24,7 +25,7 @@ use std::alloc::{AllocError, Global};
 
 /// Returns the reply to a request that was accepted and carried out, by what the archive then shows at its
 /// [`Subject`](crate::Subject) (RFC 9110, section 15.3; SWORD 3.0). A reply to a HEAD is that to the GET,
-/// delivered bare. It is `None` where the reply would have nothing to show, though it had to give a length:
+/// delivered bare; as it has no body, less may have been read for it. It is `None` where the reply would have nothing to show, though it had to give a length:
 /// for a resource that has no GET, where nothing was read, and where a damaged table gave numbers of segments
 /// that don't rise from 1 on. An `Err` is want of memory.
 pub fn accepted(
@@ -34,6 +35,7 @@ pub fn accepted(
     shown: &Shown,
     delivery: Delivery,
 ) -> Result<Option<Performed>, AllocError>
+    requires { delivery.is_bare ≡ is_head target.now.method }
     ensures says { IfOk result
         (SaysShown service.now target.now shown.now delivery) }
     ensures ends { IfOk result (λ said. IfSome said HasEnd) }
@@ -53,7 +55,7 @@ fn show(
     delivery: Delivery,
 ) -> Result<Option<Performed>, AllocError>
     ensures says { IfOk result (λ said. (s : State) → IsSound s
-        → shown.now ≡ shown_at s (subject_at resource.now)
+        → shown.now ≡ shown_at s (subject_at resource.now delivery.is_bare)
         → Says s (shown_answer service.now s resource.now) delivery said) }
     ensures ends { IfOk result (λ said. IfSome said HasEnd) }
 {

@@ -23,6 +23,22 @@ pub(crate) enum Form {
     PlainText,
 }
 
+impl Form {
+    ghost use Rattle.std.specs.Prelude.{◌≡◌, ℕ, List};
+    ghost use Rattle.dep_answers.specs.Answers.{media_of};
+    ghost use Rattle.dep_answers.specs.Told.{content_of};
+
+    /// Its media type (RFC 9110, section 8.3).
+    pub(crate) fn media(self) -> &'static str
+        ensures { (bytes : List ℕ) → result.now ≡ media_of (content_of self bytes) }
+    {
+        match self {
+            Form::Document => "application/json",
+            Form::PlainText => "text/plain; charset=utf-8",
+        }
+    }
+}
+
 /// A text in a reply.
 #[derive(Drop)]
 pub(crate) struct ReplyText {
@@ -62,14 +78,11 @@ impl ReplyText {
         self.bytes.as_slice()
     }
 
-    /// Its media type (RFC 9110, section 8.3).
+    /// The media type of its form.
     fn media(&self) -> &'static str
         ensures { result.now ≡ media_of self.now }
     {
-        match self.form {
-            Form::Document => "application/json",
-            Form::PlainText => "text/plain; charset=utf-8",
-        }
+        self.form.media()
     }
 }
 

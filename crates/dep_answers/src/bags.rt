@@ -1,23 +1,29 @@
 //! Replies that show the bag of an object (RFC 8493).
-ghost use Rattle.std.specs.Prelude.{◌≡◌, ℕ, IfOk, IfSome, Some, None};
+ghost use Rattle.std.specs.Prelude.{◌≡◌, ℕ, false, map, IfOk, IfSome, Some, None};
 ghost use Rattle.dep_types.specs.State.{State};
 ghost use Rattle.dep_types.specs.Sound.{IsSound};
 ghost use Rattle.dep_docs_out.specs.Documents.{bag_metadata_document};
+ghost use Rattle.dep_manifest.specs.Lengths.{OfLength};
 ghost use Rattle.dep_manifest.specs.TagFiles.{bagit_text};
+ghost use Rattle.dep_manifest.specs.Told.{row_path};
 ghost use Rattle.dep_bag.specs.Bag.{list_text};
+ghost use Rattle.dep_bag.specs.Parts.{tag_file_at};
 ghost use Rattle.dep_answers.specs.Answers.{answer, Document, PlainText};
 ghost use Rattle.dep_answers.specs.Performing.{HasEnd, Says};
 ghost use Rattle.dep_answers.specs.Subjects.{shown_at, subject_in_bag};
 ghost use Rattle.dep_answers.specs.Told.{told_list, form_at, bag_answer};
-ghost use Rattle.dep_answers.specs.Telling.{SaysPayload, SaysTagFile};
+ghost use Rattle.dep_answers.specs.Telling.{IsShownByRow, IsTagView, SaysLength, SaysPayload, SaysTagFile, measured_by};
 
 use crate::answer::{Answer, Form, ReplyText};
+use crate::measured::measured_reply;
 use crate::performed::{Delivery, Performed};
 use crate::stored::stored_reply;
 use crate::subject::Shown;
-use dep_bag::{BagPart, bag_file, bag_paths, is_payload_path};
+use dep_bag::{BagPart, TagFile, bag_file, bag_paths, is_payload_path, tag_file};
 use dep_docs_out::bag_metadata_doc;
-use dep_manifest::{METADATA, declaration};
+use dep_manifest::{
+    Algorithm, METADATA, declaration, payload_manifest_length, tag_manifest_length,
+};
 use dep_reply::Status;
 use dep_types::{FileRow, Metadata, ObjectView, Octets, Text};
 use std::alloc::{AllocError, Global};
@@ -50,8 +56,8 @@ fn list_text(alloc: Global, paths: &[Text]) -> Result<Vec<u8>, AllocError>
 }
 
 /// Returns the reply that shows what stands at a path of an object's bag, where something stands there: by
-/// the row of the one file that can, or else by what its tag file is made of. The declaration is the same in each
-/// bag, so that the object's row is shown for it alone.
+/// the row of the one file that can, or else by what its tag file is made of. Of a manifest a bare reply says the length
+/// by paths alone.
 pub(crate) fn bag_reply(
     alloc: Global,
     shown: &Shown,
@@ -59,16 +65,36 @@ pub(crate) fn bag_reply(
     delivery: Delivery,
 ) -> Result<Option<Performed>, AllocError>
     ensures says { IfOk result (λ said. (s : State) (n : ℕ) → IsSound s
-        → shown.now ≡ shown_at s (subject_in_bag n path.now)
+        → shown.now ≡ shown_at s (subject_in_bag n path.now delivery.is_bare)
         → Says s (bag_answer s n path.now) delivery said) }
     ensures ends { IfOk result (λ said. IfSome said HasEnd) }
 {
     match shown {
         Shown::Object(view) | Shown::Files(view) => tag_file_reply(alloc, view, path, delivery),
-        Shown::ObjectRow(_) => declared(alloc)?.say(alloc, delivery),
+        Shown::ObjectRow(_) => reply_by_row(alloc, path, delivery),
         Shown::Metadata { metadata, .. } => described(alloc, metadata)?.say(alloc, delivery),
         Shown::File(row) => file_reply_at(alloc, row, path, delivery),
         _ => Ok(None),
+    }
+}
+
+// The tag file at a path that is shown by its object's row alone: the declaration, which is the same in each bag, or
+// in a bare reply a tag manifest, which is as long in each.
+fn reply_by_row(
+    alloc: Global,
+    path: &[u8],
+    delivery: Delivery,
+) -> Result<Option<Performed>, AllocError>
+    ensures says { IfOk result
+        (SaysTagFile path.now (IsShownByRow path.now delivery.is_bare) delivery) }
+    ensures ends { IfOk result (λ said. IfSome said HasEnd) }
+{
+    match tag_file(path) {
+        Some(TagFile::TagManifest(algorithm)) => {
+            let size = tag_manifest_length(algorithm);
+            Ok(Some(measured_reply(alloc, size, delivery)?))
+        }
+        _ => declared(alloc)?.say(alloc, delivery),
     }
 }
 
@@ -113,7 +139,55 @@ fn tag_file_reply(
     path: &[u8],
     delivery: Delivery,
 ) -> Result<Option<Performed>, AllocError>
-    ensures says { IfOk result (SaysTagFile path.now view.now delivery) }
+    ensures says { IfOk result
+        (SaysTagFile path.now (IsTagView path.now view.now delivery.is_bare) delivery) }
+    ensures ends { IfOk result (λ said. IfSome said HasEnd) }
+{
+    match measured(path, delivery.is_bare) {
+        Some(algorithm) => {
+            let files = view.files.as_slice();
+            Ok(Some(measured_manifest(alloc, files, algorithm, delivery)?))
+        }
+        None => written_reply(alloc, view, path, delivery),
+    }
+}
+
+// The algorithm of the payload's manifest, where that stands at the path and a bare reply is to say how long it is.
+fn measured(path: &[u8], is_bare: bool) -> Option<Algorithm>
+    ensures { result ≡ measured_by (tag_file_at path.now) is_bare }
+{
+    match (tag_file(path), is_bare) {
+        (Some(TagFile::Manifest(algorithm)), true) => Some(algorithm),
+        _ => None,
+    }
+}
+
+// How long the payload's manifest is. Where 64 bits don't hold that, no memory holds the manifest.
+fn measured_manifest(
+    alloc: Global,
+    files: &[FileRow],
+    algorithm: Algorithm,
+    delivery: Delivery,
+) -> Result<Performed, AllocError>
+    ensures says { IfOk result (λ p. OfLength algorithm (map row_path files.now)
+        (λ size. SaysLength size delivery p)) }
+    ensures ends { IfOk result HasEnd }
+{
+    match payload_manifest_length(files, algorithm) {
+        Some(size) => measured_reply(alloc, size, delivery),
+        None => Err(AllocError),
+    }
+}
+
+// The same tag file, written out of all that it is made of.
+fn written_reply(
+    alloc: Global,
+    view: &ObjectView,
+    path: &[u8],
+    delivery: Delivery,
+) -> Result<Option<Performed>, AllocError>
+    ensures says { IfOk result
+        (SaysTagFile path.now (IsTagView path.now view.now false) delivery) }
     ensures ends { IfOk result (λ said. IfSome said HasEnd) }
 {
     match bag_file(alloc, view, path)? {

@@ -5,6 +5,7 @@ mod accepting;
 mod answer;
 mod bags;
 pub mod laws;
+mod measured;
 mod objects;
 mod performed;
 mod refusing;

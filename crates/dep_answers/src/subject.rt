@@ -74,7 +74,8 @@ impl Subject {
         ensures { result ≡ subject_of next.now target.now.resource target.now.method }
     {
         match target.method {
-            Method::Get | Method::Head => shown_by(&target.resource),
+            Method::Get => shown_by(&target.resource, false),
+            Method::Head => shown_by(&target.resource, true),
             Method::Post => posted(&target.resource, next),
             Method::Put => put(&target.resource),
             Method::Delete => Subject::Nothing,
@@ -82,13 +83,13 @@ impl Subject {
     }
 }
 
-// What is read to show a resource.
-fn shown_by(resource: &Resource) -> Subject
-    ensures { result ≡ subject_at resource.now }
+// What is read to show a resource, or for the bare reply that says how long that is.
+fn shown_by(resource: &Resource, is_bare: bool) -> Subject
+    ensures { result ≡ subject_at resource.now is_bare }
 {
     match resource {
         Resource::Object(object) | Resource::BagList(object) => Subject::Files(*object),
-        Resource::BagFile(object, path) => in_bag(*object, path.as_slice()),
+        Resource::BagFile(object, path) => in_bag(*object, path.as_slice(), is_bare),
         Resource::Metadata(object) => Subject::Metadata(*object),
         Resource::File(object, file) => Subject::File(FileId {
             object: *object,
@@ -100,24 +101,25 @@ fn shown_by(resource: &Resource) -> Subject
 }
 
 // What is read to show a path of a bag.
-fn in_bag(object: u64, path: &[u8]) -> Subject
-    ensures { result ≡ subject_in_bag object path.now }
+fn in_bag(object: u64, path: &[u8], is_bare: bool) -> Subject
+    ensures { result ≡ subject_in_bag object path.now is_bare }
 {
     match file_number(path) {
         Some(file) => Subject::File(FileId { object, file }),
-        None => in_tag_file(object, tag_file(path)),
+        None => in_tag_file(object, tag_file(path), is_bare),
     }
 }
 
-// What is read to show a tag file.
-fn in_tag_file(object: u64, file: Option<TagFile>) -> Subject
-    ensures { result ≡ tag_subject object file }
+// What is read to show a tag file, or for its length. A manifest is as long whatever its digests are.
+fn in_tag_file(object: u64, file: Option<TagFile>, is_bare: bool) -> Subject
+    ensures { result ≡ tag_subject object file is_bare }
 {
-    match file {
-        Some(TagFile::Declaration) => Subject::ObjectRow(object),
-        Some(TagFile::Metadata) => Subject::Metadata(object),
-        Some(TagFile::Manifest(Algorithm::Sha512)) => Subject::Payload(object),
-        Some(TagFile::TagManifest(_)) => Subject::Object(object),
+    match (file, is_bare) {
+        (Some(TagFile::Declaration), _) => Subject::ObjectRow(object),
+        (Some(TagFile::Metadata), _) => Subject::Metadata(object),
+        (Some(TagFile::Manifest(Algorithm::Sha512)), false) => Subject::Payload(object),
+        (Some(TagFile::TagManifest(_)), false) => Subject::Object(object),
+        (Some(TagFile::TagManifest(_)), true) => Subject::ObjectRow(object),
         _ => Subject::Files(object),
     }
 }

@@ -2,3 +2,4 @@ pub mod Encoding
 pub mod Written
 pub mod FiveLines
 mod Beside
+pub mod ByPaths

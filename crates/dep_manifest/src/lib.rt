@@ -5,6 +5,7 @@
 mod algorithm;
 mod damaged;
 pub mod laws;
+mod lengths;
 mod lines;
 mod paths;
 mod payload;
@@ -13,6 +14,7 @@ mod tag_manifests;
 
 pub use algorithm::Algorithm;
 pub use damaged::{KeptDigests, note_damaged};
+pub use lengths::{payload_manifest_length, tag_manifest_length};
 pub use paths::{
     BAG_INFO, BAGIT, MANIFEST_SHA256, MANIFEST_SHA512, METADATA, TAG_MANIFEST_SHA256,
     TAG_MANIFEST_SHA512, payload_path,

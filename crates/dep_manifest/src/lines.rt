@@ -1,6 +1,7 @@
 //! The line of a file.
-ghost use Rattle.std.specs.Prelude.{◌≡◌, OnOk};
+ghost use Rattle.std.specs.Prelude.{◌≡◌, OnOk, length};
 ghost use Rattle.dep_manifest.specs.Growing.{Grows};
+ghost use Rattle.dep_manifest.specs.Lengths.{in_64_bits};
 ghost use Rattle.dep_manifest.specs.Manifest.{encoded_byte, encoded_path, line_of};
 
 use std::alloc::AllocError;
@@ -25,6 +26,17 @@ fn add_encoded(text: &mut Vec<u8>, path: &[u8]) -> Result<(), AllocError>
         text.extend_from_slice(encoded(byte))?;
     }
     Ok(())
+}
+
+/// How many bytes a manifest writes for a path, as far as 64 bits hold it.
+pub(crate) fn encoded_length(path: &[u8]) -> u64
+    ensures { result ≡ in_64_bits (length (encoded_path path.now)) }
+{
+    let mut length = 0u64;
+    for byte in path {
+        length = length.saturating_add(encoded(byte).len() as u64);
+    }
+    length
 }
 
 // A byte as a manifest writes it.

@@ -5,9 +5,17 @@ use Rattle.dep_types.specs.declared.config.Config.{Config}
 use Rattle.dep_types.specs.declared.target.Method.{Method}
 use Rattle.dep_answers.specs.Replies.{answer_to}
 use Rattle.dep_answers.specs.Told.{told_change}
-use Rattle.dep_answers.proofs.ShownReplies.{says_as}
+use Rattle.dep_answers.proofs.ShownReplies.{says_as, shows_safe}
 use Rattle.dep_answers.proofs.ToldLemmas.{change_is}
 use Rattle.dep_answers.proofs.accepting.accepted.Goals as goal
+
+pub returns-then-is_safe-clause-says : goal.returns-then-is_safe-clause-says
+returns-then-is_safe-clause-says c =
+    let r = c.args.target.now.resource in
+    let m = c.args.target.now.method in
+    IfOk-weaker c.show.result _ _
+    (λ said says s sound. shows_safe c.args.service.now s c.args.shown.now c.args.delivery said r m (sym c.is_safe.ensures ∙ c.if-is_safe.true) c.requires (says s sound))
+    c.show.ensures.says
 
 pub returns-clause-says : goal.returns-clause-says
 returns-clause-says c =

@@ -27,5 +27,5 @@ returns-in_ok-text-in_default-clause-says c =
     IfOk-weaker c.say.result _ _
     (λ said says s sound e. says_as s _ (shown_answer c.args.service.now s r) c.args.delivery said
     (c.in_ok-text-in_default.ensures
-    ∙ text_is c.args.service.now s sound r c.args.shown.now c.in_default.not-File c.in_default.not-BagFile e) (says s))
+    ∙ text_is c.args.service.now s sound r c.args.delivery.is_bare c.args.shown.now c.in_default.not-File c.in_default.not-BagFile e) (says s))
     c.say.ensures.says

@@ -1,0 +1,105 @@
+-- Manifests of a bag by what is known of their lengths, and the tag files that an object's row shows.
+use Rattle.std.proofs.Common.{◌≡◌, ℕ, Bool, true, false, List, [], ◌∷◌, Option, Some, None, map, refl, sym, ap, ◌∙◌}
+use Rattle.std.specs.FinMap as finmap
+use Rattle.dep_types.specs.BagPaths.{payload_path}
+use Rattle.dep_types.specs.Rows.{file_row, object_view}
+use Rattle.dep_types.specs.Sinks.{Entry}
+use Rattle.dep_types.specs.State.{State, Object, File}
+use Rattle.dep_types.specs.declared.rows.ObjectView.{ObjectView}
+use Rattle.dep_manifest.specs.Lengths.{OfLength}
+use Rattle.dep_manifest.specs.Manifest.{digest_by, manifest_of}
+use Rattle.dep_manifest.specs.Told.{row_path, told_listed}
+use Rattle.dep_manifest.specs.declared.algorithm.Algorithm.{Algorithm}
+use Rattle.dep_manifest.specs.declared.algorithm.Algorithm.TheVariants.{Sha256, Sha512}
+use Rattle.dep_bag.specs.Bag.{listed_files, payload}
+use Rattle.dep_bag.specs.Parts.{tag_file_at}
+use Rattle.dep_bag.specs.declared.part.TagFile.{TagFile}
+use Rattle.dep_bag.specs.declared.part.TagFile.TheVariants as tag
+use Rattle.dep_answers.specs.Answers.{PlainText, ReplyContent, answer}
+use Rattle.dep_answers.specs.Bags.{shown_in_bag}
+use Rattle.dep_answers.specs.Performing.{IsReply, Says}
+use Rattle.dep_answers.specs.Subjects.{tag_subject}
+use Rattle.dep_answers.specs.Telling.{IsShownByRow, IsTagView, SaysLength, measured_by, view_by}
+use Rattle.dep_answers.specs.declared.performed.Delivery.{Delivery}
+use Rattle.dep_answers.specs.declared.performed.Performed.{Performed}
+use Rattle.dep_answers.specs.declared.subject.Subject.TheVariants as subject
+use Rattle.dep_answers.proofs.BagLemmas.{manifest_shown, tag_manifest_shown}
+use Rattle.dep_answers.proofs.ShownReplies.{replies_as}
+
+-- each view has the rows of all files
+same_files : (n : ℕ) (o : Object) (file : Option TagFile) (b : Bool) → (view_by n o file b).files ≡ (object_view n o).files
+same_files n o (Some tag.Declaration) b = refl
+same_files n o (Some tag.Information) b = refl
+same_files n o (Some (tag.Manifest Sha256)) b = refl
+same_files n o (Some (tag.Manifest Sha512)) true = refl
+same_files n o (Some (tag.Manifest Sha512)) false = refl
+same_files n o (Some tag.Metadata) b = refl
+same_files n o (Some (tag.TagManifest a)) b = refl
+same_files n o None b = refl
+
+payload_rows : (n : ℕ) (es : List (ℕ × File))
+    → map (λ (file : Entry). file.0) (map (λ (e : ℕ × File). (payload_path e.0 e.1.name, e.1.content)) es) ≡ map row_path (map (λ (e : ℕ × File). file_row n e.0 e.1) es)
+payload_rows n [] = refl
+payload_rows n (e ∷ es) = ap (λ (l : List (List ℕ)). payload_path e.0 e.1.name ∷ l) (payload_rows n es)
+
+module _ (s : State) (n : ℕ) (o : Object) (path : List ℕ) (delivery : Delivery) (p : Performed) (a : Algorithm) where
+  abbrev SaysPath : Type 0
+  SaysPath = Says s (answer 200 (shown_in_bag o path) None None) delivery (Some p)
+
+  shown_as : (text : List ℕ) → shown_in_bag o path ≡ Some (PlainText text) → IsReply s (answer 200 (Some (PlainText text)) None None) delivery p → SaysPath
+  shown_as text is says =
+      replies_as s (answer 200 (Some (PlainText text)) None None) (answer 200 (shown_in_bag o path) None None) delivery p
+      (ap (λ (x : Option ReplyContent). answer 200 x None None) (sym is)) says
+
+  pub manifest_measured : (view : ObjectView) → tag_file_at path ≡ Some (tag.Manifest a) → delivery.is_bare ≡ true → IsTagView path view delivery.is_bare n o
+      → OfLength a (map row_path view.files) (λ size. SaysLength size delivery p) → SaysPath
+  manifest_measured view at bare is says =
+      let rows : map (λ (file : Entry). file.0) (payload o) ≡ map row_path view.files =
+      payload_rows n (finmap.entries o.files)
+      ∙ ap (map row_path) (sym (ap (λ (v : ObjectView). v.files) is ∙ same_files n o (tag_file_at path) delivery.is_bare)) in
+      let text = manifest_of (digest_by a) (payload o) in
+      shown_as text (manifest_shown path o a at) (says (payload o) rows bare s text refl)
+
+  pub tag_manifest_measured : (size : ℕ) → tag_file_at path ≡ Some (tag.TagManifest a) → IsShownByRow path delivery.is_bare n o
+      → ((view : ObjectView) → OfLength a (map (λ file. file.0) (told_listed view)) (λ length. size ≡ length)) → SaysLength size delivery p → SaysPath
+  tag_manifest_measured size at by told says =
+      let text = manifest_of (digest_by a) (listed_files o) in
+      shown_as text (tag_manifest_shown path o a at)
+      (says (bare delivery.is_bare (ap (λ (file : Option TagFile). tag_subject n file delivery.is_bare) (sym at) ∙ by)) s text (sym (told (object_view n o) (listed_files o) refl)))
+    where
+      bare : (b : Bool) → tag_subject n (Some (tag.TagManifest a)) b ≡ subject.ObjectRow n → b ≡ true
+      bare true e = refl
+      bare false e = absurd (cc)
+
+-- what the row shows and is no tag manifest is the declaration
+pub declared_by_row : (n : ℕ) (file : Option TagFile) (b : Bool) → tag_subject n file b ≡ subject.ObjectRow n → ((a : Algorithm) → file ≡ Some (tag.TagManifest a) → ⊥)
+    → file ≡ Some tag.Declaration
+declared_by_row n (Some tag.Declaration) b e none = refl
+declared_by_row n (Some tag.Information) b e none = absurd (cc)
+declared_by_row n (Some (tag.Manifest Sha256)) b e none = absurd (cc)
+declared_by_row n (Some (tag.Manifest Sha512)) true e none = absurd (cc)
+declared_by_row n (Some (tag.Manifest Sha512)) false e none = absurd (cc)
+declared_by_row n (Some tag.Metadata) b e none = absurd (cc)
+declared_by_row n (Some (tag.TagManifest a)) b e none = absurd (none a refl)
+declared_by_row n None b e none = absurd (cc)
+
+-- what a bare reply says the length of is a manifest of the payload
+pub measured_there : (file : Option TagFile) (b : Bool) (a : Algorithm) → Some a ≡ measured_by file b → (file ≡ Some (tag.Manifest a)) × (b ≡ true)
+measured_there (Some tag.Declaration) b a e = absurd (cc)
+measured_there (Some tag.Information) b a e = absurd (cc)
+measured_there (Some (tag.Manifest k)) true a e = let same : k ≡ a = cc in (ap (λ (x : Algorithm). Some (tag.Manifest x)) same, refl)
+measured_there (Some (tag.Manifest k)) false a e = absurd (cc)
+measured_there (Some tag.Metadata) b a e = absurd (cc)
+measured_there (Some (tag.TagManifest k)) b a e = absurd (cc)
+measured_there None b a e = absurd (cc)
+
+-- all else is made of the same, in a bare reply too
+pub same_view : (n : ℕ) (o : Object) (file : Option TagFile) (b : Bool) → None ≡ measured_by file b → view_by n o file b ≡ view_by n o file false
+same_view n o (Some tag.Declaration) b none = refl
+same_view n o (Some tag.Information) b none = refl
+same_view n o (Some (tag.Manifest Sha256)) b none = refl
+same_view n o (Some (tag.Manifest Sha512)) true none = absurd (cc)
+same_view n o (Some (tag.Manifest Sha512)) false none = refl
+same_view n o (Some tag.Metadata) b none = refl
+same_view n o (Some (tag.TagManifest a)) b none = refl
+same_view n o None b none = refl
