@@ -44,7 +44,7 @@ kind_read_as : (config : Config) (op : Operation) (refs : List Reference) (o : O
 kind_read_as config op refs (Some of.References) e = refl
 kind_read_as config op refs _ e = cc e
 
-kind_is : (config : Config) (op : Operation) (refs : List Reference) → references_in config op ≡ Some refs → kind_of op ≡ Some of.References
+pub kind_is : (config : Config) (op : Operation) (refs : List Reference) → references_in config op ≡ Some refs → kind_of op ≡ Some of.References
 unfolding references_in
 kind_is config op refs e = kind_read_as config op refs (kind_of op) e
 

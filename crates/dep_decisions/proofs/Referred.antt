@@ -26,7 +26,7 @@ use Rattle.dep_decisions.proofs.Lengths.{some_of}
 
 -- ---- one entry of those that a rule passed
 
-first_two : (o : Option Refusal) (rest : List (Option Refusal)) → first_of (o ∷ rest) ≡ None → (o ≡ None) × (first_of rest ≡ None)
+pub first_two : (o : Option Refusal) (rest : List (Option Refusal)) → first_of (o ∷ rest) ≡ None → (o ≡ None) × (first_of rest ≡ None)
 first_two None rest e = (refl, e)
 first_two (Some r) rest e = cc e
 

@@ -1,11 +1,13 @@
 -- Words of the laws.
 use Rattle.std.specs.Prelude.{◌≡◌, ◌⊎◌, ℕ, ◌+◌, ◌==◌, ◌<◌, ◌≤◌, ◌&&◌, Bool, true, false, List, [], ◌∷◌, length, slice_get, Option, Some, None, IsTrue}
+use Rattle.std.specs.Option.{option_map_or}
 use Rattle.std.specs.FinMap as map
 use Rattle.dep_types.specs.Maps.{first_of}
 use Rattle.dep_types.specs.State.{State, Object, File, Upload, file_at}
 use Rattle.dep_types.specs.Uploads.{assembled, segment_length}
 use Rattle.dep_types.specs.declared.config.Config.{Config}
 use Rattle.dep_types.specs.declared.refusal.Refusal.{Refusal}
+use Rattle.dep_types.specs.declared.refusal.Refusal.TheVariants.{BadRequest}
 use Rattle.dep_types.specs.declared.target.Resource.{Resource}
 use Rattle.dep_types.specs.declared.target.Resource.TheVariants.{Object as AnObject, FileSet as AFileSet, File as AFile, Upload as AnUpload}
 use Rattle.dep_types.specs.declared.target.Method.{Method}
@@ -18,7 +20,7 @@ use Rattle.dep_docs_in.specs.declared.reference.Pointed.TheVariants.{Upload as P
 use Rattle.dep_decisions.specs.Kinds.{kind_of}
 use Rattle.dep_decisions.specs.Decisions.{references_in}
 use Rattle.dep_decisions.specs.LookUps.{LookUps, promised_of}
-use Rattle.dep_decisions.specs.Rules.{access_refusal, content_refusal, has_length, refusal}
+use Rattle.dep_decisions.specs.Rules.{access_refusal, content_refusal, each, has_length, refusal, unless, upload_refusal}
 use Rattle.dep_decisions.specs.Effects.{effect}
 use Rattle.dep_decisions.specs.declared.operation.Operation.{Operation}
 
@@ -67,6 +69,16 @@ pub record EndAlike (config : Config) (s : State) (op other : Operation) : Type 
 abbrev pub refusal_before_room : {U : Type 0} → Config → LookUps U → Operation → Option Refusal
 refusal_before_room config l op =
     first_of (access_refusal config l op ∷ content_refusal config l op ∷ [])
+
+-- ---- deposits by reference that are refused by what is there of their uploads
+
+-- a segment of the upload is missing, where it is there
+abbrev pub segments_refusal : {U : Type 0} → LookUps U → ℕ → Option Refusal
+segments_refusal l u = unless (option_map_or l.known.is_whole (l.upload u) true) BadRequest
+
+-- the first of these uploads that isn't there, or else one that lacks a segment
+abbrev pub uploads_refusal : {U : Type 0} → LookUps U → List ℕ → Option Refusal
+uploads_refusal l us = first_of (each (upload_refusal l) us ∷ each (segments_refusal l) us ∷ [])
 
 -- ---- files that are replaced or deleted
 

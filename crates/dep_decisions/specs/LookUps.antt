@@ -1,6 +1,6 @@
 -- What the rules look up in an archive: a state gives it, and so does what was read of the tables. What stands for an
 -- upload is of any type.
-use Rattle.std.specs.Prelude.{ℕ, Bool, false, List, is_some, Option, None, Some, bytes_eq, option_map, if◌then◌else◌}
+use Rattle.std.specs.Prelude.{ℕ, Bool, false, List, [], is_some, Option, None, Some, bytes_eq, option_map, if◌then◌else◌}
 use Rattle.std.specs.List.{filter_map, list_any}
 use Rattle.std.specs.Option.{option_map_or}
 use Rattle.std.specs.FinMap as finmap
@@ -117,3 +117,9 @@ in_state s = record {
 -- the same look-ups, of which none has the digests of an upload
 abbrev pub without_digests : {U : Type 0} → LookUps U → LookUps U
 without_digests l = record l { known = record l.known { digests = λ u. None } }
+
+-- ---- before any upload that references name is looked up
+
+-- the same look-ups, of which none finds what an entry points at
+abbrev pub without_entries : {U : Type 0} → LookUps U → LookUps U
+without_entries l = record l { entries = λ refs. [] }

@@ -14,7 +14,7 @@ use Rattle.dep_types.specs.declared.counters.Counters.{Counters}
 use Rattle.dep_types.specs.declared.rows.ObjectRow.{ObjectRow}
 use Rattle.dep_types.specs.declared.rows.FileRow.{FileRow}
 use Rattle.dep_types.specs.declared.refusal.Refusal.{Refusal}
-use Rattle.dep_types.specs.declared.refusal.Refusal.TheVariants.{BadRequest, DigestMismatch, NotFound, StoreFull}
+use Rattle.dep_types.specs.declared.refusal.Refusal.TheVariants.{BadRequest, ByReferenceNotAllowed, DigestMismatch, NotFound, PackagingFormatNotAcceptable, StoreFull}
 use Rattle.dep_types.specs.declared.target.Resource.{Resource}
 use Rattle.dep_types.specs.declared.target.Resource.TheVariants.{Service, Object, Metadata, FileSet, File, Upload, BagList, BagFile}
 use Rattle.dep_fields.specs.declared.kind.Kind.{Kind}
@@ -24,16 +24,19 @@ use Rattle.dep_docs_in.specs.declared.reference.Pointed.{Pointed}
 use Rattle.dep_docs_in.specs.declared.reference.Pointed.TheVariants.{Upload as AnUpload, Elsewhere}
 use Rattle.dep_decisions.specs.Decisions.{decision_with, numbers_for, references_in, upload_number}
 use Rattle.dep_decisions.specs.Kinds.{kind_of}
+use Rattle.dep_decisions.specs.Laws as laws
 use Rattle.dep_decisions.specs.Laws.{refusal_before_room}
-use Rattle.dep_decisions.specs.LookUps.{Entry, Known, LookUps, assembled_digests, entry_at, has_bag_path, in_state, known_of, repeats, tag_at, without_digests}
-use Rattle.dep_decisions.specs.Rules.{access_refusal, behalf_rule, content_by, content_refusal, digest_rule, digests_refusal, document_refusal, document_rule, each, entries_refusal, fields_refusal, has_content, has_digests, has_length, length_refusal, missing_refusal, presence_refusal, presence_rule, reads_alone, received_refusal, references_refusal, refusal, refusal_by, room_rule, segment_by, segment_refusal, size_refusal, size_rule, tag_refusal, tag_rule, there_refusal, unless, whole_refusal}
+use Rattle.dep_decisions.specs.LookUps.{Entry, Known, LookUps, assembled_digests, entry_at, has_bag_path, in_state, known_of, repeats, tag_at, without_digests, without_entries}
+use Rattle.dep_decisions.specs.Rules.{access_refusal, behalf_rule, content_by, content_refusal, digest_rule, digests_refusal, document_refusal, document_rule, each, entries_refusal, fields_refusal, has_content, has_digests, has_length, is_binary, length_refusal, missing_refusal, presence_refusal, presence_rule, reads_alone, received_refusal, references_refusal, refusal, refusal_by, room_rule, segment_by, segment_refusal, size_refusal, size_rule, stands_twice, tag_refusal, tag_rule, there_refusal, unless, upload_refusal, when, whole_refusal}
 use Rattle.dep_decisions.specs.declared.operation.Operation.{Operation}
 use Rattle.dep_decisions.specs.declared.decision.Decision.{Decision}
 use Rattle.dep_operations.specs.Checks.{IsRoomRuling}
-use Rattle.dep_operations.specs.Rules.{IsSeen}
-use Rattle.dep_operations.specs.Rulings.{HasRoomFor, IsRuling, RefusesUndigested, RulesBy}
+use Rattle.dep_decisions.proofs.BeforeDigests.{access_same}
+use Rattle.dep_decisions.proofs.ByUploads.{first_same}
+use Rattle.dep_operations.specs.Rules.{IsSeen, segments_refusal}
+use Rattle.dep_operations.specs.Rulings.{HasRoomFor, IsRuling, RefusesUndigested, RefusesUnnamed, RulesBy}
 use Rattle.dep_operations.specs.Seen.{entries_seen, entry_before, entry_seen, in_view, is_timed_out, known_live, live_in, promised_in, row_length, tag_seen, upload_in}
-use Rattle.dep_operations.specs.Views.{file_in, live_upload, object_in, path_in, segment_in, state_undigested, touched_by, true_view, undigested_view, upload_state, uploads_in, uploads_named}
+use Rattle.dep_operations.specs.Views.{file_in, live_upload, object_in, path_in, segment_in, state_undigested, touched_by, true_view, undigested_view, unnamed_view, upload_state, uploads_in, uploads_named}
 use Rattle.dep_operations.specs.declared.ruling.Ruling.{Ruling}
 use Rattle.dep_operations.specs.declared.ruling.Ruling.TheVariants.{Do, Refuse}
 use Rattle.dep_operations.specs.declared.view.LiveUpload.{LiveUpload}
@@ -41,7 +44,7 @@ use Rattle.dep_operations.specs.declared.view.UploadState.{UploadState}
 use Rattle.dep_operations.specs.declared.view.UploadState.TheVariants.{Unknown, TimedOut, Live}
 use Rattle.dep_operations.specs.declared.view.UploadView.{UploadView}
 use Rattle.dep_operations.specs.declared.view.View.{View}
-use Rattle.dep_operations.proofs.Staged.{by_reference_elsewhere}
+use Rattle.dep_operations.proofs.Staged.{by_reference_elsewhere, not_to_upload}
 
 -- ---- an upload
 
@@ -83,13 +86,6 @@ tag_of row tag None = refl
 tag_of row tag (Some x) = refl
 
 -- ---- references
-
-first_same : (a b : Option Refusal) (xs ys : List (Option Refusal)) → a ≡ b → first_of xs ≡ first_of ys → first_of (a ∷ xs) ≡ first_of (b ∷ ys)
-first_same a b xs ys e f = ap (λ x. first_of (x ∷ xs)) e ∙ under b
-  where
-    under : (o : Option Refusal) → first_of (o ∷ xs) ≡ first_of (o ∷ ys)
-    under None = f
-    under (Some r) = refl
 
 -- what is known of the uploads of a state, with their digests or without
 abbrev known_with : (hashed : Bool) → Known state.Upload
@@ -243,6 +239,74 @@ module _ (config : Config) (s : State) (op : Operation) where
   told (Refuse r) is = sym seen_truly ∙ is
   told (Do d) is = (sym seen_truly ∙ is.0, is.1)
 
+-- ---- before any upload that references name is looked up
+
+no_entries : (refs : List Reference) → entries_seen refs [] ≡ []
+unfolding entries_seen
+no_entries [] = refl
+no_entries (r ∷ refs) = one_more r.target (no_entries refs)
+  where
+    one_more : (t : Pointed) → entries_seen refs [] ≡ [] → entry_before (entries_seen refs) r t [] ≡ []
+    one_more Elsewhere later = later
+    one_more (AnUpload u) later = later
+
+module _ (config : Config) (s : State) (op : Operation) (is : kind_of op ≡ Some of.References) where
+  abbrev bare : View
+  bare = unnamed_view config s op
+
+  presence_bare : (resource : Resource) → op.target.resource ≡ resource → presence_refusal (in_view bare) resource ≡ presence_refusal (in_view (true_view config s op)) resource
+  presence_bare (Upload u) at = absurd (not_to_upload op u is at)
+  presence_bare _ at = refl
+
+  tag_bare : (resource : Resource) → tag_seen bare resource ≡ tag_seen (true_view config s op) resource
+  tag_bare (Object n) = refl
+  tag_bare _ = refl
+
+  access_bare : access_refusal config (in_view bare) op ≡ access_refusal config (in_view (true_view config s op)) op
+  unfolding access_refusal presence_rule tag_rule
+  access_bare =
+      let presence = presence_bare op.target.resource refl in
+      let tag = tag_bare op.target.resource in
+      (λ i. first_of (behalf_rule config op ∷ presence i
+      ∷ (if reads_alone op.target.resource op.target.method then None else tag_refusal config.require_if_match op.if_match (tag i)) ∷ []))
+
+  entries_bare : (refs : List Reference) → entries_refusal (in_view bare) refs ≡ entries_refusal (without_entries (in_state s)) refs
+  unfolding entries_refusal
+  entries_bare refs =
+      let none = no_entries refs in
+      (λ i. first_of
+      (each (λ (r : Reference). unless (is_some (upload_number r.target)) ByReferenceNotAllowed) refs
+      ∷ each (λ (r : Reference). unless (is_binary r.packaging) PackagingFormatNotAcceptable) refs
+      ∷ when (stands_twice (uploads_named refs)) BadRequest
+      ∷ each there_refusal (none i) ∷ each (whole_refusal known_live) (none i) ∷ each (length_refusal known_live) (none i) ∷ each (digests_refusal known_live) (none i) ∷ []))
+
+  references_bare : (o : Option (List Reference)) → references_refusal (in_view bare) o ≡ references_refusal (without_entries (in_state s)) o
+  references_bare None = refl
+  references_bare (Some refs) = entries_bare refs
+
+  document_bare : (o : Option Kind) → o ≡ Some of.References → option_and_then (document_refusal config (in_view bare) op) o ≡ option_and_then (document_refusal config (without_entries (in_state s)) op) o
+  document_bare (Some of.References) e = references_bare (references_in config op)
+  document_bare _ e = absurd (cc e)
+
+  size_bare : (o : Option Kind) → o ≡ Some of.References → option_and_then (size_refusal config (in_view bare) op) o ≡ option_and_then (size_refusal config (without_entries (in_state s)) op) o
+  size_bare (Some of.References) e = refl
+  size_bare _ e = absurd (cc e)
+
+  content_bare : content_refusal config (in_view bare) op ≡ content_refusal config (without_entries (in_state s)) op
+  unfolding content_refusal content_by document_rule size_rule
+  content_bare =
+      let document = document_bare (kind_of op) is in
+      let size = size_bare (kind_of op) is in
+      (λ i. if has_content op.target.method then first_of (fields_refusal op ∷ digest_rule op ∷ document i ∷ size i ∷ []) else None)
+
+  access_unseen : access_refusal config (without_entries (in_state s)) op ≡ access_refusal config (in_state s) op
+  access_unseen = access_same config (in_state s) op (λ refs. []) (in_state s).known.digests
+
+  seen_unnamed_truly : refusal_before_room config (in_view bare) op ≡ refusal_before_room config (without_entries (in_state s)) op
+  seen_unnamed_truly =
+      let access = access_bare ∙ access_is true config s op ∙ sym access_unseen in
+      (λ i. first_of (access i ∷ content_bare i ∷ []))
+
 -- a ruling by what is seen is right in each state that the view tells truly
 pub rules_by : (config : Config) (view : View) (op : Operation) (ruling : Ruling) → IsSeen config view op ruling → RulesBy config view op ruling
 rules_by config view op ruling is s truly = told config s op ruling (subst (λ v. IsSeen config v op ruling) truly is)
@@ -254,6 +318,22 @@ refuses_undigested config view op access content a b s truly =
     (λ i. first_of (a i ∷ b i ∷ []))
     ∙ ap (λ v. refusal_before_room config (in_view v) op) truly
     ∙ seen_undigested_truly config s op
+
+-- and by what is seen before any upload that references name is looked up
+pub refuses_unnamed : (config : Config) (view : View) (op : Operation) (access content : Option Refusal) → access ≡ access_refusal config (in_view view) op
+    → content ≡ content_refusal config (in_view view) op → RefusesUnnamed config view op (first_of (access ∷ content ∷ []))
+refuses_unnamed config view op access content a b s is truly =
+    (λ i. first_of (a i ∷ b i ∷ []))
+    ∙ ap (λ v. refusal_before_room config (in_view v) op) truly
+    ∙ seen_unnamed_truly config s op is
+
+-- ---- an upload, as it is seen before its digests are taken
+
+pub missing_seen : (by_reference : Bool) (s : State) (u : ℕ) → let state = state_undigested (upload_state by_reference s u) in missing_refusal (live_in state) (is_timed_out state) ≡ upload_refusal (in_state s) u
+missing_seen by s u = missing_is false by u (finmap.get s.uploads u) (set.contains s.timed_out u)
+
+pub segments_seen : (s : State) (u : ℕ) → segments_refusal (state_undigested (upload_state true s u)) ≡ laws.segments_refusal (in_state s) u
+segments_seen s u = ap (λ b. unless b BadRequest) (passes_is (λ l. l.is_whole) false true u (finmap.get s.uploads u) (set.contains s.timed_out u))
 
 -- ---- rulings by what is seen
 

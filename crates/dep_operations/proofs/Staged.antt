@@ -1,5 +1,5 @@
 -- A request to an upload itself refers to none.
-use Rattle.std.proofs.Common.{◌≡◌, ℕ, true, List, Option, Some, refl}
+use Rattle.std.proofs.Common.{◌≡◌, ◌∙◌, ℕ, true, List, Option, Some, refl, sym, ap}
 use Rattle.dep_types.specs.declared.config.Config.{Config}
 use Rattle.dep_types.specs.declared.target.Resource.{Resource}
 use Rattle.dep_types.specs.declared.target.Resource.TheVariants.{Service, Upload}
@@ -16,6 +16,11 @@ use Rattle.dep_operations.specs.Views.{uploads_in}
 not_uploaded : (u : ℕ) (method : Method) → takes_kind (Upload u) method of.References ≡ true → ⊥
 not_uploaded u Get h = cc h
 not_uploaded u _ h = cc h
+
+-- no upload takes a document of references
+pub not_to_upload : (op : Operation) (u : ℕ) → kind_of op ≡ Some of.References → op.target.resource ≡ Upload u → ⊥
+not_to_upload op u is at =
+    not_uploaded u op.target.method (ap (λ (r : Resource). takes_kind r op.target.method of.References) (sym at) ∙ taken op of.References is)
 
 elsewhere : (resource : Resource) (method : Method) (refs : Option (List Reference)) → takes_kind resource method of.References ≡ true
     → uploads_in resource refs ≡ uploads_in Service refs

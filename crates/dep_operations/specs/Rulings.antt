@@ -5,12 +5,14 @@ use Rattle.dep_types.specs.Numbers.{room_for}
 use Rattle.dep_types.specs.declared.config.Config.{Config}
 use Rattle.dep_types.specs.declared.counters.Counters.{Counters}
 use Rattle.dep_types.specs.declared.refusal.Refusal.{Refusal}
+use Rattle.dep_fields.specs.declared.kind.Kind.TheVariants.{References}
 use Rattle.dep_decisions.specs.Decisions.{decision, numbers_for}
+use Rattle.dep_decisions.specs.Kinds.{kind_of}
 use Rattle.dep_decisions.specs.Laws.{refusal_before_room}
-use Rattle.dep_decisions.specs.LookUps.{in_state, without_digests}
+use Rattle.dep_decisions.specs.LookUps.{in_state, without_digests, without_entries}
 use Rattle.dep_decisions.specs.Rules.{refusal}
 use Rattle.dep_decisions.specs.declared.operation.Operation.{Operation}
-use Rattle.dep_operations.specs.Views.{true_view, undigested_view}
+use Rattle.dep_operations.specs.Views.{true_view, undigested_view, unnamed_view}
 use Rattle.dep_operations.specs.declared.ruling.Ruling.{Ruling}
 use Rattle.dep_operations.specs.declared.ruling.Ruling.TheVariants.{Do, Refuse}
 use Rattle.dep_operations.specs.declared.view.View.{View}
@@ -30,6 +32,13 @@ RulesBy config view op ruling =
 abbrev pub RefusesUndigested : Config → View → Operation → Option Refusal → Type 0
 RefusesUndigested config view op refused = (s : State) → view ≡ undigested_view config s op
     → refused ≡ refusal_before_room config (without_digests (in_state s)) op
+
+-- the same of a document of references in each state that the view shows truly but for the uploads that they name,
+-- of which it shows none
+abbrev pub RefusesUnnamed : Config → View → Operation → Option Refusal → Type 0
+RefusesUnnamed config view op refused = (s : State) → kind_of op ≡ Some References
+    → view ≡ unnamed_view config s op
+    → refused ≡ refusal_before_room config (without_entries (in_state s)) op
 
 -- what is let through can be given its numbers
 abbrev pub HasRoomFor : Counters → Ruling → Type 0

@@ -154,3 +154,8 @@ seen_undigested s content t = record (seen_at s content t) {
 
 abbrev pub undigested_view : Config → State → Operation → View
 undigested_view config s op = seen_undigested s op.content (touched_by config op)
+
+-- ---- the same before any upload that references name is looked up
+
+abbrev pub unnamed_view : Config → State → Operation → View
+unnamed_view config s op = record (true_view config s op) { uploads = [] }

@@ -11,6 +11,7 @@ mod view;
 
 pub use dep_decisions::{Decision, Operation};
 pub use order::{decide, refusal_before_digests};
+pub use references::{segments_rule, state_rule};
 pub use ruling::Ruling;
 pub use touched::touches;
 pub use view::{

@@ -9,7 +9,7 @@ ghost use Rattle.dep_decisions.specs.Rules.{access_refusal, document_rule, has_c
 ghost use Rattle.dep_docs_in.specs.Documents.{metadata_read};
 ghost use Rattle.dep_operations.specs.Checks.{IsChecked, IsRoomRuling};
 ghost use Rattle.dep_operations.specs.Seen.{in_view};
-ghost use Rattle.dep_operations.specs.Rulings.{HasRoomFor, RefusesUndigested, RulesBy};
+ghost use Rattle.dep_operations.specs.Rulings.{HasRoomFor, RefusesUndigested, RefusesUnnamed, RulesBy};
 
 use crate::references::references_rule;
 use crate::rules::{behalf_rule, presence_rule, seen_tag, size_rule, tag_rule};
@@ -50,8 +50,10 @@ pub fn decide(
 
 /// Returns the first of rules 5 to 14 that applies while no digest of an upload is known, where the archive is
 /// seen so but for these digests, or `None`, and then [`decide`] has to look at them. What it refuses is refused
-/// whatever they are (`some_are_refused_before_digests`). It costs what the same rules cost there: time in the
-/// length of the content, and memory for the references in it. An `Err` is want of memory.
+/// whatever they are (`some_are_refused_before_digests`). For a document of references the view may show no upload
+/// at all: then it is the first of those rules that applies whatever the uploads are
+/// (`some_are_refused_before_uploads`). It costs what the same rules cost in [`decide`]: time in the length of the
+/// content, and memory for the references in it. An `Err` is want of memory.
 pub fn refusal_before_digests(
     alloc: Global,
     config: &Config,
@@ -60,7 +62,8 @@ pub fn refusal_before_digests(
     purpose: Option<Purpose<'_>>,
 ) -> Result<Option<Refusal>, AllocError>
     requires { option_map kind_for purpose ≡ kind_of operation.now }
-    ensures { IfOk result (RefusesUndigested config.now view.now operation.now) }
+    ensures undigested { IfOk result (RefusesUndigested config.now view.now operation.now) }
+    ensures unnamed { IfOk result (RefusesUnnamed config.now view.now operation.now) }
 {
     if let Some(refusal) = access_rule(config, view, operation) {
         return Ok(Some(refusal));

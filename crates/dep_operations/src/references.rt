@@ -3,7 +3,7 @@ ghost use Rattle.std.specs.Prelude.{◌≡◌, IfOk, Some};
 ghost use Rattle.std.specs.List.{list_any};
 ghost use Rattle.std.specs.Option.{option_copied};
 ghost use Rattle.dep_decisions.specs.Rules.{digests_refusal, each, entries_refusal, length_refusal, missing_refusal, references_refusal, stands_twice, whole_refusal};
-ghost use Rattle.dep_operations.specs.Rules.{is_other_packaging, points_elsewhere, rule_of};
+ghost use Rattle.dep_operations.specs.Rules.{is_other_packaging, points_elsewhere, rule_of, segments_refusal};
 ghost use Rattle.dep_operations.specs.Seen.{entries_seen, entry_seen, in_view, is_timed_out, known_live, live_in, promised_in};
 ghost use Rattle.dep_operations.specs.Views.{uploads_named};
 
@@ -155,8 +155,8 @@ fn upload_rule(rule: UploadRule, reference: &Reference, state: &UploadState) -> 
     }
 }
 
-/// An upload that isn't there, or that timed out.
-pub(crate) fn state_rule(state: &UploadState) -> Option<Refusal>
+/// What a reference to an upload is refused for that isn't there, or that timed out. A GET of it is refused alike.
+pub fn state_rule(state: &UploadState) -> Option<Refusal>
     ensures { result ≡ missing_refusal (live_in state.now) (is_timed_out state.now) }
 {
     match state {
@@ -168,6 +168,13 @@ pub(crate) fn state_rule(state: &UploadState) -> Option<Refusal>
 
 fn whole_rule(_reference: &Reference, state: &UploadState) -> Option<Refusal>
     ensures { result ≡ whole_refusal known_live (entry_seen _reference.now state.now) }
+{
+    segments_rule(state)
+}
+
+/// What a reference to an upload is refused for that is there, and lacks a segment.
+pub fn segments_rule(state: &UploadState) -> Option<Refusal>
+    ensures { result ≡ segments_refusal state.now }
 {
     match state {
         UploadState::Live(upload) if !upload.is_whole => Some(Refusal::BadRequest),
