@@ -1,5 +1,5 @@
 -- Files and segments with their contents in blocks.
-use Rattle.std.proofs.Common.{◌≡◌, ℕ, zero, suc, ◌+◌, ◌*◌, ◌≤◌, List, [], ◌∷◌, length, take, drop, unwrap_or, refl, sym, ap, subst, ◌∙◌, nat_cmp, append-nil, arith}
+use Rattle.std.proofs.Common.{◌≡◌, ℕ, zero, suc, ◌+◌, ◌*◌, ◌≤◌, List, [], length, take, drop, unwrap_or, sym, ap, subst, ◌∙◌, nat_cmp, append-nil, arith}
 use Rattle.std.proofs.lemmas.List.{take_all, drop_all}
 use Rattle.std.proofs.lemmas.Cmp.{nat_cmp_total}
 use Rattle.std.specs.List.{flat_map}

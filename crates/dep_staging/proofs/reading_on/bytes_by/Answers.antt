@@ -1,7 +1,6 @@
-use Rattle.std.proofs.Common.{◌≡◌, ◌<◌, ◌≤◌, ◌+◌, ◌*◌, List, ℕ, true, false, sym, ap, subst, length, drop, take, arith}
+use Rattle.std.proofs.Common.{sym, ap, subst, length, drop, arith}
 use Rattle.std.proofs.lemmas.Result.{IfOk-from_err}
-use Rattle.dep_types.specs.State.{State}
-use Rattle.dep_tables.specs.Tables.{Tables, tables_of}
+use Rattle.dep_tables.specs.Tables.{Tables}
 use Rattle.dep_tables.proofs.Chains.{clean_before, still_ours, may_put, may_ok, may_then, may_read, may_err}
 use Rattle.dep_row_maps.specs.TablesAre.{TablesAre}
 use Rattle.dep_files.proofs.Results.{same_tables}

@@ -1,6 +1,5 @@
-use Rattle.std.proofs.Common.{◌≡◌, ◌<◌, ◌∙◌, Some, sym, subst, refl, length, arith}
+use Rattle.std.proofs.Common.{◌<◌, ◌∙◌, Some, sym, subst, refl, arith}
 use Rattle.std.proofs.lemmas.Result.{IfOk-weaker}
-use Rattle.dep_types.specs.State.{file_at}
 use Rattle.dep_tables.specs.Tables.{Tables}
 use Rattle.dep_tables.specs.declared.owner.BlockOwner.TheVariants as owner
 use Rattle.dep_tables.proofs.Chains.{clean_before, still_ours, may_ok, may_read, may_then}
