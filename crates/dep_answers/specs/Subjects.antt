@@ -20,7 +20,7 @@ use Rattle.dep_answers.specs.declared.subject.Subject.TheVariants as subject
 use Rattle.dep_answers.specs.declared.subject.Shown.{Shown}
 use Rattle.dep_answers.specs.declared.subject.Shown.TheVariants as shown
 
--- What is read to show a tag file. A bare reply says how long it is alone: that of a manifest no digest tells.
+-- What is read to show a tag file. A bare reply only says how long it is, and no digest has a part in how long a manifest is.
 abbrev pub tag_subject : ℕ → Option TagFile → (is_bare : Bool) → Subject
 tag_subject n (Some tag.Declaration) is_bare = subject.ObjectRow n
 tag_subject n (Some tag.Metadata) is_bare = subject.Metadata n

@@ -37,7 +37,7 @@ SaysPayload path row delivery said = (s : State) (n : ℕ) (f : ℕ) (it : File)
     → file_number path ≡ Some f → file_at s n f ≡ Some it → row ≡ file_row n f it
     → Says s (bag_answer s n path) delivery said
 
--- what a tag file of an object is made of, where its files are read, or how long it is in a bare reply
+-- what is read of an object for a tag file that takes more than its row, or in a bare reply for its length
 abbrev pub view_by : ℕ → Object → Option TagFile → (is_bare : Bool) → ObjectView
 view_by n o (Some tag.Metadata) is_bare = object_view n o
 view_by n o (Some (tag.Manifest Sha512)) false = payload_view n o

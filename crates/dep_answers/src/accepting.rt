@@ -24,10 +24,10 @@ use dep_types::{Config, Method, Resource, Target};
 use std::alloc::{AllocError, Global};
 
 /// Returns the reply to a request that was accepted and carried out, by what the archive then shows at its
-/// [`Subject`](crate::Subject) (RFC 9110, section 15.3; SWORD 3.0). A reply to a HEAD is that to the GET,
-/// delivered bare; as it has no body, less may have been read for it. It is `None` where the reply would have nothing to show, though it had to give a length:
-/// for a resource that has no GET, where nothing was read, and where a damaged table gave numbers of segments
-/// that don't rise from 1 on. An `Err` is want of memory.
+/// [`Subject`](crate::Subject) (RFC 9110, section 15.3; SWORD 3.0). A reply to a HEAD, and no other, is delivered bare:
+/// it is that to the GET without its body, so that less may have been read for it. It is `None` where the reply would
+/// have nothing to show, though it had to give a length: for a resource that has no GET, where nothing was read, and
+/// where a damaged table gave numbers of segments that don't rise from 1 on. An `Err` is want of memory.
 pub fn accepted(
     alloc: Global,
     service: &Service,

@@ -162,7 +162,7 @@ fn measured(path: &[u8], is_bare: bool) -> Option<Algorithm>
     }
 }
 
-// How long the payload's manifest is. Where 64 bits don't hold that, no memory holds the manifest.
+// The bare reply that says how long the payload's manifest is. Where 64 bits don't hold that, no memory holds the manifest.
 fn measured_manifest(
     alloc: Global,
     files: &[FileRow],

@@ -83,7 +83,7 @@ impl Subject {
     }
 }
 
-// What is read to show a resource, or for the bare reply that says how long that is.
+// What is read to show a resource, or in a bare reply for its length.
 fn shown_by(resource: &Resource, is_bare: bool) -> Subject
     ensures { result ≡ subject_at resource.now is_bare }
 {
@@ -110,7 +110,7 @@ fn in_bag(object: u64, path: &[u8], is_bare: bool) -> Subject
     }
 }
 
-// What is read to show a tag file, or for its length. A manifest is as long whatever its digests are.
+// What is read to show a tag file, or in a bare reply for its length. A manifest is as long whatever its digests are.
 fn in_tag_file(object: u64, file: Option<TagFile>, is_bare: bool) -> Subject
     ensures { result ≡ tag_subject object file is_bare }
 {
