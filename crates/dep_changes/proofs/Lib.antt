@@ -9,3 +9,4 @@ pub mod Carried
 pub mod Appended
 pub mod NewObject
 pub mod KnownShown
+pub mod OneSize

@@ -59,7 +59,7 @@ parts_joined m = go (finmap.entries m)
 
 begun : (t : Tables) (s : State) (n f : ℕ) (file : File) (bytes : List ℕ) → TablesAre t s → file_at s n f ≡ Some file → (b : BeginsBlocks (filter (is_block_of (owner.File f)) t.blocks) bytes) → file.content ≡ bytes ++ b.rest
 begun t s n f file bytes h has b =
-    sym (h.common.files_parts.of_files n f file (file_is s n f ∙ has)) ∙ sym (parts_joined (h.common.parts (owner.File f)))
+    sym ((h.common.files_parts.of_files n f file (file_is s n f ∙ has)).joins) ∙ sym (parts_joined (h.common.parts (owner.File f)))
     ∙ ap sent.joined (sym (blocks-sorted t.blocks h.common.parts h.common.blocks (owner.File f) b.all b.ordered.same b.ordered.sorted)) ∙ b.whole
 
 -- ---- the size of a file

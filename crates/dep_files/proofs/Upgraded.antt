@@ -24,7 +24,7 @@ module _ (t : Tables) (s : State) (h : OlderTablesAre t s) where
   of_content v (digests, its, is) n file there =
       is ∙ ap (λ (d : Digests). d.sha512) its.are
       ∙ ap sha512 (ap sent.joined (blocks-sorted t.blocks h.common.parts h.common.blocks (owner.File v.file) its.rows its.ordered.same its.ordered.sorted)
-      ∙ parts_joined (h.common.parts (owner.File v.file)) ∙ h.common.files_parts.of_files n v.file file there)
+      ∙ parts_joined (h.common.parts (owner.File v.file)) ∙ (h.common.files_parts.of_files n v.file file there).joins)
 
   pub of_contents : (values : List FileSha512) → AreValuesOf t values → AreOfContents s.objects values
   of_contents values are = all_weaker (HasValue t) _ of_content values are.each

@@ -40,4 +40,4 @@ module _ (a b c d now : Tables) (upload : UploadRow) (row : FileRow) (value : Li
       → row ≡ file_row row.object row.file file → value ≡ sha512 file.content → file.content ≡ assembled it → LacksFileRow row.file d → TablesAre now (deposited s row.object o row.file file upload.upload)
   made s o it file h up values_up there held whole row_is its content free =
       subst (λ (t : Tables). TablesAre t (deposited s row.object o row.file file upload.upload)) (sym (fourth ∙ ap (with_new_file_row row) made_so_far ∙ (λ i. made_of (row_is i) (its i))))
-      (file_assembled a s h up values_up row.object o there row.file file (was_free free) upload.upload it held whole.within content)
+      (file_assembled a s h up values_up row.object o there row.file file (was_free free) upload.upload it held whole.within whole.sized content)

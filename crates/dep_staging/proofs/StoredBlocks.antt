@@ -1,11 +1,10 @@
 -- One block of a segment, which need not be there.
-use Rattle.std.proofs.Common.{◌≡◌, ◌≢◌, ◌⊎◌, inl, inr, ℕ, zero, suc, ◌<◌, ◌≤◌, ◌^◌, Result, Ok, Err, OnOk, List, [], ◌∷◌, length, get_or, map, filter, append-nil, unwrap_or, Option, Some, None, refl, sym, ap, subst, ◌∙◌, arith}
+use Rattle.std.proofs.Common.{◌≡◌, ◌≢◌, ◌⊎◌, inl, inr, ℕ, zero, suc, ◌<◌, ◌≤◌, ◌^◌, Result, Ok, Err, OnOk, List, [], ◌∷◌, length, get_or, map, filter, unwrap_or, Option, Some, None, refl, sym, ap, subst, ◌∙◌, arith}
 use Rattle.std.specs.Prelude.{option_map, slice_get}
 use Rattle.std.specs.Option.{option_to_list}
 use Rattle.std.specs.List.Sorted.{IsPermutation}
 use Rattle.std.specs.FinMap as finmap
-use Rattle.std.proofs.lemmas.Cmp.{nat_cmp_total}
-use Rattle.std.proofs.lemmas.List.Sorted.{IsPermutation-refl, IsPermutation-trans}
+use Rattle.std.proofs.lemmas.List.Sorted.{IsPermutation-trans}
 use Rattle.sqlite.specs.declared.types.Value.TheVariants.{Blob}
 use Rattle.sqlite_value.specs.Order.{Row}
 use Rattle.std.proofs.lemmas.Bool.{cases_lt}
@@ -18,27 +17,17 @@ use Rattle.dep_tables.specs.Tables.{Tables}
 use Rattle.dep_tables.specs.declared.owner.BlockOwner.{BlockOwner}
 use Rattle.dep_tables.specs.declared.owner.BlockOwner.TheVariants as owner
 use Rattle.dep_row_maps.specs.Owned.{owned}
-use Rattle.dep_row_maps.specs.Stored.{block_key, block_rows, blocks_of, part_rows}
+use Rattle.dep_row_maps.specs.Stored.{block_key, block_rows, blocks_of}
 use Rattle.dep_row_maps.specs.TablesAre.{TablesAre, BlocksAre, Parts, segments_at}
 use Rattle.dep_row_maps.proofs.Blocks.{same_owner}
+use Rattle.dep_row_maps.proofs.LastBlock.{empty_part, no_blocks}
 use Rattle.dep_row_maps.proofs.Lens.{get_here}
 use Rattle.dep_row_maps.proofs.Owners.{with_at}
 use Rattle.dep_row_maps.proofs.Picked.{block_at}
-use Rattle.dep_row_maps.proofs.Spreads.{spread-insert}
 use Rattle.dep_staging.specs.Comparing.{stored_bytes}
+use Rattle.dep_staging.specs.FileBlocks.{part_of}
 
 -- ---- a part that need not be there
-
-no_blocks : blocks_of [] ≡ []
-unfolding blocks_of
-no_blocks = refl
-
--- a part without bytes has no rows
-empty_part : (m : Numbered (List ℕ)) (part : ℕ) → finmap.get m part ≡ None → IsPermutation (block_rows m) (block_rows (finmap.insert m part []))
-unfolding blocks_of
-empty_part m part none =
-    subst (λ rows. IsPermutation rows (block_rows (finmap.insert m part []))) (append-nil (block_rows m))
-    (spread-insert nat_cmp_total finmap.nat_cmp-IsAntisymmetric part_rows m part [] [] (rw none (IsPermutation-refl [])))
 
 module _ (rows : List Row) (parts : Parts) (are : BlocksAre rows parts) (o : BlockOwner) (part place : ℕ) where
   -- a part that isn't there has no block, as an empty one would have none
@@ -73,6 +62,14 @@ pub stored_at : {X : Type 0} (items : X → List ℕ) (t : Tables) (s : State) (
 stored_at items t s u k place found h read =
     same_found items found (slice_get (blocks_of (stored_bytes s u k)) place)
     (sym (part_at t.blocks h.common.parts h.common.blocks (owner.Upload u) k place (finmap.get (segments_at s.uploads u) k) (ap (λ (m : Numbered (List ℕ)). finmap.get m k) (h.common.uploads_parts u))) ∙ read)
+
+-- what is read of a part of a file at a place
+pub file_at_place : {X : Type 0} (items : X → List ℕ) (t : Tables) (s : State) (f part place : ℕ) (found : Option X) (h : TablesAre t s)
+    → map bytes_in (filter (is_block (block_key (owner.File f) part place)) t.blocks) ≡ option_to_list (option_map (λ x. Blob (items x)) found)
+    → option_map items found ≡ slice_get (blocks_of (part_of h f part)) place
+file_at_place items t s f part place found h read =
+    same_found items found (slice_get (blocks_of (part_of h f part)) place)
+    (sym (part_at t.blocks h.common.parts h.common.blocks (owner.File f) part place (finmap.get (h.common.parts (owner.File f)) part) refl) ∙ read)
 
 -- ---- an element of a list
 

@@ -3,7 +3,7 @@ use Rattle.std.proofs.Common.{◌≡◌, ℕ, ℤ, pos, List, [], ◌∷◌, map
 use Rattle.std.specs.Option.{option_to_list, option_map}
 use Rattle.std.specs.List.{list_any}
 use Rattle.std.proofs.lemmas.Bool.{and_parts, and_from}
-use Rattle.std.proofs.lemmas.Cmp.{on_total, then_total}
+use Rattle.std.proofs.lemmas.Cmp.{back_total, on_total, then_total}
 use Rattle.std.specs.Ordering.{ordering_then}
 use Rattle.std.specs.Cmp.{IsTotalOrder}
 use Rattle.sqlite_tied.specs.Compute.{everything}
@@ -29,7 +29,7 @@ use Rattle.sqlite_rules.specs.Lists.{Has}
 use Rattle.dep_statements.specs.Query.{equals, falls_below, no_limit, rising, passes}
 use Rattle.dep_statements.specs.Rows.{put_next, columns_from, is_below_number, IsFirst}
 use Rattle.dep_statements.proofs.Values.{cast_int, cast_null}
-use Rattle.dep_statements.proofs.Tests.{equals_int, holds_number, passes_below, passes_two, passes_four}
+use Rattle.dep_statements.proofs.Tests.{equals_int, holds_number, passes_below, passes_two, passes_three, passes_four}
 use Rattle.dep_statements.proofs.Edits.{key_of, has_its_key}
 use Rattle.dep_statements.proofs.Typed.{kept_integer, stored_column}
 use Rattle.dep_statements.proofs.Unique.{IsKey}
@@ -37,11 +37,11 @@ use Rattle.dep_statements.proofs.Results.{changed_by}
 use Rattle.dep_statements.proofs.Written.{Inserts, Deletes, Updates, inserts_next, deletes_where, updates_where}
 use Rattle.dep_statements.proofs.Selected.{Asks, first_only, selects_all, selects_first}
 use Rattle.dep_tables.specs.Schema.{our_schema, blocks_table}
-use Rattle.dep_tables.specs.Texts.{insert_block_text, delete_blocks_text, delete_run_text, move_blocks_text, move_run_text, read_block_text, first_block_text}
+use Rattle.dep_tables.specs.Texts.{insert_block_text, delete_blocks_text, delete_run_text, move_blocks_text, move_run_text, read_block_text, first_block_text, last_block_text}
 use Rattle.dep_tables.specs.declared.owner.BlockOwner.{BlockOwner}
 use Rattle.dep_tables.specs.declared.owner.BlockKey.{BlockKey}
 use Rattle.dep_tables.specs.declared.owner.BlockPlace.{BlockPlace}
-use Rattle.dep_tables.specs.Rows.{kind_of, number_of, owner_values, key_values, block_values, move_values, move_run_values, place_values, bytes_in, shown_place, is_block, is_block_of, is_earlier_block, moved_to, by_part_and_place}
+use Rattle.dep_tables.specs.Rows.{kind_of, number_of, owner_values, part_values, key_values, block_values, move_values, move_run_values, place_values, bytes_in, shown_place, shown_number, is_block, is_block_of, is_part_of, is_earlier_block, moved_to, by_part_and_place, by_falling_place}
 use Rattle.dep_tables.specs.Tables.{tables_of, IsOurs, Leads}
 use Rattle.dep_tables.proofs.Leading.{leads, blocks_at}
 use Rattle.dep_tables.proofs.Answered.{read_few, read_first}
@@ -206,3 +206,32 @@ firsts_block old new o found ours read =
     read_first place_values 2 shown_place (λ row. refl) by_part_and_place (filter (is_block_of o) (tables_of old).blocks) read.0 (option_to_list found)
     (selects_first our_schema first_block_text (owner_values o) old ours.schema 10 blocks_at.own of_owner _ (is_block_of o) (tests_owner o) order by_part_and_place by_place_total
     (λ a b. ap (ordering_then (value_cmp (column a 3) (column b 3))) (then-Equal (value_cmp (column a 4) (column b 4)))) new first_is read.0 read.1) read.2
+
+-- ---- the last block of a part
+
+abbrev of_part : List Term
+of_part = equals (col 1 1) (col 0 0) ∷ equals (col 1 2) (col 0 1) ∷ equals (col 1 3) (col 0 2) ∷ []
+
+tests_part : (o : BlockOwner) (part : ℕ) (row : Row) → passes (part_values o part) of_part row ≡ is_part_of o part row
+tests_part o part row =
+    let params = part_values o part in
+    passes_three params row (equals (col 1 1) (col 0 0)) (equals (col 1 2) (col 0 1)) (equals (col 1 3) (col 0 2)) _ _ _ (holds_number params 0 (kind_of o) 1 row refl) (holds_number params 1 (number_of o) 2 row refl)
+    (holds_number params 2 part 3 row refl)
+
+abbrev falling : List (Term × Key)
+falling = (col 1 4, record { collation = Binary; descending = true }) ∷ []
+
+pub falling_total : IsTotalOrder by_falling_place
+falling_total = back_total (on_total (λ r. column r 0) value_cmp_total)
+
+pub last_is : Asks our_schema last_block_text 10 of_part (col 1 4 ∷ []) falling first_only
+unfolding understood everything
+last_is = record { names = _; is = refl; unlisted = refl; plain = (refl, refl) }
+
+pub lasts_block : (old new : State) (o : BlockOwner) (part : ℕ) (found : Option ℕ) → IsOurs old
+    → (rows : List Row) × Shown last_block_text (part_values o part) old new rows × (map (λ n. Int (pos n) ∷ []) (option_to_list found) ≡ map (columns_from 0 1) rows)
+    → IsFirst by_falling_place (map (shown_number 4) (filter (is_part_of o part) (tables_of old).blocks)) (map (λ n. Int (pos n) ∷ []) (option_to_list found))
+lasts_block old new o part found ours read =
+    read_first (λ n. Int (pos n) ∷ []) 1 (shown_number 4) (λ row. refl) by_falling_place (filter (is_part_of o part) (tables_of old).blocks) read.0 (option_to_list found)
+    (selects_first our_schema last_block_text (part_values o part) old ours.schema 10 blocks_at.own of_part _ (is_part_of o part) (tests_part o part) falling by_falling_place falling_total
+    (λ a b. then-Equal (value_cmp (column b 4) (column a 4))) new last_is read.0 read.1) read.2

@@ -1,5 +1,5 @@
 -- What each statement makes of the tables, and what each query returns of them.
-use Rattle.std.specs.Prelude.{◌≡◌, ℕ, pos, false, Bool, if◌then◌else◌, None, Some, Option, is_some, find, option_map, List, filter, map, not}
+use Rattle.std.specs.Prelude.{◌≡◌, ℕ, pos, false, Bool, if◌then◌else◌, None, Some, Option, is_some, find, option_map, List, [], ◌∷◌, filter, map, not}
 use Rattle.std.specs.List.{list_any}
 use Rattle.std.specs.Option.{option_to_list}
 use Rattle.sqlite.specs.declared.types.Value.{Value}
@@ -16,7 +16,7 @@ use Rattle.dep_tables.specs.declared.uploads.UploadColumns.{UploadColumns}
 use Rattle.dep_tables.specs.declared.owner.BlockOwner.{BlockOwner}
 use Rattle.dep_tables.specs.declared.owner.BlockKey.{BlockKey}
 use Rattle.dep_tables.specs.declared.owner.BlockPlace.{BlockPlace}
-use Rattle.dep_tables.specs.Rows.{stored_format, sha512_values, is_sha512_of, value_in, stored_state, state_values, shown_state, stored_object, object_values, shown_object, metadata_values, shown_metadata, has_metadata_key, by_name_and_place, stored_file, file_values, shown_file, stored_upload, upload_values, shown_upload, segment_values, shown_segment, has_segment_key, by_number, stored_number, block_values, bytes_in, shown_place, place_values, is_block, is_block_of, is_earlier_block, moved_to, by_part_and_place, left_values, shown_left, by_last_and_upload}
+use Rattle.dep_tables.specs.Rows.{stored_format, sha512_values, is_sha512_of, value_in, stored_state, state_values, shown_state, stored_object, object_values, shown_object, metadata_values, shown_metadata, has_metadata_key, by_name_and_place, stored_file, file_values, shown_file, stored_upload, upload_values, shown_upload, segment_values, shown_segment, has_segment_key, by_number, stored_number, block_values, bytes_in, shown_place, place_values, is_block, is_block_of, is_part_of, is_earlier_block, moved_to, by_part_and_place, by_falling_place, shown_number, left_values, shown_left, by_last_and_upload}
 use Rattle.dep_tables.specs.Tables.{Tables}
 use Rattle.dep_tables.specs.Versions.{our_version}
 
@@ -219,6 +219,12 @@ abbrev pub IsFirstBlock : BlockOwner → Tables → Option BlockPlace → Type 0
 IsFirstBlock owner t found =
     IsFirst by_part_and_place (map shown_place (filter (is_block_of owner) t.blocks))
     (map place_values (option_to_list found))
+
+-- the place of the last block of a part of an owner
+abbrev pub IsLastPlace : BlockOwner → (part : ℕ) → Tables → Option ℕ → Type 0
+IsLastPlace owner part t found =
+    IsFirst by_falling_place (map (shown_number 4) (filter (is_part_of owner part) t.blocks))
+    (map (λ n. Int (pos n) ∷ []) (option_to_list found))
 
 -- ---- sha512s
 

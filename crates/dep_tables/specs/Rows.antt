@@ -8,7 +8,6 @@ use Rattle.sqlite.specs.declared.types.Value.TheVariants.{Null, Int, Text, Blob}
 use Rattle.sqlite.specs.Order.{Row, column}
 use Rattle.sqlite.specs.Values.{or_null}
 use Rattle.sqlite_value.specs.Order.{value_cmp}
-use Rattle.sqlite_trees.specs.Tree.{rowid}
 use Rattle.dep_statements.specs.Rows.{has_number, is_below_number, columns_from}
 use Rattle.dep_types.specs.declared.rows.ObjectRow.{ObjectRow}
 use Rattle.dep_types.specs.declared.rows.FileRow.{FileRow}
@@ -348,6 +347,10 @@ number_of (Upload n) = n
 abbrev pub owner_values : BlockOwner → Row
 owner_values o = Int (pos (kind_of o)) ∷ Int (pos (number_of o)) ∷ []
 
+-- the kind of the owner, its number and the part
+abbrev pub part_values : BlockOwner → (part : ℕ) → Row
+part_values o part = Int (pos (kind_of o)) ∷ Int (pos (number_of o)) ∷ Int (pos part) ∷ []
+
 -- the kind of the owner, its number, the part and the place
 abbrev pub key_values : BlockKey → Row
 key_values k =
@@ -383,6 +386,10 @@ shown_block = columns_from 3 3
 abbrev pub shown_place : Row → Row
 shown_place = columns_from 3 2
 
+-- a column of a row, alone
+abbrev pub shown_number : (at : ℕ) → Row → Row
+shown_number at row = column row at ∷ []
+
 -- the bytes of a stored block
 abbrev pub bytes_in : Row → Value
 bytes_in stored = column stored 5
@@ -406,6 +413,10 @@ IsBytesRow = HasKinds bytes_kinds
 abbrev pub by_part_and_place : Row → Row → Ordering
 by_part_and_place a b =
     ordering_then (value_cmp (column a 0) (column b 0)) (value_cmp (column a 1) (column b 1))
+
+-- from the last place to the first, of rows as they are shown
+abbrev pub by_falling_place : Row → Row → Ordering
+by_falling_place a b = value_cmp (column b 0) (column a 0)
 
 -- a block of this owner
 abbrev pub is_block_of : BlockOwner → Row → Bool
@@ -432,6 +443,11 @@ moved_to o stored =
 -- the number of the file or of the upload is one of SQL's
 abbrev pub IsStorableOwner : BlockOwner → Type 0
 IsStorableOwner o = number_of o < 2 ^ 63
+
+-- the number of the owner and the part are ones of SQL's
+pub record IsStorablePart (o : BlockOwner) (k : ℕ) : Type 0 where
+  pub owner : IsStorableOwner o
+  pub part : k < 2 ^ 63
 
 -- the number of the owner, the part and the place are ones of SQL's
 pub record IsStorableKey (k : BlockKey) : Type 0 where

@@ -137,6 +137,10 @@ move_blocks_text = codes "UPDATE blocks SET kind = ?3, owner = ?4 WHERE kind = ?
 abbrev pub first_block_text : List ℕ
 first_block_text = codes "SELECT part, place FROM blocks WHERE kind = ?1 AND owner = ?2 ORDER BY part, place LIMIT 1"
 
+-- the text that asks for the place of the last block of a part
+abbrev pub last_block_text : List ℕ
+last_block_text = codes "SELECT place FROM blocks WHERE kind = ?1 AND owner = ?2 AND part = ?3 ORDER BY place DESC LIMIT 1"
+
 -- the text that deletes the blocks of one part that stand before a place
 abbrev pub delete_run_text : List ℕ
 delete_run_text = codes "DELETE FROM blocks WHERE kind = ?1 AND owner = ?2 AND part = ?3 AND place < ?4"

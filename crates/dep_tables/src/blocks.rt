@@ -6,13 +6,14 @@ ghost use Rattle.sqlite.specs.Values.{bound};
 ghost use Rattle.dep_tables.specs.Rows.{IsStorableOwner, IsStorableKey, block_values, move_values, move_run_values, place_values};
 ghost use Rattle.dep_tables.specs.Edits.{LacksBlock};
 ghost use Rattle.dep_tables.specs.Clauses.{Shows, Writes, Queries};
-ghost use Rattle.dep_tables.specs.Statements.{insertion_of_block, deletion_of_blocks, deletion_of_run, move_of_blocks, move_of_run, query_of_block, query_of_first_block};
+ghost use Rattle.dep_tables.specs.Statements.{insertion_of_block, deletion_of_blocks, deletion_of_run, move_of_blocks, move_of_run, query_of_block, query_of_first_block, query_of_last_block};
 
 use crate::calls::Statements;
 use crate::columns::ColumnKind::{self, Bytes, Number};
 use crate::numbers::number_at;
 use crate::owner::{
-    BlockKey, BlockOwner, BlockPlace, is_storable_key, is_storable_owner, key_params, owner_params,
+    BlockKey, BlockOwner, BlockPlace, is_storable_key, is_storable_owner, is_storable_part,
+    key_params, owner_params, part_params,
 };
 use crate::reading::{FromRow, ask_one};
 use dep_types::StoreFault;
@@ -198,5 +199,24 @@ pub fn first_block<T: Statements>(
         tx,
         "SELECT part, place FROM blocks WHERE kind = ?1 AND owner = ?2 ORDER BY part, place LIMIT 1",
         &owner_params(owner),
+    )
+}
+
+/// Returns the place of the last block of a part of an owner, if it has one. A number of 2^63 or more is a
+/// fault of the store.
+pub fn last_block<T: Statements>(
+    tx: &mut T,
+    owner: BlockOwner,
+    part: u64,
+) -> Result<Option<u64>, StoreFault>
+    ensures does { Queries T.lenders T.state tx.old tx.new result (query_of_last_block owner part) }
+{
+    if !is_storable_part(owner, part) {
+        return Err(StoreFault::Store);
+    }
+    ask_one(
+        tx,
+        "SELECT place FROM blocks WHERE kind = ?1 AND owner = ?2 AND part = ?3 ORDER BY place DESC LIMIT 1",
+        &part_params(owner, part),
     )
 }

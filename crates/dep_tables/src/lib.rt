@@ -22,7 +22,8 @@ mod timed_out;
 mod uploads;
 
 pub use blocks::{
-    delete_blocks, delete_run, first_block, insert_block, move_blocks, move_run, read_block,
+    delete_blocks, delete_run, first_block, insert_block, last_block, move_blocks, move_run,
+    read_block,
 };
 pub use calls::Statements;
 pub use columns::ColumnKind;

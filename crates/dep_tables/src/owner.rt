@@ -2,7 +2,7 @@
 
 ghost use Rattle.std.specs.Prelude.{◌≡◌, ◌↔◌, ◌+◌, ◌-◌, ◌<◌, ◌^◌, min, IsTrue};
 ghost use Rattle.sqlite.specs.Values.{bound};
-ghost use Rattle.dep_tables.specs.Rows.{kind_of, number_of, owner_values, key_values, IsStorableOwner, IsStorableKey};
+ghost use Rattle.dep_tables.specs.Rows.{kind_of, number_of, owner_values, key_values, IsStorableOwner, IsStorablePart, IsStorableKey, part_values};
 
 use crate::numbers::{LIMIT, number};
 use sqlite::types::ValueRef;
@@ -75,6 +75,12 @@ pub fn run_end(start: BlockPlace) -> BlockPlace
     }
 }
 
+pub(crate) fn is_storable_part(owner: BlockOwner, part: u64) -> bool
+    ensures { IsTrue result ↔ IsStorablePart owner part }
+{
+    is_storable_owner(owner) && part < LIMIT
+}
+
 pub(crate) fn is_storable_key(key: &BlockKey) -> bool
     ensures { IsTrue result ↔ IsStorableKey key.now }
 {
@@ -89,6 +95,17 @@ pub fn owner_params(owner: BlockOwner) -> [ValueRef<'static>; 2]
     [
         ValueRef::Int(number(kind_number(owner))),
         ValueRef::Int(number(owner_number(owner))),
+    ]
+}
+
+pub(crate) fn part_params(owner: BlockOwner, part: u64) -> [ValueRef<'static>; 3]
+    requires { IsStorablePart owner part }
+    ensures { bound result ≡ part_values owner part }
+{
+    [
+        ValueRef::Int(number(kind_number(owner))),
+        ValueRef::Int(number(owner_number(owner))),
+        ValueRef::Int(number(part)),
     ]
 }
 
