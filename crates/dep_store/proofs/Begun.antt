@@ -16,7 +16,7 @@ use Rattle.dep_hub.specs.Owing.{HasBehind}
 use Rattle.dep_store.specs.Remembering.{IsRecalled, IsOfOpen, IsKnownFile}
 use Rattle.dep_store.specs.SendingOn.{BeginsIfOpen, FindsSize, SendsOn}
 use Rattle.dep_store.proofs.Contents.{content_same}
-use Rattle.dep_store.proofs.SentOn.{keeps_open, nothing_sent}
+use Rattle.dep_store.proofs.SentOn.{keeps_open, none_taken, nothing_sent}
 use Rattle.dep_store.proofs.ShutLemmas.{fails_still, was_open_then}
 use Rattle.dep_store.proofs.Tries.{busy_fails, busy_tries, failed_keeping}
 
@@ -57,6 +57,7 @@ busy_begins d it busy = record { begins = ([], λ clean. tt); does = busy_tries 
 pub busy_sends_on : (d : db.State) → IsTrue d.in_transaction → (taken : Option (List ℕ)) (failures : ℕ) (it : StoredFile) (start : ℕ) → SendsOn d d taken taken failures failures it start (Err StoreFails)
 busy_sends_on d busy taken failures it start = record {
   streams = ([], Appends-nil taken, λ clean s at. nothing_sent s it start (Err StoreFails) refl);
+  few = none_taken taken;
   does = busy_tries d busy;
   count = record { kept = tt; cause = λ is. cc is; others = λ other. refl };
   stays = record { shut = busy_fails d busy; back = tt; opened = λ clean. tt };

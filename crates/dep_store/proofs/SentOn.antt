@@ -1,7 +1,7 @@
 -- A few blocks more of a content that are sent, by what was read of it.
 use Rattle.std.proofs.Common.{◌≡◌, ◌≢◌, ◌∙◌, ℕ, ◌+◌, ◌≤◌, arith, List, [], ◌++◌, length, drop, Option, Some, None, Result, Ok, Err, OnOk, OnErr, IsErr, IsTrue, refl, sym, ap, subst, append_assoc, append-nil}
 use Rattle.std.proofs.KnownBytes.{Appends-nil}
-use Rattle.std.proofs.lemmas.List.{drop_all}
+use Rattle.std.proofs.lemmas.List.{drop_all, length-append}
 use Rattle.std.specs.Prelude.{option_map}
 use Rattle.std.specs.Io.KnownBytes.{Appends}
 use Rattle.sqlite.specs.State as db
@@ -20,7 +20,7 @@ use Rattle.dep_hub.specs.Archives.{KeepsState}
 use Rattle.dep_hub.specs.Owing.{HasBehind, IsFrontBehind, IsSentOn, StreamsOn}
 use Rattle.dep_store.specs.Archive.{shown_by}
 use Rattle.dep_store.specs.Remembering.{HasSize}
-use Rattle.dep_store.specs.SendingOn.{GivesNext}
+use Rattle.dep_store.specs.SendingOn.{AreFew, GivesNext, TakesFew}
 use Rattle.dep_store.specs.Shut.{StaysOpen}
 use Rattle.dep_store.proofs.ShutLemmas.{state_back, was_open_then}
 use Rattle.dep_store.proofs.Tries.{honest_back, keeps_state}
@@ -75,13 +75,27 @@ module _ (s : State) (it : StoredFile) (start size : ℕ) (bytes : List ℕ) (co
 module _ (old new : db.State) (taken takes : Option (List ℕ)) (it : StoredFile) (start size : ℕ) (bytes : List ℕ)
     (tells : HasCleanDisk new → (s : State) → StandsFor old s → Comes s it start size bytes) where
   pub streams_on : (r : Result (Option ℕ) StreamFault) → GivesNext taken takes bytes start size r → StreamsOn (shown_by old) (shown_by new) taken takes it start r
-  streams_on (Ok None) (all, appends) = (bytes, appends, λ clean s stands. last_sent s it start size bytes (tells clean s stands) all)
-  streams_on (Ok (Some place)) (some, is, appends) = (bytes, appends, λ clean s stands. more_sent s it start size bytes (tells clean s stands) place some is)
-  streams_on (Err Writer) (part, front, appends) =
+  streams_on (Ok None) (few, all, appends) = (bytes, appends, λ clean s stands. last_sent s it start size bytes (tells clean s stands) all)
+  streams_on (Ok (Some place)) (few, some, is, appends) = (bytes, appends, λ clean s stands. more_sent s it start size bytes (tells clean s stands) place some is)
+  streams_on (Err Writer) (few, (part, front, appends)) =
       (part, appends, λ clean s stands. front_sent s it start size bytes (tells clean s stands) part front.rest front.joined)
   streams_on (Err Store) same = ([], subst (λ t. Appends taken t []) (sym same) (Appends-nil taken), λ clean s stands. nothing_sent s it start (Err Store) refl)
   streams_on (Err Memory) none = absurd none
   streams_on (Err NoSuchFile) none = absurd none
+
+few_of_front : (bytes part rest : List ℕ) → bytes ≡ part ++ rest → AreFew bytes → AreFew part
+few_of_front bytes part rest is few = omega (arith, few, ap length is, length-append part rest)
+
+pub none_taken : (taken : Option (List ℕ)) → TakesFew taken taken
+none_taken taken = ([], omega arith, Appends-nil taken)
+
+pub takes_few : (taken takes : Option (List ℕ)) (bytes : List ℕ) (start size : ℕ) (r : Result (Option ℕ) StreamFault) → GivesNext taken takes bytes start size r → TakesFew taken takes
+takes_few taken takes bytes start size (Ok None) (few, all, appends) = (bytes, few, appends)
+takes_few taken takes bytes start size (Ok (Some place)) (few, some, is, appends) = (bytes, few, appends)
+takes_few taken takes bytes start size (Err Writer) (few, (part, front, appends)) = (part, few_of_front bytes part front.rest front.joined few, appends)
+takes_few taken takes bytes start size (Err Store) same = subst (TakesFew taken) (sym same) (none_taken taken)
+takes_few taken takes bytes start size (Err Memory) none = absurd none
+takes_few taken takes bytes start size (Err NoSuchFile) none = absurd none
 
 on_ok_any : {A E : Type 0} (r : Result A E) (P : Type 0) → P → OnOk r P
 on_ok_any (Ok answer) P h = h

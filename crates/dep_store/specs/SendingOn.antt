@@ -1,5 +1,5 @@
 -- What a call does that sends a few blocks more of the content of a file.
-use Rattle.std.specs.Prelude.{◌≡◌, ◌≢◌, ℕ, ◌+◌, List, [], length, Option, None, Some, Result, Ok, Err, IfOk}
+use Rattle.std.specs.Prelude.{◌≡◌, ◌≢◌, ℕ, ◌+◌, ◌≤◌, List, [], length, Option, None, Some, Result, Ok, Err, IfOk}
 use Rattle.std.specs.Io.KnownBytes.{Appends}
 use Rattle.sqlite.specs.State as db
 use Rattle.sqlite.specs.State.{HasCleanDisk}
@@ -23,23 +23,32 @@ pub record FindsSize {E : Type 0} (old new : db.State) (it : StoredFile) (result
       → IfOk result (HasSize s it.object it.file)
   pub finds : FindsOpen old new result
 
+-- no more are sent at once than four blocks have
+abbrev pub AreFew : List ℕ → Type 0
+AreFew bytes = length bytes ≤ 262144
+
 -- the next bytes of a content of so many were sent from a place on: all that were left, or some and where the
 -- next ones stand
 abbrev pub GivesNext : (taken takes : Option (List ℕ)) → (bytes : List ℕ) → (start size : ℕ)
     → Result (Option ℕ) StreamFault → Type 0
-GivesNext taken takes bytes start size (Ok None) = (start + length bytes ≡ size)
+GivesNext taken takes bytes start size (Ok None) = AreFew bytes × (start + length bytes ≡ size)
     × Appends taken takes bytes
-GivesNext taken takes bytes start size (Ok (Some next)) = (bytes ≢ [])
+GivesNext taken takes bytes start size (Ok (Some next)) = AreFew bytes × (bytes ≢ [])
     × (next ≡ start + length bytes) × Appends taken takes bytes
-GivesNext taken takes bytes start size (Err Writer) = TakesPart taken takes bytes
+GivesNext taken takes bytes start size (Err Writer) = AreFew bytes × TakesPart taken takes bytes
 GivesNext taken takes bytes start size (Err Store) = takes ≡ taken
 GivesNext taken takes bytes start size (Err Memory) = ⊥
 GivesNext taken takes bytes start size (Err NoSuchFile) = ⊥
+
+-- an outlet took few bytes more
+abbrev pub TakesFew : (taken takes : Option (List ℕ)) → Type 0
+TakesFew taken takes = (sent : List ℕ) × AreFew sent × Appends taken takes sent
 
 -- a few blocks more are sent, over an outlet that took these bytes and failed so often
 pub record SendsOn (old new : db.State) (taken takes : Option (List ℕ)) (failures failures_after : ℕ)
     (it : StoredFile) (start : ℕ) (result : Result (Option ℕ) StreamFault) : Type 0 where
   pub streams : StreamsOn (shown_by old) (shown_by new) taken takes it start result
+  pub few : TakesFew taken takes
   pub does : KeepsState (shown_by old) (shown_by new) result
   pub count : CountsFailures failures failures_after result
   pub stays : StaysOpen old new result

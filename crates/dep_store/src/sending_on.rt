@@ -12,6 +12,9 @@ use dep_types::{Outlet, StoreFault, StreamFault};
 use sqlite::{Alter, Connection};
 use std::alloc::Global;
 
+/// How many bytes are sent at once at most: those of four blocks.
+const BYTES_AT_ONCE: usize = 262_144;
+
 /// From where on the content of a file is to be sent.
 #[derive(Clone, Copy)]
 pub(crate) struct Place {
@@ -48,7 +51,7 @@ pub(crate) fn find_size<S: Alter>(
 }
 
 /// Sends the next bytes of a content that has so many, and returns how many of them are sent then, or `None` where all are. None
-/// at all, and more than it has left, are a fault of the store: nothing is sent.
+/// at all, more than it has left and more than are sent at once are a fault of the store: nothing is sent.
 fn give_next<O: Outlet>(
     bytes: &[u8],
     start: u64,
@@ -61,7 +64,7 @@ fn give_next<O: Outlet>(
 {
     let left = size - start;
     let count = bytes.len() as u64;
-    if count == 0 || count > left {
+    if count == 0 || count > left || bytes.len() > BYTES_AT_ONCE {
         return Err(StreamFault::Store);
     }
     out.write(bytes)?;

@@ -5,7 +5,7 @@ use Rattle.sqlite.specs.Held.{state}
 use Rattle.dep_types.specs.State.{State}
 use Rattle.dep_schema.specs.States.{StandsFor}
 use Rattle.dep_staging.specs.NextBytes.{IsNextIn}
-use Rattle.dep_store.proofs.SentOn.{Comes, all_sent, keeps_open, nothing_sent, restored_then, stays_open, streams_on}
+use Rattle.dep_store.proofs.SentOn.{Comes, all_sent, keeps_open, none_taken, nothing_sent, restored_then, stays_open, streams_on, takes_few}
 use Rattle.dep_store.proofs.ShutLemmas.{fails_staying, state_back}
 use Rattle.dep_store.proofs.Tries.{counts, failed_keeping, honest_back}
 use Rattle.dep_store.proofs.sending_on.send_on.Goals as goal
@@ -21,6 +21,7 @@ returns-in_err-size g c =
     record {
       sends = record {
         streams = ([], Appends-nil _, λ clean s stands. nothing_sent s c.args.place.it c.args.place.start result failed);
+        few = none_taken _;
         does = failed_keeping old new result failed (λ is_open trees h. g.met.S.Store.settled c.args.connection.now.store trees is_open h) restored.back restored.survives;
         count = search rules;
         stays = fails_staying old new result failed restored;
@@ -36,6 +37,7 @@ returns-then-place-size g c =
     record {
       sends = record {
         streams = ([], Appends-nil _, λ clean s stands. all_sent s c.args.place.it c.args.place.start c.in_ok-size.size (omega arith) (did.tells clean s stands));
+        few = none_taken _;
         does = keeps_open old new did.finds.restored did.finds.opened (Ok None) (λ is_open trees h. g.met.S.Store.settled c.args.connection.now.store trees is_open h);
         count = record { kept = refl; cause = λ is. cc is; others = λ other. refl };
         stays = stays_open old new did.finds.restored did.finds.opened (Ok None);
@@ -54,6 +56,7 @@ returns-in_err-bytes g c =
     record {
       sends = record {
         streams = ([], Appends-nil _, λ clean s stands. nothing_sent s c.args.place.it c.args.place.start result failed);
+        few = none_taken _;
         does = failed_keeping old new result failed (λ is_open trees h. g.met.S.Store.settled c.args.connection.now.store trees is_open h) restored.back restored.survives;
         count = search rules;
         stays = fails_staying old new result failed restored;
@@ -81,6 +84,7 @@ returns g c =
     record {
       sends = record {
         streams = streams_on old new _ _ it start c.in_ok-size.size c.as_slice.result.now comes result c.give_next.ensures.gives;
+        few = takes_few _ _ c.as_slice.result.now start c.in_ok-size.size result c.give_next.ensures.gives;
         does = keeps_open old new restored opened result (λ is_open trees h. g.met.S.Store.settled c.args.connection.now.store trees is_open h);
         count = counts _ _ result c.give_next.ensures.outlet;
         stays = stays_open old new restored opened result;
