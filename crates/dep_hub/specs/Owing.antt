@@ -10,7 +10,7 @@ use Rattle.dep_answers.specs.declared.performed.StoredFile.{StoredFile}
 use Rattle.dep_hub.specs.Sending.{Outside, outside}
 use Rattle.dep_hub.specs.declared.rest.Rest.{Rest}
 use Rattle.dep_hub.specs.declared.rest.Behind.{Behind}
-use Rattle.dep_hub.specs.declared.rest.Behind.TheVariants.{Nothing, Content, Broken}
+use Rattle.dep_hub.specs.declared.rest.Behind.TheVariants.{Nothing, Content, Broken, Waits}
 
 -- the file is there, and these are the bytes of its content behind so many
 pub record HasBehind (s : State) (it : StoredFile) (start : ℕ) (rest : List ℕ) : Type 0 where
@@ -63,10 +63,15 @@ IsLater store (Some r) more = (bytes : List ℕ) × (more ≡ Some bytes)
 abbrev pub outside_with : {O : Type 0} → (g : Ghosts O) → O → Condition → (more : Option (List ℕ)) → Outside
 outside_with g out store more = outside (with_more (g.taken out) more) (g.failures out) store
 
--- this is said of that, where just this is sent later
-abbrev pub Owing : {O : Type 0} → (g : Ghosts O) → O → Condition → Option Rest → (Outside → Type 0) → Type 0
-Owing g out store rest told = (more : Option (List ℕ)) × IsLater store rest more
-    × told (outside_with g out store more)
+-- an outlet took some bytes, or none
+abbrev pub TakesSome : (taken takes : Option (List ℕ)) → Type 0
+TakesSome taken takes = (now : List ℕ) × Appends taken takes now
+
+-- this is said of that, where just this is sent later, and the rest was sent
+abbrev pub Owing : {O : Type 0} → (g : Ghosts O) → (before after : O) → Condition → Option Rest
+    → (Outside → Type 0) → Type 0
+Owing g before after store rest told = (more : Option (List ℕ)) × IsLater store rest more
+    × TakesSome (g.taken before) (g.taken after) × told (outside_with g after store more)
 
 -- the content of a file goes out behind a front, now or later
 abbrev pub SendsContent : {A : Type 0} → (old new : Condition) → (taken takes : Option (List ℕ)) → StoredFile
@@ -88,9 +93,10 @@ abbrev pub bytes_later : Option (List ℕ) → List ℕ
 bytes_later None = []
 bytes_later (Some more) = more
 
--- These are still to be sent: none; what a file has behind those that were sent; or, where a fault broke
--- them off, bytes of which none is sent any more.
+-- These are still to be sent: none, also where the next request waits; what a file has behind those that were
+-- sent; or, where a fault broke them off, bytes of which none is sent any more.
 abbrev pub IsOwed : State → Behind → (owed : List ℕ) → Type 0
 IsOwed s Nothing owed = owed ≡ []
 IsOwed s (Content r) owed = HasBehind s r.file r.sent owed
 IsOwed s Broken owed = Unit {0}
+IsOwed s (Waits claim) owed = owed ≡ []

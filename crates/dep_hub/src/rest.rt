@@ -3,6 +3,7 @@
 ghost use Rattle.std.specs.Prelude.{◌≡◌};
 ghost use Rattle.dep_hub.specs.Owing.{later_than};
 
+use crate::claim::Claim;
 use dep_answers::StoredFile;
 
 /// A content that goes out in steps, and how many of its bytes were sent.
@@ -21,6 +22,8 @@ pub(crate) enum Behind {
     Content(Rest),
     /// A fault broke it off, and nothing more is sent.
     Broken,
+    /// All of it was sent, and the next request waits, which has this claim.
+    Waits(Claim),
 }
 
 /// What is behind a reply of which this is sent later.
