@@ -2,7 +2,7 @@
 use Rattle.std.proofs.Common.{◌≡◌, ℕ, List, [], Option, Some, Result, Ok, Err, IsErr, IsTrue, false, refl, sym, subst}
 use Rattle.std.proofs.KnownBytes.{Appends-nil}
 use Rattle.sqlite.specs.State as db
-use Rattle.sqlite.specs.State.{HasCleanDisk, Survives}
+use Rattle.sqlite.specs.State.{HasCleanDisk}
 use Rattle.dep_types.specs.State.{State, File, file_at}
 use Rattle.dep_types.specs.declared.stream_fault.StreamFault.TheVariants.{Store as StoreFails}
 use Rattle.dep_answers.specs.declared.performed.StoredFile.{StoredFile}

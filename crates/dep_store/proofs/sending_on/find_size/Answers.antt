@@ -1,8 +1,7 @@
-use Rattle.std.proofs.Common.{◌≡◌, ◌∙◌, sym, ap, subst, rules}
+use Rattle.std.proofs.Common.{◌∙◌, sym, ap}
 use Rattle.std.proofs.lemmas.Result.{IfOk-from_err}
 use Rattle.sqlite.specs.Held.{state}
 use Rattle.dep_types.specs.State.{file_at}
-use Rattle.dep_schema.proofs.Transacting.{stood_before}
 use Rattle.dep_store.proofs.SentOn.{sized_row}
 use Rattle.dep_store.proofs.Tries.{back_as_was}
 use Rattle.dep_store.proofs.sending_on.find_size.Goals as goal
