@@ -4,11 +4,12 @@ ghost use Rattle.std.specs.Prelude.{◌≡◌, ◌≢◌, Err, IsTrue, false, is
 ghost use Rattle.dep_types.specs.declared.store_fault.StoreFault.TheVariants.{Store};
 ghost use Rattle.dep_fields.specs.Fit.{AreFit};
 ghost use Rattle.dep_answers.specs.Steps.{operation_step};
-ghost use Rattle.dep_hub.specs.Archives.{Ticks, MakesStep, FallsDue, FailsIfShut};
+ghost use Rattle.dep_hub.specs.Archives.{Ticks, MakesStep, FallsDue, FailsIfShut, KeepsState, CountsFailures};
+ghost use Rattle.dep_hub.specs.Owing.{Begins, StreamsOn};
 ghost use Rattle.dep_reserve.specs.Reserving.{brings_content, is_low, turns_away};
 
 use crate::reserve::Reserve;
-use dep_answers::{Performed, Service};
+use dep_answers::{Performed, Service, StoredFile};
 use dep_decisions::Operation;
 use dep_hub::Archive;
 use dep_moment::Moment;
@@ -174,6 +175,38 @@ impl<A: Archive, R: Reserve + Drop> Archive for ReservedArchive<A, R> {
 
     fn stream<O: Outlet>(&mut self, file: u64, out: &mut O) -> Result<(), StreamFault> {
         self.archive.stream(file, out)
+    }
+
+    // What reads leaves the reserve as it is, also where the store fails.
+    fn begin(&mut self, it: StoredFile) -> Result<(), StoreFault>
+        ensures begins { Begins (A.condition self.new.archive) it result }
+        ensures does { KeepsState (A.condition self.old.archive) (A.condition self.new.archive)
+            result }
+        ensures commits { A.may_commit self.new.archive ≡ A.may_commit self.old.archive }
+        ensures shut { FailsIfShut (A.condition self.old.archive) (A.condition self.new.archive)
+            result }
+        ensures rest { self.new ≡ record self.old { archive = self.new.archive } }
+    {
+        self.archive.begin(it)
+    }
+
+    fn stream_on<O: Outlet>(
+        &mut self,
+        it: StoredFile,
+        start: u64,
+        out: &mut O,
+    ) -> Result<Option<u64>, StreamFault>
+        ensures streams { StreamsOn (A.condition self.old.archive) (A.condition self.new.archive)
+            (O.taken out.old) (O.taken out.new) it start result }
+        ensures does { KeepsState (A.condition self.old.archive) (A.condition self.new.archive)
+            result }
+        ensures commits { A.may_commit self.new.archive ≡ A.may_commit self.old.archive }
+        ensures shut { FailsIfShut (A.condition self.old.archive) (A.condition self.new.archive)
+            result }
+        ensures count { CountsFailures (O.failures out.old) (O.failures out.new) result }
+        ensures rest { self.new ≡ record self.old { archive = self.new.archive } }
+    {
+        self.archive.stream_on(it, start, out)
     }
 
     fn is_open(&mut self) -> Result<bool, StoreFault> {

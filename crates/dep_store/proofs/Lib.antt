@@ -14,3 +14,6 @@ pub mod Exported
 pub mod KeepingLemmas
 pub mod StartingLemmas
 pub mod LogLemmas
+pub mod Contents
+pub mod Begun
+pub mod SentOn

@@ -11,9 +11,9 @@ use Rattle.sqlite_trees.specs.declared.error.StoreError.TheVariants.{OutOfMemory
 use Rattle.dep_types.specs.State.{State}
 use Rattle.sqlite.specs.Schema.{Schema}
 use Rattle.dep_schema.specs.States.{StandsFor}
-use Rattle.dep_schema.specs.Transactions.{IsBackAt}
+use Rattle.dep_schema.specs.Transactions.{IsBackAt, IsRestored}
 use Rattle.dep_schema.proofs.Transacting.{tables_back}
-use Rattle.dep_store.specs.Shut.{LeavesNoMore, FailsIfShut}
+use Rattle.dep_store.specs.Shut.{LeavesNoMore, FailsIfShut, StaysOpen}
 use Rattle.sqlite.specs.Listing.{understood}
 use Rattle.sqlite_tied.specs.Compute.{everything}
 use Rattle.sqlite_resolve.specs.declared.compiled.Compiled.{Compiled}
@@ -35,6 +35,14 @@ leaves_no_more old new survives clean shut trees h = elim (survives.crash clean 
 -- it failed, and nothing was committed
 pub fails_still : {A E : Type 0} (old new : db.State) (r : Result A E) → IsErr r → Survives old new (λ _. ⊥) → FailsIfShut old new r
 fails_still old new r failed survives = record { opened = λ clean. IfOk-from_err r (λ _. _) failed; left = leaves_no_more old new survives }
+
+-- so all is given back where it failed
+pub fails_staying : {A E : Type 0} (old new : db.State) (r : Result A E) → IsErr r → IsRestored old new → StaysOpen old new r
+fails_staying old new r failed restored = record {
+  shut = fails_still old new r failed restored.survives;
+  back = IfOk-from_err r (λ _. _) failed;
+  opened = λ clean. IfOk-from_err r (λ _. _) failed;
+}
 
 -- the store was open
 pub was_open_then : {A E : Type 0} (old new : db.State) (r : Result A E) → (HasCleanDisk new → IsTrue old.is_open) → FailsIfShut old new r

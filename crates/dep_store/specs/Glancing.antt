@@ -1,11 +1,12 @@
 -- What is read in a transaction that is given back.
-use Rattle.std.specs.Prelude.{IsTrue}
+use Rattle.std.specs.Prelude.{IsTrue, Result, Ok, IfOk}
 use Rattle.sqlite.specs.State as db
+use Rattle.sqlite.specs.State.{HasCleanDisk}
 use Rattle.dep_types.specs.State.{State}
 use Rattle.dep_types.specs.Sound.{IsSound}
 use Rattle.dep_row_maps.specs.Clauses.{FromMaps}
 use Rattle.dep_schema.specs.States.{StandsFor}
-use Rattle.dep_schema.specs.Transactions.{IsRestored}
+use Rattle.dep_schema.specs.Transactions.{FindsOpen, IsRestored}
 
 -- in a transaction, while the store is open, this is told of each state that the tables stand for
 abbrev pub TellsFrom : (old new : db.State) → (State → Type 0) → Type 0
@@ -15,3 +16,10 @@ TellsFrom old new told = IsTrue old.is_open → FromMaps old new (λ s. IsSound 
 pub record GivesBack (old new : db.State) (told : State → Type 0) : Type 0 where
   pub tells : IsTrue new.is_open → (s : State) → StandsFor old s → told s
   pub restored : IsRestored old new
+
+-- so an Ok is told, over a store that is open then
+pub record ReadsOpen {A E : Type 0} (old new : db.State) (told : Result A E → State → Type 0)
+    (result : Result A E) : Type 0 where
+  pub tells : IfOk result (λ answer. HasCleanDisk new → (s : State) → StandsFor old s
+      → told (Ok answer) s)
+  pub finds : FindsOpen old new result

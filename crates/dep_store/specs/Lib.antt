@@ -14,3 +14,4 @@ pub mod Tasks
 pub mod HashingStores
 pub mod LogCopies
 pub mod Starting
+pub mod SendingOn

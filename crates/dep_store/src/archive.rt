@@ -10,7 +10,7 @@ ghost use Rattle.dep_store.specs.HashingStores.{NotesUpload, account_of, conditi
 
 use crate::log_copy::LogCopy;
 use crate::store::Store;
-use dep_answers::{Performed, Service};
+use dep_answers::{Performed, Service, StoredFile};
 use dep_decisions::Operation;
 use dep_hub::Archive;
 use dep_moment::Moment;
@@ -97,6 +97,19 @@ impl<S: Alter> Archive for HashingStore<S> {
 
     fn stream<O: Outlet>(&mut self, file: u64, out: &mut O) -> Result<(), StreamFault> {
         self.store.stream(file, out)
+    }
+
+    fn begin(&mut self, it: StoredFile) -> Result<(), StoreFault> {
+        self.store.begin(it)
+    }
+
+    fn stream_on<O: Outlet>(
+        &mut self,
+        it: StoredFile,
+        start: u64,
+        out: &mut O,
+    ) -> Result<Option<u64>, StreamFault> {
+        self.store.stream_on(it, start, out)
     }
 
     fn is_open(&mut self) -> Result<bool, StoreFault> {

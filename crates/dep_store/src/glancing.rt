@@ -5,13 +5,15 @@ ghost use Rattle.sqlite.specs.Held.{state};
 ghost use Rattle.dep_types.specs.State.{State};
 ghost use Rattle.dep_types.specs.declared.store_fault.StoreFault.{StoreFault};
 ghost use Rattle.dep_tables.specs.Clauses.{StaysWithin};
-ghost use Rattle.dep_store.specs.Glancing.{GivesBack, TellsFrom};
+ghost use Rattle.dep_store.specs.Glancing.{GivesBack, TellsFrom, ReadsOpen};
 
-use dep_schema::Lent;
-use dep_staging::{RunningHashes, hash_ahead};
+use dep_files::find_file;
+use dep_schema::{Lent, check_open};
+use dep_staging::{RunningHashes, hash_ahead, next_bytes};
 use dep_tables::Statements;
-use dep_types::StoreFault;
+use dep_types::{FileRow, StoreFault};
 use sqlite::{Alter, Connection};
+use std::alloc::Global;
 
 /// What is read in a transaction, whatever runs the statements.
 pub(crate) trait Glance {
@@ -44,6 +46,20 @@ pub(crate) fn glance_at<S: Alter, K: Glance>(
     answer
 }
 
+/// Reads it so, and looks whether the store is open then: the end of the transaction may have shut it.
+pub(crate) fn glance_open<S: Alter, K: Glance>(
+    connection: &mut Connection<S>,
+    what: &mut K,
+) -> Result<K::Answer, StoreFault>
+    requires settled { (state S.Store connection.old).in_transaction ≡ false }
+    ensures { ReadsOpen (state S.Store connection.old) (state S.Store connection.new)
+        (K.told what.old what.new) result }
+{
+    let answer = glance_at(connection, what)?;
+    check_open(connection)?;
+    Ok(answer)
+}
+
 /// A few blocks of uploads are hashed, before an object is made of them. Returns whether more may be left.
 impl Glance for RunningHashes {
     ghost use Rattle.dep_staging.specs.HashedAhead.{AreRunning};
@@ -54,5 +70,50 @@ impl Glance for RunningHashes {
 
     fn read<T: Statements>(&mut self, tx: &mut T) -> Result<bool, StoreFault> {
         hash_ahead(tx, self)
+    }
+}
+
+/// The row of a file, if there is one.
+#[derive(Clone, Copy)]
+pub(crate) struct FindFile {
+    pub(crate) object: u64,
+    pub(crate) file: u64,
+}
+
+impl Glance for FindFile {
+    ghost use Rattle.std.specs.Prelude.{IfOk, option_map};
+    ghost use Rattle.dep_types.specs.Rows.{file_row};
+    ghost use Rattle.dep_types.specs.State.{file_at};
+
+    type Answer = Option<FileRow>;
+
+    ghost told = { λ before after result s. IfOk result
+        (λ found. found ≡ option_map (file_row before.object before.file)
+        (file_at s before.object before.file)) };
+
+    fn read<T: Statements>(&mut self, tx: &mut T) -> Result<Option<FileRow>, StoreFault> {
+        find_file(tx, self.object, self.file)
+    }
+}
+
+/// The next bytes of the content of a file that is there, behind so many.
+#[derive(Clone, Copy)]
+pub(crate) struct NextBytes {
+    pub(crate) alloc: Global,
+    pub(crate) file: u64,
+    pub(crate) start: u64,
+}
+
+impl Glance for NextBytes {
+    ghost use Rattle.std.specs.Prelude.{IfOk};
+    ghost use Rattle.dep_staging.specs.NextBytes.{IsNextIn};
+
+    type Answer = Vec<u8>;
+
+    ghost told = { λ before after result s. IfOk result
+        (λ bytes. IsNextIn s before.file before.start bytes.items) };
+
+    fn read<T: Statements>(&mut self, tx: &mut T) -> Result<Vec<u8>, StoreFault> {
+        next_bytes(tx, self.alloc, self.file, self.start)
     }
 }

@@ -15,6 +15,7 @@ mod reading;
 mod remembering;
 mod reporting;
 mod sending;
+mod sending_on;
 mod showing;
 mod source;
 mod starting;

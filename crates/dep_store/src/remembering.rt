@@ -6,9 +6,9 @@ ghost use Rattle.dep_tables.specs.Faults.{fault_for};
 ghost use Rattle.dep_store.specs.Remembering.{LooksBack};
 ghost use Rattle.dep_store.specs.Shut.{AsksIfOpen};
 
-use crate::glancing::{Glance, glance_at};
+use crate::glancing::{Glance, glance_open};
 use dep_requests::{Remembered, read_still};
-use dep_schema::{check_open, probe};
+use dep_schema::probe;
 use dep_tables::{Statements, fault_of};
 use dep_types::{Config, StoreFault};
 use sqlite::{Alter, Connection, Error, ErrorCode};
@@ -67,7 +67,5 @@ pub(crate) fn look<S: Alter>(
     ensures { LooksBack (state S.Store connection.old) (state S.Store connection.new)
         config.now moment result }
 {
-    let found = glance_at(connection, &mut Still { config, moment })?;
-    check_open(connection)?;
-    Ok(found)
+    glance_open(connection, &mut Still { config, moment })
 }

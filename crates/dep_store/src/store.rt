@@ -19,6 +19,7 @@ ghost use Rattle.dep_hub.specs.Archives.{MakesStep, Tells, KeepsAll};
 ghost use Rattle.dep_files.specs.Fixity.{IsAudited};
 ghost use Rattle.dep_store.specs.Archive.{condition_of};
 ghost use Rattle.dep_store.specs.Copying.{CopiesLog};
+ghost use Rattle.dep_store.specs.SendingOn.{BeginsIfOpen, SendsOn};
 ghost use Rattle.dep_store.specs.Shut.{FailsIfShut, FailsToTell, SendsFile, TicksIfOpen};
 ghost use Rattle.dep_store.specs.Staying.{TablesStay, TellsTables, LeavesOnly, HashesOn};
 
@@ -27,6 +28,7 @@ use crate::migrating::migrate;
 use crate::reading::{NextObject, ViewObject};
 use crate::remembering::{look, tell_open};
 use crate::sending::stream_known;
+use crate::sending_on::{Place, find_size, send_on};
 use crate::showing::perform_if_open;
 use crate::tasks::transact;
 use crate::ticking::{MoveClock, WriteClock};
@@ -247,6 +249,52 @@ impl<S: Alter> Store<S> {
         stream_known(&mut self.connection, shown, file, out)?;
         self.remembered = remembered;
         Ok(())
+    }
+
+    /// Finds that the file is there, so that its content can be sent in steps. Of a file that is known to be there nothing is
+    /// asked. One that isn't there is a fault of the store.
+    pub fn begin(&mut self, it: StoredFile) -> Result<(), StoreFault>
+        // On a store that was shut it fails, and a crash leaves what it could leave before.
+        ensures { BeginsIfOpen (state S.Store self.old) (state S.Store self.new) it result }
+    {
+        if !self.connection.is_autocommit() {
+            return Err(StoreFault::Store);
+        }
+        let remembered = self.remembered;
+        let shown = self.shown;
+        self.remembered = None;
+        self.shown = None;
+        find_size(&mut self.connection, shown, it)?;
+        self.remembered = remembered;
+        self.shown = shown;
+        Ok(())
+    }
+
+    /// Sends the content of a file from a place on, what up to four blocks have. It returns how many bytes of it are sent
+    /// then, or `None` where all are.
+    pub fn stream_on<O: Outlet>(
+        &mut self,
+        it: StoredFile,
+        start: u64,
+        out: &mut O,
+    ) -> Result<Option<u64>, StreamFault>
+        // On a store that was shut it fails, and a crash leaves what it could leave before.
+        ensures { SendsOn (state S.Store self.old) (state S.Store self.new)
+            (O.taken out.old) (O.taken out.new) (O.failures out.old) (O.failures out.new)
+            it start result }
+    {
+        if !self.connection.is_autocommit() {
+            return Err(StreamFault::Store);
+        }
+        let remembered = self.remembered;
+        let shown = self.shown;
+        self.remembered = None;
+        self.shown = None;
+        let place = Place { it, start };
+        let next = send_on(&mut self.connection, self.alloc, shown, place, out)?;
+        self.remembered = remembered;
+        self.shown = shown;
+        Ok(next)
     }
 
     /// The object of this number, if there is one, with its metadata and its files.

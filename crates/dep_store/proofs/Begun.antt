@@ -1,0 +1,73 @@
+-- A file that is found to be there, so that its content can be sent in steps.
+use Rattle.std.proofs.Common.{◌≡◌, ℕ, List, [], Option, Some, Result, Ok, Err, IsErr, IsTrue, false, refl, sym, subst}
+use Rattle.std.proofs.KnownBytes.{Appends-nil}
+use Rattle.sqlite.specs.State as db
+use Rattle.sqlite.specs.State.{HasCleanDisk}
+use Rattle.dep_types.specs.State.{State, File, file_at}
+use Rattle.dep_types.specs.declared.stream_fault.StreamFault.TheVariants.{Store as StoreFails}
+use Rattle.dep_answers.specs.declared.performed.StoredFile.{StoredFile}
+use Rattle.dep_tables.specs.Tables.{Tables, tables_of}
+use Rattle.dep_row_maps.specs.TablesAre.{TablesAre}
+use Rattle.dep_requests.specs.declared.remembering.Remembered.{Remembered}
+use Rattle.dep_schema.specs.States.{StandsFor}
+use Rattle.dep_schema.specs.Transactions.{IsBackAt, IsRestored}
+use Rattle.dep_schema.proofs.Transacting.{IsSettled, stood_before}
+use Rattle.dep_hub.specs.Owing.{HasBehind}
+use Rattle.dep_store.specs.Remembering.{IsRecalled, IsOfOpen, IsKnownFile}
+use Rattle.dep_store.specs.SendingOn.{BeginsIfOpen, FindsSize, SendsOn}
+use Rattle.dep_store.proofs.Contents.{content_same}
+use Rattle.dep_store.proofs.SentOn.{keeps_open, none_taken, nothing_sent}
+use Rattle.dep_store.proofs.ShutLemmas.{fails_still, was_open_then}
+use Rattle.dep_store.proofs.Tries.{busy_fails, busy_tries, failed_keeping}
+
+-- all of it is behind its front
+all_behind : (d : db.State) (s : State) (it : StoredFile) (file : File) → StandsFor d s → file_at s it.object it.file ≡ Some file → HasBehind s it 0 (content_same (tables_of d) it.file).0
+all_behind d s it file stands held = record {
+  file = file;
+  held = held;
+  is = sym ((content_same (tables_of d) it.file).1 s (subst (λ (t : Tables). TablesAre t s) (sym stands.stands.rows) stands.means.are) it.object file held);
+}
+
+module _ (old new : db.State) (it : StoredFile) (settled : IsTrue old.is_open → IsSettled old) where
+  pub begins_if_found : {A E : Type 0} (size : ℕ) (answer : A) → old.in_transaction ≡ false → FindsSize {E = E} old new it (Ok size) → BeginsIfOpen {E = E} old new it (Ok answer)
+  begins_if_found size answer between did =
+      let restored = did.finds.restored in
+      let opened = did.finds.opened in
+      record {
+        begins = (
+          (content_same (tables_of new) it.file).0,
+          λ clean s stands. let has = did.tells clean s (stood_before old new restored.back between s stands) in all_behind new s it has.0 stands has.1,
+        );
+        does = keeps_open old new restored opened (Ok answer) settled;
+        shut = was_open_then old new (Ok answer) (λ clean. (restored.back (opened clean)).0);
+      }
+
+  pub begins_not : {A E : Type 0} (r : Result A E) → IsErr r → IsRestored old new → BeginsIfOpen old new it r
+  begins_not (Ok answer) failed restored = absurd (cc failed)
+  begins_not (Err fault) failed restored = record {
+    begins = ([], λ clean. tt);
+    does = failed_keeping old new (Err fault) failed settled restored.back restored.survives;
+    shut = fails_still old new (Err fault) failed restored.survives;
+  }
+
+-- a transaction is under way
+pub busy_begins : {A E : Type 0} {fault : E} (d : db.State) (it : StoredFile) → IsTrue d.in_transaction → BeginsIfOpen {A = A} d d it (Err fault)
+busy_begins d it busy = record { begins = ([], λ clean. tt); does = busy_tries d busy; shut = busy_fails d busy }
+
+pub busy_sends_on : (d : db.State) → IsTrue d.in_transaction → (taken : Option (List ℕ)) (failures : ℕ) (it : StoredFile) (start : ℕ) → SendsOn d d taken taken failures failures it start (Err StoreFails)
+busy_sends_on d busy taken failures it start = record {
+  streams = ([], Appends-nil taken, λ clean s at. nothing_sent s it start (Err StoreFails) refl);
+  few = none_taken taken;
+  does = busy_tries d busy;
+  count = record { kept = tt; cause = λ is. cc is; others = λ other. refl };
+  stays = record { shut = busy_fails d busy; back = tt; opened = λ clean. tt };
+}
+
+-- what was remembered, and the file that was known, are so still, where all was given back and the store is open
+pub remembered_still : (old new : db.State) (m : Option Remembered) (known : Option StoredFile) → IsBackAt old new → old.in_transaction ≡ false → (HasCleanDisk new → IsTrue new.is_open)
+    → IsRecalled old m × IsOfOpen old m × IsKnownFile old known → IsRecalled new m × IsOfOpen new m × IsKnownFile new known
+remembered_still old new m known back between opened were = (
+  λ one is s stands. were.0 one is s (stood_before old new back between s stands),
+  λ one is clean. opened clean,
+  λ it is. (λ s stands. (were.2 it is).0 s (stood_before old new back between s stands), opened),
+)
