@@ -1,0 +1,40 @@
+use Rattle.std.proofs.Common.{◌∙◌, not, ap, subst, sym}
+use Rattle.std.proofs.lemmas.Result.{IfOk-from_err}
+use Rattle.dep_decisions.specs.LookUps.{in_state}
+use Rattle.dep_decisions.specs.Laws.{uploads_refusal}
+use Rattle.dep_operations.specs.Views.{touched_by, upload_undigested}
+use Rattle.dep_tables.proofs.Chains.{may_err, may_ok, may_put}
+use Rattle.dep_views.proofs.Hashed.{seen_named}
+use Rattle.dep_views.specs.Named.{AreNamed}
+use Rattle.dep_views.specs.declared.named.Named.{Named}
+use Rattle.dep_requests.proofs.LookingUp.{looked_at_none, looked_early, looked_on, looked_refused}
+use Rattle.dep_requests.proofs.performing.look_up.Goals as goal
+
+pub returns-then-is_none : goal.returns-then-is_none
+returns-then-is_none g c = record {
+  map = record {
+    found = λ clean inside ours s are is_open sound loaded. looked_at_none c.args.config.now s c.args.operation.now c.args.loaded loaded (c.is_none.ensures ∙ ap not c.if-is_none.true);
+    keeps = may_put g.T.Statements.lenders g.T.Statements.state c.args.tx.now _;
+  };
+}
+
+pub returns-then-is_some : goal.returns-then-is_some
+returns-then-is_some g c = record {
+  map = record {
+    found = λ clean inside ours s are is_open sound loaded.
+        looked_early c.args.config.now s c.args.operation.now c.args.loaded loaded (c.is_none.ensures ∙ ap not c.if-is_none.false) c.in_ok-early.early c.in_ok-early.ensures.unnamed
+        (sym c.is_some.ensures ∙ c.if-is_some.true);
+    keeps = may_put g.T.Statements.lenders g.T.Statements.state c.args.tx.now _;
+  };
+}
+
+pub returns-in-Refused : goal.returns-in-Refused
+returns-in-Refused g c = record {
+  map = record {
+    found = λ clean inside ours s are is_open sound loaded.
+        let named = subst (AreNamed s c.as_slice.result.now) c.in-Refused.is (c.in_ok-branch.ensures.map.found clean inside ours s are is_open sound) in
+        looked_refused c.args.config.now s c.args.operation.now c.args.loaded loaded (c.is_none.ensures ∙ ap not c.if-is_none.false) c.in_ok-early.early c.in_ok-early.ensures.unnamed
+        (sym c.is_some.ensures ∙ c.if-is_some.false) c.in-Refused.refusal (ap (uploads_refusal (in_state s)) (sym c.as_slice.ensures) ∙ named);
+    keeps = may_ok c.in_ok-branch.ensures.map.keeps;
+  };
+}
