@@ -1,7 +1,7 @@
 mod Checked
 mod Repeats
 mod Results
-mod SeenTruly
-mod Staged
+pub mod SeenTruly
+pub mod Staged
 mod Tests
 mod Walked

@@ -27,7 +27,7 @@ use Rattle.dep_decisions.specs.Rules.{refusal}
 use Rattle.dep_decisions.specs.declared.decision.Decision.{Decision}
 use Rattle.dep_decisions.specs.declared.operation.Operation.{Operation}
 use Rattle.dep_operations.specs.Rulings.{IsRuling}
-use Rattle.dep_operations.specs.Views.{file_in, object_in, path_in, touched_by, true_view, undigested_view}
+use Rattle.dep_operations.specs.Views.{file_in, object_in, path_in, touched_by, true_view}
 use Rattle.dep_operations.specs.declared.ruling.Ruling.{Ruling}
 use Rattle.dep_operations.specs.declared.ruling.Ruling.TheVariants.{Do, Refuse}
 use Rattle.dep_operations.specs.declared.view.View.{View}
@@ -49,10 +49,11 @@ use Rattle.dep_tables.specs.Tables.{HasOurTables, IsOurs, tables_in}
 use Rattle.dep_tables.proofs.Results.{ok_then}
 use Rattle.dep_row_maps.specs.TablesAre.{TablesAre}
 use Rattle.dep_row_maps.specs.Clauses.{ChangesWithin, SeesState}
-use Rattle.dep_views.specs.Seen.{file_at_path, loaded_view}
+use Rattle.dep_views.specs.Seen.{file_at_path}
 use Rattle.dep_views.specs.declared.view.LoadedView.{LoadedView}
+use Rattle.dep_requests.specs.declared.performing.LookedUp.{LookedUp}
 use Rattle.dep_requests.specs.declared.performing.Ruled.{Ruled}
-use Rattle.dep_requests.specs.Performing.{ChangesNothing, IsLoadedFor, OnlyReads, Rules, Sees, SeesFor, row_for}
+use Rattle.dep_requests.specs.Performing.{ChangesNothing, IsDigestedFor, IsLookedUp, OnlyReads, Rules, Sees, SeesFor, row_for}
 
 -- a step leaves a sound state
 pub step_sound : (config : Config) (s : State) (op : Operation) → AreFit op.fields → IsSound s → IsSound (operation_step config s op).state
@@ -95,7 +96,7 @@ left_alone {T} state old new same is_open = subst (λ (tx : T). db.IsUnchanged (
 -- ---- what was ruled by what was loaded
 
 -- with the digests of uploads
-pub rules_seen : (config : Config) (s : State) (op : Operation) (loaded : LoadedView) (ruling : Ruling) → IsLoadedFor config s op loaded
+pub rules_seen : (config : Config) (s : State) (op : Operation) (loaded : LoadedView) (ruling : Ruling) → IsDigestedFor config s op loaded
     → (loaded.view ≡ true_view config s op → IsRuling config s op ruling) → Rules config s op (record { view = loaded.view; payload = loaded.payload; ruling = ruling })
 rules_seen config s op loaded ruling is rules =
     let view : loaded.view ≡ true_view config s op = ap (λ (l : LoadedView). l.view) is in
@@ -106,11 +107,9 @@ rules_seen config s op loaded ruling is rules =
     for (Do d) view = record { view = view; payload = ap (λ (l : LoadedView). l.payload) is }
 
 -- refused before any digest was taken
-pub refused_early : (config : Config) (s : State) (op : Operation) (loaded : LoadedView) (r : Refusal) → loaded ≡ loaded_view s op.content (touched_by config op)
-    → (loaded.view ≡ undigested_view config s op → refusal config s op ≡ Some r) → Rules config s op (record { view = loaded.view; payload = loaded.payload; ruling = Refuse r })
-refused_early config s op loaded r is refused =
-    let view : loaded.view ≡ undigested_view config s op = ap (λ (l : LoadedView). l.view) is in
-    record { clock = ap (λ (v : View). v.clock) view; ruling = refused view; seen = tt }
+pub refused_early : (config : Config) (s : State) (op : Operation) (looked : LookedUp) (r : Refusal) → IsLookedUp config s op looked → looked.refusal ≡ Some r
+    → Rules config s op (record { view = looked.loaded.view; payload = looked.loaded.payload; ruling = Refuse r })
+refused_early config s op looked r is e = record { clock = is.clock; ruling = is.refused r e; seen = tt }
 
 -- how the reply to a request goes out
 abbrev pub delivery_for : State → Operation → Delivery

@@ -31,14 +31,14 @@ use Rattle.dep_decisions.specs.Rules.{refusal}
 use Rattle.dep_decisions.specs.declared.decision.Decision.TheVariants.{Show}
 use Rattle.dep_decisions.specs.declared.operation.Operation.{Operation}
 use Rattle.dep_operations.specs.Rulings.{IsRuling}
-use Rattle.dep_operations.specs.Views.{touched_by, true_view, undigested_view}
+use Rattle.dep_operations.specs.Views.{touched_by, true_view}
 use Rattle.dep_operations.specs.declared.ruling.Ruling.{Ruling}
 use Rattle.dep_operations.specs.declared.ruling.Ruling.TheVariants.{Do, Refuse}
-use Rattle.dep_operations.specs.declared.view.View.{View}
-use Rattle.dep_views.specs.Seen.{loaded_with_digests, touched_payload}
+use Rattle.dep_views.specs.Seen.{loaded_undigested, loaded_view, loaded_with_digests, touched_payload}
 use Rattle.dep_views.specs.declared.view.LoadedView.{LoadedView}
 use Rattle.dep_changes.specs.Known.{known_shown}
 use Rattle.dep_requests.specs.declared.performing.Done.{Done}
+use Rattle.dep_requests.specs.declared.performing.LookedUp.{LookedUp}
 use Rattle.dep_requests.specs.declared.performing.Ruled.{Ruled}
 
 -- the view shows the state truly, and so does the row of a payload file
@@ -46,7 +46,7 @@ pub record Sees (config : Config) (s : State) (op : Operation) (ruled : Ruled) :
   pub view : ruled.view ≡ true_view config s op
   pub payload : ruled.payload ≡ touched_payload s (touched_by config op)
 
--- so it is of what is let through; what is refused may have been ruled before any digest was taken
+-- so it is of what is let through; what is refused may have been ruled before uploads were looked up or hashed
 abbrev pub SeesFor : Config → State → Operation → Ruled → Ruling → Type 0
 SeesFor config s op ruled (Refuse r) = Unit {0}
 SeesFor config s op ruled (Do d) = Sees config s op ruled
@@ -57,14 +57,21 @@ pub record Rules (config : Config) (s : State) (op : Operation) (ruled : Ruled) 
   pub ruling : IsRuling config s op ruled.ruling
   pub seen : SeesFor config s op ruled ruled.ruling
 
--- a refusal by a view that shows the state truly but for digests is right there
-abbrev pub IsRefusedEarly : Config → View → Operation → Option Refusal → Type 0
-IsRefusedEarly config view op refused = (s : State) → view ≡ undigested_view config s op
-    → (r : Refusal) → refused ≡ Some r → refusal config s op ≡ Some r
-
--- what was loaded with the digests of uploads
+-- what was loaded before any upload that references name
 abbrev pub IsLoadedFor : Config → State → Operation → LoadedView → Type 0
-IsLoadedFor config s op loaded = loaded ≡ loaded_with_digests s op.content (touched_by config op)
+IsLoadedFor config s op loaded = loaded ≡ loaded_view s op.content (touched_by config op)
+
+-- and with the digests of uploads
+abbrev pub IsDigestedFor : Config → State → Operation → LoadedView → Type 0
+IsDigestedFor config s op loaded = loaded ≡ loaded_with_digests s op.content (touched_by config op)
+
+-- what was looked up before any digest was taken: a refusal is right, and where there is none all was seen truly but
+-- for digests
+pub record IsLookedUp (config : Config) (s : State) (op : Operation) (looked : LookedUp) : Type 0 where
+  pub clock : looked.loaded.view.clock ≡ s.clock
+  pub refused : (r : Refusal) → looked.refusal ≡ Some r → refusal config s op ≡ Some r
+  pub passed : looked.refusal ≡ None
+      → looked.loaded ≡ loaded_undigested s op.content (touched_by config op)
 
 -- nothing is changed where it is refused, or only asks to be shown
 abbrev pub OnlyReads : Ruling → Type 0

@@ -18,7 +18,8 @@ use Rattle.dep_operations.specs.declared.view.LiveUpload.{LiveUpload}
 use Rattle.dep_operations.specs.declared.view.UploadState.{UploadState}
 use Rattle.dep_operations.specs.declared.view.UploadState.TheVariants.{Live, TimedOut, Unknown}
 use Rattle.dep_operations.specs.declared.view.UploadView.{UploadView}
-use Rattle.dep_views.specs.Seen.{IsUndigested, loaded_view, loaded_with_digests}
+use Rattle.dep_operations.specs.declared.view.View.{View}
+use Rattle.dep_views.specs.Seen.{IsUndigested, direct_uploads, loaded_undigested, loaded_view, loaded_with, loaded_with_digests}
 use Rattle.dep_views.specs.declared.view.LoadedView.{LoadedView}
 
 -- without references no digest is shown
@@ -68,30 +69,52 @@ hashed_each : (s : State) (by_reference : Bool) (us : List ℕ) → map (λ (v :
 hashed_each s by [] = refl
 hashed_each s by (u ∷ us) = ap (λ vs. upload_view true s u ∷ vs) (hashed_each s by us)
 
-module _ (s : State) (content : List ℕ) (t : Touched) (loaded : LoadedView) (same : loaded ≡ loaded_view s content t) where
-  of_references : loaded.view.references ≡ t.references
-  of_references = ap (λ (l : LoadedView). l.view.references) same
+module _ (s : State) (content : List ℕ) (t : Touched) (loaded : LoadedView) where
+  by_reference : (v : View) → loaded ≡ loaded_with s t v → v.references ≡ t.references → (b : Bool) → is_some loaded.view.references ≡ b → is_some t.references ≡ b
+  by_reference v same refs b is = ap is_some (sym (ap (λ (l : LoadedView). l.view.references) same ∙ refs)) ∙ is
 
-  by_reference : (b : Bool) → is_some loaded.view.references ≡ b → is_some t.references ≡ b
-  by_reference b is = ap is_some (sym of_references) ∙ is
+  module _ (same : loaded ≡ loaded_view s content t) where
+    -- where no upload is named all was seen
+    pub seen_whole : is_some loaded.view.references ≡ false → loaded ≡ loaded_undigested s content t
+    seen_whole none =
+        let b = by_reference _ same refl false none in
+        let us : map (upload_undigested false s) (direct_uploads t) ≡ map (upload_undigested (is_some t.references) s) t.uploads =
+        ap (λ x. map (upload_undigested false s) (if x then [] else t.uploads)) b ∙ ap (λ x. map (upload_undigested x s) t.uploads) (sym b) in
+        same ∙ (λ i. loaded_with s t (record (seen_at s content t) { uploads = us i }))
 
-  -- they were looked at before any digest was taken
-  pub all_undigested : is_some loaded.view.references ≡ true → All (IsUndigested s) loaded.view.uploads
-  all_undigested some =
-      let us = ap (λ (l : LoadedView). l.view.uploads) same ∙ ap (λ x. map (upload_undigested x s) t.uploads) (by_reference true some) in
-      subst (All (IsUndigested s)) (sym us) (All-map (IsUndigested s) (upload_undigested true s) t.uploads (λ k d within. refl))
+    -- what is named was not
+    pub seen_unnamed : is_some loaded.view.references ≡ true → loaded.view ≡ record (seen_at s content t) { uploads = [] }
+    seen_unnamed some =
+        let b = by_reference _ same refl true some in
+        ap (λ (l : LoadedView). l.view) same ∙ ap (λ x. record (seen_at s content t) { uploads = map (upload_undigested false s) (if x then [] else t.uploads) }) b
 
-  pub nothing_to_hash : is_some loaded.view.references ≡ false → loaded ≡ loaded_with_digests s content t
-  nothing_to_hash none =
-      let b = by_reference false none in
-      let us = ap (λ x. map (upload_undigested x s) t.uploads) b ∙ rows_alone s t.uploads ∙ ap (λ x. map (upload_view x s) t.uploads) (sym b) in
-      same ∙ (λ i. record (loaded_with_digests s content t) { view = record (seen_at s content t) { uploads = us i } })
+    -- until it was
+    pub seen_named : (views : List UploadView) (with : LoadedView) → is_some loaded.view.references ≡ true → views ≡ map (upload_undigested true s) loaded.uploads
+        → with ≡ record loaded { view = record loaded.view { uploads = views } } → with ≡ loaded_undigested s content t
+    seen_named views with some told is =
+        let b = by_reference _ same refl true some in
+        let us : views ≡ map (upload_undigested (is_some t.references) s) t.uploads =
+        told ∙ ap (λ (l : LoadedView). map (upload_undigested true s) l.uploads) same ∙ ap (λ x. map (upload_undigested x s) t.uploads) (sym b) in
+        is ∙ (λ i. record (same i) { view = record (same i).view { uploads = us i } })
 
-  pub hashed_all : (uploads : List UploadView) → is_some loaded.view.references ≡ true → uploads ≡ map (λ (v : UploadView). upload_view true s v.upload) loaded.view.uploads
-      → ◌≡◌ {A = LoadedView} (record { view = record loaded.view { uploads = uploads }; payload = loaded.payload }) (loaded_with_digests s content t)
-  hashed_all uploads some told =
-      let b = by_reference true some in
-      let us : uploads ≡ map (upload_view (is_some t.references) s) t.uploads =
-      told ∙ ap (λ (l : LoadedView). map (λ (v : UploadView). upload_view true s v.upload) l.view.uploads) same
-      ∙ hashed_each s (is_some t.references) t.uploads ∙ ap (λ x. map (upload_view x s) t.uploads) (sym b) in
-      (λ i. record { view = record (same i).view { uploads = us i }; payload = (same i).payload })
+  module _ (same : loaded ≡ loaded_undigested s content t) where
+    -- they were looked at before any digest was taken
+    pub all_undigested : is_some loaded.view.references ≡ true → All (IsUndigested s) loaded.view.uploads
+    all_undigested some =
+        let us = ap (λ (l : LoadedView). l.view.uploads) same ∙ ap (λ x. map (upload_undigested x s) t.uploads) (by_reference _ same refl true some) in
+        subst (All (IsUndigested s)) (sym us) (All-map (IsUndigested s) (upload_undigested true s) t.uploads (λ k d within. refl))
+
+    pub nothing_to_hash : is_some loaded.view.references ≡ false → loaded ≡ loaded_with_digests s content t
+    nothing_to_hash none =
+        let b = by_reference _ same refl false none in
+        let us = ap (λ x. map (upload_undigested x s) t.uploads) b ∙ rows_alone s t.uploads ∙ ap (λ x. map (upload_view x s) t.uploads) (sym b) in
+        same ∙ (λ i. loaded_with s t (record (seen_at s content t) { uploads = us i }))
+
+    pub hashed_all : (uploads : List UploadView) (with : LoadedView) → is_some loaded.view.references ≡ true → uploads ≡ map (λ (v : UploadView). upload_view true s v.upload) loaded.view.uploads
+        → with ≡ record loaded { view = record loaded.view { uploads = uploads } } → with ≡ loaded_with_digests s content t
+    hashed_all uploads with some told is =
+        let b = by_reference _ same refl true some in
+        let us : uploads ≡ map (upload_view (is_some t.references) s) t.uploads =
+        told ∙ ap (λ (l : LoadedView). map (λ (v : UploadView). upload_view true s v.upload) l.view.uploads) same
+        ∙ hashed_each s (is_some t.references) t.uploads ∙ ap (λ x. map (upload_view x s) t.uploads) (sym b) in
+        is ∙ (λ i. record (same i) { view = record (same i).view { uploads = us i } })

@@ -6,3 +6,4 @@ pub mod Paths
 pub mod Shows
 pub mod Sent
 pub mod Hashed
+pub mod Lacking

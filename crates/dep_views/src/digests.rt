@@ -8,7 +8,7 @@ ghost use Rattle.dep_views.specs.Seen.{GetsDigests, IsUndigested, TellsDigests, 
 
 use crate::view::LoadedView;
 use dep_fixity::Digests;
-use dep_operations::{LiveUpload, UploadState, UploadView, UploadViews, View};
+use dep_operations::{LiveUpload, UploadState, UploadView, UploadViews};
 use dep_staging::{RunningHashes, hash_upload};
 use dep_tables::Statements;
 use dep_types::StoreFault;
@@ -80,7 +80,7 @@ fn hash_uploads<T: Statements>(
     Ok(UploadViews::from_vec(hashed))
 }
 
-/// What was loaded, with the digests of each upload that references name, and none of whose segments is missing.
+/// What was loaded with the uploads that references name, with the digests of each upload that references name, and none of whose segments is missing.
 /// Its bytes are read, one block at a time, but for those that were hashed before, which stay known whatever is
 /// returned. No row is read, and nothing without references.
 pub fn load_digests<T: Statements>(
@@ -93,13 +93,9 @@ pub fn load_digests<T: Statements>(
         (λ s. IsTrue (T.state tx.old).is_open → Hashes s running.old running.new
         (IfOk result (GetsDigests s loaded))) }
 {
-    let LoadedView { view, payload } = loaded;
-    if view.references.is_none() {
-        return Ok(LoadedView { view, payload });
+    if loaded.view.references.is_none() {
+        return Ok(loaded);
     }
-    let uploads = hash_uploads(tx, alloc, running, view.uploads.as_slice())?;
-    Ok(LoadedView {
-        view: View { uploads, ..view },
-        payload,
-    })
+    let uploads = hash_uploads(tx, alloc, running, loaded.view.uploads.as_slice())?;
+    Ok(loaded.with_uploads(uploads))
 }

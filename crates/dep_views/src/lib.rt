@@ -3,8 +3,8 @@
 #![tactic(auto)]
 
 mod digests;
+mod named;
 mod objects;
-mod referred;
 mod repeats;
 mod segments;
 mod shown;
@@ -13,6 +13,7 @@ mod uploads;
 mod view;
 
 pub use digests::load_digests;
+pub use named::{Named, load_named};
 pub use objects::load_object_view;
 pub use shown::load_shown;
 pub use view::{LoadedView, load_view};

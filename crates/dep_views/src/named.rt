@@ -1,0 +1,95 @@
+//! Uploads that references name, before any of them is hashed: one after another, as the rules need them.
+
+ghost use Rattle.std.specs.Prelude.{◌≡◌, true, IfOk, IsTrue};
+ghost use Rattle.dep_types.specs.Sound.{IsSound};
+ghost use Rattle.dep_decisions.specs.LookUps.{in_state};
+ghost use Rattle.dep_decisions.specs.Rules.{each, upload_refusal};
+ghost use Rattle.dep_row_maps.specs.Clauses.{Finds, MayFind};
+ghost use Rattle.dep_views.specs.Named.{AreNamed};
+ghost use Rattle.dep_views.specs.Seen.{state_seen};
+
+use crate::segments::is_complete;
+use crate::uploads::find_state;
+use dep_operations::{LiveUpload, UploadState, UploadView, UploadViews, segments_rule, state_rule};
+use dep_staging::{FoundUpload, load_upload};
+use dep_tables::Statements;
+use dep_types::{Refusal, StoreFault};
+use std::alloc::Global;
+
+/// The uploads that references name, or why they can't be deposited.
+#[derive(Drop)]
+pub enum Named {
+    /// Each is there, and lacks no segment: what is known of them, in their order.
+    Whole(UploadViews),
+    /// The first that isn't there refuses the deposit, or else one that lacks a segment.
+    Refused(Refusal),
+}
+
+// What became of the number of an upload, and whether it lacks a segment. No segment's bytes are read.
+fn load_state<T: Statements>(
+    tx: &mut T,
+    alloc: Global,
+    upload: u64,
+) -> Result<UploadState, StoreFault>
+    ensures map { Finds T.lenders T.state tx.old tx.new result
+        (λ s. IsSound s → IfOk result (λ state. state ≡ state_seen true s upload)) }
+{
+    match load_upload(tx, alloc, upload)? {
+        FoundUpload::Live(staged) => Ok(UploadState::Live(LiveUpload {
+            row: staged.row,
+            is_whole: is_complete(&staged),
+            digests: None,
+        })),
+        FoundUpload::TimedOut => Ok(UploadState::TimedOut),
+        FoundUpload::Unknown => Ok(UploadState::Unknown),
+    }
+}
+
+// What the first of these uploads is refused for that isn't there. No segment is read, and nothing behind it.
+fn first_missing<T: Statements>(tx: &mut T, uploads: &[u64]) -> Result<Option<Refusal>, StoreFault>
+    ensures map { MayFind T.lenders T.state tx.old tx.new result
+        (λ s. IsTrue (T.state tx.old).is_open
+        → IfOk result (λ refusal. refusal ≡ each (upload_refusal (in_state s)) uploads.now)) }
+{
+    let mut rest = uploads;
+    while let Some((upload, behind)) = rest.split_first() {
+        let state = find_state(tx, *upload)?;
+        if let Some(refusal) = state_rule(&state) {
+            return Ok(Some(refusal));
+        }
+        rest = behind;
+    }
+    Ok(None)
+}
+
+/// Looks up the uploads of these numbers, which references name, in their order: up to the first that isn't there.
+/// Behind the first that lacks a segment the others' segments are not read any more. An upload that is named twice
+/// is read twice.
+pub fn load_named<T: Statements>(
+    tx: &mut T,
+    alloc: Global,
+    uploads: &[u64],
+) -> Result<Named, StoreFault>
+    ensures map { MayFind T.lenders T.state tx.old tx.new result
+        (λ s. IsTrue (T.state tx.old).is_open → IsSound s → IfOk result (AreNamed s uploads.now)) }
+{
+    let mut views = Vec::new(alloc);
+    let mut rest = uploads;
+    while let Some((upload, behind)) = rest.split_first() {
+        let state = load_state(tx, alloc, *upload)?;
+        if let Some(refusal) = state_rule(&state) {
+            return Ok(Named::Refused(refusal));
+        }
+        if let Some(refusal) = segments_rule(&state) {
+            let missing = first_missing(tx, behind)?;
+            return Ok(Named::Refused(missing.unwrap_or(refusal)));
+        }
+        let view = UploadView {
+            upload: *upload,
+            state,
+        };
+        views.push(view)?;
+        rest = behind;
+    }
+    Ok(Named::Whole(UploadViews::from_vec(views)))
+}
