@@ -140,6 +140,7 @@ class Acts:
         yield "HEAD of its object", 0, described, lambda: self.ask(200, "HEAD", self.described)
         for it in ("bagit.txt", "manifest-sha512.txt", "tagmanifest-sha256.txt"):
             yield f"{it} of its object", 0, described, lambda it=it: self.ask(200, "GET", f"{self.described}/bag/{it}")
+        yield "HEAD of its tagmanifest-sha256.txt", 0, described, lambda: self.ask(200, "HEAD", f"{self.described}/bag/tagmanifest-sha256.txt")
         yield "GET of the metadata", 0, described, lambda: self.ask(200, "GET", f"{self.described}/metadata")
         yield "DELETE of its object", 3 * self.options.texts, described, lambda: self.ask(204, "DELETE", self.described)
         yield f"{self.options.references:,} references of nothing", 100 * self.options.references, None, self.refer_to_nothing
