@@ -43,7 +43,7 @@ def segments():
 
 # So many milliseconds may another client wait at most. One that is seldom longer is measured up to TRIES times.
 MOST, TRIES = 100, 5
-SIZE, SEGMENT_SIZE, TEXTS = 64 * MIB, 16 * MIB, 400_000
+SIZE, SEGMENT_SIZE, TEXTS, NOTHING = 64 * MIB, 16 * MIB, 400_000, 10_000
 # Beside the large upload there are so many of this size. Where they, or it, are hashed already, a request for their digests takes
 # so many seconds of the processor at most; else it takes twice as many and more.
 SMALL, SMALL_SIZE, LITTLE = 40, 2 * MIB, 0.15
@@ -133,11 +133,14 @@ def waits():
         # What was hashed ahead of a deposit is forgotten here.
         with Host(folder) as host:
             body, fields = by_reference({host.base + path: "attachment; filename=a"})
+            nothing = {f"{host.base}/staging/{10**6 + it}": "attachment; filename=a" for it in range(NOTHING)}
             told = [is_short("a refused deposit of an upload", host, 404, "POST", "/objects/999", body, fields),
                     is_short("one that is refused for a digest, again", host, *refused(host, [path])),
                     is_short("a HEAD of many texts", host, 200, "HEAD", described),
                     is_short("the bagit.txt of many texts", host, 200, "GET", f"{described}/bag/bagit.txt"),
-                    is_short("the manifest of many texts", host, 200, "GET", f"{described}/bag/manifest-sha512.txt")]
+                    is_short("the manifest of many texts", host, 200, "GET", f"{described}/bag/manifest-sha512.txt"),
+                    is_short("a HEAD of their tag manifest", host, 200, "HEAD", f"{described}/bag/tagmanifest-sha256.txt"),
+                    is_short("references of nothing", host, 404, "POST", "/service", *by_reference(nothing))]
         with Host(folder) as host:
             expect("whether a host rests behind a restart", rest(host), True)
             took = [is_known("a deposit behind a restart", host, refused(host, [path])),
