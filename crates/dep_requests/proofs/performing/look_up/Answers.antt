@@ -1,12 +1,11 @@
-use Rattle.std.proofs.Common.{◌∙◌, not, ap, subst, sym}
+use Rattle.std.proofs.Common.{◌∙◌, not, true, map, ap, subst, sym}
 use Rattle.std.proofs.lemmas.Result.{IfOk-from_err}
 use Rattle.dep_decisions.specs.LookUps.{in_state}
 use Rattle.dep_decisions.specs.Laws.{uploads_refusal}
 use Rattle.dep_operations.specs.Views.{touched_by, upload_undigested}
-use Rattle.dep_tables.proofs.Chains.{may_err, may_ok, may_put}
+use Rattle.dep_tables.proofs.Chains.{may_ok, may_put}
 use Rattle.dep_views.proofs.Hashed.{seen_named}
 use Rattle.dep_views.specs.Named.{AreNamed}
-use Rattle.dep_views.specs.declared.named.Named.{Named}
 use Rattle.dep_requests.proofs.LookingUp.{looked_at_none, looked_early, looked_on, looked_refused}
 use Rattle.dep_requests.proofs.performing.look_up.Goals as goal
 
@@ -32,9 +31,39 @@ pub returns-in-Refused : goal.returns-in-Refused
 returns-in-Refused g c = record {
   map = record {
     found = λ clean inside ours s are is_open sound loaded.
-        let named = subst (AreNamed s c.as_slice.result.now) c.in-Refused.is (c.in_ok-branch.ensures.map.found clean inside ours s are is_open sound) in
+        let named = subst (AreNamed s _) c.in-Refused.is (c.in_ok-refusal.ensures.map.found clean inside ours s are is_open sound) in
         looked_refused c.args.config.now s c.args.operation.now c.args.loaded loaded (c.is_none.ensures ∙ ap not c.if-is_none.false) c.in_ok-early.early c.in_ok-early.ensures.unnamed
         (sym c.is_some.ensures ∙ c.if-is_some.false) c.in-Refused.refusal (ap (uploads_refusal (in_state s)) (sym c.as_slice.ensures) ∙ named);
-    keeps = may_ok c.in_ok-branch.ensures.map.keeps;
+    keeps = may_ok c.in_ok-refusal.ensures.map.keeps;
+  };
+}
+
+pub returns-in_ok-refusal-in-Whole : goal.returns-in_ok-refusal-in-Whole
+returns-in_ok-refusal-in-Whole g c = record {
+  map = record {
+    found = λ clean inside ours s are is_open sound loaded.
+        let op = c.args.operation.now in
+        let named = subst (AreNamed s _) c.in-Whole.is (c.in_ok-refusal.ensures.map.found clean inside ours s are is_open sound) in
+        looked_on c.args.config.now s op c.with_uploads-named.result c.in_ok-refusal-in-Whole.refusal
+        (seen_named s op.content (touched_by c.args.config.now op) c.args.loaded loaded c.in-Whole.uploads c.with_uploads-named.result (c.is_none.ensures ∙ ap not c.if-is_none.false)
+        (named.1 ∙ ap (map (upload_undigested true s)) c.as_slice.ensures) c.with_uploads-named.ensures)
+        c.in_ok-refusal-in-Whole.ensures.undigested;
+    keeps = may_ok c.in_ok-refusal.ensures.map.keeps;
+  };
+}
+
+pub returns-in_err-early : goal.returns-in_err-early
+returns-in_err-early g c = record {
+  map = record {
+    found = λ clean inside ours s are is_open sound loaded. IfOk-from_err c.from_residual.result _ c.from_residual.ensures.0;
+    keeps = may_put g.T.Statements.lenders g.T.Statements.state c.args.tx.now _;
+  };
+}
+
+pub returns-in_err-refusal-in-Whole : goal.returns-in_err-refusal-in-Whole
+returns-in_err-refusal-in-Whole g c = record {
+  map = record {
+    found = λ clean inside ours s are is_open sound loaded. IfOk-from_err c.from_residual-in_err-refusal-in-Whole.result _ c.from_residual-in_err-refusal-in-Whole.ensures.0;
+    keeps = may_ok c.in_ok-refusal.ensures.map.keeps;
   };
 }
