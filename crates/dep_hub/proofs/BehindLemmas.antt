@@ -28,7 +28,7 @@ use Rattle.dep_hub.specs.declared.rest.Rest.{Rest}
 use Rattle.dep_hub.specs.declared.hub.Hub.{Hub}
 use Rattle.dep_hub.specs.declared.connections.Connection.{Connection}
 use Rattle.dep_hub.specs.declared.rest.Behind.{Behind}
-use Rattle.dep_hub.specs.declared.rest.Behind.TheVariants.{Nothing, Content, Broken, Waits}
+use Rattle.dep_hub.specs.declared.rest.Behind.TheVariants.{Nothing, Content, Broken}
 use Rattle.dep_hub.proofs.ConnectionLemmas.{index_some, intake_set}
 
 some_not_none : (o : Option ℕ) → option_map suc o ≡ None → o ≡ None

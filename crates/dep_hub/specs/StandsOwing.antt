@@ -1,5 +1,5 @@
 -- A hub that owes its connections what is still to be sent of the replies that it made.
-use Rattle.std.specs.Prelude.{◌≤◌, ◌⊎◌, Bool, true, false, ◌≡◌, ◌≢◌, ◌==◌, ℕ, List, [], ◌∷◌, ◌++◌, if◌then◌else◌, Option, Some, IsTrue}
+use Rattle.std.specs.Prelude.{◌≤◌, Bool, true, false, ◌≡◌, ◌≢◌, ◌==◌, ℕ, List, [], ◌∷◌, ◌++◌, if◌then◌else◌, Option, Some}
 use Rattle.std.specs.Io.KnownBytes.{Appends, Keeps}
 use Rattle.dep_types.specs.State.{State}
 use Rattle.dep_types.specs.Conditions.{Condition, StandsFor, Leaves}
