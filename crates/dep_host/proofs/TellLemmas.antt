@@ -7,7 +7,7 @@ use Rattle.dep_types.specs.Conditions.{Condition}
 use Rattle.dep_host.specs.declared.seat.Seat.{Seat}
 use Rattle.dep_outbox.specs.Wires.{front_of, joined, told}
 use Rattle.dep_host.specs.Runs.{StaysOpen}
-use Rattle.dep_host.specs.Hosting.{Position, slot, Deed, Opens, Takes, Replies, Declines, Closes, sent_by, replies_to, Tells, Step, refused, asks, comes, rests, offers, refuses, answers, leaves, HasTurn, Steps, begins, goes_on}
+use Rattle.dep_host.specs.Hosting.{Position, slot, Deed, Opens, Takes, Replies, Sends, Declines, Closes, sent_by, replies_to, Tells, Step, refused, asks, comes, rests, offers, delays, sends, refuses, answers, leaves, HasTurn, Steps, begins, goes_on}
 use Rattle.std.proofs.lemmas.Grind.{flat_map-append}
 
 abbrev or_else : {X : Type 0} → X → Option X → X
@@ -192,7 +192,10 @@ module _ {A R K S : Type 0} (condition : A → Condition) (unread : R → Option
   step_tidy {p = p} {q = q} {rs = rs} tidy (refuses {at = at} {moment = moment} {before = before} {after = after} t r) =
       sent_tidy p q rs (Declines at before.connection r.piece moment r.answers.sent) at before after r.answers.sent tidy t r.answers.appends (λ n. refl) (λ n. (tt, tt))
   step_tidy {p = p} {q = q} {rs = rs} tidy (answers {at = at} {moment = moment} {before = before} {after = after} t a) =
-      sent_tidy p q rs (Replies at before.connection moment a.answers.sent) at before after a.answers.sent tidy t a.answers.appends (λ n. refl) (λ n. (tt, tt))
+      sent_tidy p q rs (Replies at before.connection moment a.now a.answers.sent) at before after a.now tidy t a.appends (λ n. refl) (λ n. (tt, tt))
+  step_tidy {p = p} {q = q} {rs = rs} tidy (delays {at = at} {before = before} {after = after} t d) = turn_tidy p q rs [] at before after tidy t d.keeps.sends_nothing (λ n. (refl, tt))
+  step_tidy {p = p} {q = q} {rs = rs} tidy (sends {at = at} {before = before} {after = after} t s) =
+      sent_tidy p q rs (Sends at before.connection s.sends.sent s.answer) at before after s.sends.sent tidy t s.sends.appends (λ n. refl) (λ n. (tt, tt))
   step_tidy {p = p} {q = q} {rs = rs} tidy (leaves {at = at} {second = second} {reason = reason} {seat = seat} r) =
       let later : p.hub.next ≤ q.hub.next = let e = r.next in omega (arith, e) in
       tidy_set p q rs (Closes at seat.connection second reason ∷ []) at None tidy r.there r.gone later
