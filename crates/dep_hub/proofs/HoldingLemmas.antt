@@ -19,6 +19,8 @@ use Rattle.dep_hub.specs.declared.arrived.Arrived.TheVariants as came
 use Rattle.dep_hub.specs.declared.next.Next.{Next}
 use Rattle.dep_hub.specs.declared.next.Next.TheVariants.{More, Waiting, Closed, Cut, NoSuch}
 use Rattle.dep_hub.specs.declared.connections.Connection.{Connection}
+use Rattle.dep_hub.specs.declared.rest.Behind.{Behind}
+use Rattle.dep_hub.specs.declared.rest.Behind.TheVariants.{Nothing}
 use Rattle.dep_hub.specs.declared.hub.Hub.{Hub}
 use Rattle.dep_hub.proofs.Leaving.{Settles, stays_as, leaves_wider, leaves_before}
 use Rattle.dep_hub.proofs.ConnectionLemmas.{index_some, intake_set, intake_push, absent_above}
@@ -85,9 +87,9 @@ keeps limit line held reading k = record { bare = k.0; keeps = k.1; is_fed = k.2
 
 -- ---- the connection of a call
 
-module _ (limit n i : ℕ) (old : List Connection) (c : Connection) (now : Reading) (index : index_of n old ≡ Some i) (item : c ≡ get_or old i c) where
-  intakes : (m : ℕ) → intake_of (set old i (record { number = c.number; intake = now })) m ≡ (if m == n then Some now else intake_of old m)
-  intakes m = intake_set n i old (record { number = c.number; intake = now }) index (index_some n i old c index item).0 m
+module _ (limit n i : ℕ) (old : List Connection) (c : Connection) (now : Reading) (b : Behind) (index : index_of n old ≡ Some i) (item : c ≡ get_or old i c) where
+  intakes : (m : ℕ) → intake_of (set old i (record { number = c.number; intake = now; behind = b })) m ≡ (if m == n then Some now else intake_of old m)
+  intakes m = intake_set n i old (record { number = c.number; intake = now; behind = b }) index (index_some n i old c index item).0 m
 
   -- what it held
   held_here : (lines : ℕ → Line) (held : ℕ → List ℕ) → Hold limit old lines held → IsHeldAs limit (lines n) (held n) (Some c.intake)
@@ -95,12 +97,12 @@ module _ (limit n i : ℕ) (old : List Connection) (c : Connection) (now : Readi
 
   -- its line is another, with another rest
   held_then : (lines : ℕ → Line) (held : ℕ → List ℕ) → Hold limit old lines held → (line : Line) (rest : List ℕ) → IsHeldAs limit line rest (Some now)
-      → Hold limit (set old i (record { number = c.number; intake = now })) (with_line n line lines) (with_held n rest held)
-  held_then lines held kept line rest k = held_put limit n line lines rest held (Some now) old (set old i (record { number = c.number; intake = now })) k kept intakes
+      → Hold limit (set old i (record { number = c.number; intake = now; behind = b })) (with_line n line lines) (with_held n rest held)
+  held_then lines held kept line rest k = held_put limit n line lines rest held (Some now) old (set old i (record { number = c.number; intake = now; behind = b })) k kept intakes
 
   -- it was fed a piece
   pub held_fed : (piece : List ℕ) → now ≡ fed c.intake piece → (lines : ℕ → Line) (held : ℕ → List ℕ) → Hold limit old lines held
-      → Hold limit (set old i (record { number = c.number; intake = now })) lines (with_held n (held n ++ piece) held)
+      → Hold limit (set old i (record { number = c.number; intake = now; behind = b })) lines (with_held n (held n ++ piece) held)
   held_fed piece e lines held kept m =
       subst (λ o. IsHeldAs limit (lines m) (with_held n (held n ++ piece) held m) o) (sym (intakes m))
       (bytes_if limit (m == n) (lines m) (held n ++ piece) (held m) (Some now) (intake_of old m)
@@ -108,19 +110,19 @@ module _ (limit n i : ℕ) (old : List Connection) (c : Connection) (now : Readi
       (held_more limit (lines n) (held n) piece c.intake now e (held_here lines held kept)))
       (kept m))
 
-module _ {A : Type 0} (condition : A → Condition) (old new : Hub A) (n i : ℕ) (c : Connection) (now : Reading)
+module _ {A : Type 0} (condition : A → Condition) (old new : Hub A) (n i : ℕ) (c : Connection) (now : Reading) (b : Behind)
     (index : index_of n old.connections.items ≡ Some i) (item : c ≡ get_or old.connections.items i c)
     (config : new.config ≡ old.config)
-    (changed : new.connections.items ≡ set old.connections.items i (record { number = c.number; intake = now })) where
+    (changed : new.connections.items ≡ set old.connections.items i (record { number = c.number; intake = now; behind = b })) where
   here : (lines : ℕ → Line) (held : ℕ → List ℕ) → KeepsHolding condition old lines held → IsHeldAs old.config.max_upload (lines n) (held n) (Some c.intake)
-  here lines held kept = held_here old.config.max_upload n i old.connections.items c now index item lines held kept
+  here lines held kept = held_here old.config.max_upload n i old.connections.items c now b index item lines held kept
 
   put_here : (lines : ℕ → Line) (held : ℕ → List ℕ) → KeepsHolding condition old lines held → (line : Line) (rest : List ℕ) → IsHeldAs old.config.max_upload line rest (Some now)
       → KeepsHolding condition new (with_line n line lines) (with_held n rest held)
   put_here lines held kept line rest k =
       subst (λ (x : Config). Hold x.max_upload new.connections.items (with_line n line lines) (with_held n rest held)) (sym config)
       (subst (λ (cs : List Connection). Hold old.config.max_upload cs (with_line n line lines) (with_held n rest held)) (sym changed)
-      (held_then old.config.max_upload n i old.connections.items c now index item lines held kept line rest k))
+      (held_then old.config.max_upload n i old.connections.items c now b index item lines held kept line rest k))
 
   module _ (settles : Settles (store_of condition new)) (taken takes : Option (List ℕ)) (failures failures_after : ℕ) where
     abbrev Before : Outside
@@ -211,11 +213,11 @@ pub closes_line : (limit n : ℕ) (old new : List Connection) → ((m : ℕ) →
 closes_line limit n old new gone lines held kept = held_put limit n Absent lines [] held None old new (tt, refl) kept gone
 
 pub connects_line : (limit n next : ℕ) (old new : List Connection) → Ascends 0 old next → n ≡ next
-    → new ≡ old ++ record { number = n; intake = record { limit = limit; place = Open false []; is_dead = false } } ∷ []
+    → new ≡ old ++ record { number = n; intake = record { limit = limit; place = Open false []; is_dead = false }; behind = Nothing } ∷ []
     → (lines : ℕ → Line) (held : ℕ → List ℕ) → Hold limit old lines held → Hold limit new (with_line n (Live []) lines) held
 unfolding fresh
 connects_line limit n next old new ascends this items lines held kept m =
-    let d : Connection = record { number = n; intake = fresh limit } in
+    let d : Connection = record { number = n; intake = fresh limit; behind = Nothing } in
     let low : Ascends 0 old n = subst (λ k. Ascends 0 old k) (sym this) ascends in
     let none : intake_of old n ≡ None = absent_above 0 n n old low (reflexive n) in
     let empty : held n ≡ [] = none_held limit (lines n) (held n) (intake_of old n) none (kept n) in

@@ -1,6 +1,7 @@
 -- What a hub stands for, after each of its calls.
 use Rattle.std.proofs.Common.{◌≡◌, ◌≢◌, ◌⊎◌, ℕ, ◌==◌, Bool, true, false, List, [], ◌∷◌, ◌++◌, get_or, set, Option, Some, None, if◌then◌else◌, IsTrue, refl, sym, ap, subst, ◌∙◌, append_assoc, arith, inl, inr}
 use Rattle.std.specs.Prelude.{IsSome}
+use Rattle.std.proofs.Math.Bool.{Bool-set}
 use Rattle.std.proofs.lemmas.Bool.{eqb-true, eq-eqb}
 use Rattle.dep_types.specs.State.{State, empty_state}
 use Rattle.dep_types.specs.Writing.{HasRisen}
@@ -18,10 +19,13 @@ use Rattle.dep_hub.specs.Sending.{Outside, outside}
 use Rattle.dep_hub.specs.Serving.{IsDeadIfShut, arrival_of, ServesFrom, ServesOver}
 use Rattle.dep_hub.specs.Standing.{intake_of, KeepsRest, IsKeptAs, StandsAt, StandsAfter, StopsAfter, Adds, Moves, ArrivesTo, ArrivesShut, ArrivesOver, ComesTo, store_of, IsClean, IsHonest}
 use Rattle.dep_hub.specs.Shut.{IfShut}
+use Rattle.dep_hub.specs.Claims.{is_any_pending}
 use Rattle.dep_hub.specs.Numbers.{index_of, Ascends, Ascends-prop}
 use Rattle.dep_hub.specs.declared.arrived.Arrived.{Arrived}
 use Rattle.dep_hub.specs.declared.arrived.Arrived.TheVariants.{Open as StaysOpen, Closed, Cut, NoSuch}
 use Rattle.dep_hub.specs.declared.connections.Connection.{Connection}
+use Rattle.dep_hub.specs.declared.rest.Behind.{Behind}
+use Rattle.dep_hub.specs.declared.rest.Behind.TheVariants as behind
 use Rattle.dep_hub.specs.declared.hub.Hub.{Hub}
 use Rattle.dep_hub.proofs.Leaving.{Settles, stays_as, leaves_wider}
 use Rattle.dep_hub.proofs.ConnectionLemmas.{index_some, intake_set, intake_push}
@@ -258,21 +262,25 @@ module _ (n i : ℕ) (cs : List Connection) (c : Connection) (index : index_of n
   not_absent e = none_there (intake_of cs n) e (subst (λ o. IsSome o) (sym (index_some n i cs c index item).1) refl)
 
   -- a connection that is changed is there afterwards
-  pub stays_there : (now : Reading) → IsSome (intake_of (set cs i (record { number = c.number; intake = now })) n)
-  stays_there now =
+  pub stays_there : (now : Reading) (b : Behind) → IsSome (intake_of (set cs i (record { number = c.number; intake = now; behind = b })) n)
+  stays_there now b =
       let found = index_some n i cs c index item in
-      let some : intake_of (set cs i (record { number = c.number; intake = now })) n ≡ Some now =
-      intake_set n i cs (record { number = c.number; intake = now }) index found.0 n ∙ ap (λ b. if b then Some now else intake_of cs n) (eq-eqb n n refl) in
+      let some : intake_of (set cs i (record { number = c.number; intake = now; behind = b })) n ≡ Some now =
+      intake_set n i cs (record { number = c.number; intake = now; behind = b }) index found.0 n ∙ ap (λ b. if b then Some now else intake_of cs n) (eq-eqb n n refl) in
       subst (λ o. IsSome o) (sym some) refl
 
 -- the numbers ascend in one way
-pub same_hub : {A : Type 0} (hub : Hub A) (a : Ascends 0 hub.connections.items hub.next) → record hub { ascends = a } ≡ hub
-same_hub hub a i = record hub { ascends = Ascends-prop 0 hub.connections.items hub.next a hub.ascends i }
+pub same_hub : {A : Type 0} (hub : Hub A) (a : Ascends 0 hub.connections.items hub.next) (b : hub.is_busy ≡ is_any_pending hub.connections.items)
+    → record hub { ascends = a; busy = b } ≡ hub
+same_hub hub a b i = record hub {
+  ascends = Ascends-prop 0 hub.connections.items hub.next a hub.ascends i;
+  busy = Bool-set hub.is_busy (is_any_pending hub.connections.items) b hub.busy i;
+}
 
-module _ {A : Type 0} (condition : A → Condition) (old new : Hub A) (n i : ℕ) (piece : List ℕ) (moment : ℕ) (c : Connection) (now : Reading)
+module _ {A : Type 0} (condition : A → Condition) (old new : Hub A) (n i : ℕ) (piece : List ℕ) (moment : ℕ) (c : Connection) (now : Reading) (b : Behind)
     (index : index_of n old.connections.items ≡ Some i) (item : c ≡ get_or old.connections.items i c)
     (config : new.config ≡ old.config) (next : new.next ≡ old.next)
-    (changed : new.connections.items ≡ set old.connections.items i (record { number = c.number; intake = now }))
+    (changed : new.connections.items ≡ set old.connections.items i (record { number = c.number; intake = now; behind = b }))
     (limit : now.limit ≡ c.intake.limit) (dead : IsDeadIfShut c.intake → IsDeadIfShut now) (law : IsClean condition new → IsHonest condition new) (settles : Settles (store_of condition new))
     (held holds : Option (List ℕ)) (failures failures_after : ℕ) where
   abbrev Over : Arrived → Type 0
@@ -294,7 +302,7 @@ module _ {A : Type 0} (condition : A → Condition) (old new : Hub A) (n i : ℕ
           state = r.stands clean;
           kept = subst (λ (x : _). (m : ℕ) → IsKeptAs x.max_upload (with_line n r.becomes w.line m) (intake_of new.connections.items m)) (sym config)
               (kept_put old.config.max_upload n r.becomes w.line (Some now) old.connections.items new.connections.items r.kept at.kept
-              (λ m. ap (λ cs. intake_of cs m) changed ∙ intake_set n i old.connections.items (record { number = c.number; intake = now }) index found.0 m));
+              (λ m. ap (λ cs. intake_of cs m) changed ∙ intake_set n i old.connections.items (record { number = c.number; intake = now; behind = b }) index found.0 m));
         };
         rests = λ clean. stays_as (store_of condition new) r.left settles (r.stands clean);
         stays_clean = r.stays_clean;
@@ -332,7 +340,7 @@ module _ {A : Type 0} (condition : A → Condition) (old new : Hub A) (n i : ℕ
               r.arrival,
               subst (λ (x : _). (m : ℕ) → IsKeptAs x.max_upload (with_line n r.becomes lines m) (intake_of new.connections.items m)) (sym config)
                   (kept_put old.config.max_upload n r.becomes lines (Some now) old.connections.items new.connections.items r.kept keeps
-                  (λ m. ap (λ cs. intake_of cs m) changed ∙ intake_set n i old.connections.items (record { number = c.number; intake = now }) index found.0 m)),
+                  (λ m. ap (λ cs. intake_of cs m) changed ∙ intake_set n i old.connections.items (record { number = c.number; intake = now; behind = b }) index found.0 m)),
             );
       }
 
@@ -350,7 +358,7 @@ module _ {A : Type 0} (condition : A → Condition) (old new : Hub A) (n i : ℕ
     };
     goes = record { config = config; next = next; clean = v.passes.clean; honest = v.passes.honest };
     was_there = subst (λ (o : Option Reading). IsSome o) (sym (index_some n i old.connections.items c index item).1) refl;
-    is_there = subst (λ (cs : List Connection). IsSome (intake_of cs n)) (sym changed) (stays_there n i old.connections.items c index item now);
+    is_there = subst (λ (cs : List Connection). IsSome (intake_of cs n)) (sym changed) (stays_there n i old.connections.items c index item now b);
   }
 
   pub comes_to : (answer : Arrived) → answer ≢ NoSuch → Over answer → ComesTo condition held holds failures failures_after old new n piece moment answer
@@ -397,10 +405,10 @@ module _ {A : Type 0} (condition : A → Condition) (old new : Hub A) (config : 
 
   -- a connection is opened
   pub connects_moves : (n : ℕ) → new.store ≡ old.store → n ≡ old.next
-      → new.connections.items ≡ old.connections.items ++ record { number = n; intake = record { limit = old.config.max_upload; place = Open false []; is_dead = false } } ∷ []
+      → new.connections.items ≡ old.connections.items ++ record { number = n; intake = record { limit = old.config.max_upload; place = Open false []; is_dead = false }; behind = behind.Nothing } ∷ []
       → Moves condition old new (Connect n) []
   connects_moves n store this items w at =
-      let d : Connection = record { number = n; intake = record { limit = old.config.max_upload; place = Open false []; is_dead = false } } in
+      let d : Connection = record { number = n; intake = record { limit = old.config.max_upload; place = Open false []; is_dead = false }; behind = behind.Nothing } in
       let low : Ascends 0 old.connections.items n = subst (λ k. Ascends 0 old.connections.items k) (sym this) old.ascends in (
         record { state = w.state; line = with_line n (Live []) w.line },
         connects,

@@ -13,3 +13,7 @@ mod NextLemmas
 mod HeldLemmas
 mod PartLemmas
 mod HoldingLemmas
+mod OwingLemmas
+mod BehindLemmas
+mod PendingLemmas
+mod KeptLemmas

@@ -16,3 +16,6 @@ pub mod Faults
 pub mod Shut
 pub mod Flushing
 pub mod Errands
+pub mod Claims
+pub mod Owing
+pub mod StandsOwing

@@ -8,8 +8,9 @@ ghost use Rattle.dep_types.specs.Conditions.{Condition, StandsFor, HasCleanDisk,
 ghost use Rattle.dep_hub.specs.Shut.{TellsOpen};
 ghost use Rattle.dep_hub.specs.Errands.{Account, Asked, WorkedAhead, Runs, FailsToTell};
 ghost use Rattle.dep_hub.specs.Archives.{Ticks, MakesStep, Streams, KeepsState, KeepsAll, KeepsEachState, CommitsIfDue, FallsDue, FailsIfShut, CountsFailures};
+ghost use Rattle.dep_hub.specs.Owing.{Begins, StreamsOn};
 
-use dep_answers::{Performed, Service};
+use dep_answers::{Performed, Service, StoredFile};
 use dep_decisions::Operation;
 use dep_moment::Moment;
 use dep_types::{Config, Outlet, StoreFault, StreamFault};
@@ -56,6 +57,29 @@ pub trait Archive {
     fn stream<O: Outlet>(&mut self, file: u64, out: &mut O) -> Result<(), StreamFault>
         ensures streams { Streams (condition self.old) (condition self.new)
             (O.taken out.old) (O.taken out.new) file result }
+        ensures does { KeepsState (condition self.old) (condition self.new) result }
+        ensures commits { may_commit self.new ≡ may_commit self.old }
+        ensures shut { FailsIfShut (condition self.old) (condition self.new) result }
+        ensures count { CountsFailures (O.failures out.old) (O.failures out.new) result };
+
+    /// Finds that the file is there, so that its content can be sent by `stream_on`. A file that isn't there is a
+    /// fault of the store.
+    fn begin(&mut self, it: StoredFile) -> Result<(), StoreFault>
+        ensures begins { Begins (condition self.new) it result }
+        ensures does { KeepsState (condition self.old) (condition self.new) result }
+        ensures commits { may_commit self.new ≡ may_commit self.old }
+        ensures shut { FailsIfShut (condition self.old) (condition self.new) result };
+
+    /// Sends a few blocks of the content of a file, behind so many of its bytes. It returns how many are sent
+    /// then, or `None` where all are.
+    fn stream_on<O: Outlet>(
+        &mut self,
+        it: StoredFile,
+        start: u64,
+        out: &mut O,
+    ) -> Result<Option<u64>, StreamFault>
+        ensures streams { StreamsOn (condition self.old) (condition self.new)
+            (O.taken out.old) (O.taken out.new) it start result }
         ensures does { KeepsState (condition self.old) (condition self.new) result }
         ensures commits { may_commit self.new ≡ may_commit self.old }
         ensures shut { FailsIfShut (condition self.old) (condition self.new) result }

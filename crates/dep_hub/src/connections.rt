@@ -2,6 +2,7 @@
 ghost use Rattle.std.specs.Prelude.{◌≡◌, ◌<◌, length, IfSome};
 ghost use Rattle.dep_hub.specs.Numbers.{index_of};
 
+use crate::rest::Behind;
 use dep_message::Intake;
 use std::marker::Model;
 
@@ -37,11 +38,13 @@ impl ConnId {
     }
 }
 
-/// A connection, and what its stream has left.
+/// A connection, what its stream has left, and what it is still to be sent.
 #[derive(Drop)]
 pub(crate) struct Connection {
     pub number: u64,
     pub intake: Intake,
+    /// What is still to be sent of its last reply.
+    pub behind: Behind,
 }
 
 /// Where a connection stands in the list.

@@ -4,15 +4,21 @@ ghost use Rattle.dep_types.specs.State.{State};
 ghost use Rattle.dep_types.specs.Config.{IsChecked};
 ghost use Rattle.dep_types.specs.Conditions.{StandsFor, Leaves};
 ghost use Rattle.dep_hub.specs.Records.{Connect, Close, Record, World, Run, Absent, Live, stopped, first_world};
+ghost use Rattle.dep_hub.specs.Claims.{is_any_pending};
 ghost use Rattle.dep_hub.specs.Numbers.{Ascends, Ascends-prop, HasPlace, most_connections, last_number};
 
 use crate::access_log::{AccessLog, NoLog};
 use crate::archive::Archive;
 use crate::arrived::Arrived;
+use crate::claim::AskClaim;
 use crate::connections::{ConnId, Connection, index_among};
+use crate::contents::InSteps;
 use crate::faults::{ConnectFault, HubFault};
 use crate::next::Next;
-use crate::serving::{Piece, answer_next, give_up, serve};
+use crate::pending::{has_to_wait, is_any_pending, is_awaited, still_pending};
+use crate::rest::{Behind, Rest, behind_of};
+use crate::sent_on::SentOn;
+use crate::serving::{Piece, answer_next, give_up, serve, take_next};
 use crate::site::{Context, Site};
 use dep_message::Intake;
 use dep_moment::Moment;
@@ -26,8 +32,11 @@ pub struct Hub<A> {
     store: A,
     connections: Vec<Connection>,
     next: u64,
+    // A content is being sent, or a request waits.
+    is_busy: bool,
     // No number is there twice, and the next one is above them.
     ghost ascends: { Ascends 0 connections.items next } by { Ascends-prop 0 connections.items next },
+    ghost busy: { is_busy ≡ is_any_pending connections.items },
 }
 
 const MOST_CONNECTIONS: usize = 1_024;
@@ -37,6 +46,9 @@ const LAST_NUMBER: u64 = 4_000_000_000_000_000_000;
 impl<A: Archive> Hub<A> {
     ghost use Rattle.dep_hub.specs.Standing.{StandsAfter, StandsAt, GoesOnFrom, GoesOnAs, IsHonest, KeepsStore, LeavesStore, LeavesItsState, store_of, Adds, Moves, ComesTo, intake_of};
     ghost use Rattle.dep_hub.specs.Holding.{HoldsOn, RestsOn, MovesLine, OffersTo, ComesToNext, with_held};
+    ghost use Rattle.dep_hub.specs.StandsOwing.{behind_at, is_awaited_at, is_unsent, IsAnswerable, IsFree, KeptBack, KeepsBack, NextIsFree, RepliesOver, SendsOn};
+    ghost use Rattle.dep_hub.specs.Claims.{is_content};
+    ghost use Rattle.std.specs.Prelude.{ℕ, Some, ◌==◌, if◌then◌else◌, false};
     ghost use Rattle.dep_hub.specs.Archives.{KeepsAll, KeepsEachState, CommitsIfDue};
     ghost use Rattle.dep_hub.specs.Shut.{TellsOpen};
     ghost use Rattle.dep_hub.specs.Errands.{Asked, WorkedAhead, Runs, FailsToTell};
@@ -73,6 +85,7 @@ impl<A: Archive> Hub<A> {
             store,
             connections: Vec::new(alloc),
             next: 0,
+            is_busy: false,
         })
     }
 
@@ -106,6 +119,9 @@ impl<A: Archive> Hub<A> {
         ensures fresh { IfOk result (λ number. intake_of self.old.connections.items number ≡ None) }
         ensures there { IfOk result
             (λ number. IsSome (intake_of self.new.connections.items number)) }
+        // So what they are still to be sent.
+        ensures behind { (m : ℕ) → behind_at self.new.connections.items m
+            ≡ behind_at self.old.connections.items m }
         // What a stop now leaves.
         ensures rests { LeavesItsState A.condition self.old (store_of A.condition self.new) }
     {
@@ -119,6 +135,7 @@ impl<A: Archive> Hub<A> {
                 self.config.alloc(),
                 self.config.service().config().max_upload,
             ),
+            behind: Behind::Nothing,
         };
         if let Err(refused) = self.connections.push(connection) {
             drop(refused);
@@ -165,6 +182,8 @@ impl<A: Archive> Hub<A> {
         ensures offers { OffersTo A.condition (O.taken out.old) (O.taken out.new)
             (O.failures out.old) (O.failures out.new)
             self.old self.new connection piece.now result }
+        ensures behind { (m : ℕ) → behind_at self.new.connections.items m
+            ≡ behind_at self.old.connections.items m }
     {
         let Some(i) = index_among(self.connections.as_slice(), connection) else {
             return Arrived::NoSuch;
@@ -205,6 +224,170 @@ impl<A: Archive> Hub<A> {
         answer_next(&context, &mut self.store, &mut kept.intake, out, log)
     }
 
+    /// Answers the next item of a connection as `answer`, but for the content of a file behind the reply: that is
+    /// sent by `send_on`. While it isn't all sent, no further item is answered, and nothing changes: `None`.
+    ///
+    /// So it is too where the next request has to wait. One that puts or deletes files waits for their contents
+    /// that are being sent, and from then on no GET of these files is answered before it, so they end. It waits
+    /// once it has come whole, or its head has where its body is in chunks. In that case no more of it need be
+    /// read while it waits: then it goes on, and each such wait ends with contents that were being sent.
+    pub fn reply<O: Outlet, L: AccessLog>(
+        &mut self,
+        connection: ConnId,
+        moment: Moment,
+        out: &mut O,
+        log: &mut L,
+    ) -> Option<Next>
+        ensures goes { GoesOnAs A.condition self.old self.new }
+        ensures absent { intake_of self.old.connections.items connection ≡ None
+            → result ≡ Some Next.NoSuch }
+        // A connection that was there is there.
+        ensures there { IsSome (intake_of self.old.connections.items connection)
+            → (result ≢ Some Next.NoSuch) × IsSome (intake_of self.new.connections.items connection) }
+        ensures later { result ≡ None
+            → KeepsBack A.condition (O.taken out.old) (O.taken out.new) (O.failures out.old) (O.failures out.new)
+            self.old self.new connection }
+        ensures free { IfSome result (λ _. NextIsFree self.old connection) }
+        ensures replies { IfSome result (RepliesOver A.condition (O.taken out.old) (O.taken out.new)
+            (O.failures out.old) (O.failures out.new) self.old self.new connection moment) }
+    {
+        let Some(i) = index_among(self.connections.as_slice(), connection) else {
+            return Some(Next::NoSuch);
+        };
+        if let Some(behind) = self.kept_back(&self.connections[i]) {
+            self.connections[i].behind = behind;
+            self.is_busy = is_any_pending(self.connections.as_slice());
+            return None;
+        }
+        let kept = &mut self.connections[i];
+        let context = Context {
+            site: &self.config,
+            moment,
+        };
+        let mut contents = InSteps { rest: None };
+        let next = take_next(
+            &context,
+            &mut self.store,
+            &mut kept.intake,
+            out,
+            log,
+            &mut contents,
+        );
+        let behind = behind_of(contents.rest);
+        kept.behind = behind;
+        self.is_busy = still_pending(self.connections.as_slice(), self.is_busy, behind);
+        Some(next)
+    }
+
+    // What is behind the last reply of a connection, if no further item is answered now.
+    fn kept_back(&self, connection: &Connection) -> Option<Behind>
+        ensures free { result ≡ None
+            → IsAnswerable self.now.connections.items connection.now }
+        ensures kept { IfSome result (KeptBack self.now.connections.items
+            connection.now.intake connection.now.behind) }
+    {
+        match connection.behind {
+            Behind::Content(_) => Some(connection.behind),
+            Behind::Broken => Some(connection.behind),
+            Behind::Nothing => self.next_waits(connection),
+            Behind::Waits(claim) => {
+                if has_to_wait(self.connections.as_slice(), claim) {
+                    return Some(connection.behind);
+                }
+                self.next_waits(connection)
+            }
+        }
+    }
+
+    // The same where all of the last reply was sent, and the next request doesn't wait yet. While nothing is being
+    // sent and no request waits, it isn't looked at.
+    fn next_waits(&self, connection: &Connection) -> Option<Behind>
+        requires { is_unsent connection.now.behind ≡ false }
+        ensures free { result ≡ None
+            → IsFree self.now.connections.items connection.now.intake }
+        ensures kept { IfSome result (KeptBack self.now.connections.items
+            connection.now.intake connection.now.behind) }
+    {
+        if !self.is_busy {
+            return None;
+        }
+        let question = AskClaim { site: &self.config };
+        match connection.intake.ask_next(&question) {
+            Ok(Some(claim)) => {
+                if has_to_wait(self.connections.as_slice(), claim) {
+                    return Some(Behind::Waits(claim));
+                }
+                None
+            }
+            Ok(None) => None,
+            Err(AllocError) => Some(Behind::Nothing),
+        }
+    }
+
+    /// Whether a content is still to be sent to a connection.
+    pub fn is_sending(&self, connection: ConnId) -> bool
+        ensures { result ≡ is_content (behind_at self.now.connections.items connection) }
+    {
+        match self.behind(connection) {
+            Behind::Content(_) => true,
+            _ => false,
+        }
+    }
+
+    /// Whether a content is still to be sent to a connection that a waiting request of some connection takes. Such a
+    /// one is to be sent on whatever its client takes, so that the request is answered.
+    pub fn is_awaited(&self, connection: ConnId) -> bool
+        ensures { result ≡ is_awaited_at self.now.connections.items connection }
+    {
+        is_awaited(self.connections.as_slice(), self.behind(connection))
+    }
+
+    // What is behind the last reply of a connection.
+    fn behind(&self, connection: ConnId) -> Behind
+        ensures { result ≡ behind_at self.now.connections.items connection }
+    {
+        match index_among(self.connections.as_slice(), connection) {
+            Some(i) => self.connections[i].behind,
+            None => Behind::Nothing,
+        }
+    }
+
+    /// Sends a few blocks more of the content behind the last reply of a connection.
+    pub fn send_on<O: Outlet>(&mut self, connection: ConnId, out: &mut O) -> SentOn
+        ensures goes { GoesOnAs A.condition self.old self.new }
+        ensures sends { SendsOn A.condition (O.taken out.old) (O.taken out.new)
+            (O.failures out.old) (O.failures out.new) self.old self.new connection result }
+    {
+        let Some(i) = index_among(self.connections.as_slice(), connection) else {
+            return SentOn::All;
+        };
+        let kept = &mut self.connections[i];
+        match kept.behind {
+            Behind::Nothing => SentOn::All,
+            Behind::Waits(_) => SentOn::All,
+            Behind::Broken => SentOn::Broken,
+            Behind::Content(rest) => match self.store.stream_on(rest.file, rest.sent, out) {
+                Ok(Some(sent)) => {
+                    kept.behind = Behind::Content(Rest {
+                        file: rest.file,
+                        sent,
+                    });
+                    SentOn::Part
+                }
+                Ok(None) => {
+                    kept.behind = Behind::Nothing;
+                    self.is_busy = is_any_pending(self.connections.as_slice());
+                    SentOn::All
+                }
+                Err(_) => {
+                    kept.behind = Behind::Broken;
+                    self.is_busy = is_any_pending(self.connections.as_slice());
+                    SentOn::Broken
+                }
+            },
+        }
+    }
+
     /// Whether the store is open, as far as that can be known (`Archive::is_open`). No connection has a part
     /// in it, so it is no event of a run.
     pub fn is_open(&mut self) -> Result<bool, StoreFault>
@@ -240,11 +423,16 @@ impl<A: Archive> Hub<A> {
         ensures holding { MovesLine A.condition self.old self.new connection Absent
             (with_held connection []) }
         ensures gone { intake_of self.new.connections.items connection ≡ None }
+        // What it was still to be sent is forgotten.
+        ensures behind { (m : ℕ) → behind_at self.new.connections.items m
+            ≡ (if m == connection then Behind.Nothing
+            else behind_at self.old.connections.items m) }
         // So what a stop now leaves.
         ensures kept { LeavesStore A.condition self.old self.new }
     {
         if let Some(i) = index_among(self.connections.as_slice(), connection) {
             drop(self.connections.remove(i));
+            self.is_busy = is_any_pending(self.connections.as_slice());
         }
     }
 
@@ -265,6 +453,7 @@ impl<A: Archive> Hub<A> {
             store,
             connections,
             next: _,
+            is_busy: _,
         } = self;
         drop(config);
         drop(connections);

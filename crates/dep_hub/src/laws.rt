@@ -3,6 +3,7 @@ ghost use Rattle.std.specs.Prelude.{◌≡◌, ℕ, List, []};
 ghost use Rattle.dep_hub.specs.Records.{Connect, Close, Absent, Live, World};
 ghost use Rattle.dep_hub.specs.Standing.{StandsAt};
 ghost use Rattle.dep_hub.specs.Holding.{StandsHolding, AnswersAdd, AnswersStop, LineAdds, StopsAnswered, with_held};
+ghost use Rattle.dep_hub.specs.StandsOwing.{AnswersAtOnce, AwaitsContent, AwaitsTaker, ContentsStay, RepliesAdd, RepliesKeep, SendingStands, WaitingStands};
 ghost use Rattle.dep_hub.specs.declared.hub.Hub.{Hub as AnyHub};
 
 use crate::archive::Archive;
@@ -33,4 +34,35 @@ pub fn connections_make_a_run<A: Archive>()
 /// What is held at a stop never arrives: the stop leaves what was answered.
 pub fn stops_leave_what_was_answered<A: Archive>()
     ensures { (hub : AnyHub A) → StopsAnswered A.condition hub }
+{}
+
+/// Where an item is answered that leaves the contents as they are that other connections are being sent, what is owed
+/// to these is owed still.
+pub fn replies_keep_what_is_owed<A: Archive>()
+    ensures { (old new : AnyHub A) → RepliesKeep A.condition old new }
+{}
+
+/// Answering the next item in steps is a run's next record, with the whole reply.
+pub fn replies_make_a_run<A: Archive>()
+    ensures { (old new : AnyHub A) → RepliesAdd A.condition old new }
+{}
+
+/// Sending on what is owed of a reply is no event of a run: the records stay, and less is owed.
+pub fn sending_is_no_event<A: Archive>()
+    ensures { (old new : AnyHub A) → SendingStands A.condition old new }
+{}
+
+/// Keeping a request back is no event of a run: what is owed stays, and what is being sent.
+pub fn waiting_is_no_event<A: Archive>()
+    ensures stands { (old new : AnyHub A) → WaitingStands A.condition old new }
+    ensures contents { (old new : AnyHub A) → ContentsStay A.condition old new }
+{}
+
+/// A request that puts or deletes files is kept back while a content of these is being sent, which is awaited then; a
+/// GET while such a request waits. So what is waited for is in the end a content that is being sent, and each step
+/// makes that shorter. Where there is nothing of the kind the next item is answered, unless a content was broken off.
+pub fn what_is_waited_for_ends<A: Archive>()
+    ensures content { (old new : AnyHub A) → AwaitsContent A.condition old new }
+    ensures taker { (old new : AnyHub A) → AwaitsTaker A.condition old new }
+    ensures at_once { (old new : AnyHub A) → AnswersAtOnce A.condition old new }
 {}

@@ -1,10 +1,12 @@
 //! Replies that are sent over an outlet.
-ghost use Rattle.std.specs.Prelude.{◌≡◌};
+ghost use Rattle.std.specs.Prelude.{◌≡◌, None};
 ghost use Rattle.dep_types.specs.Writing.{HasRisen};
 ghost use Rattle.dep_hub.specs.Sending.{SendsOver, SendsReady, SendsReply, outside_of, reply_to};
+ghost use Rattle.dep_hub.specs.Owing.{Owing};
 
 use crate::access_log::AccessLog;
 use crate::archive::Archive;
+use crate::contents::Contents;
 use dep_answers::Performed;
 use dep_types::{Outlet, StoreFault, WriteFailed};
 
@@ -73,22 +75,22 @@ pub(crate) fn send<O: Outlet>(out: &mut O, reply: &[u8]) -> Answered
     }
 }
 
-/// Sends what is ready: its front as one write, and the content of a file behind it as the store
-/// keeps it.
-pub(crate) fn send_performed<A: Archive, O: Outlet, L: AccessLog>(
+/// Sends what is ready: its front as one write, and the content of a file behind it, now or later.
+pub(crate) fn send_performed<A: Archive, O: Outlet, L: AccessLog, C: Contents>(
     store: &mut A,
     performed: &Performed,
     out: &mut O,
     log: &mut L,
+    contents: &mut C,
 ) -> Answered
-    ensures { SendsReady
-        (outside_of O.Outlet out.old (A.condition store.old))
-        (outside_of O.Outlet out.new (A.condition store.new)) performed.now result }
+    requires { C.rest contents.old ≡ None }
+    ensures { Owing O.Outlet out.old out.new (A.condition store.new) (C.rest contents.new) (λ new.
+        SendsReady (outside_of O.Outlet out.old (A.condition store.old)) new performed.now result) }
 {
     log.reply(performed.status.number(), performed.refusal);
     match send(out, performed.front.as_slice()) {
         Answered::Sent => match performed.stored {
-            Some(id) => match store.stream(id.file, out) {
+            Some(it) => match contents.deliver(store, it, out) {
                 Ok(()) => Answered::Sent,
                 Err(_) => Answered::CutShort,
             },

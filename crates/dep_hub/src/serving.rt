@@ -1,13 +1,15 @@
 //! One arrival: the items that are complete now are answered in order.
-ghost use Rattle.std.specs.Prelude.{◌≡◌, ◌≢◌};
+ghost use Rattle.std.specs.Prelude.{◌≡◌, ◌≢◌, None};
 ghost use Rattle.dep_message.specs.Places.{shut_reading};
 ghost use Rattle.dep_hub.specs.Sending.{outside_of};
 ghost use Rattle.dep_hub.specs.Serving.{ServesOver, KeepsIntake, arrival_with, answer_after};
+ghost use Rattle.dep_hub.specs.Owing.{Owing};
 ghost use Rattle.dep_hub.specs.Nexts.{TakesNext, TellsWant, ended_as, next_behind, reading_behind};
 
 use crate::access_log::{AccessLog, NoLog};
 use crate::archive::Archive;
 use crate::arrived::Arrived;
+use crate::contents::{AtOnce, Contents};
 use crate::next::Next;
 use crate::sending::{Answered, send_fault};
 use crate::site::{Context, Site};
@@ -57,7 +59,7 @@ pub(crate) fn serve<A: Archive, O: Outlet>(
     }
 }
 
-/// Answers the next item, where one is complete. It is never `NoSuch`.
+/// Answers the next item, where one is complete, with all of its reply. It is never `NoSuch`.
 pub(crate) fn answer_next<A: Archive, O: Outlet, L: AccessLog>(
     context: &Context<'_>,
     store: &mut A,
@@ -69,13 +71,31 @@ pub(crate) fn answer_next<A: Archive, O: Outlet, L: AccessLog>(
         (outside_of O.Outlet out.old (A.condition store.old))
         (outside_of O.Outlet out.new (A.condition store.new)) result }
 {
+    take_next(context, store, intake, out, log, &mut AtOnce)
+}
+
+/// Answers the next item, where one is complete, and a content behind the reply goes out now or later. It is
+/// never `NoSuch`.
+pub(crate) fn take_next<A: Archive, O: Outlet, L: AccessLog, C: Contents>(
+    context: &Context<'_>,
+    store: &mut A,
+    intake: &mut Intake,
+    out: &mut O,
+    log: &mut L,
+    contents: &mut C,
+) -> Next
+    requires { C.rest contents.old ≡ None }
+    ensures { Owing O.Outlet out.old out.new (A.condition store.new) (C.rest contents.new) (λ new.
+        TakesNext context.now.site.now intake.old intake.new context.now.moment
+        (outside_of O.Outlet out.old (A.condition store.old)) new result) }
+{
     match intake.next() {
         Err(AllocError) => last(give_up(intake, out, log)),
         Ok(Step::NeedMore) => Next::Waiting,
         Ok(Step::Dead) => Next::Closed,
         Ok(Step::Refused(refusal, is_bare)) => {
             let fault = StreamRefusal { refusal, is_bare };
-            let answer = answer_fault(context, store, fault, out, log);
+            let answer = answer_fault(context, store, fault, out, log, contents);
             next_after(intake, answer, true)
         }
         Ok(Step::Continue100) => {
@@ -84,7 +104,7 @@ pub(crate) fn answer_next<A: Archive, O: Outlet, L: AccessLog>(
         }
         Ok(Step::Message(message, is_last)) => {
             let item = WholeMessage { message, is_last };
-            let answer = answer_message(context, store, item, out, log);
+            let answer = answer_message(context, store, item, out, log, contents);
             next_after(intake, answer, is_last)
         }
     }

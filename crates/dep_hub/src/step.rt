@@ -1,5 +1,5 @@
 //! One step of the machine, and what is sent for it.
-ghost use Rattle.std.specs.Prelude.{◌≡◌, ℕ, IfOk};
+ghost use Rattle.std.specs.Prelude.{◌≡◌, ℕ, None, IfOk};
 ghost use Rattle.std.specs.Option.{option_copied};
 ghost use Rattle.dep_types.specs.State.{State};
 ghost use Rattle.dep_types.specs.declared.config.Config.{Config as Settings};
@@ -11,9 +11,11 @@ ghost use Rattle.dep_hub.specs.Archives.{TriesTo, MakesStep, Always};
 ghost use Rattle.dep_hub.specs.Machine.{operation_of, message_step};
 ghost use Rattle.dep_hub.specs.Sending.{outside_of};
 ghost use Rattle.dep_hub.specs.Serving.{Answers, EndsAsAsked};
+ghost use Rattle.dep_hub.specs.Owing.{Owing};
 
 use crate::access_log::AccessLog;
 use crate::archive::Archive;
+use crate::contents::Contents;
 use crate::sending::{Answered, send, send_fault, send_performed};
 use crate::site::{Context, Site};
 use dep_answers::{Delivery, Performed, Service, refused};
@@ -43,18 +45,18 @@ pub(crate) struct WholeMessage {
 }
 
 /// Steps a whole message: the clock goes on, and then the message is answered.
-pub(crate) fn answer_message<A: Archive, O: Outlet, L: AccessLog>(
+pub(crate) fn answer_message<A: Archive, O: Outlet, L: AccessLog, C: Contents>(
     context: &Context<'_>,
     store: &mut A,
     item: WholeMessage,
     out: &mut O,
     log: &mut L,
+    contents: &mut C,
 ) -> Answered
-    requires { EndsAsAsked item }
-    ensures { Answers context.now.site.now
-        (outside_of O.Outlet out.old (A.condition store.old))
-        (outside_of O.Outlet out.new (A.condition store.new))
-        (Request item.message) context.now.moment result }
+    requires { (C.rest contents.old ≡ None) × EndsAsAsked item }
+    ensures { Owing O.Outlet out.old out.new (A.condition store.new) (C.rest contents.new) (λ new.
+        Answers context.now.site.now (outside_of O.Outlet out.old (A.condition store.old)) new
+        (Request item.message) context.now.moment result) }
 {
     let message = &item.message;
     let length = message.content.as_slice().len() as u64;
@@ -62,7 +64,7 @@ pub(crate) fn answer_message<A: Archive, O: Outlet, L: AccessLog>(
     match store.tick(context.site.service().config(), context.moment) {
         Ok(clock) => match answer_routed(context.site, store, item, clock) {
             Ok(performed) => {
-                let answered = send_performed(store, &performed, out, log);
+                let answered = send_performed(store, &performed, out, log, contents);
                 drop(performed);
                 answered
             }
@@ -86,22 +88,23 @@ pub(crate) fn answer_continue<A: Archive, O: Outlet>(store: &A, out: &mut O) -> 
 }
 
 /// Steps a fault of a stream: the clock goes on, and the connection is closed after the reply.
-pub(crate) fn answer_fault<A: Archive, O: Outlet, L: AccessLog>(
+pub(crate) fn answer_fault<A: Archive, O: Outlet, L: AccessLog, C: Contents>(
     context: &Context<'_>,
     store: &mut A,
     fault: StreamRefusal,
     out: &mut O,
     log: &mut L,
+    contents: &mut C,
 ) -> Answered
-    ensures { Answers context.now.site.now
-        (outside_of O.Outlet out.old (A.condition store.old))
-        (outside_of O.Outlet out.new (A.condition store.new))
-        (Fault fault.refusal fault.is_bare) context.now.moment result }
+    requires { C.rest contents.old ≡ None }
+    ensures { Owing O.Outlet out.old out.new (A.condition store.new) (C.rest contents.new) (λ new.
+        Answers context.now.site.now (outside_of O.Outlet out.old (A.condition store.old)) new
+        (Fault fault.refusal fault.is_bare) context.now.moment result) }
 {
     match store.tick(context.site.service().config(), context.moment) {
         Ok(clock) => match refuse(context.site.alloc(), clock, fault, None, true) {
             Ok(performed) => {
-                let answered = send_performed(store, &performed, out, log);
+                let answered = send_performed(store, &performed, out, log, contents);
                 drop(performed);
                 answered
             }

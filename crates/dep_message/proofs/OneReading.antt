@@ -56,13 +56,13 @@ no_head_first a b x y h e n t =
         cc (sym none ∙ some)
 
 -- two good heads of the same bytes: one head, one framing, the same bytes behind them, and both wait or neither
-record SameHeads (h k : HeadParts) (f g : Framing) (x y : List ℕ) (due also : Bool) : Type 0 where
+pub record SameHeads (h k : HeadParts) (f g : Framing) (x y : List ℕ) (due also : Bool) : Type 0 where
   pub head : h ≡ k
   pub frame : f ≡ g
   pub rest : x ≡ y
   pub due_same : due ≡ also
 
-good_heads : (limit : ℕ) (continued due also : Bool) (a b x y c d : List ℕ) (h k : HeadParts) (f g : Framing) → a ++ x ≡ b ++ y
+pub good_heads : (limit : ℕ) (continued due also : Bool) (a b x y c d : List ℕ) (h k : HeadParts) (f g : Framing) → a ++ x ≡ b ++ y
     → HasHead limit continued due a h f c → HasHead limit continued also b k g d → SameHeads h k f g (c ++ x) (d ++ y) due also
 good_heads limit continued due also a b x y c d h k f g e p q =
     let s : p.front ++ (c ++ x) ≡ q.front ++ (d ++ y) =
@@ -99,7 +99,7 @@ one_request limit continued a b x y m k e f g =
     (λ i. record { head = same.head i; content = body.1 i }, behind_same f.body g.body x y same.rest body.0)
 
 -- a fault's text is no request's
-fault_request : {r : Refusal} {c : Bool} (limit : ℕ) (continued : Bool) (a b x y : List ℕ) (k : Message) → a ++ x ≡ b ++ y
+pub fault_request : {r : Refusal} {c : Bool} (limit : ℕ) (continued : Bool) (a b x y : List ℕ) (k : Message) → a ++ x ≡ b ++ y
     → IsFaultText limit continued a r c → IsRequestText limit continued b k → ⊥
 fault_request limit continued a b x y k e (no_head n) g = good_or_none limit continued false a b x y g.body k.head g.frame e n g.has_head
 fault_request limit continued a b x y k e (bad_framing {head} fault t bad) g = good_or_bad limit continued false a b x y g.body head k.head g.frame e t bad g.has_head
@@ -109,7 +109,7 @@ fault_request limit continued a b x y k e (bad_body {head} {frame} {body} fault 
     (subst (λ (f : Framing). IsBodyFault limit f body fault) same.frame bad)
 
 -- a client that waits has sent no faulty request, and no whole one
-continue_request : (limit : ℕ) (continued : Bool) (a b x y : List ℕ) (k : Message) → a ++ x ≡ b ++ y
+pub continue_request : (limit : ℕ) (continued : Bool) (a b x y : List ℕ) (k : Message) → a ++ x ≡ b ++ y
     → IsContinueText limit continued a → IsRequestText limit continued b k → ⊥
 continue_request limit continued a b x y k e f g =
     let same = good_heads limit continued true false a b x y [] g.body f.head k.head f.frame g.frame e f.has_head g.has_head in
@@ -160,7 +160,7 @@ one_first limit continued (Fault r c) (Fault s d) a b x y e f g =
     let o = one_fault limit continued a b x y e f g in
     (λ i. Fault (o.0 i) (o.1 i), refl)
 
-one_at : (limit : ℕ) (from : Place) (i j : Item) (p q : Place) → FirstAt limit from i p → FirstAt limit from j q → (i ≡ j) × (p ≡ q)
+pub one_at : (limit : ℕ) (from : Place) (i j : Item) (p q : Place) → FirstAt limit from i p → FirstAt limit from j q → (i ≡ j) × (p ≡ q)
 one_at limit (Open continued bytes) i j p q f g =
     let o = one_first limit continued i j f.text g.text f.behind g.behind (sym f.whole ∙ g.whole) f.spelled g.spelled in
     (o.0, f.goes_on ∙ (o.1 ∙ sym g.goes_on))

@@ -1,5 +1,5 @@
 -- Words of private functions: the bytes that are kept, and what is known of the first request of them.
-use Rattle.std.specs.Prelude.{◌≡◌, ℕ, ◌<◌, ◌≤◌, Bool, true, false, List, ◌++◌, length, take, None, Result, Ok, MatchResult}
+use Rattle.std.specs.Prelude.{◌≡◌, ℕ, ◌<◌, ◌≤◌, Bool, true, false, List, ◌++◌, length, take, None, Option, Result, Ok, MatchResult}
 use Rattle.std.specs.declared.alloc.AllocError.{AllocError}
 use Rattle.dep_head.specs.Head.{HeadParts, IsHeadText, head_end, head_limit}
 use Rattle.dep_body.specs.Framing.{framing}
@@ -7,6 +7,7 @@ use Rattle.dep_body.specs.Body.{IsPartOfBody}
 use Rattle.dep_body.specs.Feeding.{HasFed}
 use Rattle.dep_body.specs.declared.frame.Framing.{Framing}
 use Rattle.dep_body.specs.declared.frame.Framing.TheVariants.{Length, Chunked as InChunks}
+use Rattle.dep_message.specs.Asking.{TellsNext}
 use Rattle.dep_message.specs.Giving.{Begins, BeginsWithHead}
 use Rattle.dep_message.specs.Heads.{is_due}
 use Rattle.dep_message.specs.Places.{Reading, Open, Shut}
@@ -123,3 +124,10 @@ abbrev pub FindsNext : (old : Work) (bytes : List ℕ) (new : Work) → Result F
 FindsNext old bytes new result =
     MatchResult result (Finds old.limit old.continued bytes new)
     (λ _. Keeps old.limit old.continued bytes new × BeginsWithHead bytes)
+
+-- what is told of the head that stands first in these bytes: for want of memory nothing is, and a head is there
+abbrev pub TellsFirst : {X : Type 0} → (answer : HeadParts → X) → Work → (bytes : List ℕ)
+    → Result (Option X) AllocError → Type 0
+TellsFirst answer work bytes result =
+    MatchResult result (TellsNext answer work.limit (Open work.continued bytes))
+    (λ _. BeginsWithHead bytes)

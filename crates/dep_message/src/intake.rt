@@ -1,10 +1,12 @@
 //! Takes the items of a connection's bytes, in whatever pieces these come.
 ghost use Rattle.std.specs.Prelude.{◌≡◌, ◌<◌, [], length, false, MatchResult, OnOk, OnErr};
 ghost use Rattle.dep_message.specs.Places.{Reading, Open, Shut, place_with, shut_reading, HasBytes};
+ghost use Rattle.dep_message.specs.Asking.{TellsNext};
 ghost use Rattle.dep_message.specs.Giving.{Gives, HasFirstHead};
 
 use crate::heads::closes;
 use crate::message::Message;
+use crate::question::Question;
 use crate::work::{Found, Work};
 use dep_types::Refusal;
 use std::alloc::{AllocError, Global};
@@ -100,6 +102,19 @@ impl Intake {
         } else {
             Standing::Closed
         };
+    }
+
+    /// What is answered for the head of the next request: where its body has a known length, once it has come
+    /// whole, and where that is in chunks, once its head has. Nothing is taken. An `Err` is want of memory.
+    pub fn ask_next<Q: Question>(&self, question: &Q) -> Result<Option<Q::Answer>, AllocError>
+        ensures { MatchResult result
+            (TellsNext (Q.answer question.now) self.now.limit self.now.place)
+            (λ _. HasFirstHead self.now.place) }
+    {
+        match self.standing {
+            Standing::Live => self.work.ask_next(question),
+            Standing::Closed | Standing::Dead => Ok(None),
+        }
     }
 
     /// Takes the first item, where one is complete. An `Err` is want of memory, and changes nothing. Behind a

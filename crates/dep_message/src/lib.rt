@@ -8,9 +8,11 @@ mod intake;
 pub mod laws;
 mod message;
 mod progress;
+mod question;
 mod used;
 mod work;
 
 pub use heads::{closes, is_without_body};
 pub use intake::{Intake, Step};
 pub use message::Message;
+pub use question::Question;

@@ -1,8 +1,8 @@
 //! The bytes of a connection that no item has used, and what is known of them.
-ghost use Rattle.std.specs.Prelude.{◌≡◌, ◌≤◌, [], ◌++◌, false, length, drop, OnOk, OnErr};
+ghost use Rattle.std.specs.Prelude.{◌≡◌, ◌≤◌, [], ◌++◌, Some, false, length, drop, IfOk, OnOk, OnErr};
 ghost use Rattle.dep_message.specs.Stream.{refusal_of};
 ghost use Rattle.dep_message.specs.Heads.{is_bare};
-ghost use Rattle.dep_message.specs.Working.{HasLeft, IsAtHead, Keeps, FindsNext, IsWorking, kept_bytes};
+ghost use Rattle.dep_message.specs.Working.{HasLeft, FindsHead, IsAtHead, Keeps, FindsNext, IsSearched, IsWorking, TellsFirst, kept_bytes};
 ghost use Rattle.dep_message.specs.declared.progress.Progress.TheVariants.{Searched, Sized, Chunked};
 
 use crate::buffer::Buffer;
@@ -10,6 +10,7 @@ use crate::first::{FirstHead, FramedHead, SearchedBytes, first_head, refusal_for
 use crate::heads::{is_hashed_early, is_without_body};
 use crate::message::Message;
 use crate::progress::{ChunkedRequest, Progress, SizedRequest};
+use crate::question::Question;
 use crate::used::UsedBytes;
 use dep_body::{ChunkReader, Fed, FrameFault, Framing};
 use dep_fixity::HashedOctets;
@@ -78,6 +79,64 @@ impl Work {
             Progress::Sized(request) => self.read_sized(request),
             Progress::Chunked(request) => self.read_chunks(request),
         }
+    }
+
+    /// What is answered for the head of the first request, where that may be complete.
+    pub fn ask_next<Q: Question>(&self, question: &Q) -> Result<Option<Q::Answer>, AllocError>
+        requires { IsWorking self.now }
+        ensures { TellsFirst (Q.answer question.now) self.now (kept_bytes self.now) result }
+    {
+        match &self.progress {
+            Progress::Searched(searched) => self.ask_searched(*searched, question),
+            Progress::Sized(request) => {
+                if request.behind.as_slice().len() < request.length {
+                    return Ok(None);
+                }
+                told_of(&request.head, question)
+            }
+            Progress::Chunked(request) => told_of(&request.head, question),
+        }
+    }
+
+    // The same where no head ends in so many bytes.
+    fn ask_searched<Q: Question>(
+        &self,
+        searched: usize,
+        question: &Q,
+    ) -> Result<Option<Q::Answer>, AllocError>
+        requires { IsSearched searched self.now.buffer }
+        ensures { TellsFirst (Q.answer question.now) self.now self.now.buffer result }
+    {
+        let bytes = self.buffer.as_slice();
+        let front = SearchedBytes { bytes, searched };
+        match first_head(self.alloc, self.limit, self.continued, front)? {
+            FirstHead::Head(first) => self.ask_framed(first, question),
+            FirstHead::Continue => Ok(None),
+            FirstHead::Fault(_, _) => Ok(None),
+            FirstHead::Nothing => Ok(None),
+        }
+    }
+
+    // The same where this head stands first.
+    fn ask_framed<Q: Question>(
+        &self,
+        first: FramedHead,
+        question: &Q,
+    ) -> Result<Option<Q::Answer>, AllocError>
+        requires { FindsHead self.now.limit self.now.continued self.now.buffer
+            (FirstHead.Head first) }
+        ensures { TellsFirst (Q.answer question.now) self.now self.now.buffer result }
+    {
+        let come = self.buffer.as_slice().len() - first.length;
+        if let Framing::Length(length) = first.framing {
+            if come < length as usize {
+                drop(first);
+                return Ok(None);
+            }
+        }
+        let told = told_of(&first.head, question);
+        drop(first);
+        told
     }
 
     // Reads on where no head ends in so many bytes.
@@ -221,6 +280,16 @@ impl Work {
         self.buffer.drop_front(count);
         self.continued = false;
         Found::Message(Message { head, content })
+    }
+}
+
+// What is answered for a head.
+fn told_of<Q: Question>(head: &Head, question: &Q) -> Result<Option<Q::Answer>, AllocError>
+    ensures { IfOk result (λ told. told ≡ Some (Q.answer question.now head.now)) }
+{
+    match question.ask(head) {
+        Ok(told) => Ok(Some(told)),
+        Err(AllocError) => Err(AllocError),
     }
 }
 

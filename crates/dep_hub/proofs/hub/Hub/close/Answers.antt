@@ -7,6 +7,9 @@ use Rattle.dep_hub.specs.declared.connections.Connection.{Connection}
 use Rattle.dep_hub.proofs.ConnectionLemmas.{index_none, intake_remove, ascends_remove}
 use Rattle.dep_hub.proofs.HubLemmas.{closes_moves, moves_adds, absent_already, leaves_as_before}
 use Rattle.dep_hub.proofs.HoldingLemmas.{closes_line}
+use Rattle.dep_hub.specs.StandsOwing.{behind_at}
+use Rattle.dep_hub.proofs.BehindLemmas.{behind_gone, behind_none, behind_remove}
+use Rattle.dep_hub.specs.Claims.{is_any_pending}
 use Rattle.dep_hub.proofs.hub.Hub.close.Goals as goal
 
 -- it is taken out
@@ -21,6 +24,8 @@ returns-in-Some g c =
       moves = moves;
       holding = closes_line c.args.self.now.config.max_upload c.args.connection c.args.self.now.connections.items c.remove.new.self.items gone;
       gone = gone c.args.connection ∙ ap (λ (b : Bool). if b then None else intake_of c.args.self.now.connections.items c.args.connection) (eq-eqb c.args.connection c.args.connection refl);
+      behind = λ m. ap (λ (cs : List Connection). behind_at cs m) c.remove.ensures.items
+          ∙ behind_remove c.args.connection 0 c.args.self.now.next c.in-Some.i c.args.self.now.connections.items index c.args.self.now.ascends m;
       kept = record {
         config = refl;
         next = refl;
@@ -40,6 +45,8 @@ returns-in_default g c =
       moves = moves;
       holding = closes_line c.args.self.now.config.max_upload c.args.connection c.args.self.now.connections.items c.args.self.now.connections.items gone;
       gone = none;
+      behind = behind_gone c.args.connection c.args.self.now.connections.items
+          (behind_none c.args.connection c.args.self.now.connections.items (ap (index_of c.args.connection) (sym c.as_slice.ensures.value) ∙ (sym c.index_among.ensures.value ∙ c.in_default.is)));
       kept = record {
         config = refl;
         next = refl;
@@ -52,4 +59,5 @@ pub invariant_of-self : goal.invariant_of-self
 invariant_of-self g c = record {
   ascends = subst (λ (cs : List Connection). Ascends 0 cs c.args.self.now.next) (sym c.remove.ensures.items)
       (ascends_remove 0 c.args.self.now.next c.in-Some.i c.args.self.now.connections.items (rw c.as_slice.ensures.value at c.in-Some.ensures.within) c.args.self.now.ascends);
+  busy = c.is_any_pending-self.ensures ∙ ap is_any_pending c.as_slice-in-Some.ensures.value;
 }

@@ -9,18 +9,25 @@ use Rattle.dep_hub.specs.declared.connections.Connection.{Connection}
 use Rattle.dep_hub.proofs.ConnectionLemmas.{absent_above, ascends_push, pushed_there}
 use Rattle.dep_hub.proofs.HubLemmas.{connects_moves, moves_adds, leaves_as_before}
 use Rattle.dep_hub.proofs.HoldingLemmas.{connects_line, holds_same}
+use Rattle.dep_hub.specs.declared.rest.Behind.TheVariants.{Nothing}
+use Rattle.dep_hub.specs.StandsOwing.{behind_at}
+use Rattle.dep_hub.proofs.BehindLemmas.{behind_push}
+use Rattle.dep_hub.specs.Claims.{is_any_pending}
+use Rattle.dep_hub.proofs.PendingLemmas.{pending_push}
 use Rattle.dep_hub.proofs.hub.Hub.connect.Goals as goal
 
 pub invariant_of-self : goal.invariant_of-self
 invariant_of-self g c = record {
   ascends = subst (λ (cs : List Connection). Ascends 0 cs c.args.self.now.next) (sym c.in-Err.ensures.items) c.args.self.now.ascends;
+  busy = c.args.self.now.busy ∙ ap is_any_pending (sym c.in-Err.ensures.items);
 }
 
 pub invariant_of-self-2 : goal.invariant_of-self-2
 invariant_of-self-2 g c =
-    let d : Connection = record { number = c.args.self.now.next; intake = c.new.result } in
+    let d : Connection = record { number = c.args.self.now.next; intake = c.new.result; behind = Nothing } in
     record {
       ascends = subst (λ (cs : List Connection). Ascends 0 cs (d.number + 1)) (sym c.in_default.ensures.items) (ascends_push 0 c.args.self.now.connections.items d c.args.self.now.ascends);
+      busy = c.args.self.now.busy ∙ sym (ap is_any_pending c.in_default.ensures.items ∙ pending_push c.args.self.now.connections.items d refl);
     }
 
 -- there are too many, or no number is left
@@ -37,18 +44,23 @@ returns-in-Err-clause-holding g c = holds_same c.args.self.now.config.max_upload
 pub returns-in-Err-clause-rests : goal.returns-in-Err-clause-rests
 returns-in-Err-clause-rests g c = leaves_as_before g.A.Archive.condition c.args.self.now _ refl (g.met.A.Archive.settled c.args.self.now.store)
 
+pub returns-in-Err-clause-behind : goal.returns-in-Err-clause-behind
+returns-in-Err-clause-behind g c = λ m. ap (λ (cs : List Connection). behind_at cs m) c.in-Err.ensures.items
+
 -- the connection is the last of them
 pub returns : goal.returns
 returns g c =
-    let d : Connection = record { number = c.args.self.now.next; intake = c.new.result } in
+    let d : Connection = record { number = c.args.self.now.next; intake = c.new.result; behind = Nothing } in
     let above : c.args.self.now.next ≤ c.new-2.result = omega (arith, c.new-2.ensures) in
     let items : c.push.new.self.items ≡ c.args.self.now.connections.items ++ record {
       number = c.new-2.result;
       intake = record { limit = c.args.self.now.config.max_upload; place = Open false []; is_dead = false };
+      behind = Nothing;
     } ∷ [] =
     c.in_default.ensures.items ∙ (λ i. c.args.self.now.connections.items ++ record {
       number = sym c.new-2.ensures i;
       intake = (c.new.ensures ∙ ap (λ (x : Config). record { limit = x.max_upload; place = Open false []; is_dead = false }) (c.config.ensures ∙ c.service.ensures)) i;
+      behind = Nothing;
     } ∷ []) in
     let moves = connects_moves g.A.Archive.condition c.args.self.now _ refl c.new-2.result refl c.new-2.ensures items in
     record {
@@ -67,5 +79,10 @@ returns g c =
       there = subst (λ (n : ℕ). IsSome (intake_of c.push.new.self.items n)) (sym c.new-2.ensures)
           (subst (λ (cs : List Connection). IsSome (intake_of cs c.args.self.now.next)) (sym c.in_default.ensures.items)
           (pushed_there c.args.self.now.connections.items d c.args.self.now.ascends));
+      behind = λ m. ap (λ (cs : List Connection). behind_at cs m) items ∙ behind_push c.args.self.now.connections.items (record {
+        number = c.new-2.result;
+        intake = record { limit = c.args.self.now.config.max_upload; place = Open false []; is_dead = false };
+        behind = Nothing;
+      }) m refl;
       rests = leaves_as_before g.A.Archive.condition c.args.self.now _ refl (g.met.A.Archive.settled c.args.self.now.store);
     }

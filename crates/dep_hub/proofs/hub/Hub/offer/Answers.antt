@@ -6,6 +6,8 @@ use Rattle.dep_hub.proofs.HubLemmas.{stays_there, none_there, not_absent, same_h
 use Rattle.dep_hub.proofs.HoldingLemmas.{held_fed, refuses}
 use Rattle.dep_hub.proofs.NextLemmas.{open_there, runs_out}
 use Rattle.dep_hub.proofs.ShutLemmas.{there_sent}
+use Rattle.dep_hub.proofs.BehindLemmas.{behind_as_was}
+use Rattle.dep_hub.proofs.PendingLemmas.{pending_set}
 use Rattle.dep_hub.proofs.hub.Hub.offer.Goals as goal
 use Rattle.std.proofs.KnownBytes.{Keeps-refl}
 
@@ -17,7 +19,8 @@ returns-in_default g c =
       kept = record { config = refl; next = refl; store = refl };
       absent = λ _. refl;
       there = λ there. absurd (none_there _ none there);
-      offers = record { absent = none; same = same_hub c.args.self.now _; sends_nothing = Keeps-refl (g.O.Outlet.taken c.args.out.now) };
+      offers = record { absent = none; same = same_hub c.args.self.now _ _; sends_nothing = Keeps-refl (g.O.Outlet.taken c.args.out.now) };
+      behind = λ m. refl;
     }
 
 -- the piece was taken
@@ -29,14 +32,15 @@ returns-in-Ok g c =
       absent = λ none. absurd (not_absent c.args.connection c.in-Some.i c.args.self.now.connections.items c.index_mut-kept.result.now index c.index_mut-kept.ensures.value none);
       there = λ there. (
         open_there,
-        stays_there c.args.connection c.in-Some.i c.args.self.now.connections.items c.index_mut-kept.result.now index c.index_mut-kept.ensures.value c.feed.new.self,
+        stays_there c.args.connection c.in-Some.i c.args.self.now.connections.items c.index_mut-kept.result.now index c.index_mut-kept.ensures.value c.feed.new.self c.index_mut-kept.result.now.behind,
       );
       offers = record {
-        holds = held_fed c.args.self.now.config.max_upload c.args.connection c.in-Some.i c.args.self.now.connections.items c.index_mut-kept.result.now c.feed.new.self
+        holds = held_fed c.args.self.now.config.max_upload c.args.connection c.in-Some.i c.args.self.now.connections.items c.index_mut-kept.result.now c.feed.new.self c.index_mut-kept.result.now.behind
             index c.index_mut-kept.ensures.value c.args.piece.now c.in-Ok.ensures.ok;
         sends_nothing = Keeps-refl (g.O.Outlet.taken c.args.out.now);
         same_failures = refl;
       };
+      behind = behind_as_was c.args.connection c.in-Some.i c.args.self.now.connections.items c.index_mut-kept.result.now index c.index_mut-kept.ensures.value c.feed.new.self;
     }
 
 -- memory ran out
@@ -49,24 +53,29 @@ returns-in-Err g c =
       absent = λ none. absurd (not_absent c.args.connection c.in-Some.i c.args.self.now.connections.items c.index_mut-kept.result.now index c.index_mut-kept.ensures.value none);
       there = λ there. (
         there_sent c.give_up.ensures.sent.2,
-        stays_there c.args.connection c.in-Some.i c.args.self.now.connections.items c.index_mut-kept.result.now index c.index_mut-kept.ensures.value c.give_up.new.intake,
+        stays_there c.args.connection c.in-Some.i c.args.self.now.connections.items c.index_mut-kept.result.now index c.index_mut-kept.ensures.value c.give_up.new.intake c.index_mut-kept.result.now.behind,
       );
-      offers = refuses g.A.Archive.condition c.args.self.now _ c.args.connection c.in-Some.i c.index_mut-kept.result.now c.give_up.new.intake
+      offers = refuses g.A.Archive.condition c.args.self.now _ c.args.connection c.in-Some.i c.index_mut-kept.result.now c.give_up.new.intake c.index_mut-kept.result.now.behind
           index c.index_mut-kept.ensures.value refl refl (g.met.A.Archive.settled c.args.self.now.store)
           (g.O.Outlet.taken c.args.out.now) (g.O.Outlet.taken c.give_up.new.out) (g.O.Outlet.failures c.args.out.now) (g.O.Outlet.failures c.give_up.new.out) c.args.piece.now c.give_up.result
           (runs_out (place_with c.index_mut-kept.result.now.intake.place c.args.piece.now) (g.O.Outlet.taken c.args.out.now) (g.O.Outlet.taken c.give_up.new.out)
           (g.O.Outlet.failures c.args.out.now) (g.O.Outlet.failures c.give_up.new.out) (g.A.Archive.condition c.args.self.now.store) c.give_up.result e.1 c.give_up.ensures.sent c.give_up.ensures.cause)
           (there_sent c.give_up.ensures.sent.2) (c.give_up.ensures.shut ∙ ap shut_reading e.0);
+      behind = behind_as_was c.args.connection c.in-Some.i c.args.self.now.connections.items c.index_mut-kept.result.now index c.index_mut-kept.ensures.value c.give_up.new.intake;
     }
 
 pub invariant_of-self : goal.invariant_of-self
 invariant_of-self g c = record {
   ascends = ascends_set 0 c.args.self.now.next c.in-Some.i c.args.self.now.connections.items c.index_mut-kept.result.now
-      (record { number = c.index_mut-kept.result.now.number; intake = c.feed.new.self }) c.index_mut-kept.ensures.value refl c.args.self.now.ascends;
+      (record { number = c.index_mut-kept.result.now.number; intake = c.feed.new.self; behind = c.index_mut-kept.result.now.behind }) c.index_mut-kept.ensures.value refl c.args.self.now.ascends;
+  busy = c.args.self.now.busy ∙ sym (pending_set c.in-Some.i c.args.self.now.connections.items c.index_mut-kept.result.now
+      (record { number = c.index_mut-kept.result.now.number; intake = c.feed.new.self; behind = c.index_mut-kept.result.now.behind }) c.index_mut-kept.ensures.value refl);
 }
 
 pub invariant_of-self-in-Err : goal.invariant_of-self-in-Err
 invariant_of-self-in-Err g c = record {
   ascends = ascends_set 0 c.args.self.now.next c.in-Some.i c.args.self.now.connections.items c.index_mut-kept.result.now
-      (record { number = c.index_mut-kept.result.now.number; intake = c.give_up.new.intake }) c.index_mut-kept.ensures.value refl c.args.self.now.ascends;
+      (record { number = c.index_mut-kept.result.now.number; intake = c.give_up.new.intake; behind = c.index_mut-kept.result.now.behind }) c.index_mut-kept.ensures.value refl c.args.self.now.ascends;
+  busy = c.args.self.now.busy ∙ sym (pending_set c.in-Some.i c.args.self.now.connections.items c.index_mut-kept.result.now
+      (record { number = c.index_mut-kept.result.now.number; intake = c.give_up.new.intake; behind = c.index_mut-kept.result.now.behind }) c.index_mut-kept.ensures.value refl);
 }

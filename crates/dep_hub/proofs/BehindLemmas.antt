@@ -1,0 +1,292 @@
+-- What is behind the last replies of connections.
+use Rattle.std.specs.Prelude.{◌||◌}
+use Rattle.std.proofs.Common.{◌≡◌, ◌≢◌, ℕ, suc, zero, ◌==◌, ◌+◌, ◌<◌, ◌≤◌, Bool, true, false, List, [], ◌∷◌, ◌++◌, get_or, set, drop, Option, Some, None, if◌then◌else◌, refl, sym, ap, subst, ◌∙◌, arith}
+use Rattle.std.specs.Option.{option_map}
+use Rattle.std.proofs.lemmas.Bool.Decides.{nat_tests}
+use Rattle.std.proofs.lemmas.List.{append-nil}
+use Rattle.std.specs.Io.KnownBytes.{Appends}
+use Rattle.std.proofs.lemmas.Bool.{eq-eqb, eqb-true}
+use Rattle.dep_types.specs.State.{State, File, file_at}
+use Rattle.dep_types.specs.declared.config.Config.{Config}
+use Rattle.dep_types.specs.Conditions.{Condition, StandsFor, HasCleanDisk, Leaves}
+use Rattle.dep_message.specs.Places.{Reading}
+use Rattle.dep_hub.specs.Records.{Line}
+use Rattle.dep_hub.specs.Shut.{LeavesNoMore, IfShut}
+use Rattle.dep_hub.specs.Standing.{intake_of, store_of, IsClean, IsHonest}
+use Rattle.dep_hub.specs.Holding.{IsHeldAs, KeepsHolding, with_held}
+use Rattle.dep_answers.specs.declared.performed.StoredFile.{StoredFile}
+use Rattle.std.specs.List.{remove}
+use Rattle.dep_hub.specs.Numbers.{index_of, Ascends}
+use Rattle.dep_hub.specs.Owing.{HasBehind, IsFrontBehind, IsLater, IsOwed, later_than, bytes_later}
+use Rattle.dep_hub.specs.StandsOwing.{IsPaid, OthersStay, SendsOn, behind_at, is_part}
+use Rattle.dep_hub.specs.declared.next.Next.{Next}
+use Rattle.dep_hub.specs.declared.next.Next.TheVariants.{NoSuch}
+use Rattle.dep_hub.specs.declared.sent_on.SentOn.{SentOn}
+use Rattle.dep_hub.specs.declared.sent_on.SentOn.TheVariants.{Part, All, Broken as BrokenOff}
+use Rattle.dep_hub.specs.Claims.{is_content}
+use Rattle.dep_hub.specs.declared.rest.Rest.{Rest}
+use Rattle.dep_hub.specs.declared.hub.Hub.{Hub}
+use Rattle.dep_hub.specs.declared.connections.Connection.{Connection}
+use Rattle.dep_hub.specs.declared.rest.Behind.{Behind}
+use Rattle.dep_hub.specs.declared.rest.Behind.TheVariants.{Nothing, Content, Broken, Waits}
+use Rattle.dep_hub.proofs.ConnectionLemmas.{index_some, intake_set}
+
+some_not_none : (o : Option ℕ) → option_map suc o ≡ None → o ≡ None
+some_not_none None e = refl
+some_not_none (Some j) e = cc
+
+some_suc : (o : Option ℕ) (i : ℕ) → option_map suc o ≡ Some (suc i) → o ≡ Some i
+some_suc None i e = cc
+some_suc (Some j) i e = cc
+
+some_suc_zero : (o : Option ℕ) → option_map suc o ≡ Some zero → ⊥
+some_suc_zero None e = cc
+some_suc_zero (Some j) e = cc
+
+-- what is behind the reply of the connection at the index
+behind_some_at : (n i : ℕ) (d : Connection) (cs : List Connection) (c : Connection) (b : Bool) → b ≡ (d.number == n)
+    → (if b then Some 0 else option_map suc (index_of n cs)) ≡ Some i → c ≡ get_or (d ∷ cs) i c
+    → ((j : ℕ) → index_of n cs ≡ Some j → c ≡ get_or cs j c → behind_at cs n ≡ c.behind)
+    → (if b then d.behind else behind_at cs n) ≡ c.behind
+behind_some_at n zero d cs c true e i f k = ap (λ (x : Connection). x.behind) (sym f)
+behind_some_at n (suc i) d cs c true e i' f k = cc
+behind_some_at n zero d cs c false e i' f k = absurd (some_suc_zero (index_of n cs) i')
+behind_some_at n (suc i) d cs c false e i' f k = k i (some_suc (index_of n cs) i i') f
+
+pub behind_some : (n i : ℕ) (cs : List Connection) (c : Connection) → index_of n cs ≡ Some i → c ≡ get_or cs i c → behind_at cs n ≡ c.behind
+behind_some n i [] c e f = cc
+behind_some n i (d ∷ cs) c e f = behind_some_at n i d cs c (d.number == n) refl e f (λ j. behind_some n j cs c)
+
+behind_none_at : (n : ℕ) (c : Connection) (cs : List Connection) (b : Bool)
+    → (if b then Some 0 else option_map suc (index_of n cs)) ≡ None → (index_of n cs ≡ None → behind_at cs n ≡ Nothing)
+    → (if b then c.behind else behind_at cs n) ≡ Nothing
+behind_none_at n c cs true i k = cc
+behind_none_at n c cs false i k = k (some_not_none (index_of n cs) i)
+
+-- nothing is behind a reply of who is not there
+pub behind_none : (n : ℕ) (cs : List Connection) → index_of n cs ≡ None → behind_at cs n ≡ Nothing
+behind_none n [] e = refl
+behind_none n (c ∷ cs) e = behind_none_at n c cs (c.number == n) e (behind_none n cs)
+
+-- a connection is changed where it stands
+behind_set_at : (n i : ℕ) (c : Connection) (cs : List Connection) (d : Connection) (b : Bool) → b ≡ (c.number == n)
+    → (if b then Some 0 else option_map suc (index_of n cs)) ≡ Some i → d.number ≡ n → (m : ℕ)
+    → ((j : ℕ) → index_of n cs ≡ Some j → behind_at (set cs j d) m ≡ (if m == n then d.behind else behind_at cs m))
+    → behind_at (set (c ∷ cs) i d) m ≡ (if m == n then d.behind else behind_at (c ∷ cs) m)
+behind_set_at n zero c cs d true e i f m k = grind (arith, nat_tests)
+behind_set_at n (suc i) c cs d true e i' f m k = cc
+behind_set_at n zero c cs d false e i' f m k = absurd (some_suc_zero (index_of n cs) i')
+behind_set_at n (suc i) c cs d false e i' f m k = let h = k i (some_suc (index_of n cs) i i') in grind (arith, nat_tests, h)
+
+pub behind_set : (n i : ℕ) (cs : List Connection) (d : Connection) → index_of n cs ≡ Some i → d.number ≡ n
+    → (m : ℕ) → behind_at (set cs i d) m ≡ (if m == n then d.behind else behind_at cs m)
+behind_set n i [] d e f m = cc
+behind_set n i (c ∷ cs) d e f m = behind_set_at n i c cs d (c.number == n) refl e f m (λ j h. behind_set n j cs d h f m)
+
+-- ---- what a file has behind so many bytes
+
+same_file : (s : State) (it : StoredFile) (a b : File) → file_at s it.object it.file ≡ Some a → file_at s it.object it.file ≡ Some b → a ≡ b
+same_file s it a b h k = let e : Some a ≡ Some b = sym h ∙ k in cc
+
+pub one_behind : (s : State) (it : StoredFile) (start : ℕ) (xs ys : List ℕ) → HasBehind s it start xs → HasBehind s it start ys → xs ≡ ys
+one_behind s it start xs ys h k = sym h.is ∙ (ap (λ (f : File). drop start f.content) (same_file s it h.file k.file h.held k.held) ∙ k.is)
+
+pub front_behind : (s : State) (it : StoredFile) (start : ℕ) (owed sent : List ℕ) → HasBehind s it start owed → IsFrontBehind s it start sent
+    → (rest : List ℕ) × (owed ≡ sent ++ rest)
+front_behind s it start owed sent h k = let x = k h.file h.held in (x.0, sym h.is ∙ x.1)
+
+-- ---- what a hub owes
+
+if_same : {X : Type 0} (b : Bool) (x y : X) → (b ≡ true → x ≡ y) → (if b then x else y) ≡ y
+if_same true x y k = k refl
+if_same false x y k = refl
+
+owed_if : (s : State) (t : Bool) (b b' : Behind) (xs ys : List ℕ) → IsOwed s b xs → IsOwed s b' ys → IsOwed s (if t then b else b') (if t then xs else ys)
+owed_if s true b b' xs ys h k = h
+owed_if s false b b' xs ys h k = k
+
+-- a later rest of a content is owed
+pub owed_later : (store : Condition) (r : Option Rest) (more : Option (List ℕ)) → IsLater store r more → HasCleanDisk store → (s : State) → StandsFor store s
+    → IsOwed s (later_than r) (bytes_later more)
+owed_later store None more later disk s stands = ap bytes_later later
+owed_later store (Some r) more later disk s stands =
+    subst (λ (l : List ℕ). HasBehind s r.file r.sent l) (sym (ap bytes_later later.1)) (later.2 disk s stands)
+
+-- what is paid of what is owed
+pub paid_part : (s : State) (it : StoredFile) (start next : ℕ) (owed sent : List ℕ) → HasBehind s it start owed
+    → (x : (rest : List ℕ) × HasBehind s it next rest × HasBehind s it start (sent ++ rest) × (sent ≢ []))
+    → (rest : List ℕ) × (owed ≡ sent ++ rest) × IsPaid Part sent rest × IsOwed s (Content (record { file = it; sent = next })) rest
+paid_part s it start next owed sent h x = (x.0, one_behind s it start owed (sent ++ x.0) h x.2, x.3, x.1)
+
+pub paid_all : (s : State) (it : StoredFile) (start : ℕ) (owed sent : List ℕ) → HasBehind s it start owed → HasBehind s it start sent
+    → (rest : List ℕ) × (owed ≡ sent ++ rest) × IsPaid All sent rest × IsOwed s Nothing rest
+paid_all s it start owed sent h x = ([], one_behind s it start owed sent h x ∙ sym (append-nil sent), refl, refl)
+
+pub paid_broken : (s : State) (it : StoredFile) (start : ℕ) (owed sent : List ℕ) → HasBehind s it start owed → IsFrontBehind s it start sent
+    → (rest : List ℕ) × (owed ≡ sent ++ rest) × IsPaid BrokenOff sent rest × IsOwed s Broken rest
+paid_broken s it start owed sent h x = let y = front_behind s it start owed sent h x in (y.0, y.1, tt, tt)
+
+module _ {A : Type 0} (condition : A → Condition) (old new : Hub A) (n : ℕ) (b : Behind)
+    (config : new.config ≡ old.config)
+    (intakes : (m : ℕ) → intake_of new.connections.items m ≡ intake_of old.connections.items m)
+    (behinds : (m : ℕ) → behind_at new.connections.items m ≡ (if m == n then b else behind_at old.connections.items m)) where
+  holds_on : (lines : ℕ → Line) (held : ℕ → List ℕ) → KeepsHolding condition old lines held → KeepsHolding condition new lines held
+  holds_on lines held kept m =
+      subst (λ (x : Config). IsHeldAs x.max_upload (lines m) (held m) (intake_of new.connections.items m)) (sym config)
+      (subst (λ o. IsHeldAs old.config.max_upload (lines m) (held m) o) (sym (intakes m)) (kept m))
+
+  owes_on : (s : State) (owed : ℕ → List ℕ) (rest : List ℕ) → ((m : ℕ) → IsOwed s (behind_at old.connections.items m) (owed m)) → IsOwed s b rest
+      → (m : ℕ) → IsOwed s (behind_at new.connections.items m) (with_held n rest owed m)
+  owes_on s owed rest owes here m =
+      subst (λ (x : Behind). IsOwed s x (with_held n rest owed m)) (sym (behinds m))
+      (owed_if s (m == n) b (behind_at old.connections.items m) rest (owed m) here (owes m))
+
+  pub others_stay : OthersStay old new n
+  others_stay m other = behinds m ∙ if_same (m == n) b (behind_at old.connections.items m) (λ e. absurd (other (eqb-true m n e)))
+
+  -- some of what was owed is sent
+  pub sends_on : (before : Behind) → behind_at old.connections.items n ≡ before → (answer : SentOn) (taken takes : Option (List ℕ)) (failures failures_after : ℕ)
+      (sent : List ℕ) → Appends taken takes sent
+      → (IsHonest condition new → (s : State) → StandsFor (store_of condition old) s → (owed : List ℕ) → IsOwed s before owed
+      → (rest : List ℕ) × (owed ≡ sent ++ rest) × IsPaid answer sent rest × IsOwed s b rest)
+      → (IsClean condition new → IsHonest condition new → (s : State) → StandsFor (store_of condition old) s → StandsFor (store_of condition new) s)
+      → (IsHonest condition new → (s : State) → StandsFor (store_of condition old) s → Leaves (store_of condition new) (λ found. found ≡ s))
+      → IfShut (store_of condition old) (store_of condition new) (LeavesNoMore (store_of condition old) (store_of condition new))
+      → (answer ≢ BrokenOff → failures_after ≡ failures) → is_content b ≡ is_part answer
+      → SendsOn condition taken takes failures failures_after old new n answer
+  sends_on before is answer taken takes failures failures_after sent appends pays stays leaves shut kept left = record {
+    sent = sent;
+    appends = appends;
+    sends = λ honest w held owed at.
+        let p = pays honest w.state at.at.state (owed n) (subst (λ (x : Behind). IsOwed w.state x (owed n)) is (at.owes n)) in (
+          p.0,
+          p.1,
+          p.2,
+          (λ clean. record {
+            at = record { state = stays clean honest w.state at.at.state; kept = holds_on w.line held at.at.kept };
+            owes = owes_on w.state owed p.0 at.owes p.3;
+          }),
+          leaves honest w.state at.at.state,
+        );
+    shut = shut;
+    kept = kept;
+    left = ap is_content (behinds n ∙ ap (λ (t : Bool). if t then b else behind_at old.connections.items n) (eq-eqb n n refl)) ∙ left;
+    others = others_stay;
+  }
+
+-- one connection alone has something else behind its reply
+module _ (n i : ℕ) (old : List Connection) (c : Connection) (b : Behind) (index : index_of n old ≡ Some i) (item : c ≡ get_or old i c) where
+  pub intakes_stay : (new : List Connection) → new ≡ set old i (record { number = c.number; intake = c.intake; behind = b })
+      → (m : ℕ) → intake_of new m ≡ intake_of old m
+  intakes_stay new changed m =
+      let found = index_some n i old c index item in
+      ap (λ cs. intake_of cs m) changed ∙ (intake_set n i old (record { number = c.number; intake = c.intake; behind = b }) index found.0 m
+      ∙ if_same (m == n) (Some c.intake) (intake_of old m) (λ e. sym (ap (intake_of old) (eqb-true m n e) ∙ found.1)))
+
+  pub behinds_are : (now : Reading) (new : List Connection) → new ≡ set old i (record { number = c.number; intake = now; behind = b })
+      → (m : ℕ) → behind_at new m ≡ (if m == n then b else behind_at old m)
+  behinds_are now new changed m =
+      ap (λ cs. behind_at cs m) changed ∙ behind_set n i old (record { number = c.number; intake = now; behind = b }) index (index_some n i old c index item).0 m
+
+-- nothing changes
+pub behinds_stay : (n : ℕ) (cs : List Connection) (m : ℕ) → behind_at cs m ≡ (if m == n then behind_at cs n else behind_at cs m)
+behinds_stay n cs m = sym (if_same (m == n) (behind_at cs n) (behind_at cs m) (λ e. ap (behind_at cs) (sym (eqb-true m n e))))
+
+-- what stands there is put there again
+pub set_here : (i : ℕ) (cs : List Connection) (c : Connection) → c ≡ get_or cs i c → set cs i c ≡ cs
+set_here i [] c e = refl
+set_here zero (x ∷ cs) c e = ap (λ (y : Connection). y ∷ cs) e
+set_here (suc i) (x ∷ cs) c e = ap (λ (l : List Connection). x ∷ l) (set_here i cs c e)
+
+pub behinds_back : (n i : ℕ) (cs : List Connection) (c : Connection) → c ≡ get_or cs i c → (m : ℕ)
+    → behind_at (set cs i c) m ≡ (if m == n then behind_at cs n else behind_at cs m)
+behinds_back n i cs c e m = ap (λ (l : List Connection). behind_at l m) (set_here i cs c e) ∙ behinds_stay n cs m
+
+pub intakes_back : (i : ℕ) (cs : List Connection) (c : Connection) → c ≡ get_or cs i c → (m : ℕ) → intake_of (set cs i c) m ≡ intake_of cs m
+intakes_back i cs c e m = ap (λ (l : List Connection). intake_of l m) (set_here i cs c e)
+
+-- nothing is sent, and what is owed stays so
+pub paid_nothing : (s : State) (b : Behind) (answer : SentOn) (owed : List ℕ) → IsPaid answer [] owed → IsOwed s b owed
+    → (rest : List ℕ) × (owed ≡ [] ++ rest) × IsPaid answer [] rest × IsOwed s b rest
+paid_nothing s b answer owed paid h = (owed, refl, paid, h)
+
+pub leaves_same : (store : Condition) (old : Condition) → LeavesNoMore store store
+leaves_same store old image may = (image, may, λ s. (λ h. h, λ h. h))
+
+-- ---- by what stands behind each reply now
+
+module _ (n : ℕ) (old new : List Connection) (b : Behind) (behinds : (m : ℕ) → behind_at new m ≡ (if m == n then b else behind_at old m)) where
+  pub others_are : (m : ℕ) → m ≢ n → behind_at new m ≡ behind_at old m
+  others_are m other = behinds m ∙ if_same (m == n) b (behind_at old m) (λ e. absurd (other (eqb-true m n e)))
+
+pub owed_at : (s : State) (n : ℕ) (old new : List Connection) (b : Behind) → ((m : ℕ) → behind_at new m ≡ (if m == n then b else behind_at old m))
+    → (owed : List ℕ) → IsOwed s b owed → IsOwed s (behind_at new n) owed
+owed_at s n old new b behinds owed h =
+    subst (λ (x : Behind). IsOwed s x owed) (sym (behinds n ∙ ap (λ (t : Bool). if t then b else behind_at old n) (eq-eqb n n refl))) h
+
+-- ---- two tests
+
+pub or_parts : (a b : Bool) → (a || b) ≡ false → (a ≡ false) × (b ≡ false)
+or_parts true b e = cc
+or_parts false b e = (refl, e)
+
+pub either_false : (a b : Bool) → a ≡ false → b ≡ false → (a || b) ≡ false
+either_false true b e f = cc
+either_false false b e f = f
+
+-- ---- a connection that is there, or not
+
+pub not_there : (o : Option Reading) (r : Reading) → o ≡ None → o ≡ Some r → ⊥
+not_there None r e f = cc f
+not_there (Some x) r e f = cc e
+
+pub some_reading : (a b : Reading) → Some a ≡ Some b → a ≡ b
+some_reading a b e = cc
+
+-- ---- other calls
+
+nothing_if : (t : Bool) → (if t then Nothing else Nothing) ≡ Nothing
+nothing_if true = refl
+nothing_if false = refl
+
+-- nothing is behind a reply of a connection that was just opened
+pub behind_push : (cs : List Connection) (d : Connection) (m : ℕ) → d.behind ≡ Nothing → behind_at (cs ++ d ∷ []) m ≡ behind_at cs m
+behind_push [] d m e = ap (λ (b : Behind). if d.number == m then b else Nothing) e ∙ nothing_if (d.number == m)
+behind_push (c ∷ cs) d m e = ap (λ (b : Behind). if c.number == m then c.behind else b) (behind_push cs d m e)
+
+-- an intake changes alone
+pub behind_as_was : (n i : ℕ) (cs : List Connection) (c : Connection) → index_of n cs ≡ Some i → c ≡ get_or cs i c → (now : Reading) → (m : ℕ)
+    → behind_at (set cs i (record { number = c.number; intake = now; behind = c.behind })) m ≡ behind_at cs m
+behind_as_was n i cs c index item now m =
+    behinds_are n i cs c c.behind index item now _ refl m
+    ∙ if_same (m == n) c.behind (behind_at cs m) (λ e. sym (ap (behind_at cs) (eqb-true m n e) ∙ behind_some n i cs c index item))
+
+-- who is not there is forgotten
+pub behind_gone : (n : ℕ) (cs : List Connection) → behind_at cs n ≡ Nothing → (m : ℕ) → behind_at cs m ≡ (if m == n then Nothing else behind_at cs m)
+behind_gone n cs none m = sym (if_same (m == n) Nothing (behind_at cs m) (λ e. sym (ap (behind_at cs) (eqb-true m n e) ∙ none)))
+
+behind_below : (low high n : ℕ) (cs : List Connection) → Ascends low cs high → n < low → behind_at cs n ≡ Nothing
+behind_below low high n [] a l = refl
+behind_below low high n (c ∷ cs) a l =
+    let more : n < c.number + 1 = omega (arith, a.0) in
+    let lo : low ≤ c.number = a.0 in
+    let h = behind_below (c.number + 1) high n cs a.1 more in grind (arith, nat_tests, h)
+
+behind_remove_at : (n low high i : ℕ) (c : Connection) (cs : List Connection) (b : Bool) → b ≡ (c.number == n)
+    → (if b then Some 0 else option_map suc (index_of n cs)) ≡ Some i → Ascends low (c ∷ cs) high → (m : ℕ)
+    → ((j : ℕ) → index_of n cs ≡ Some j → behind_at (remove cs j) m ≡ (if m == n then Nothing else behind_at cs m))
+    → behind_at (remove (c ∷ cs) i) m ≡ (if m == n then Nothing else behind_at (c ∷ cs) m)
+behind_remove_at n low high zero c cs true e i a m k =
+    let h = behind_below (c.number + 1) high n cs a.1 in grind (arith, nat_tests, h)
+behind_remove_at n low high (suc i) c cs true e i' a m k = cc
+behind_remove_at n low high zero c cs false e i' a m k = absurd (some_suc_zero (index_of n cs) i')
+behind_remove_at n low high (suc i) c cs false e i' a m k = let h = k i (some_suc (index_of n cs) i i') in grind (arith, nat_tests, h)
+
+-- a connection is removed
+pub behind_remove : (n low high i : ℕ) (cs : List Connection) → index_of n cs ≡ Some i → Ascends low cs high
+    → (m : ℕ) → behind_at (remove cs i) m ≡ (if m == n then Nothing else behind_at cs m)
+behind_remove n low high i [] e a m = cc
+behind_remove n low high i (c ∷ cs) e a m = behind_remove_at n low high i c cs (c.number == n) refl e a m (λ j h. behind_remove n (c.number + 1) high j cs h a.1 m)
+
+pub some_such : (answer : Next) → (answer ≡ NoSuch → ⊥) → Some answer ≡ Some NoSuch → ⊥
+some_such answer there e = let same : answer ≡ NoSuch = cc in there same

@@ -1,0 +1,98 @@
+//! Contents that are being sent, and requests that wait.
+ghost use Rattle.std.specs.Prelude.{◌≡◌, false};
+ghost use Rattle.dep_hub.specs.Claims as spec;
+ghost use Rattle.dep_hub.specs.Claims.{is_awaited_by, sends_of};
+
+use crate::claim::{Claim, Files};
+use crate::connections::Connection;
+use crate::rest::Behind;
+use dep_answers::StoredFile;
+
+/// Whether a content is being sent to one of them, or a request of one waits.
+pub(crate) fn is_any_pending(connections: &[Connection]) -> bool
+    ensures { result ≡ spec.is_any_pending connections.now }
+{
+    connections
+        .iter()
+        .any(|connection| is_pending(connection.behind))
+}
+
+/// The same where a connection has come to this, and before that nothing was pending, or something was.
+pub(crate) fn still_pending(connections: &[Connection], before: bool, behind: Behind) -> bool
+    requires { before ≡ false → spec.is_pending behind ≡ false
+        → spec.is_any_pending connections.now ≡ false }
+    ensures { result ≡ spec.is_any_pending connections.now }
+{
+    if before {
+        return is_any_pending(connections);
+    }
+    if is_pending(behind) {
+        return is_any_pending(connections);
+    }
+    false
+}
+
+fn is_pending(behind: Behind) -> bool
+    ensures { result ≡ spec.is_pending behind }
+{
+    match behind {
+        Behind::Content(_) | Behind::Waits(_) => true,
+        Behind::Nothing | Behind::Broken => false,
+    }
+}
+
+/// Whether a request of this claim has to wait: what takes files, for contents of these that are being sent;
+/// what reads one, for requests that wait to take it. So two requests never wait for each other.
+pub(crate) fn has_to_wait(connections: &[Connection], claim: Claim) -> bool
+    ensures { result ≡ spec.has_to_wait connections.now claim }
+{
+    connections
+        .iter()
+        .any(|connection| is_in_the_way(claim, connection.behind))
+}
+
+fn is_in_the_way(claim: Claim, behind: Behind) -> bool
+    ensures { result ≡ spec.is_in_the_way claim behind }
+{
+    match claim {
+        Claim::Takes(files) => is_sent(files, behind),
+        Claim::Reads(object, file) => waits_to_take(object, file, behind),
+        Claim::Neither => false,
+    }
+}
+
+// Whether a content of these files is being sent.
+fn is_sent(files: Files, behind: Behind) -> bool
+    ensures { result ≡ sends_of files behind }
+{
+    match behind {
+        Behind::Content(rest) => files.has(rest.file.object, rest.file.file),
+        _ => false,
+    }
+}
+
+// Whether the request that waits takes the file.
+fn waits_to_take(object: u64, file: u64, behind: Behind) -> bool
+    ensures { result ≡ spec.waits_to_take object file behind }
+{
+    match behind {
+        Behind::Waits(Claim::Takes(files)) => files.has(object, file),
+        _ => false,
+    }
+}
+
+/// Whether what is being sent is the content of a file that a waiting request of one of them takes.
+pub(crate) fn is_awaited(connections: &[Connection], behind: Behind) -> bool
+    ensures { result ≡ is_awaited_by connections.now behind }
+{
+    match behind {
+        Behind::Content(rest) => any_waits_to_take(connections, rest.file),
+        _ => false,
+    }
+}
+
+fn any_waits_to_take(connections: &[Connection], it: StoredFile) -> bool
+    ensures { result ≡ spec.any_waits_to_take connections.now it.object it.file }
+{
+    connections.iter().any(|connection| waits_to_take(it.object, it.file, connection.behind))
+}

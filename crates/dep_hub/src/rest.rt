@@ -1,0 +1,37 @@
+//! What is still to be sent of a reply.
+
+ghost use Rattle.std.specs.Prelude.{◌≡◌};
+ghost use Rattle.dep_hub.specs.Owing.{later_than};
+
+use crate::claim::Claim;
+use dep_answers::StoredFile;
+
+/// A content that goes out in steps, and how many of its bytes were sent.
+#[derive(Clone, Copy)]
+pub(crate) struct Rest {
+    pub file: StoredFile,
+    pub sent: u64,
+}
+
+/// What is behind the last reply of a connection.
+#[derive(Clone, Copy)]
+pub(crate) enum Behind {
+    /// All of it was sent.
+    Nothing,
+    /// The rest of a content is sent, and then the next item answered.
+    Content(Rest),
+    /// A fault broke it off, and nothing more is sent.
+    Broken,
+    /// All of it was sent, and the next request waits, which has this claim.
+    Waits(Claim),
+}
+
+/// What is behind a reply of which this is sent later.
+pub(crate) fn behind_of(rest: Option<Rest>) -> Behind
+    ensures { result ≡ later_than rest }
+{
+    match rest {
+        Some(rest) => Behind::Content(rest),
+        None => Behind::Nothing,
+    }
+}
