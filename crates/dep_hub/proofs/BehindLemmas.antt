@@ -168,6 +168,7 @@ module _ {A : Type 0} (condition : A → Condition) (old new : Hub A) (n : ℕ) 
           }),
           leaves honest w.state at.at.state,
         );
+    stands = λ honest clean w held at. record { state = stays clean honest w.state at.state; kept = holds_on w.line held at.kept };
     shut = shut;
     kept = kept;
     left = ap is_content (behinds n ∙ ap (λ (t : Bool). if t then b else behind_at old.connections.items n) (eq-eqb n n refl)) ∙ left;

@@ -106,6 +106,10 @@ idle_waits (c ∷ cs) claim e =
     either_false (is_in_the_way claim c.behind) (has_to_wait cs claim) (idle_way claim c.behind p.0) (idle_waits cs claim p.1)
 
 -- the next request waits, by its claim or not at all
+pub not_broken : (r : Option Rest) → later_than r ≡ Broken → ⊥
+not_broken None e = let bad : Nothing ≡ Broken = e in cc
+not_broken (Some r) e = let bad : Content r ≡ Broken = e in cc
+
 pub not_waiting : (r : Option Rest) → is_waiting (later_than r) ≡ false
 not_waiting None = refl
 not_waiting (Some r) = refl

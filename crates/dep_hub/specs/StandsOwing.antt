@@ -196,6 +196,9 @@ module _ {A : Type 0} (condition : A → Condition) where
         → (rest : List ℕ) × (owed number ≡ sent ++ rest) × IsPaid answer sent rest
         × (IsClean condition new → StandsOwing new w held (with_held number rest owed))
         × Leaves (store_of condition new) (λ found. found ≡ w.state)
+    -- it stands where it stood, whatever is owed to others
+    pub stands : IsHonest condition new → IsClean condition new → (w : World) → (held : ℕ → List ℕ)
+        → StandsHolding condition old w held → StandsHolding condition new w held
     pub shut : IfShut (store_of condition old) (store_of condition new)
         (LeavesNoMore (store_of condition old) (store_of condition new))
     pub kept : answer ≢ BrokenOff → failures_after ≡ failures

@@ -248,6 +248,9 @@ impl<A: Archive> Hub<A> {
             → KeepsBack A.condition (O.taken out.old) (O.taken out.new) (O.failures out.old) (O.failures out.new)
             self.old self.new connection }
         ensures free { IfSome result (λ _. NextIsFree self.old connection) }
+        // What is behind an answer isn't broken off.
+        ensures unbroken { IfSome result (λ _.
+            behind_at self.new.connections.items connection ≢ Behind.Broken) }
         ensures replies { IfSome result (RepliesOver A.condition (O.taken out.old) (O.taken out.new)
             (O.failures out.old) (O.failures out.new) self.old self.new connection moment) }
     {

@@ -14,7 +14,7 @@ use Rattle.dep_hub.proofs.HubLemmas.{same_hub, stays_there, none_there, not_abse
 use Rattle.dep_hub.proofs.HoldingLemmas.{comes_next}
 use Rattle.dep_hub.proofs.NextLemmas.{next_there, next_passes}
 use Rattle.dep_hub.proofs.BehindLemmas.{some_such, behind_none, behind_some, behinds_are, intakes_stay, others_are, not_there, owed_at, owed_later, some_reading}
-use Rattle.dep_hub.proofs.PendingLemmas.{kept_back_as, not_waiting, pending_unset}
+use Rattle.dep_hub.proofs.PendingLemmas.{kept_back_as, not_broken, not_waiting, pending_unset}
 use Rattle.dep_hub.proofs.hub.Hub.reply.Goals as goal
 
 -- there is no such connection
@@ -46,6 +46,11 @@ pub returns-in_default-clause-free : goal.returns-in_default-clause-free
 returns-in_default-clause-free g c reading there =
     let none = ap (index_of c.args.connection) (sym c.as_slice.ensures.value) ∙ (sym c.index_among.ensures.value ∙ c.in_default.is) in
     absurd (not_there _ reading (index_none c.args.connection c.args.self.now.connections.items none) there)
+
+pub returns-in_default-clause-unbroken : goal.returns-in_default-clause-unbroken
+returns-in_default-clause-unbroken g c broken =
+    let none = ap (index_of c.args.connection) (sym c.as_slice.ensures.value) ∙ (sym c.index_among.ensures.value ∙ c.in_default.is) in
+    not_broken None (sym (behind_none c.args.connection c.args.self.now.connections.items none) ∙ broken)
 
 -- it is kept back
 pub invariant_of-self-in-Some-kept_back : goal.invariant_of-self-in-Some-kept_back
@@ -165,3 +170,14 @@ returns-clause-replies g c =
       let_go = ap is_waiting here ∙ not_waiting c.take_next-next.new.contents.rest;
       others = others_are n items _ b behinds;
     }
+
+pub returns-clause-unbroken : goal.returns-clause-unbroken
+returns-clause-unbroken g c broken =
+    let n = c.args.connection in
+    let items = c.args.self.now.connections.items in
+    let index = ap (index_of n) (sym c.as_slice.ensures.value) ∙ sym c.in-Some.ensures.value in
+    let kept = c.index_mut-kept.result.now in
+    let b = c.behind_of-behind.result in
+    let behinds = behinds_are n c.in-Some.i items kept b index c.index_mut-kept.ensures.value c.take_next-next.new.intake _ refl in
+    let here = behinds n ∙ (ap (λ (t : Bool). if t then b else behind_at items n) (eq-eqb n n refl) ∙ c.behind_of-behind.ensures) in
+    not_broken c.take_next-next.new.contents.rest (sym here ∙ broken)
