@@ -1,5 +1,5 @@
 -- How a host goes on.
-use Rattle.std.proofs.Common.{◌≡◌, ◌⊎◌, ◌<◌, ◌≤◌, ◌+◌, ◌==◌, if◌then◌else◌, ℕ, zero, suc, Bool, true, false, List, [], ◌∷◌, ◌++◌, Option, None, Some, refl, sym, ap, subst, ◌∙◌, append_assoc, length, get_or, set, take, is_some, Ok, IsTrue, add-one, inl, inr, arith}
+use Rattle.std.proofs.Common.{◌≡◌, ◌⊎◌, ◌<◌, ◌≤◌, ◌+◌, ◌==◌, if◌then◌else◌, ℕ, zero, suc, Bool, true, false, List, [], ◌∷◌, ◌++◌, Option, None, Some, refl, sym, ap, subst, ◌∙◌, append_assoc, length, get_or, set, take, Vec, Global, is_some, Ok, IsTrue, add-one, inl, inr, arith}
 use Rattle.std.proofs.lemmas.List.{append-nil, get_or_default, set-get_or, get_or-set_same, get_or-set_other}
 use Rattle.std.proofs.Math.ListN.{length-set}
 use Rattle.std.proofs.lemmas.Bool.{cases_eq, cases_lt}
@@ -12,6 +12,7 @@ use Rattle.dep_hub.specs.StandsOwing.{behind_at}
 use Rattle.dep_hub.specs.declared.connections.Connection.{Connection}
 use Rattle.dep_hub.specs.declared.rest.Behind.TheVariants.{Nothing}
 use Rattle.dep_types.specs.State.{State}
+use Rattle.dep_types.specs.declared.config.Config.{Config}
 use Rattle.dep_types.specs.Conditions.{StandsFor}
 use Rattle.dep_hub.specs.declared.hub.Hub.{Hub}
 use Rattle.dep_hub.specs.Records.{Line, World}
@@ -229,8 +230,8 @@ module _ {A R K S : Type 0} (condition : A → Condition) (unread : R → Option
       → (w : World) (kept : ℕ → List ℕ) → StandsHolding condition old w kept → StandsHolding condition new w kept
   stands_still_at old new keeps config connections w kept h = record {
     state = keeps w.state h.state;
-    kept = λ number. subst (λ (k : _). IsHeldAs k.max_upload (w.line number) (kept number) (intake_of new.connections.items number)) (sym config)
-        (subst (λ (c : _). IsHeldAs old.config.max_upload (w.line number) (kept number) (intake_of c.items number)) (sym connections) (h.kept number));
+    kept = λ number. subst (λ (k : Config). IsHeldAs k.max_upload (w.line number) (kept number) (intake_of new.connections.items number)) (sym config)
+        (subst (λ (cs : Vec Connection Global). IsHeldAs old.config.max_upload (w.line number) (kept number) (intake_of cs.items number)) (sym connections) (h.kept number));
   }
 
   pub asked_alone : (p q : Position A R K S) (KeepsSo : Condition → Condition → Type 0) → RestsOn condition KeepsSo p.hub q.hub
@@ -242,7 +243,7 @@ module _ {A R K S : Type 0} (condition : A → Condition) (unread : R → Option
         sits = seats;
         hub = record { next = r.next; same_config = r.config; clean = clean; honest = honest };
         stands = λ is_clean w kept h. stands_still_at p.hub q.hub (keeps is_clean) r.config r.connections w kept h;
-        behind = λ number. ap (λ (c : _). behind_at c.items number) r.connections;
+        behind = λ number. ap (λ (cs : Vec Connection Global). behind_at cs.items number) r.connections;
         same_limits = limits;
         told = told;
       })

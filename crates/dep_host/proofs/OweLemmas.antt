@@ -6,16 +6,13 @@ use Rattle.std.specs.Io.KnownBytes.{Appends, append_known}
 use Rattle.dep_types.specs.State.{State}
 use Rattle.dep_types.specs.declared.config.Config.{Config}
 use Rattle.dep_types.specs.Conditions.{Condition, StandsFor, HasCleanDisk}
-use Rattle.dep_message.specs.Places.{Place, Reading}
-use Rattle.dep_message.specs.Stream.{Item}
-use Rattle.dep_hub.specs.Machine.{Serves, serves_all, step_fails, gives_up}
+use Rattle.dep_hub.specs.Machine.{serves_all, step_fails, gives_up}
 use Rattle.dep_hub.specs.Records.{Record, Connect, Arrive, Close, Line, Live, Absent, Arrives, at_live, at_shut_line, Run, goes_on as runs_on, connects, closes as closes_line, arrives, with_line}
 use Rattle.dep_hub.specs.Standing.{IsClean, IsHonest}
-use Rattle.dep_hub.specs.Holding.{KeepsHolding, StandsHoldingAfter, PartArrives, IsNext, items_answered, items_served, with_held}
+use Rattle.dep_hub.specs.Holding.{KeepsHolding, StandsHoldingAfter, PartArrives, IsNext, items_answered, with_held}
 use Rattle.dep_hub.specs.Owing.{IsOwed, bytes_later, with_more}
-use Rattle.dep_hub.specs.declared.connections.Connection.{Connection}
 use Rattle.dep_hub.specs.Claims.{is_content}
-use Rattle.dep_hub.specs.StandsOwing.{KeepsBack, KeptBack, unsent, waits_on, waits, no_memory, StandsOwingAfter, NextIsFree, OthersStay, Owes, behind_at, is_unsent}
+use Rattle.dep_hub.specs.StandsOwing.{KeepsBack, unsent, waits_still, begins_to_wait, wants_memory, StandsOwingAfter, NextIsFree, OthersStay, Owes, behind_at, is_unsent}
 use Rattle.dep_hub.specs.declared.arrived.Arrived.{Arrived}
 use Rattle.dep_hub.specs.declared.hub.Hub.{Hub}
 use Rattle.dep_hub.specs.declared.next.Next.{Next}
@@ -46,12 +43,12 @@ paid_off s (Content r) owed u h = absurd (let bad : true ≡ false = u in cc)
 
 -- nor of who is read
 read_unsent : (b : Behind) (p : Phase) → p ≡ Open → Agrees b p → is_unsent b ≡ false
-read_unsent Nothing p open h = refl
-read_unsent (Waits claim) p open h = refl
-read_unsent Broken p open h = absurd (h.unbroken open refl)
-read_unsent (Content r) p open h = absurd (elim h.content [
-  | inl content ↦ let bad : false ≡ true = sym (ap is_sending open) ∙ content in cc
-  | inr over ↦ let bad : Over ≡ Open = sym over ∙ open in cc
+read_unsent Nothing p is_open h = refl
+read_unsent (Waits claim) p is_open h = refl
+read_unsent Broken p is_open h = absurd (h.unbroken is_open refl)
+read_unsent (Content r) p is_open h = absurd (elim h.content [
+  | inl content ↦ let bad : false ≡ true = sym (ap is_sending is_open) ∙ content in cc
+  | inr over ↦ let bad : Over ≡ Open = sym over ∙ is_open in cc
 ])
 
 at_most_one : (next : Next) (items : ℕ) (rest sent : List ℕ) → IsNext next items rest sent → items ≤ 1
@@ -62,17 +59,13 @@ at_most_one Cut items rest sent h = h.0
 at_most_one NoSuch items rest sent h = absurd h
 
 -- where no item is answered the state stays
-stays_unserved : {config : Config} {reads : List Item → Place → Type 0} {s : State} {moment : ℕ} {sent : List ℕ} {left : State} {at : Place} {answer : Arrived}
-    → (serves : Serves config reads s moment sent left at answer) → items_served serves ≡ 0 → left ≡ s
-stays_unserved (serves_all [] reads waits) none = refl
-stays_unserved (serves_all (item ∷ items) reads waits) none = absurd (let no : ⊥ = omega (arith, none) in no)
-stays_unserved (gives_up [] at reads some sends) none = refl
-stays_unserved (gives_up (item ∷ items) at reads some sends) none = absurd (let no : ⊥ = omega (arith, none) in no)
-stays_unserved (step_fails items item at reads fails) none = absurd (let no : ⊥ = omega (arith, none) in no)
-
 stays_unanswered : {config : Config} {piece : List ℕ} {moment : ℕ} {line after : Line} {s left : State} {sent : List ℕ} {answer : Arrived}
     → (a : Arrives config piece moment line s sent left after answer) → items_answered a ≡ 0 → left ≡ s
-stays_unanswered (at_live serves) none = stays_unserved serves none
+stays_unanswered (at_live (serves_all [] reads at_rest)) none = refl
+stays_unanswered (at_live (serves_all (item ∷ items) reads at_rest)) none = absurd (let no : ⊥ = omega (arith, none) in no)
+stays_unanswered (at_live (gives_up [] at reads some up_to)) none = refl
+stays_unanswered (at_live (gives_up (item ∷ items) at reads some up_to)) none = absurd (let no : ⊥ = omega (arith, none) in no)
+stays_unanswered (at_live (step_fails items item at reads fails)) none = absurd (let no : ⊥ = omega (arith, none) in no)
 stays_unanswered at_shut_line none = refl
 
 -- what is sent at once and later is the reply
@@ -109,16 +102,19 @@ owed_closed s true b owed h = refl
 owed_closed s false b owed h = h
 
 -- and to one whose request was kept back
-kept_so : {connections : List Connection} {reading : Reading} {was now : Behind} (s : State) (owed : List ℕ) → KeptBack connections reading was now → IsOwed s was owed → IsOwed s now owed
-kept_so {was = was} s owed (unsent u same) h = subst (λ (b : Behind). IsOwed s b owed) (sym same) h
-kept_so {was = was} s owed (waits_on claim was_so now_so held) h = subst (λ (b : Behind). IsOwed s b owed) (sym now_so) (subst (λ (b : Behind). IsOwed s b owed) was_so h)
-kept_so {was = was} s owed (waits claim u has now_so held) h = subst (λ (b : Behind). IsOwed s b owed) (sym now_so) (paid_off s was owed u h)
-kept_so {was = was} s owed (no_memory u pending has now_so) h = subst (λ (b : Behind). IsOwed s b owed) (sym now_so) (paid_off s was owed u h)
+kept_here : {A : Type 0} {condition : A → Condition} {t k : Option (List ℕ)} {f g : ℕ} (s : State) (n : ℕ) (owed : List ℕ) (old new : Hub A) → KeepsBack condition t k f g old new n
+    → IsOwed s (behind_at old.connections.items n) owed → IsOwed s (behind_at new.connections.items n) owed
+kept_here s n owed old new k h = elim k.why [
+  | unsent u same ↦ subst (λ (b : Behind). IsOwed s b owed) (sym same) h
+  | waits_still claim was now held ↦ subst (λ (b : Behind). IsOwed s b owed) (sym now) (subst (λ (b : Behind). IsOwed s b owed) was h)
+  | begins_to_wait claim u has now held ↦ subst (λ (b : Behind). IsOwed s b owed) (sym now) (paid_off s (behind_at old.connections.items n) owed u h)
+  | wants_memory u pending has now ↦ subst (λ (b : Behind). IsOwed s b owed) (sym now) (paid_off s (behind_at old.connections.items n) owed u h)
+]
 
 kept_owed : {A : Type 0} {condition : A → Condition} {t k : Option (List ℕ)} {f g : ℕ} (s : State) (n number : ℕ) (owes : ℕ → List ℕ) (old new : Hub A) → KeepsBack condition t k f g old new number
     → IsOwed s (behind_at old.connections.items n) (owes n) → IsOwed s (behind_at new.connections.items n) (owes n)
 kept_owed s n number owes old new k h = elim (cases_eq n number) [
-  | inl e ↦ subst (λ (m : ℕ). IsOwed s (behind_at new.connections.items m) (owes m)) (sym e) (kept_so s (owes number) k.why (subst (λ (m : ℕ). IsOwed s (behind_at old.connections.items m) (owes m)) e h))
+  | inl e ↦ subst (λ (m : ℕ). IsOwed s (behind_at new.connections.items m) (owes m)) (sym e) (kept_here s number (owes number) old new k (subst (λ (m : ℕ). IsOwed s (behind_at old.connections.items m) (owes m)) e h))
   | inr ne ↦ subst (λ (b : Behind). IsOwed s b (owes n)) (sym (k.others n ne)) h
 ]
 
@@ -138,7 +134,7 @@ module _ {A R K S : Type 0} (condition : A → Condition) (unread : R → Option
     stands : StandsOwingAfter condition q.hub first (before ++ more) holds owes
     joins : AllTell condition unread taken held → (n : ℕ) → StaysOpen n deeds → replies_to n deeds ++ owes n ≡ sent_of n more
 
-  owed_still : (old new : Hub A) (w : _) (owes : ℕ → List ℕ) → SameBehind old new → ((n : ℕ) → IsOwed w (behind_at old.connections.items n) (owes n)) → (n : ℕ) → IsOwed w (behind_at new.connections.items n) (owes n)
+  owed_still : (old new : Hub A) (w : State) (owes : ℕ → List ℕ) → SameBehind old new → ((n : ℕ) → IsOwed w (behind_at old.connections.items n) (owes n)) → (n : ℕ) → IsOwed w (behind_at new.connections.items n) (owes n)
   owed_still old new w owes behind h n = subst (λ (b : Behind). IsOwed w b (owes n)) (sym (behind n)) (h n)
 
   -- the hub keeps other bytes, over the same store
@@ -174,7 +170,7 @@ module _ {A R K S : Type 0} (condition : A → Condition) (unread : R → Option
     owes = m.owes;
     follows = subst (λ (l : List Deed). Follows (λ n. []) l m.more m.holds) (sym (append-nil deeds)) m.follows;
     stands = stands;
-    joins = λ all n open. ap (λ (l : List Deed). replies_to n l ++ m.owes n) (append-nil deeds) ∙ m.joins all n (subst (λ (l : List Deed). StaysOpen n l) (append-nil deeds) open);
+    joins = λ all n is_open. ap (λ (l : List Deed). replies_to n l ++ m.owes n) (append-nil deeds) ∙ m.joins all n (subst (λ (l : List Deed). StaysOpen n l) (append-nil deeds) is_open);
   }
 
   -- a record more
@@ -219,7 +215,7 @@ module _ {A R K S : Type 0} (condition : A → Condition) (unread : R → Option
             owes = owed_still p.hub q.hub h.world.state m.owes r.behind h.at.owes;
           };
         });
-        joins = λ tells n open. joins_same (replies_to n deeds) (m.owes n) (sent_of n m.more) _ (m.owes n) _ (m.joins tells n (open_before n deeds (d ∷ []) open)) (unsent_one n deeds d refl) refl (untold_one n m.more one refl);
+        joins = λ tells n is_open. joins_same (replies_to n deeds) (m.owes n) (sent_of n m.more) _ (m.owes n) _ (m.joins tells n (open_before n deeds (d ∷ []) is_open)) (unsent_one n deeds d refl) refl (untold_one n m.more one refl);
       }
   step_owes {p = p} {q = q} {deeds = deeds} first before all m (offers {at = at} {before = seat} t o) clean =
       let d : Deed = Takes at seat.connection o.piece in
@@ -229,7 +225,7 @@ module _ {A R K S : Type 0} (condition : A → Condition) (unread : R → Option
         owes = m.owes;
         follows = takes at seat.connection o.piece m.follows;
         stands = moved p.hub q.hub first (before ++ m.more) m.holds (with_held seat.connection (m.holds seat.connection ++ o.piece) m.holds) m.owes o.same_store t.hub.same_config o.behind (λ lines h. o.holds lines m.holds h) m.stands;
-        joins = λ tells n open. joins_same (replies_to n deeds) (m.owes n) (sent_of n m.more) _ (m.owes n) (sent_of n m.more) (m.joins tells n (open_before n deeds (d ∷ []) open)) (unsent_one n deeds d refl) refl refl;
+        joins = λ tells n is_open. joins_same (replies_to n deeds) (m.owes n) (sent_of n m.more) _ (m.owes n) (sent_of n m.more) (m.joins tells n (open_before n deeds (d ∷ []) is_open)) (unsent_one n deeds d refl) refl refl;
       }
   step_owes {p = p} {q = q} {deeds = deeds} first before all m (refuses {at = at} {moment = moment} {before = seat} t r) clean =
       let h = m.stands in
@@ -237,7 +233,7 @@ module _ {A R K S : Type 0} (condition : A → Condition) (unread : R → Option
       let a = came.0 in
       let d : Deed = Declines at seat.connection r.piece moment r.answers.sent in
       let one : Record = record { event = Arrive seat.connection a.part moment; sent = r.answers.sent } in
-      let same : a.left ≡ h.world.state = stays_unanswered a.arrives came.1 in
+      let same : a.left ≡ h.world.state = stays_unanswered a.arrives came.1.0 in
       let none : m.owes seat.connection ≡ [] = paid_off h.world.state _ (m.owes seat.connection) (read_unsent _ seat.course.phase r.read.waits (all at seat t.sat)) (h.at.owes seat.connection) in
       record {
         more = m.more ++ one ∷ [];
@@ -252,8 +248,8 @@ module _ {A R K S : Type 0} (condition : A → Condition) (unread : R → Option
             owes = λ n. subst (λ (s : State). IsOwed s (behind_at q.hub.connections.items n) (m.owes n)) (sym same) (owed_still p.hub q.hub h.world.state m.owes r.behind h.at.owes n);
           };
         });
-        joins = λ tells n open.
-            let joined = m.joins tells n (open_before n deeds (d ∷ []) open) in
+        joins = λ tells n is_open.
+            let joined = m.joins tells n (open_before n deeds (d ∷ []) is_open) in
             elim (cases_eq seat.connection n) [
               | inl e ↦
                   let gone : m.owes n ≡ [] = ap m.owes (sym e) ∙ none in
@@ -277,8 +273,8 @@ module _ {A R K S : Type 0} (condition : A → Condition) (unread : R → Option
         follows = replies at seat.connection moment came.0.part came.0.rest a.now a.answers.sent m.follows came.0.whole;
         stands = one_more q.hub first before m.more _ _ one (replied p.hub q.hub seat.connection moment a.answers.sent _ _ _ first (before ++ m.more) m.holds m.owes (bytes_later a.more) h came.0 t.hub.same_config
             (at_most_one a.next _ _ _ came.1) a.free a.others a.owes (honest q.hub.store clean) clean);
-        joins = λ tells n open.
-            let joined = m.joins tells n (open_before n deeds (d ∷ []) open) in
+        joins = λ tells n is_open.
+            let joined = m.joins tells n (open_before n deeds (d ∷ []) is_open) in
             let whole = joins_reply (told taken held seat.wire) (told taken held after.wire) a.more a.now a.answers.sent a.appends a.answers.appends (tells_of condition unread taken held tells seat) (tells_of condition unread taken held tells after) in
             elim (cases_eq seat.connection n) [
               | inl e ↦
@@ -305,8 +301,8 @@ module _ {A R K S : Type 0} (condition : A → Condition) (unread : R → Option
           run = subst (λ (c : Config). Run c first (before ++ m.more) h.world) (sym t.hub.same_config) h.run;
           at = paid.3 clean;
         };
-        joins = λ tells n open.
-            let joined = m.joins tells n (open_before n deeds (d ∷ []) open) in
+        joins = λ tells n is_open.
+            let joined = m.joins tells n (open_before n deeds (d ∷ []) is_open) in
             elim (cases_eq seat.connection n) [
               | inl e ↦ ap (λ (l : List ℕ). l ++ with_held seat.connection paid.0 m.owes n) (replies_one n deeds d ∙ ap (λ (l : List ℕ). replies_to n deeds ++ l) (here seat.connection n s.sends.sent [] e))
                   ∙ (ap (λ (l : List ℕ). (replies_to n deeds ++ s.sends.sent) ++ l) (here n seat.connection paid.0 (m.owes n) (sym e))
@@ -335,8 +331,8 @@ module _ {A R K S : Type 0} (condition : A → Condition) (unread : R → Option
             owes = λ n. subst (λ (b : Behind). IsOwed h.world.state b (with_held seat.connection [] m.owes n)) (sym (r.behind n)) (owed_closed h.world.state (n == seat.connection) _ (m.owes n) (h.at.owes n));
           };
         });
-        joins = λ tells n open. joins_same (replies_to n deeds) (m.owes n) (sent_of n m.more) _ _ _ (m.joins tells n (open_before n deeds (d ∷ []) open)) (unsent_one n deeds d refl)
-            (elsewhere n seat.connection [] (m.owes n) (open_last n deeds (d ∷ []) open).0) (untold_one n m.more one refl);
+        joins = λ tells n is_open. joins_same (replies_to n deeds) (m.owes n) (sent_of n m.more) _ _ _ (m.joins tells n (open_before n deeds (d ∷ []) is_open)) (unsent_one n deeds d refl)
+            (elsewhere n seat.connection [] (m.owes n) (open_last n deeds (d ∷ []) is_open).0) (untold_one n m.more one refl);
       }
 
   steps_owe : {p q : Position A R K S} {deeds : List Deed} (first : State) (before : List Record) → ((at : ℕ) → slot at p.seats ≡ None) → OwesNone p.hub
@@ -351,7 +347,7 @@ module _ {A R K S : Type 0} (condition : A → Condition) (unread : R → Option
       run = h.run;
       at = record { at = h.at; owes = λ n. subst (λ (b : Behind). IsOwed h.world.state b []) (sym (unowed n)) refl };
     });
-    joins = λ tells n open. refl;
+    joins = λ tells n is_open. refl;
   }
   steps_owe first before empty unowed h (goes_on s t) clean =
       step_owes first before (steps_agree condition unread taken held empty s) (steps_owe first before empty unowed h s (clean_before condition unread taken held t clean)) t clean

@@ -5,7 +5,6 @@ use Rattle.dep_types.specs.State.{State}
 use Rattle.dep_types.specs.declared.config.Config.{Config}
 use Rattle.dep_types.specs.Conditions.{Condition, StandsFor, HasCleanDisk}
 use Rattle.dep_hub.specs.Records.{Record, Connect, Arrive, Close, Line, Live, Absent, Run}
-use Rattle.dep_message.specs.Places.{Reading}
 use Rattle.dep_hub.specs.Standing.{IsClean, intake_of}
 use Rattle.dep_hub.specs.Holding.{KeepsHolding, StandsHoldingAfter, MovesLine, PartArrives, IsHeldAs, with_held}
 use Rattle.dep_hub.specs.StandsOwing.{KeepsBack}
@@ -17,10 +16,10 @@ use Rattle.dep_host.specs.Runs.{Follows, begins as follows_none, opens, takes, r
 
 -- a hub stands where it stood once an item was kept back
 pub kept_back_still : {A : Type 0} (condition : A → Condition) (old new : Hub A) {taken takes : Option (List ℕ)} {failures failures_after : ℕ} (number : ℕ) → KeepsBack condition taken takes failures failures_after old new number → StandsStill condition old new
-kept_back_still condition old new number k = λ clean w kept h. record {
-  state = subst (λ (s : _). StandsFor (condition s) w.state) (sym k.same_store) h.state;
+kept_back_still {A = A} condition old new number k = λ clean w kept h. record {
+  state = subst (λ (s : A). StandsFor (condition s) w.state) (sym k.same_store) h.state;
   kept = λ m. subst (λ (c : Config). IsHeldAs c.max_upload (w.line m) (kept m) (intake_of new.connections.items m)) (sym k.same_config)
-      (subst (λ (o : Option Reading). IsHeldAs old.config.max_upload (w.line m) (kept m) o) (sym (k.intakes m)) (h.kept m));
+      (subst (λ (o : Option _). IsHeldAs old.config.max_upload (w.line m) (kept m) o) (sym (k.intakes m)) (h.kept m));
 }
 
 module _ {A R K S : Type 0} (condition : A → Condition) (unread : R → Option (List ℕ)) (taken : K → Option (List ℕ)) (held : S → Option (List ℕ))
@@ -108,7 +107,7 @@ module _ {A R K S : Type 0} (condition : A → Condition) (unread : R → Option
     more = m.more;
     holds = m.holds;
     follows = follows_sent at before.connection s.sends.sent s.answer m.follows;
-    stands = stood_still p.hub q.hub first (records ++ m.more) m.holds s.sends.stands t.hub.same_config clean m.stands;
+    stands = stood_still p.hub q.hub first (records ++ m.more) m.holds (s.sends.stands (honest q.hub.store clean)) t.hub.same_config clean m.stands;
   }
   step_run {p = p} {q = q} first records holds m (leaves {at = at} {second = second} {reason = reason} {seat = seat} r) clean =
       behind_one q.hub first records holds _ _ m.more _ (closes at seat.connection second reason m.follows)

@@ -67,7 +67,7 @@ ended_still : (before after : Phase) → (after ≡ before) ⊎ (after ≡ Over)
 ended_still before after (inl s) e = ap is_ended s ∙ e
 ended_still before after (inr o) e = ap is_ended o
 
-still_same : (p : Phase) → SendsStill p p
+pub still_same : (p : Phase) → SendsStill p p
 still_same Over = inl refl
 still_same Open = inr (refl, λ e. let bad : Open ≡ Over = e in cc)
 still_same Answering = inr (refl, λ e. let bad : Answering ≡ Over = e in cc)

@@ -2,10 +2,8 @@
 use Rattle.std.proofs.Common.{◌≡◌, ◌⊎◌, inl, inr, ◌<◌, ◌==◌, ℕ, Bool, true, false, if◌then◌else◌, List, [], Option, None, Some, refl, sym, ap, subst, ◌∙◌, length, set}
 use Rattle.std.proofs.lemmas.Bool.{ne_eqb}
 use Rattle.dep_types.specs.Conditions.{Condition}
-use Rattle.dep_message.specs.Places.{Reading}
 use Rattle.dep_hub.specs.Claims.{is_content}
-use Rattle.dep_hub.specs.StandsOwing.{KeptBack, unsent, waits_on, waits, no_memory, behind_at, is_part, is_unsent}
-use Rattle.dep_hub.specs.declared.connections.Connection.{Connection}
+use Rattle.dep_hub.specs.StandsOwing.{KeepsBack, unsent, waits_still, begins_to_wait, wants_memory, behind_at, is_part, is_unsent}
 use Rattle.dep_hub.specs.declared.hub.Hub.{Hub}
 use Rattle.dep_hub.specs.declared.next.Next.{Next}
 use Rattle.dep_hub.specs.declared.next.Next.TheVariants.{More, Waiting, Closed, Cut, NoSuch}
@@ -31,20 +29,20 @@ agrees_as b c p same h = subst (λ (x : Behind). Agrees x p) (sym same) h
 
 -- of a phase in which nothing is read
 agrees_unread : (b : Behind) (p : Phase) → is_sending p ≡ is_content b → (p ≡ Open → ⊥) → Agrees b p
-agrees_unread b p content unread = record { content = inl content; unbroken = λ open broken. unread open }
+agrees_unread b p content unread = record { content = inl content; unbroken = λ is_open broken. unread is_open }
 
 over_unread : (p : Phase) → p ≡ Over → p ≡ Open → ⊥
-over_unread p over open = let bad : Over ≡ Open = sym over ∙ open in cc
+over_unread p over is_open = let bad : Over ≡ Open = sym over ∙ is_open in cc
 
 -- it went on as it was
 agrees_still : (b : Behind) (p q : Phase) → Agrees b p → SendsStill p q → (q ≡ Open → p ≡ Open) → Agrees b q
-agrees_still b p q h (inl over) opens = record { content = inr over; unbroken = λ open broken. over_unread q over open }
+agrees_still b p q h (inl over) opens = record { content = inr over; unbroken = λ is_open broken. over_unread q over is_open }
 agrees_still b p q h (inr (same, going)) opens = record {
   content = elim h.content [
     | inl content ↦ inl (same ∙ content)
     | inr over ↦ absurd (going over)
   ];
-  unbroken = λ open broken. h.unbroken (opens open) broken;
+  unbroken = λ is_open broken. h.unbroken (opens is_open) broken;
 }
 
 sends_answered : (next : Next) (content : Bool) → (next ≡ NoSuch → ⊥) → is_sending (phase_answered next content) ≡ content
@@ -70,21 +68,21 @@ sends_sent Draining All sending = refl
 sends_sent Over All sending = refl
 
 unread_sent : (p : Phase) (answer : SentOn) → is_sending p ≡ true → phase_sent p answer ≡ Open → ⊥
-unread_sent p BrokenOff sending open = let bad : Last ≡ Open = open in cc
-unread_sent p Part sending open = let bad : true ≡ false = sym sending ∙ ap is_sending open in cc
-unread_sent Open All sending open = let bad : Last ≡ Open = open in cc
-unread_sent Answering All sending open = let bad : Last ≡ Open = open in cc
-unread_sent Sending All sending open = let bad : Answering ≡ Open = open in cc
-unread_sent SendingLast All sending open = let bad : Last ≡ Open = open in cc
-unread_sent Last All sending open = let bad : Last ≡ Open = open in cc
-unread_sent Draining All sending open = let bad : Last ≡ Open = open in cc
-unread_sent Over All sending open = let bad : Last ≡ Open = open in cc
+unread_sent p BrokenOff sending is_open = let bad : Last ≡ Open = is_open in cc
+unread_sent p Part sending is_open = let bad : true ≡ false = sym sending ∙ ap is_sending is_open in cc
+unread_sent Open All sending is_open = let bad : Last ≡ Open = is_open in cc
+unread_sent Answering All sending is_open = let bad : Last ≡ Open = is_open in cc
+unread_sent Sending All sending is_open = let bad : Answering ≡ Open = is_open in cc
+unread_sent SendingLast All sending is_open = let bad : Last ≡ Open = is_open in cc
+unread_sent Last All sending is_open = let bad : Last ≡ Open = is_open in cc
+unread_sent Draining All sending is_open = let bad : Last ≡ Open = is_open in cc
+unread_sent Over All sending is_open = let bad : Last ≡ Open = is_open in cc
 
 -- whose phase is this was sent no content
 was_open : (p : Phase) (b : Behind) → p ≡ Open → Agrees b p → false ≡ is_content b
-was_open p b open h = elim h.content [
-  | inl content ↦ sym (ap is_sending open) ∙ content
-  | inr over ↦ absurd (over_unread p over open)
+was_open p b is_open h = elim h.content [
+  | inl content ↦ sym (ap is_sending is_open) ∙ content
+  | inr over ↦ absurd (over_unread p over is_open)
 ]
 
 was_answering : (p : Phase) (b c : Behind) → p ≡ Answering → Agrees b p → is_content c ≡ is_content b → false ≡ is_content c
@@ -100,11 +98,14 @@ sent_all (Waits claim) u = refl
 sent_all (Content r) u = let bad : true ≡ false = u in cc
 
 -- a content is being sent where one was, where a request is kept back
-kept_content : {connections : List Connection} {reading : Reading} {was now : Behind} → KeptBack connections reading was now → is_content now ≡ is_content was
-kept_content (unsent u same) = ap is_content same
-kept_content (waits_on claim was now held) = ap is_content now ∙ sym (ap is_content was)
-kept_content {was = was} (waits claim u has now held) = ap is_content now ∙ sym (sent_all was u)
-kept_content {was = was} (no_memory u pending has now) = ap is_content now ∙ sym (sent_all was u)
+kept_content : {A : Type 0} {condition : A → Condition} {t k : Option (List ℕ)} {f g : ℕ} (old new : Hub A) (n : ℕ) → KeepsBack condition t k f g old new n
+    → is_content (behind_at new.connections.items n) ≡ is_content (behind_at old.connections.items n)
+kept_content old new n k = elim k.why [
+  | unsent u same ↦ ap is_content same
+  | waits_still claim was now held ↦ ap is_content now ∙ sym (ap is_content was)
+  | begins_to_wait claim u has now held ↦ ap is_content now ∙ sym (sent_all (behind_at old.connections.items n) u)
+  | wants_memory u pending has now ↦ ap is_content now ∙ sym (sent_all (behind_at old.connections.items n) u)
+]
 
 module _ {A R K S : Type 0} (condition : A → Condition) (unread : R → Option (List ℕ)) (taken : K → Option (List ℕ)) (held : S → Option (List ℕ)) where
   -- so it is with who sits at each place
@@ -138,25 +139,25 @@ module _ {A R K S : Type 0} (condition : A → Condition) (unread : R → Option
   step_agrees {p = p} {q = q} tidy (asks r) all = all_same p q r.sits r.behind all
   step_agrees {p = p} {q = q} tidy (comes {at = at} {seat = seat} r) all = all_set p q at (Some seat) r.there r.sits
       (λ s e. subst (λ (u : Seat R K S). Agrees (behind_at q.hub.connections.items u.connection) u.course.phase) (some_same seat s e) (agrees_as Nothing _ seat.course.phase r.unowed
-      (record { content = inl (ap is_sending r.opens); unbroken = λ open broken. let bad : Nothing ≡ Broken = broken in cc })))
+      (record { content = inl (ap is_sending r.opens); unbroken = λ is_open broken. let bad : Nothing ≡ Broken = broken in cc })))
       (λ j t ne h. r.behind t.connection) all
   step_agrees {p = p} {q = q} tidy (rests {before = before} {after = after} t r) all =
       let same = λ (n : ℕ). ap (λ (h : Hub A). behind_at h.connections.items n) r.same in
       all_turned tidy t (agrees_as _ _ after.course.phase (same before.connection) (agrees_still _ before.course.phase after.course.phase (all _ before t.sat) r.sends_still r.opens)) (λ n ne. same n) all
   step_agrees {p = p} {q = q} tidy (offers {before = before} {after = after} t o) all = all_turned tidy t
       (agrees_as _ _ after.course.phase (o.behind before.connection) (agrees_unread _ after.course.phase (ap is_sending o.answers_next ∙ was_open before.course.phase _ o.read.waits (all _ before t.sat))
-      (λ open. let bad : Answering ≡ Open = sym o.answers_next ∙ open in cc))) (λ n ne. o.behind n) all
+      (λ is_open. let bad : Answering ≡ Open = sym o.answers_next ∙ is_open in cc))) (λ n ne. o.behind n) all
   step_agrees {p = p} {q = q} tidy (refuses {before = before} {after = after} t r) all = all_turned tidy t
       (agrees_as _ _ after.course.phase (r.behind before.connection) (agrees_unread _ after.course.phase (r.unsent ∙ was_open before.course.phase _ r.read.waits (all _ before t.sat))
-      (λ open. let bad : false ≡ true = sym (ap is_ended open) ∙ r.ends in cc))) (λ n ne. r.behind n) all
+      (λ is_open. let bad : false ≡ true = sym (ap is_ended is_open) ∙ r.ends in cc))) (λ n ne. r.behind n) all
   step_agrees {p = p} {q = q} tidy (answers {before = before} {after = after} t a) all = all_turned tidy t
-      (record { content = inl (ap is_sending a.goes ∙ sends_answered a.next _ a.known); unbroken = λ open broken. a.unbroken broken }) a.others all
+      (record { content = inl (ap is_sending a.goes ∙ sends_answered a.next _ a.known); unbroken = λ is_open broken. a.unbroken broken }) a.others all
   step_agrees {p = p} {q = q} tidy (delays {before = before} {after = after} t d) all = all_turned tidy t
-      (agrees_unread _ after.course.phase (ap is_sending d.stays ∙ was_answering before.course.phase _ _ d.was_read (all _ before t.sat) (kept_content d.keeps.why))
-      (λ open. let bad : Answering ≡ Open = sym d.stays ∙ open in cc)) d.keeps.others all
+      (agrees_unread _ after.course.phase (ap is_sending d.stays ∙ was_answering before.course.phase _ _ d.was_read (all _ before t.sat) (kept_content p.hub q.hub before.connection d.keeps))
+      (λ is_open. let bad : Answering ≡ Open = sym d.stays ∙ is_open in cc)) d.keeps.others all
   step_agrees {p = p} {q = q} tidy (sends {before = before} {after = after} t s) all = all_turned tidy t
       (agrees_unread _ after.course.phase (ap is_sending s.goes ∙ (sends_sent before.course.phase s.answer s.was_sending ∙ sym s.sends.left))
-      (λ open. unread_sent before.course.phase s.answer s.was_sending (sym s.goes ∙ open))) s.sends.others all
+      (λ is_open. unread_sent before.course.phase s.answer s.was_sending (sym s.goes ∙ is_open))) s.sends.others all
   step_agrees {p = p} {q = q} tidy (leaves {at = at} {seat = seat} r) all = all_set p q at None r.there r.gone (λ s e. absurd (no_some s e))
       (λ j t ne h. r.behind t.connection ∙ ap (λ (b : Bool). if b then Nothing else behind_at p.hub.connections.items t.connection)
       (ne_eqb t.connection seat.connection (λ same. ne (tidy.apart j at t seat h r.sat same)))) all

@@ -119,7 +119,8 @@ impl Course {
             | Phase::Sending
             | Phase::SendingLast
             | Phase::Last
-            | Phase::Draining if owes => {
+            | Phase::Draining
+                if owes => {
                 if self.is_writable {
                     Duty::Flush
                 } else {
