@@ -17,7 +17,7 @@ use Rattle.dep_hub.specs.Holding.{IsHeldAs, KeepsHolding, with_held}
 use Rattle.dep_answers.specs.declared.performed.StoredFile.{StoredFile}
 use Rattle.std.specs.List.{remove}
 use Rattle.dep_hub.specs.Numbers.{index_of, Ascends}
-use Rattle.dep_hub.specs.Owing.{HasBehind, IsFrontBehind, IsLater, IsOwed, later_than, bytes_later}
+use Rattle.dep_hub.specs.Owing.{HasBehind, IsFrontBehind, IsLater, IsOwed, later_than, bytes_later, TakesFew}
 use Rattle.dep_hub.specs.StandsOwing.{IsPaid, OthersStay, SendsOn, behind_at, is_part}
 use Rattle.dep_hub.specs.declared.next.Next.{Next}
 use Rattle.dep_hub.specs.declared.next.Next.TheVariants.{NoSuch}
@@ -28,7 +28,7 @@ use Rattle.dep_hub.specs.declared.rest.Rest.{Rest}
 use Rattle.dep_hub.specs.declared.hub.Hub.{Hub}
 use Rattle.dep_hub.specs.declared.connections.Connection.{Connection}
 use Rattle.dep_hub.specs.declared.rest.Behind.{Behind}
-use Rattle.dep_hub.specs.declared.rest.Behind.TheVariants.{Nothing, Content, Broken, Waits}
+use Rattle.dep_hub.specs.declared.rest.Behind.TheVariants.{Nothing, Content, Broken}
 use Rattle.dep_hub.proofs.ConnectionLemmas.{index_some, intake_set}
 
 some_not_none : (o : Option ℕ) → option_map suc o ≡ None → o ≡ None
@@ -152,11 +152,12 @@ module _ {A : Type 0} (condition : A → Condition) (old new : Hub A) (n : ℕ) 
       → (IsClean condition new → IsHonest condition new → (s : State) → StandsFor (store_of condition old) s → StandsFor (store_of condition new) s)
       → (IsHonest condition new → (s : State) → StandsFor (store_of condition old) s → Leaves (store_of condition new) (λ found. found ≡ s))
       → IfShut (store_of condition old) (store_of condition new) (LeavesNoMore (store_of condition old) (store_of condition new))
-      → (answer ≢ BrokenOff → failures_after ≡ failures) → is_content b ≡ is_part answer
+      → (answer ≢ BrokenOff → failures_after ≡ failures) → is_content b ≡ is_part answer → TakesFew taken takes
       → SendsOn condition taken takes failures failures_after old new n answer
-  sends_on before is answer taken takes failures failures_after sent appends pays stays leaves shut kept left = record {
+  sends_on before is answer taken takes failures failures_after sent appends pays stays leaves shut kept left few = record {
     sent = sent;
     appends = appends;
+    few = few;
     sends = λ honest w held owed at.
         let p = pays honest w.state at.at.state (owed n) (subst (λ (x : Behind). IsOwed w.state x (owed n)) is (at.owes n)) in (
           p.0,

@@ -1,12 +1,12 @@
 -- Contents that are sent later.
-use Rattle.std.proofs.Common.{◌≡◌, ℕ, List, [], ◌++◌, Option, Some, None, Ok, Err, refl, sym, subst}
+use Rattle.std.proofs.Common.{◌≡◌, ℕ, List, [], ◌++◌, Option, Some, None, Ok, Err, refl, sym, subst, arith}
 use Rattle.std.specs.Io.KnownBytes.{Appends}
 use Rattle.dep_types.specs.State.{State}
 use Rattle.dep_types.specs.Streams.{HasContent, IsStreamed}
 use Rattle.dep_types.specs.Conditions.{Condition, StandsFor, HasCleanDisk}
 use Rattle.dep_types.specs.declared.stream_fault.StreamFault.{StreamFault}
 use Rattle.dep_answers.specs.declared.performed.StoredFile.{StoredFile}
-use Rattle.dep_hub.specs.Owing.{HasBehind, IsLater, SendsContent, TakesSome, with_more}
+use Rattle.dep_hub.specs.Owing.{HasBehind, IsLater, SendsContent, TakesFew, TakesSome, with_more}
 use Rattle.dep_hub.specs.declared.rest.Rest.{Rest}
 use Rattle.std.proofs.KnownBytes.{Appends-nil, Appends-trans}
 
@@ -38,6 +38,9 @@ never_begun old new taken it r fault none is = (None, none_later new r none, ([]
 -- bytes were sent, and then others
 pub takes_both : (a b c : Option (List ℕ)) → TakesSome a b → TakesSome b c → TakesSome a c
 takes_both a b c x y = (x.0 ++ y.0, Appends-trans a b c x.0 y.0 x.1 y.1)
+
+pub few_none : (a : Option (List ℕ)) → TakesFew a a
+few_none a = ([], omega arith, Appends-nil a)
 
 pub takes_none : (a : Option (List ℕ)) → TakesSome a a
 takes_none a = ([], Appends-nil a)

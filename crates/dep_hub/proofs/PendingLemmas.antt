@@ -1,5 +1,5 @@
 -- Contents that are being sent, and requests that wait.
-use Rattle.std.proofs.Common.{◌≡◌, ◌≢◌, ℕ, suc, zero, ◌==◌, ◌+◌, ◌<◌, ◌≤◌, ◌||◌, Bool, true, false, List, [], ◌∷◌, ◌++◌, get_or, set, Option, None, Some, if◌then◌else◌, refl, sym, ap, subst, ◌∙◌, arith}
+use Rattle.std.proofs.Common.{◌≡◌, ◌≢◌, ℕ, suc, zero, ◌==◌, ◌+◌, ◌≤◌, ◌||◌, Bool, true, false, List, [], ◌∷◌, ◌++◌, get_or, set, Option, None, Some, if◌then◌else◌, refl, sym, ap, subst, ◌∙◌, arith}
 use Rattle.std.proofs.lemmas.Bool.{eq-eqb, eqb-true}
 use Rattle.std.proofs.lemmas.Bool.Decides.{nat_tests}
 use Rattle.std.specs.List.{list_any}
@@ -11,8 +11,8 @@ use Rattle.dep_hub.specs.Numbers.{Ascends}
 use Rattle.dep_hub.specs.Standing.{intake_of}
 use Rattle.dep_hub.specs.Holding.{IsHeldAs}
 use Rattle.dep_hub.specs.Owing.{IsOwed, later_than}
-use Rattle.dep_hub.specs.Claims.{has_file, has_to_wait, is_any_pending, is_awaited_by, is_content, is_in_the_way, is_pending, sends_of, waits_to_take}
-use Rattle.dep_hub.specs.StandsOwing.{behind_at, is_awaited_at, is_unsent, is_waiting, KeptBack, unsent, waits_still, begins_to_wait, wants_memory, AnswersAtOnce, AwaitsContent, AwaitsTaker, ContentsStay, WaitingStands}
+use Rattle.dep_hub.specs.Claims.{has_to_wait, is_any_pending, is_awaited_by, is_content, is_in_the_way, is_pending, sends_of, waits_to_take}
+use Rattle.dep_hub.specs.StandsOwing.{behind_at, is_unsent, is_waiting, KeptBack, unsent, waits_still, begins_to_wait, wants_memory, AnswersAtOnce, AwaitsContent, AwaitsTaker, ContentsStay, WaitingStands}
 use Rattle.dep_hub.specs.declared.claim.Claim.{Claim}
 use Rattle.dep_hub.specs.declared.claim.Claim.TheVariants.{Takes, Reads, Neither}
 use Rattle.dep_hub.specs.declared.claim.Files.{Files}

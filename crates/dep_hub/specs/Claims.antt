@@ -1,5 +1,5 @@
 -- What requests have to do with contents that are sent in steps.
-use Rattle.std.specs.Prelude.{ℕ, ◌==◌, ◌&&◌, Bool, true, false, List, Option, None, Some}
+use Rattle.std.specs.Prelude.{ℕ, ◌==◌, ◌&&◌, Bool, true, false, List}
 use Rattle.std.specs.Option.{option_map_or}
 use Rattle.std.specs.List.{list_any}
 use Rattle.dep_types.specs.declared.target.Resource.{Resource}
@@ -16,7 +16,7 @@ use Rattle.dep_hub.specs.declared.claim.Files.TheVariants.{One, All}
 use Rattle.dep_hub.specs.declared.claim.Claim.{Claim}
 use Rattle.dep_hub.specs.declared.claim.Claim.TheVariants.{Takes, Reads, Neither}
 use Rattle.dep_hub.specs.declared.rest.Behind.{Behind}
-use Rattle.dep_hub.specs.declared.rest.Behind.TheVariants.{Nothing, Content, Broken, Waits}
+use Rattle.dep_hub.specs.declared.rest.Behind.TheVariants.{Content, Waits}
 use Rattle.dep_hub.specs.declared.connections.Connection.{Connection}
 
 -- a file is one of these

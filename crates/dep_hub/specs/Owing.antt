@@ -1,5 +1,5 @@
 -- What is still to be sent of a reply: a stored content goes out in steps, behind a front that was sent.
-use Rattle.std.specs.Prelude.{◌≡◌, ◌≢◌, ℕ, List, [], ◌++◌, drop, Option, None, Some, Result, Ok, Err, IfOk}
+use Rattle.std.specs.Prelude.{◌≡◌, ◌≢◌, ◌≤◌, ℕ, List, [], ◌++◌, length, drop, Option, None, Some, Result, Ok, Err, IfOk}
 use Rattle.std.specs.Io.KnownBytes.{Appends, append_known}
 use Rattle.dep_types.specs.State.{State, File, file_at}
 use Rattle.dep_types.specs.Streams.{IsStreamed}
@@ -45,6 +45,14 @@ abbrev pub StreamsOn : (old new : Condition) → (taken takes : Option (List ℕ
 StreamsOn old new taken takes it start result =
     (sent : List ℕ) × Appends taken takes sent
     × (HasCleanDisk new → (s : State) → StandsFor old s → IsSentOn s it start sent result)
+
+-- how many bytes of a content are sent at once at most: four blocks
+abbrev pub step_bytes : ℕ
+step_bytes = 262144
+
+-- an outlet took no more than these
+abbrev pub TakesFew : (taken takes : Option (List ℕ)) → Type 0
+TakesFew taken takes = (sent : List ℕ) × (length sent ≤ step_bytes) × Appends taken takes sent
 
 -- ---- what is sent later
 

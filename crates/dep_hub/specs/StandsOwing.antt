@@ -1,5 +1,5 @@
 -- A hub that owes its connections what is still to be sent of the replies that it made.
-use Rattle.std.specs.Prelude.{◌≤◌, ◌⊎◌, Bool, true, false, ◌≡◌, ◌≢◌, ◌==◌, ℕ, List, [], ◌∷◌, ◌++◌, if◌then◌else◌, Option, Some, IsTrue}
+use Rattle.std.specs.Prelude.{◌≤◌, Bool, true, false, ◌≡◌, ◌≢◌, ◌==◌, ℕ, List, [], ◌∷◌, ◌++◌, if◌then◌else◌, Option, Some}
 use Rattle.std.specs.Io.KnownBytes.{Appends, Keeps}
 use Rattle.dep_types.specs.State.{State}
 use Rattle.dep_types.specs.Conditions.{Condition, StandsFor, Leaves}
@@ -19,7 +19,7 @@ use Rattle.dep_hub.specs.Records.{Arrive, Record, Run, World, Line, Arrives, at_
 use Rattle.dep_hub.specs.Shut.{LeavesNoMore, IfShut}
 use Rattle.dep_hub.specs.Standing.{store_of, intake_of, IsClean, IsHonest}
 use Rattle.dep_hub.specs.Holding.{StandsHolding, ComesToNext, PartArrives, items_answered, with_held}
-use Rattle.dep_hub.specs.Owing.{IsOwed, with_more, bytes_later}
+use Rattle.dep_hub.specs.Owing.{IsOwed, TakesFew, with_more, bytes_later}
 use Rattle.dep_hub.specs.declared.rest.Behind.{Behind}
 use Rattle.dep_hub.specs.declared.rest.Behind.TheVariants.{Nothing, Content, Broken, Waits}
 use Rattle.dep_hub.specs.declared.claim.Claim.{Claim}
@@ -191,6 +191,7 @@ module _ {A : Type 0} (condition : A → Condition) where
       (number : ℕ) (answer : SentOn) : Type 0 where
     pub sent : List ℕ
     pub appends : Appends taken takes sent
+    pub few : TakesFew taken takes
     pub sends : IsHonest condition new → (w : World) → (held owed : ℕ → List ℕ)
         → StandsOwing old w held owed
         → (rest : List ℕ) × (owed number ≡ sent ++ rest) × IsPaid answer sent rest

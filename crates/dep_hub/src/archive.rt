@@ -8,7 +8,7 @@ ghost use Rattle.dep_types.specs.Conditions.{Condition, StandsFor, HasCleanDisk,
 ghost use Rattle.dep_hub.specs.Shut.{TellsOpen};
 ghost use Rattle.dep_hub.specs.Errands.{Account, Asked, WorkedAhead, Runs, FailsToTell};
 ghost use Rattle.dep_hub.specs.Archives.{Ticks, MakesStep, Streams, KeepsState, KeepsAll, KeepsEachState, CommitsIfDue, FallsDue, FailsIfShut, CountsFailures};
-ghost use Rattle.dep_hub.specs.Owing.{Begins, StreamsOn};
+ghost use Rattle.dep_hub.specs.Owing.{Begins, StreamsOn, TakesFew};
 
 use dep_answers::{Performed, Service, StoredFile};
 use dep_decisions::Operation;
@@ -80,6 +80,8 @@ pub trait Archive {
     ) -> Result<Option<u64>, StreamFault>
         ensures streams { StreamsOn (condition self.old) (condition self.new)
             (O.taken out.old) (O.taken out.new) it start result }
+        // Others wait for no more than that.
+        ensures few { TakesFew (O.taken out.old) (O.taken out.new) }
         ensures does { KeepsState (condition self.old) (condition self.new) result }
         ensures commits { may_commit self.new ≡ may_commit self.old }
         ensures shut { FailsIfShut (condition self.old) (condition self.new) result }

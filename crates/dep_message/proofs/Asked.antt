@@ -10,7 +10,7 @@ use Rattle.dep_types.specs.declared.refusal.Refusal.{Refusal}
 use Rattle.dep_message.specs.Asking.{HasNextHead, IsNoNext, IsNoRequest, TellsNext}
 use Rattle.dep_message.specs.Giving.{Begins, BeginsWithHead}
 use Rattle.dep_message.specs.Places.{Place, Open, Shut}
-use Rattle.dep_message.specs.Stream.{Request, FirstAt, HasHead, IsContinueText, IsFaultText}
+use Rattle.dep_message.specs.Stream.{Request, FirstAt, IsContinueText, IsFaultText}
 use Rattle.dep_message.specs.Working.{IsBegun, ReadsChunks}
 use Rattle.dep_message.specs.declared.message.Message.{Message}
 use Rattle.dep_message.specs.declared.progress.ChunkedRequest.{ChunkedRequest}

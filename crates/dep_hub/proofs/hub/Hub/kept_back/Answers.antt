@@ -1,4 +1,4 @@
-use Rattle.std.proofs.Common.{List, refl, sym, ap, ◌∙◌}
+use Rattle.std.proofs.Common.{List, sym, ap, ◌∙◌}
 use Rattle.dep_hub.specs.Claims.{has_to_wait}
 use Rattle.dep_hub.specs.StandsOwing.{is_unsent, waits_still}
 use Rattle.dep_hub.specs.declared.connections.Connection.{Connection}

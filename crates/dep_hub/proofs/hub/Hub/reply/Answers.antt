@@ -1,4 +1,4 @@
-use Rattle.std.proofs.Common.{None, [], Bool, List, if◌then◌else◌, refl, sym, ap, subst, ◌∙◌}
+use Rattle.std.proofs.Common.{None, [], Bool, if◌then◌else◌, refl, sym, ap, subst, ◌∙◌}
 use Rattle.std.proofs.KnownBytes.{Appends-nil, Keeps-refl}
 use Rattle.std.proofs.lemmas.Bool.{eq-eqb}
 use Rattle.dep_message.specs.Places.{Reading}
@@ -6,7 +6,6 @@ use Rattle.dep_hub.specs.Numbers.{index_of}
 use Rattle.dep_hub.specs.Owing.{IsOwed, with_more, bytes_later}
 use Rattle.dep_hub.specs.Claims.{is_any_pending}
 use Rattle.dep_hub.specs.StandsOwing.{IsFree, behind_at, is_unsent, is_waiting}
-use Rattle.dep_hub.specs.declared.connections.Connection.{Connection}
 use Rattle.dep_hub.specs.declared.rest.Behind.{Behind}
 use Rattle.dep_hub.specs.Sending.{outside}
 use Rattle.dep_hub.proofs.ConnectionLemmas.{index_none, index_some, ascends_set}

@@ -11,6 +11,7 @@ use Rattle.dep_hub.proofs.Leaving.{leaves_once, stays_as}
 use Rattle.dep_hub.proofs.ConnectionLemmas.{ascends_set}
 use Rattle.std.proofs.KnownBytes.{Appends-nil}
 use Rattle.dep_hub.proofs.BehindLemmas.{behind_none, behind_some, behinds_are, behinds_back, behinds_stay, intakes_back, intakes_stay, leaves_same, paid_all, paid_broken, paid_nothing, paid_part, sends_on}
+use Rattle.dep_hub.proofs.OwingLemmas.{few_none}
 use Rattle.dep_hub.proofs.hub.Hub.send_on.Goals as goal
 
 pub invariant_of-self-in-Ok-Some : goal.invariant_of-self-in-Ok-Some
@@ -49,7 +50,7 @@ returns-in_default-clause-sends g c =
     (λ clean honest s at. at)
     (λ honest s at. stays_as (g.A.Archive.condition old.store) s (g.met.A.Archive.settled old.store) at)
     (λ disk none. leaves_same (g.A.Archive.condition old.store) (g.A.Archive.condition old.store))
-    (λ _. refl) (ap is_content none)
+    (λ _. refl) (ap is_content none) (few_none (g.O.Outlet.taken c.args.out.now))
 
 pub returns-in-Nothing-clause-sends : goal.returns-in-Nothing-clause-sends
 returns-in-Nothing-clause-sends g c =
@@ -66,7 +67,7 @@ returns-in-Nothing-clause-sends g c =
     (λ clean honest s at. at)
     (λ honest s at. stays_as (g.A.Archive.condition old.store) s (g.met.A.Archive.settled old.store) at)
     (λ disk none. leaves_same (g.A.Archive.condition old.store) (g.A.Archive.condition old.store))
-    (λ _. refl) (ap is_content (behind_some c.args.connection c.in-Some.i old.connections.items kept index c.index_mut-kept.ensures.value ∙ c.in-Nothing.is))
+    (λ _. refl) (ap is_content (behind_some c.args.connection c.in-Some.i old.connections.items kept index c.index_mut-kept.ensures.value ∙ c.in-Nothing.is)) (few_none (g.O.Outlet.taken c.args.out.now))
 
 pub returns-in-Waits-clause-sends : goal.returns-in-Waits-clause-sends
 returns-in-Waits-clause-sends g c =
@@ -83,7 +84,7 @@ returns-in-Waits-clause-sends g c =
     (λ clean honest s at. at)
     (λ honest s at. stays_as (g.A.Archive.condition old.store) s (g.met.A.Archive.settled old.store) at)
     (λ disk none. leaves_same (g.A.Archive.condition old.store) (g.A.Archive.condition old.store))
-    (λ _. refl) (ap is_content (behind_some c.args.connection c.in-Some.i old.connections.items kept index c.index_mut-kept.ensures.value ∙ c.in-Waits.is))
+    (λ _. refl) (ap is_content (behind_some c.args.connection c.in-Some.i old.connections.items kept index c.index_mut-kept.ensures.value ∙ c.in-Waits.is)) (few_none (g.O.Outlet.taken c.args.out.now))
 
 pub returns-in-Broken-clause-sends : goal.returns-in-Broken-clause-sends
 returns-in-Broken-clause-sends g c =
@@ -100,7 +101,7 @@ returns-in-Broken-clause-sends g c =
     (λ clean honest s at. at)
     (λ honest s at. stays_as (g.A.Archive.condition old.store) s (g.met.A.Archive.settled old.store) at)
     (λ disk none. leaves_same (g.A.Archive.condition old.store) (g.A.Archive.condition old.store))
-    (λ _. refl) (ap is_content (behind_some c.args.connection c.in-Some.i old.connections.items kept index c.index_mut-kept.ensures.value ∙ c.in-Broken.is))
+    (λ _. refl) (ap is_content (behind_some c.args.connection c.in-Some.i old.connections.items kept index c.index_mut-kept.ensures.value ∙ c.in-Broken.is)) (few_none (g.O.Outlet.taken c.args.out.now))
 
 pub returns-in-Ok-Some-clause-sends : goal.returns-in-Ok-Some-clause-sends
 returns-in-Ok-Some-clause-sends g c =
@@ -118,7 +119,7 @@ returns-in-Ok-Some-clause-sends g c =
     (λ clean honest s at. (x.does.ok honest s at tt).1)
     (λ honest s at. leaves_once (g.A.Archive.condition c.stream_on.new.self) s (x.does.stop honest s at tt))
     x.shut.left
-    (λ _. x.count.kept) refl
+    (λ _. x.count.kept) refl x.few
 
 pub returns-in-Ok-None-clause-sends : goal.returns-in-Ok-None-clause-sends
 returns-in-Ok-None-clause-sends g c =
@@ -136,7 +137,7 @@ returns-in-Ok-None-clause-sends g c =
     (λ clean honest s at. (x.does.ok honest s at tt).1)
     (λ honest s at. leaves_once (g.A.Archive.condition c.stream_on.new.self) s (x.does.stop honest s at tt))
     x.shut.left
-    (λ _. x.count.kept) refl
+    (λ _. x.count.kept) refl x.few
 
 pub returns-in-Err-clause-sends : goal.returns-in-Err-clause-sends
 returns-in-Err-clause-sends g c =
@@ -154,4 +155,4 @@ returns-in-Err-clause-sends g c =
     (λ clean honest s at. x.does.err clean s at)
     (λ honest s at. leaves_once (g.A.Archive.condition c.stream_on.new.self) s (x.does.stop honest s at tt))
     x.shut.left
-    (λ whole. absurd (whole refl)) refl
+    (λ whole. absurd (whole refl)) refl x.few

@@ -1,4 +1,4 @@
-use Rattle.std.proofs.Common.{◌++◌, ◌-◌, ◌≤◌, ◌<◌, List, ℕ, sym, ap, subst, arith, length, take, drop, ◌∙◌}
+use Rattle.std.proofs.Common.{List, ℕ, ap, subst, arith, length, take, drop}
 use Rattle.std.proofs.lemmas.List.{length-drop, take-append-drop}
 use Rattle.dep_body.specs.declared.frame.Framing.{Framing}
 use Rattle.dep_body.specs.declared.frame.Framing.TheVariants.{Length}
