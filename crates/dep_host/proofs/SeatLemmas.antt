@@ -376,6 +376,7 @@ module _ {A R K S : Type 0} (condition : A → Condition) (unread : R → Option
   sends_kept t k l f g h old new n answer s q same = record {
     sent = s.sent;
     appends = Appends-kept t k l s.sent s.appends q;
+    few = (s.few.0, s.few.1, Appends-kept t k l s.few.0 s.few.2 q);
     sends = s.sends;
     stands = s.stands;
     shut = s.shut;
