@@ -9,9 +9,9 @@ use Rattle.dep_hub.specs.Standing.{IsClean, ServesAs}
 use Rattle.dep_hub.specs.declared.hub.Hub.{Hub}
 use Rattle.dep_host.specs.declared.seat.Seat.{Seat}
 use Rattle.dep_host.specs.declared.log.Closing.{Closing}
-use Rattle.dep_host.specs.Hosting.{Position, slot, Deed, Opens, Takes, Replies, Declines, Closes, Step, refused, asks, comes, rests, offers, refuses, answers, leaves, Steps, begins, goes_on, GoesOn}
+use Rattle.dep_host.specs.Hosting.{Position, slot, Deed, Opens, Takes, Replies, Sends, Declines, Closes, Step, refused, asks, comes, rests, offers, delays, sends, refuses, answers, leaves, Steps, begins, goes_on, GoesOn}
 use Rattle.dep_host.specs.Seats.{HubStays}
-use Rattle.dep_host.specs.Runs.{KeepsPromise, Promises}
+use Rattle.dep_host.specs.Runs.{KeepsPromise, OwesNone, Promises}
 
 tails : {X : Type 0} (x y : X) (xs ys : List X) → x ∷ xs ≡ y ∷ ys → (x ≡ y) × (xs ≡ ys)
 tails x y xs ys h = (let same : x ∷ xs ≡ y ∷ ys = h in cc, let same : x ∷ xs ≡ y ∷ ys = h in cc)
@@ -53,6 +53,8 @@ module _ {A R K S : Type 0} (condition : A → Condition) (unread : R → Option
   step_serves {p = p} {q = q} (offers t o) = stays_serves p.hub q.hub t.hub
   step_serves {p = p} {q = q} (refuses t r) = stays_serves p.hub q.hub t.hub
   step_serves {p = p} {q = q} (answers t a) = stays_serves p.hub q.hub t.hub
+  step_serves {p = p} {q = q} (delays t d) = stays_serves p.hub q.hub t.hub
+  step_serves {p = p} {q = q} (sends t s) = stays_serves p.hub q.hub t.hub
   step_serves {p = p} {q = q} (leaves r) = same_store_serves p.hub q.hub r.same_store r.same_config
 
   pub steps_serve : {p q : Position A R K S} {deeds : List Deed} → Steps condition unread taken held p deeds q → ServesAs condition p.hub q.hub
@@ -88,6 +90,9 @@ module _ {A R K S : Type 0} (condition : A → Condition) (unread : R → Option
   stood_step {ds = ds} done later at n second reason (refused r) clean s before h = before later (sym (append-nil ds) ∙ h)
   stood_step {ds = ds} done later at n second reason (asks r) clean s before h = before later (sym (append-nil ds) ∙ h)
   stood_step {ds = ds} done later at n second reason (rests t r) clean s before h = before later (sym (append-nil ds) ∙ h)
+  stood_step {ds = ds} done later at n second reason (delays t d) clean s before h = before later (sym (append-nil ds) ∙ h)
+  stood_step done later at n second reason (sends {at = place} {before = old} t it) clean s before h = another (Sends place old.connection it.sends.sent it.answer) done later at n second reason
+      (λ is. let bad : Sends place old.connection it.sends.sent it.answer ≡ Closes at n second reason = is in cc) before h
   stood_step done later at n second reason (comes {at = place} {seat = seat} r) clean s before h = another (Opens place seat.connection (unread seat.source)) done later at n second reason
       (λ is. let bad : Opens place seat.connection (unread seat.source) ≡ Closes at n second reason = is in cc) before h
   stood_step done later at n second reason (offers {at = place} {before = old} t o) clean s before h = another (Takes place old.connection o.piece) done later at n second reason
@@ -96,8 +101,8 @@ module _ {A R K S : Type 0} (condition : A → Condition) (unread : R → Option
       another (Declines place old.connection r.piece moment r.answers.sent) done later at n second reason
       (λ is. let bad : Declines place old.connection r.piece moment r.answers.sent ≡ Closes at n second reason = is in cc) before h
   stood_step done later at n second reason (answers {at = place} {moment = moment} {before = old} t a) clean s before h =
-      another (Replies place old.connection moment a.answers.sent) done later at n second reason
-      (λ is. let bad : Replies place old.connection moment a.answers.sent ≡ Closes at n second reason = is in cc) before h
+      another (Replies place old.connection moment a.now a.answers.sent) done later at n second reason
+      (λ is. let bad : Replies place old.connection moment a.now a.answers.sent ≡ Closes at n second reason = is in cc) before h
   stood_step {p = p} {m = m} {ds = ds} done later at n second reason (leaves {at = place} {second = when} {reason = why} {seat = seat} r) clean s before h =
       elim (last_of ds (Closes place seat.connection when why) done (Closes at n second reason) later h) [
         | inl both ↦ record {
@@ -118,17 +123,17 @@ module _ {A R K S : Type 0} (condition : A → Condition) (unread : R → Option
 
   -- a host that goes on keeps its promise, where that holds of each stretch
   pub promised : (keeps : (p q : Position A R K S) (deeds : List Deed) (first : State) (before : List Record) → ((at : ℕ) → slot at p.seats ≡ None)
-      → StandsHoldingAfter condition p.hub first before (λ n. []) → Steps condition unread taken held p deeds q → IsClean condition q.hub → KeepsPromise condition unread taken held q first before deeds)
+      → OwesNone p.hub → StandsHoldingAfter condition p.hub first before (λ n. []) → Steps condition unread taken held p deeds q → IsClean condition q.hub → KeepsPromise condition unread taken held q first before deeds)
       → (p q : Position A R K S) → GoesOn condition unread taken held p q → Promises condition unread taken held p q
-  promised keeps p q goes = λ first before empty stands clean. (
+  promised keeps p q goes = λ first before empty unowed stands clean. (
     goes.0,
     (
       goes.1,
       (
-        keeps p q goes.0 first before empty stands goes.1 clean,
+        keeps p q goes.0 first before empty unowed stands goes.1 clean,
         λ done later at number second reason e.
             let m = stood done later at number second reason goes.1 clean e in
-            (m.where_, (m.steps, (keeps p m.where_ done first before empty stands m.steps m.clean, (m.seat, (m.sat, m.number))))),
+            (m.where_, (m.steps, (keeps p m.where_ done first before empty unowed stands m.steps m.clean, (m.seat, (m.sat, m.number))))),
       ),
     ),
   )

@@ -7,7 +7,7 @@ use Rattle.std.specs.Io.KnownBytes.{Keeps, Consumes}
 use Rattle.dep_types.specs.Conditions.{Condition}
 use Rattle.dep_host.specs.declared.seat.Seat.{Seat}
 use Rattle.dep_host.specs.Courses.{is_ended}
-use Rattle.dep_host.specs.Hosting.{Position, slot, Deed, Opens, Takes, Replies, Declines, Closes, Tells, Step, refused, asks, comes, rests, offers, refuses, answers, leaves, HasTurn, Steps, begins, goes_on}
+use Rattle.dep_host.specs.Hosting.{Position, slot, Deed, Opens, Takes, Replies, Sends, Declines, Closes, Tells, Step, refused, asks, comes, rests, offers, delays, sends, refuses, answers, leaves, HasTurn, Steps, begins, goes_on}
 use Rattle.dep_host.specs.Runs.{read_by, read_of, given_by, given_of, IsGiven}
 use Rattle.dep_host.proofs.ReadLemmas.{read_append}
 use Rattle.dep_host.proofs.TellLemmas.{Tidy, steps_tidy, slot_set, some_same, no_some, told_keeps}
@@ -117,6 +117,9 @@ module _ {A R K S : Type 0} (condition : A → Condition) (unread : R → Option
       (λ j u ne h. (unopened u.connection, elsewhere u.connection (λ e. ne (tidy.apart j at u before h t.sat e))))
       (λ n h. (unopened n, elsewhere n (λ e. let lower = tidy.below at before t.sat in omega (arith, lower, h, e, later))))
 
+  same_source : (before after : Seat R K S) → after.source ≡ before.source → Keeps (unread before.source) (unread after.source)
+  same_source before after same = subst (λ (s : R). Keeps (unread before.source) (unread s)) (sym same) (Keeps-refl (unread before.source))
+
   step_given : {p q : Position A R K S} {deeds more : List Deed} → Tidy condition unread taken held p deeds → Given p deeds
       → Step condition unread taken held p q more → Given q (deeds ++ more)
   step_given {p = p} {q = q} {deeds = deeds} tidy g (refused r) = given_same p q deeds r.sits r.next g
@@ -148,8 +151,13 @@ module _ {A R K S : Type 0} (condition : A → Condition) (unread : R → Option
   step_given {p = p} {q = q} {deeds = deeds} tidy g (refuses {at = at} {moment = moment} {before = before} {after = after} t r) =
       given_piece p q deeds (Declines at before.connection r.piece moment r.answers.sent) at before after r.piece tidy g t (λ n. refl) (λ n. refl) (ap is_ended r.read.waits) r.read.gives
   step_given {p = p} {q = q} {deeds = deeds} tidy g (answers {at = at} {moment = moment} {before = before} {after = after} t a) =
-      given_turn p q deeds (Replies at before.connection moment a.answers.sent ∷ []) at before after g t (λ n. (refl, refl))
-      (λ h. subst (λ (s : R). Keeps (unread before.source) (unread s)) (sym a.same_source) (Keeps-refl (unread before.source)))
+      given_turn p q deeds (Replies at before.connection moment a.now a.answers.sent ∷ []) at before after g t (λ n. (refl, refl))
+      (λ h. same_source before after a.same_source)
+  step_given {p = p} {q = q} {deeds = deeds} tidy g (delays {at = at} {before = before} {after = after} t d) =
+      given_turn p q deeds [] at before after g t (λ n. (refl, refl)) (λ h. same_source before after d.same_source)
+  step_given {p = p} {q = q} {deeds = deeds} tidy g (sends {at = at} {before = before} {after = after} t s) =
+      given_turn p q deeds (Sends at before.connection s.sends.sent s.answer ∷ []) at before after g t (λ n. (refl, refl))
+      (λ h. same_source before after s.same_source)
   step_given {p = p} {q = q} {deeds = deeds} tidy g (leaves {at = at} {second = second} {reason = reason} {seat = seat} r) =
       let later : p.hub.next ≤ q.hub.next = let e = r.next in omega (arith, e) in
       given_set p q deeds (Closes at seat.connection second reason ∷ []) at None g r.there r.gone later

@@ -1,5 +1,5 @@
 -- How a host goes on.
-use Rattle.std.proofs.Common.{◌≡◌, ◌⊎◌, ◌<◌, ◌≤◌, ◌+◌, ℕ, zero, suc, Bool, true, false, List, [], ◌∷◌, ◌++◌, Option, None, Some, refl, sym, ap, subst, ◌∙◌, append_assoc, length, get_or, set, take, is_some, Ok, IsTrue, add-one, inl, inr, arith}
+use Rattle.std.proofs.Common.{◌≡◌, ◌⊎◌, ◌<◌, ◌≤◌, ◌+◌, ◌==◌, if◌then◌else◌, ℕ, zero, suc, Bool, true, false, List, [], ◌∷◌, ◌++◌, Option, None, Some, refl, sym, ap, subst, ◌∙◌, append_assoc, length, get_or, set, take, Vec, Global, is_some, Ok, IsTrue, add-one, inl, inr, arith}
 use Rattle.std.proofs.lemmas.List.{append-nil, get_or_default, set-get_or, get_or-set_same, get_or-set_other}
 use Rattle.std.proofs.Math.ListN.{length-set}
 use Rattle.std.proofs.lemmas.Bool.{cases_eq, cases_lt}
@@ -7,23 +7,29 @@ use Rattle.std.proofs.KnownBytes.{Keeps-refl}
 use Rattle.std.specs.Prelude.{IfSome, IsSomeAnd}
 use Rattle.std.specs.Io.KnownBytes.{Keeps}
 use Rattle.dep_types.specs.Conditions.{Condition}
-use Rattle.dep_hub.specs.Holding.{KeepsHolding, RestsOn}
+use Rattle.dep_hub.specs.Holding.{KeepsHolding, StandsHolding, RestsOn, IsHeldAs}
+use Rattle.dep_hub.specs.StandsOwing.{behind_at}
+use Rattle.dep_hub.specs.declared.connections.Connection.{Connection}
+use Rattle.dep_hub.specs.declared.rest.Behind.TheVariants.{Nothing}
+use Rattle.dep_types.specs.State.{State}
+use Rattle.dep_types.specs.declared.config.Config.{Config}
+use Rattle.dep_types.specs.Conditions.{StandsFor}
 use Rattle.dep_hub.specs.declared.hub.Hub.{Hub}
-use Rattle.dep_hub.specs.Records.{Line}
-use Rattle.dep_hub.specs.Standing.{IsClean, IsHonest}
+use Rattle.dep_hub.specs.Records.{Line, World}
+use Rattle.dep_hub.specs.Standing.{IsClean, IsHonest, intake_of}
 use Rattle.dep_hub.specs.Shut.{TellsOpen}
 use Rattle.dep_hub.specs.Errands.{Account, Asked, Runs}
 use Rattle.dep_outbox.specs.declared.wire.Wire.{Wire}
 use Rattle.dep_outbox.specs.Wires.{told}
-use Rattle.dep_host.specs.Courses.{is_ended, closing as why}
+use Rattle.dep_host.specs.Courses.{SendsStill, is_ended, closing as why}
 use Rattle.dep_host.specs.declared.seat.Seat.{Seat}
 use Rattle.dep_host.specs.declared.host.Host.{Host}
 use Rattle.dep_host.specs.declared.log.Closing.{Closing}
 use Rattle.dep_host.specs.declared.log.Closing.TheVariants.{Large}
 use Rattle.dep_host.specs.declared.course.Phase.TheVariants.{Open}
 use Rattle.dep_host.specs.Notes.{Note, Grows}
-use Rattle.dep_host.specs.Seats.{SameClient}
-use Rattle.dep_host.specs.Hosting.{Position, slot, farewell, MayGo, Stays, Deed, Closes, unfinished_of, unfinished_in, Goes, IsRightlyTold, Asks, Refused, Step, refused, asks, rests, Steps, begins, goes_on, Sheds}
+use Rattle.dep_host.specs.Seats.{SameBehind, SameClient}
+use Rattle.dep_host.specs.Hosting.{Position, slot, farewell, MayGo, Stays, Deed, Closes, unfinished_of, unfinished_in, Goes, IsRightlyTold, StandsStill, Asks, Refused, Step, refused, asks, rests, Steps, begins, goes_on, Sheds}
 
 -- what a log is told
 pub grows_none : {X : Type 0} (told : Option (List X)) → Grows told told []
@@ -79,6 +85,21 @@ each_sheds {X = X} P old new at none all before stays place = elim (stays place)
   ])
   | inr e ↦ subst (λ (x : Option X). P x) (sym e) none
 ]
+
+-- nothing is behind the last reply of a connection that isn't there
+absent_at : (c : Connection) (connections : List Connection) (number : ℕ) (here : Bool) → (c.number == number) ≡ here
+    → (intake_of connections number ≡ None → behind_at connections number ≡ Nothing)
+    → intake_of (c ∷ connections) number ≡ None → behind_at (c ∷ connections) number ≡ Nothing
+absent_at c connections number true is rest absent = absurd (let bad : Some c.intake ≡ None = sym (ap (λ (b : Bool). if b then Some c.intake else intake_of connections number) is) ∙ absent in cc)
+absent_at c connections number false is rest absent = ap (λ (b : Bool). if b then c.behind else behind_at connections number) is
+    ∙ rest (sym (ap (λ (b : Bool). if b then Some c.intake else intake_of connections number) is) ∙ absent)
+
+absent_behind : (connections : List Connection) (number : ℕ) → intake_of connections number ≡ None → behind_at connections number ≡ Nothing
+absent_behind [] number absent = refl
+absent_behind (c ∷ connections) number absent = absent_at c connections number (c.number == number) refl (λ h. absent_behind connections number h) absent
+
+pub nothing_behind : (old new : List Connection) (number : ℕ) → behind_at new number ≡ behind_at old number → intake_of old number ≡ None → behind_at new number ≡ Nothing
+nothing_behind old new number same absent = same ∙ absent_behind old number absent
 
 -- who sits at a place is closed for a reason
 pub closes_there : {A R K S : Type 0} (p : Position A R K S) (at second : ℕ) (seat : Seat R K S) (told : Option Closing) (reason : Closing) → slot at p.seats ≡ Some seat → told ≡ why seat.course second p.limits
@@ -183,15 +204,15 @@ module _ {A R K S : Type 0} (condition : A → Condition) (unread : R → Option
       subst (λ (l : List Deed). Steps condition unread taken held p l r) (append_assoc xs ys more) (goes_on (steps_join s t) step)
 
   -- no connection could be opened
-  pub unopened : (p q : Position A R K S) → q.seats ≡ p.seats → q.hub.next ≡ p.hub.next → ((lines : ℕ → Line) (kept : ℕ → List ℕ) → KeepsHolding condition p.hub lines kept → KeepsHolding condition q.hub lines kept)
+  pub unopened : (p q : Position A R K S) → q.seats ≡ p.seats → q.hub.next ≡ p.hub.next → SameBehind p.hub q.hub → ((lines : ℕ → Line) (kept : ℕ → List ℕ) → KeepsHolding condition p.hub lines kept → KeepsHolding condition q.hub lines kept)
       → q.hub.store ≡ p.hub.store → q.hub.config ≡ p.hub.config → q.limits ≡ p.limits → q.shut ≡ p.shut → Refused condition unread taken held p q
-  unopened p q seats next keeps store config limits shut =
-      record { sits = seats; next = next; keeps = keeps; same_store = store; same_config = config; same_limits = limits; same_shut = shut }
+  unopened p q seats next behind keeps store config limits shut =
+      record { sits = seats; next = next; keeps = keeps; behind = behind; same_store = store; same_config = config; same_limits = limits; same_shut = shut }
 
   -- nothing changed
   pub untouched : (p q : Position A R K S) → q.hub ≡ p.hub → q.limits ≡ p.limits → q.shut ≡ p.shut → q.seats ≡ p.seats → Refused condition unread taken held p q
   untouched p q hub limits shut seats =
-      unopened p q seats (ap (λ (h : Hub A). h.next) hub) (λ lines kept h. subst (λ (k : Hub A). KeepsHolding condition k lines kept) (sym hub) h)
+      unopened p q seats (ap (λ (h : Hub A). h.next) hub) (λ number. ap (λ (h : Hub A). behind_at h.connections.items number) hub) (λ lines kept h. subst (λ (k : Hub A). KeepsHolding condition k lines kept) (sym hub) h)
       (ap (λ (h : Hub A). h.store) hub) (ap (λ (h : Hub A). h.config) hub) limits shut
 
   -- a place was looked at, and stands as it stood
@@ -205,17 +226,34 @@ module _ {A R K S : Type 0} (condition : A → Condition) (unread : R → Option
   asked p q a = goes_on begins (asks a)
 
   -- and no connection had a part in it
-  pub asked_alone : (p q : Position A R K S) (KeepsSo : Condition → Condition → Type 0) → RestsOn condition KeepsSo p.hub q.hub → (IsClean condition q.hub → IsClean condition p.hub) → (IsHonest condition q.hub → IsHonest condition p.hub)
+  stands_still_at : (old new : Hub A) → ((s : State) → StandsFor (condition old.store) s → StandsFor (condition new.store) s) → new.config ≡ old.config → new.connections ≡ old.connections
+      → (w : World) (kept : ℕ → List ℕ) → StandsHolding condition old w kept → StandsHolding condition new w kept
+  stands_still_at old new keeps config connections w kept h = record {
+    state = keeps w.state h.state;
+    kept = λ number. subst (λ (k : Config). IsHeldAs k.max_upload (w.line number) (kept number) (intake_of new.connections.items number)) (sym config)
+        (subst (λ (cs : Vec Connection Global). IsHeldAs old.config.max_upload (w.line number) (kept number) (intake_of cs.items number)) (sym connections) (h.kept number));
+  }
+
+  pub asked_alone : (p q : Position A R K S) (KeepsSo : Condition → Condition → Type 0) → RestsOn condition KeepsSo p.hub q.hub
+      → (IsClean condition q.hub → (s : State) → StandsFor (condition p.hub.store) s → StandsFor (condition q.hub.store) s)
+      → (IsClean condition q.hub → IsClean condition p.hub) → (IsHonest condition q.hub → IsHonest condition p.hub)
       → q.seats ≡ p.seats → q.limits ≡ p.limits → (q.shut ≡ p.shut) ⊎ ((is_some p.shut ≡ false) × IsRightlyTold condition q) → Steps condition unread taken held p [] q
-  asked_alone p q KeepsSo r clean honest seats limits told =
-      asked p q (record { sits = seats; hub = record { next = r.next; same_config = r.config; clean = clean; honest = honest }; stands = r.stands; same_limits = limits; told = told })
+  asked_alone p q KeepsSo r keeps clean honest seats limits told =
+      asked p q (record {
+        sits = seats;
+        hub = record { next = r.next; same_config = r.config; clean = clean; honest = honest };
+        stands = λ is_clean w kept h. stands_still_at p.hub q.hub (keeps is_clean) r.config r.connections w kept h;
+        behind = λ number. ap (λ (cs : Vec Connection Global). behind_at cs.items number) r.connections;
+        same_limits = limits;
+        told = told;
+      })
 
   -- a connection took note of something, and neither its bytes nor its phase changed
   pub woken : (p q : Position A R K S) (at : ℕ) (before after : Seat R K S) → at < length p.seats → slot at p.seats ≡ Some before → q.seats ≡ set p.seats at (Some after)
       → q.hub ≡ p.hub → q.limits ≡ p.limits → q.shut ≡ p.shut → SameClient before after → after.source ≡ before.source → after.wire ≡ before.wire
-      → (after.course.phase ≡ Open → before.course.phase ≡ Open) → (is_ended before.course.phase ≡ true → is_ended after.course.phase ≡ true)
+      → (after.course.phase ≡ Open → before.course.phase ≡ Open) → SendsStill before.course.phase after.course.phase → (is_ended before.course.phase ≡ true → is_ended after.course.phase ≡ true)
       → after.course.unfinished ≡ before.course.unfinished → Steps condition unread taken held p [] q
-  woken p q at before after there sat sits hub limits shut client source wire opens ended count = goes_on begins (rests {at = at} {before = before} {after = after} (record {
+  woken p q at before after there sat sits hub limits shut client source wire opens still ended count = goes_on begins (rests {at = at} {before = before} {after = after} (record {
     there = there;
     sat = sat;
     sits = sits;
@@ -234,6 +272,7 @@ module _ {A R K S : Type 0} (condition : A → Condition) (unread : R → Option
     keeps = subst (λ (w : Wire K S). Keeps (told taken held before.wire) (told taken held w)) (sym wire) (Keeps-refl (told taken held before.wire));
     gives = λ h. subst (λ (r : R). Keeps (unread before.source) (unread r)) (sym source) (Keeps-refl (unread before.source));
     opens = opens;
+    sends_still = still;
     keeps_count = λ h. count;
   }))
 

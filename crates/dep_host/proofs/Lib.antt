@@ -4,6 +4,8 @@ mod ServeLemmas
 mod RunLemmas
 mod TellLemmas
 mod ReadLemmas
+mod SendLemmas
+mod OweLemmas
 pub mod CloseLemmas
 mod GivenLemmas
 mod ShutLemmas

@@ -27,11 +27,13 @@ use Rattle.dep_host.specs.Causes.{Causes}
 use Rattle.dep_host.specs.Seats.{woken_seat}
 use Rattle.dep_hub.specs.declared.hub.Hub.{Hub}
 use Rattle.dep_hub.specs.Standing.{IsClean, IsHonest}
-use Rattle.dep_hub.specs.Holding.{StandsHoldingAfter, StandsOn}
-use Rattle.dep_host.specs.Hosting.{Deed, IsEmpty, Position, Steps, position, slot, refused, comes}
+use Rattle.dep_hub.specs.Holding.{StandsHoldingAfter, StandsHolding}
+use Rattle.dep_hub.specs.StandsOwing.{behind_at}
+use Rattle.dep_host.specs.Hosting.{Deed, IsEmpty, Position, Steps, position, slot, refused, comes, StandsStill}
 use Rattle.dep_host.specs.Meeting.{IsOffer, MayCall, IsShutBy, MayEnd, Stops, Wakes, MayRefuse, TurnsAway, Admits, Meets, refusal_for, refusal_of, shut_by, wakes, lets_in, turns_away, makes_round, stops, IsMet, begins, goes_on, all_given, Met}
 use Rattle.dep_host.specs.Notes.{Note, Grows}
 use Rattle.dep_host.specs.Rounds.{IsTold, EndsInTime}
+use Rattle.dep_host.proofs.SeatLemmas.{still_same}
 use Rattle.dep_host.proofs.HostLemmas.{grows_none, grows_on, asked, untouched, woken, alone, stands_still, steps_join}
 use Rattle.dep_host.proofs.RoundLemmas.{rounds_begin, rounds_go_on, one_second}
 
@@ -149,10 +151,10 @@ module _ {A R K S : Type 0} (condition : A → Condition) (unread : R → Option
   wakes_there p q at r w (Some before) e h =
       woken condition unread taken held (position p) (position q) at before (woken_seat before r w) (sits_within p.seats.items at before e) e
       (h.seats ∙ ap (λ (o : Option (Seat R K S)). set p.seats.items at (option_map (λ (s : Seat R K S). woken_seat s r w) o)) e)
-      h.same_hub h.stays.limits h.stays.shut (record { connection = refl; address = refl }) refl refl (λ h. h) (λ h. h) refl
+      h.same_hub h.stays.limits h.stays.shut (record { connection = refl; address = refl }) refl refl (λ h. h) (still_same before.course.phase) (λ h. h) refl
 
-  same_hub_stands : (old new : Hub A) → new ≡ old → StandsOn condition old new
-  same_hub_stands old new same = λ is_clean first records held at. subst (λ (h : Hub A). StandsHoldingAfter condition h first records held) (sym same) at
+  same_hub_stands : (old new : Hub A) → new ≡ old → StandsStill condition old new
+  same_hub_stands old new same = λ is_clean w kept at. subst (λ (h : Hub A). StandsHolding condition h w kept) (sym same) at
 
   -- what is told to stop isn't told of its store
   told_of_a_stop : (hub : Hub A) (o : Option Shut) (second : ℕ) → (shut_by o second ≡ o) ⊎ ((is_some o ≡ false) × IfSome (shut_by o second) (λ shut. shut.cause ≡ cause.Store → IsClean condition hub → ⊥))
@@ -169,6 +171,7 @@ module _ {A R K S : Type 0} (condition : A → Condition) (unread : R → Option
       clean = λ is. subst (λ (k : Hub A). IsClean condition k) h.same_hub is;
       honest = λ is. subst (λ (k : Hub A). IsHonest condition k) h.same_hub is;
     };
+    behind = λ number. ap (λ (k : Hub A). behind_at k.connections.items number) h.same_hub;
     stands = same_hub_stands p.hub q.hub h.same_hub;
     same_limits = h.limits;
     told = subst (λ (o : Option Shut). (o ≡ p.shut) ⊎ ((is_some p.shut ≡ false) × IfSome o (λ shut. shut.cause ≡ cause.Store → IsClean condition q.hub → ⊥))) (sym h.shut) (told_of_a_stop q.hub p.shut second);

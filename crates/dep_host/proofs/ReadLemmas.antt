@@ -4,8 +4,8 @@ use Rattle.std.proofs.lemmas.List.{append-nil}
 use Rattle.std.proofs.lemmas.Bool.{cases_eq, eq-eqb, ne_eqb}
 use Rattle.dep_hub.specs.Records.{Record, Connect, Arrive, Close}
 use Rattle.dep_hub.specs.Holding.{with_held}
-use Rattle.dep_host.specs.Hosting.{Deed, Opens, Takes, Replies, Declines, Closes, sent_by, replies_to}
-use Rattle.dep_host.specs.Runs.{Follows, begins, opens, takes, replies, declines, closes, read_by, read_of, arrived_by, arrived_of, StaysOpen, sent_for, sent_of}
+use Rattle.dep_host.specs.Hosting.{Deed, Opens, Takes, Replies, Sends, Declines, Closes, sent_by, replies_to}
+use Rattle.dep_host.specs.Runs.{Follows, begins, opens, takes, replies, sends, declines, closes, read_by, read_of, arrived_by, arrived_of, StaysOpen, sent_for, sent_of}
 use Rattle.std.proofs.lemmas.Grind.{flat_map-append}
 
 pub read_append : (n : ℕ) (xs ys : List Deed) → read_of n (xs ++ ys) ≡ read_of n xs ++ read_of n ys
@@ -15,11 +15,11 @@ arrived_append : (n : ℕ) (xs ys : List Record) → arrived_of n (xs ++ ys) ≡
 arrived_append n [] ys = refl
 arrived_append n (r ∷ xs) ys = ap (λ l. arrived_by n r.event ++ l) (arrived_append n xs ys) ∙ sym (append_assoc (arrived_by n r.event) (arrived_of n xs) (arrived_of n ys))
 
-open_before : (n : ℕ) (xs ys : List Deed) → StaysOpen n (xs ++ ys) → StaysOpen n xs
+pub open_before : (n : ℕ) (xs ys : List Deed) → StaysOpen n (xs ++ ys) → StaysOpen n xs
 open_before n [] ys h = tt
 open_before n (d ∷ xs) ys h = (h.0, open_before n xs ys h.1)
 
-open_last : (n : ℕ) (xs ys : List Deed) → StaysOpen n (xs ++ ys) → StaysOpen n ys
+pub open_last : (n : ℕ) (xs ys : List Deed) → StaysOpen n (xs ++ ys) → StaysOpen n ys
 open_last n [] ys h = h
 open_last n (d ∷ xs) ys h = open_last n xs ys h.1
 
@@ -68,9 +68,9 @@ reads_arrive {first = first} n (takes {deeds = deeds} {records = records} {held 
       | inr ne ↦ stays (first n) (read_of n deeds) (arrived_of n records) (held n) _ (arrived_of n records) (with_held m (held m ++ piece) held n) before
           (read_none n deeds (Takes at m piece) (elsewhere n m piece [] ne)) refl (elsewhere n m (held m ++ piece) (held n) ne)
     ]
-reads_arrive {first = first} n (replies {deeds = deeds} {records = records} {held = held} at m moment part rest sent f cut) h =
-    let d : Deed = Replies at m moment sent in
-    let r : Record = record { event = Arrive m part moment; sent = sent } in
+reads_arrive {first = first} n (replies {deeds = deeds} {records = records} {held = held} at m moment part rest sent reply f cut) h =
+    let d : Deed = Replies at m moment sent reply in
+    let r : Record = record { event = Arrive m part moment; sent = reply } in
     let before = reads_arrive n f (open_before n deeds (d ∷ []) h) in
     let same : read_of n (deeds ++ d ∷ []) ≡ read_of n deeds = read_none n deeds d refl in
     elim (cases_eq n m) [
@@ -79,6 +79,8 @@ reads_arrive {first = first} n (replies {deeds = deeds} {records = records} {hel
       | inr ne ↦ stays (first n) (read_of n deeds) (arrived_of n records) (held n) _ _ (with_held m rest held n) before
           same (arrived_none n records r (elsewhere n m part [] ne)) (elsewhere n m rest (held n) ne)
     ]
+reads_arrive {first = first} n (sends {deeds = deeds} {records = records} {held = held} at m sent answer f) h =
+    ap (λ l. first n ++ l) (read_none n deeds (Sends at m sent answer) refl) ∙ reads_arrive n f (open_before n deeds (Sends at m sent answer ∷ []) h)
 reads_arrive {first = first} n (declines {deeds = deeds} {records = records} {held = held} at m moment piece part rest sent f cut) h =
     let d : Deed = Declines at m piece moment sent in
     let r : Record = record { event = Arrive m part moment; sent = sent } in
@@ -94,26 +96,8 @@ reads_arrive {first = first} n (closes {deeds = deeds} {records = records} {held
     stays (first n) (read_of n deeds) (arrived_of n records) (held n) _ _ (with_held m [] held n) (reads_arrive n f (open_before n deeds (Closes at m second reason ∷ []) h))
     (read_none n deeds (Closes at m second reason) refl) (arrived_none n records (record { event = Close m; sent = [] }) refl) (elsewhere n m [] (held n) (open_last n deeds (Closes at m second reason ∷ []) h).0)
 
-replies_one : (n : ℕ) (deeds : List Deed) (d : Deed) → replies_to n (deeds ++ d ∷ []) ≡ replies_to n deeds ++ sent_by n d
+pub replies_one : (n : ℕ) (deeds : List Deed) (d : Deed) → replies_to n (deeds ++ d ∷ []) ≡ replies_to n deeds ++ sent_by n d
 replies_one n deeds d = flat_map-append (λ e. sent_by n e) deeds (d ∷ []) ∙ ap (λ l. replies_to n deeds ++ l) (append-nil (sent_by n d))
 
-sent_one : (n : ℕ) (records : List Record) (r : Record) → sent_of n (records ++ r ∷ []) ≡ sent_of n records ++ sent_for n r.event r.sent
+pub sent_one : (n : ℕ) (records : List Record) (r : Record) → sent_of n (records ++ r ∷ []) ≡ sent_of n records ++ sent_for n r.event r.sent
 sent_one n records r = flat_map-append (λ (e : Record). sent_for n e.event e.sent) records (r ∷ []) ∙ ap (λ l. sent_of n records ++ l) (append-nil (sent_for n r.event r.sent))
-
--- one deed and its record say the same
-both_one : (n : ℕ) (deeds : List Deed) (d : Deed) (records : List Record) (r : Record) → replies_to n deeds ≡ sent_of n records → sent_by n d ≡ sent_for n r.event r.sent
-    → replies_to n (deeds ++ d ∷ []) ≡ sent_of n (records ++ r ∷ [])
-both_one n deeds d records r e f = replies_one n deeds d ∙ ap (λ l. l ++ sent_by n d) e ∙ ap (λ l. sent_of n records ++ l) f ∙ sym (sent_one n records r)
-
--- what is sent for the deeds is what their records say
-pub replies_sent : {first : ℕ → List ℕ} {deeds : List Deed} {records : List Record} {held : ℕ → List ℕ} (n : ℕ) → Follows first deeds records held
-    → replies_to n deeds ≡ sent_of n records
-replies_sent n begins = refl
-replies_sent n (opens {deeds = deeds} {records = records} at m given f) = both_one n deeds (Opens at m given) records (record { event = Connect m; sent = [] }) (replies_sent n f) refl
-replies_sent n (takes {deeds = deeds} at m piece f) = replies_one n deeds (Takes at m piece) ∙ append-nil (replies_to n deeds) ∙ replies_sent n f
-replies_sent n (replies {deeds = deeds} {records = records} at m moment part rest sent f cut) =
-    both_one n deeds (Replies at m moment sent) records (record { event = Arrive m part moment; sent = sent }) (replies_sent n f) refl
-replies_sent n (declines {deeds = deeds} {records = records} at m moment piece part rest sent f cut) =
-    both_one n deeds (Declines at m piece moment sent) records (record { event = Arrive m part moment; sent = sent }) (replies_sent n f) refl
-replies_sent n (closes {deeds = deeds} {records = records} at m second reason f) =
-    both_one n deeds (Closes at m second reason) records (record { event = Close m; sent = [] }) (replies_sent n f) refl

@@ -5,13 +5,22 @@ use Rattle.dep_types.specs.State.{State}
 use Rattle.dep_types.specs.declared.config.Config.{Config}
 use Rattle.dep_types.specs.Conditions.{Condition, StandsFor, HasCleanDisk}
 use Rattle.dep_hub.specs.Records.{Record, Connect, Arrive, Close, Line, Live, Absent, Run}
-use Rattle.dep_hub.specs.Standing.{IsClean}
-use Rattle.dep_hub.specs.Holding.{KeepsHolding, StandsHoldingAfter, MovesLine, PartArrives, with_held}
+use Rattle.dep_hub.specs.Standing.{IsClean, intake_of}
+use Rattle.dep_hub.specs.Holding.{KeepsHolding, StandsHoldingAfter, MovesLine, PartArrives, IsHeldAs, with_held}
+use Rattle.dep_hub.specs.StandsOwing.{KeepsBack}
 use Rattle.dep_hub.specs.declared.hub.Hub.{Hub}
 use Rattle.dep_hub.specs.declared.arrived.Arrived.{Arrived}
 use Rattle.dep_host.proofs.CloseLemmas.{clean_before}
-use Rattle.dep_host.specs.Hosting.{Position, Deed, Step, refused, asks, comes, rests, offers, refuses, answers, leaves, Steps, begins, goes_on}
-use Rattle.dep_host.specs.Runs.{Follows, begins as follows_none, opens, takes, replies, declines, closes, StandsBehind}
+use Rattle.dep_host.specs.Hosting.{Position, Deed, Step, refused, asks, comes, rests, offers, delays, sends, refuses, answers, leaves, StandsStill, Steps, begins, goes_on}
+use Rattle.dep_host.specs.Runs.{Follows, begins as follows_none, opens, takes, replies, sends as follows_sent, declines, closes, StandsBehind}
+
+-- a hub stands where it stood once an item was kept back
+pub kept_back_still : {A : Type 0} (condition : A → Condition) (old new : Hub A) {taken takes : Option (List ℕ)} {failures failures_after : ℕ} (number : ℕ) → KeepsBack condition taken takes failures failures_after old new number → StandsStill condition old new
+kept_back_still {A = A} condition old new number k = λ clean w kept h. record {
+  state = subst (λ (s : A). StandsFor (condition s) w.state) (sym k.same_store) h.state;
+  kept = λ m. subst (λ (c : Config). IsHeldAs c.max_upload (w.line m) (kept m) (intake_of new.connections.items m)) (sym k.same_config)
+      (subst (λ (o : Option _). IsHeldAs old.config.max_upload (w.line m) (kept m) o) (sym (k.intakes m)) (h.kept m));
+}
 
 module _ {A R K S : Type 0} (condition : A → Condition) (unread : R → Option (List ℕ)) (taken : K → Option (List ℕ)) (held : S → Option (List ℕ))
     (honest : (a : A) → IsTrue (condition a).is_open → HasCleanDisk (condition a))
@@ -39,6 +48,15 @@ module _ {A R K S : Type 0} (condition : A → Condition) (unread : R → Option
     };
   }
 
+  -- it stands where it stood
+  stood_still : (old new : Hub A) (first : State) (records : List Record) (holds : ℕ → List ℕ) → StandsStill condition old new → new.config ≡ old.config → IsClean condition new
+      → StandsHoldingAfter condition old first records holds → StandsHoldingAfter condition new first records holds
+  stood_still old new first records holds still config clean h = record {
+    world = h.world;
+    run = subst (λ (c : Config). Run c first records h.world) (sym config) h.run;
+    at = still clean h.world holds h.at;
+  }
+
   behind_still : (old new : Hub A) (first : State) (records : List Record) (holds : ℕ → List ℕ) (deeds : List Deed) (m : StandsBehind condition old first records holds deeds)
       → StandsHoldingAfter condition new first (records ++ m.more) m.holds → StandsBehind condition new first records holds (deeds ++ [])
   behind_still old new first records holds deeds m stands = record {
@@ -62,7 +80,7 @@ module _ {A R K S : Type 0} (condition : A → Condition) (unread : R → Option
       → StandsBehind condition q.hub first records holds (deeds ++ more)
   step_run {p = p} {q = q} {deeds = deeds} first records holds m (refused r) clean =
       behind_still p.hub q.hub first records holds deeds m (moved p.hub q.hub first (records ++ m.more) m.holds m.holds r.same_store r.same_config (λ lines h. r.keeps lines m.holds h) m.stands)
-  step_run {p = p} {q = q} {deeds = deeds} first records holds m (asks r) clean = behind_still p.hub q.hub first records holds deeds m (r.stands clean first (records ++ m.more) m.holds m.stands)
+  step_run {p = p} {q = q} {deeds = deeds} first records holds m (asks r) clean = behind_still p.hub q.hub first records holds deeds m (stood_still p.hub q.hub first (records ++ m.more) m.holds r.stands r.hub.same_config clean m.stands)
   step_run {p = p} {q = q} {deeds = deeds} first records holds m (rests t r) clean =
       behind_still p.hub q.hub first records holds deeds m (subst (λ (h : Hub A). StandsHoldingAfter condition h first (records ++ m.more) m.holds) (sym r.same) m.stands)
   step_run {p = p} {q = q} first records holds m (comes {at = at} {seat = seat} r) clean =
@@ -81,8 +99,16 @@ module _ {A R K S : Type 0} (condition : A → Condition) (unread : R → Option
       (adds p.hub q.hub before.connection _ moment r.answers.sent _ _ _ first (records ++ m.more) m.holds m.stands came.0 t.hub.same_config clean)
   step_run {p = p} {q = q} first records holds m (answers {at = at} {moment = moment} {before = before} t a) clean =
       let came = a.answers.answers (honest q.hub.store clean) m.stands.world m.holds m.stands.at in
-      behind_one q.hub first records holds _ _ m.more _ (replies at before.connection moment came.0.part came.0.rest a.answers.sent m.follows came.0.whole)
+      behind_one q.hub first records holds _ _ m.more _ (replies at before.connection moment came.0.part came.0.rest a.now a.answers.sent m.follows came.0.whole)
       (adds p.hub q.hub before.connection _ moment a.answers.sent _ _ _ first (records ++ m.more) m.holds m.stands came.0 t.hub.same_config clean)
+  step_run {p = p} {q = q} {deeds = deeds} first records holds m (delays t d) clean =
+      behind_still p.hub q.hub first records holds deeds m (stood_still p.hub q.hub first (records ++ m.more) m.holds (kept_back_still condition p.hub q.hub _ d.keeps) t.hub.same_config clean m.stands)
+  step_run {p = p} {q = q} first records holds m (sends {at = at} {before = before} t s) clean = record {
+    more = m.more;
+    holds = m.holds;
+    follows = follows_sent at before.connection s.sends.sent s.answer m.follows;
+    stands = stood_still p.hub q.hub first (records ++ m.more) m.holds (s.sends.stands (honest q.hub.store clean)) t.hub.same_config clean m.stands;
+  }
   step_run {p = p} {q = q} first records holds m (leaves {at = at} {second = second} {reason = reason} {seat = seat} r) clean =
       behind_one q.hub first records holds _ _ m.more _ (closes at seat.connection second reason m.follows)
       (closed p.hub q.hub seat.connection first (records ++ m.more) m.holds m.stands r.same_config r.same_store r.moves)

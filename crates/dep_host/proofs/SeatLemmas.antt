@@ -1,12 +1,17 @@
 -- What a turn of a connection comes to.
-use Rattle.std.proofs.Common.{◌≡◌, ◌⊎◌, inl, inr, ◌<◌, ◌≤◌, ◌+◌, ◌-◌, ◌^◌, ◌||◌, min, nat_lt, ℕ, Bool, List, Option, length, take, false, true, refl, sym, subst, ap, ◌∙◌, arith}
-use Rattle.std.proofs.lemmas.List.{length-take}
+use Rattle.std.proofs.Common.{◌≡◌, ◌⊎◌, inl, inr, ◌<◌, ◌≤◌, ◌+◌, ◌-◌, ◌^◌, ◌||◌, min, nat_lt, ℕ, Bool, List, [], ◌∷◌, ◌++◌, Option, None, Some, length, take, false, true, refl, sym, subst, ap, ◌∙◌, arith}
+use Rattle.std.proofs.lemmas.List.{length-take, length-append, append-nil}
 use Rattle.std.proofs.lemmas.Bool.{lt-ltb}
 use Rattle.std.proofs.Math.Bool.{or-true, true-or}
-use Rattle.std.proofs.KnownBytes.{Keeps-refl, Appends-kept, Keeps-trans}
-use Rattle.std.specs.Io.KnownBytes.{Keeps, Consumes, IsAtEnd}
+use Rattle.std.proofs.KnownBytes.{Keeps-refl, Appends-kept, Keeps-trans, append_known-kept}
+use Rattle.std.specs.Io.KnownBytes.{Appends, Keeps, Consumes, IsAtEnd, append_known}
 use Rattle.dep_types.specs.Conditions.{Condition}
 use Rattle.dep_hub.specs.Holding.{AnswersOver, ComesToNext, OffersTo, Outcome, IsNext, arrived_by}
+use Rattle.dep_hub.specs.Owing.{with_more}
+use Rattle.dep_hub.specs.Claims.{is_content}
+use Rattle.dep_hub.specs.StandsOwing.{KeepsBack, SendsOn as HubSends, behind_at}
+use Rattle.dep_hub.specs.declared.sent_on.SentOn.{SentOn}
+use Rattle.dep_hub.specs.declared.sent_on.SentOn.TheVariants.{Part, All, Broken}
 use Rattle.dep_hub.specs.Turns.{most_read}
 use Rattle.dep_hub.specs.declared.hub.Hub.{Hub}
 use Rattle.dep_hub.specs.declared.arrived.Arrived.{Arrived}
@@ -22,21 +27,12 @@ use Rattle.dep_outbox.specs.Wires.{told, owed, owed_count}
 use Rattle.dep_host.specs.declared.seat.Seat.{Seat}
 use Rattle.dep_host.specs.declared.course.Course.{Course}
 use Rattle.dep_host.specs.declared.course.Phase.{Phase}
-use Rattle.dep_host.specs.declared.course.Phase.TheVariants.{Open, Answering, Last, Draining, Over}
+use Rattle.dep_host.specs.declared.course.Phase.TheVariants.{Open, Answering, Sending, SendingLast, Last, Draining, Over}
 use Rattle.dep_host.specs.declared.course.Duty.{Duty}
-use Rattle.dep_host.specs.declared.course.Duty.TheVariants.{Flush, Answer, Read, Finish, Drain, Wait}
-use Rattle.dep_host.specs.Courses.{duty, is_ended, StaysOrEnds}
+use Rattle.dep_host.specs.declared.course.Duty.TheVariants.{Flush, Answer, Send, Read, Finish, Drain, Wait}
+use Rattle.dep_host.specs.Courses.{duty, is_ended, is_sending, phase_begun, SendsStill, StaysOrEnds}
 use Rattle.dep_host.specs.Causes.{Causes, HasCauses}
-use Rattle.dep_host.specs.Seats.{HubStays, SameClient, SendsOn, IsUnknown, Rests, Answers, IsRead, MayRest, ActsOnce, TakesTurn, next_duty, phase_offered, phase_answered, left_unfinished}
-
--- a connection is read again only once its answer was `Waiting`
-opened : (next : Next) (mid after : Phase) → mid ≡ phase_answered next → (after ≡ mid) ⊎ (after ≡ Over) → after ≡ Open → next ≡ Waiting
-opened next mid after m (inr o) h = absurd (let e : Over ≡ Open = sym o ∙ h in cc)
-opened More mid after m (inl s) h = absurd (let e : Answering ≡ Open = sym m ∙ sym s ∙ h in cc)
-opened Waiting mid after m (inl s) h = refl
-opened Closed mid after m (inl s) h = absurd (let e : Last ≡ Open = sym m ∙ sym s ∙ h in cc)
-opened Cut mid after m (inl s) h = absurd (let e : Last ≡ Open = sym m ∙ sym s ∙ h in cc)
-opened NoSuch mid after m (inl s) h = absurd (let e : Over ≡ Open = sym m ∙ sym s ∙ h in cc)
+use Rattle.dep_host.specs.Seats.{HubStays, SameBehind, SameClient, SendsOn, IsUnknown, Rests, Answers, Delays, Sends, IsRead, IsReplied, MayRest, ActsOnce, TakesTurn, next_duty, phase_offered, phase_answered, phase_sent, left_unfinished}
 
 is_over : (mid after : Phase) → mid ≡ Over → (after ≡ mid) ⊎ (after ≡ Over) → after ≡ Over
 is_over mid after m (inl s) = s ∙ m
@@ -71,6 +67,30 @@ ended_still : (before after : Phase) → (after ≡ before) ⊎ (after ≡ Over)
 ended_still before after (inl s) e = ap is_ended s ∙ e
 ended_still before after (inr o) e = ap is_ended o
 
+pub still_same : (p : Phase) → SendsStill p p
+still_same Over = inl refl
+still_same Open = inr (refl, λ e. let bad : Open ≡ Over = e in cc)
+still_same Answering = inr (refl, λ e. let bad : Answering ≡ Over = e in cc)
+still_same Sending = inr (refl, λ e. let bad : Sending ≡ Over = e in cc)
+still_same SendingLast = inr (refl, λ e. let bad : SendingLast ≡ Over = e in cc)
+still_same Last = inr (refl, λ e. let bad : Last ≡ Over = e in cc)
+still_same Draining = inr (refl, λ e. let bad : Draining ≡ Over = e in cc)
+
+sends_still : (before after : Phase) → (after ≡ before) ⊎ (after ≡ Over) → SendsStill before after
+sends_still before after (inl s) = subst (λ (p : Phase). SendsStill before p) (sym s) (still_same before)
+sends_still before after (inr o) = inl o
+
+-- also once a turn begins
+pub still_begun : (p : Phase) (is_shut : Bool) → SendsStill p (phase_begun p is_shut)
+still_begun Open true = inr (refl, λ e. let bad : Open ≡ Over = e in cc)
+still_begun Open false = still_same Open
+still_begun Answering is_shut = still_same Answering
+still_begun Sending is_shut = still_same Sending
+still_begun SendingLast is_shut = still_same SendingLast
+still_begun Last is_shut = still_same Last
+still_begun Draining is_shut = still_same Draining
+still_begun Over is_shut = still_same Over
+
 opened_still : (before after : Phase) → (after ≡ before) ⊎ (after ≡ Over) → after ≡ Open → before ≡ Open
 opened_still before after (inl s) h = sym s ∙ h
 opened_still before after (inr o) h = absurd (not_open after o h)
@@ -87,31 +107,116 @@ ended_asked old new it (inr e) counts = inr (inl (counts ∙ ap (λ (r : Receive
 
 -- what comes next, by what was computed of it
 pub due_as : {R K S : Type 0} (size : S → ℕ) (seat : Seat R K S) (owes : Bool) (next to : Duty) → owes ≡ nat_lt 0 (owed_count size seat.wire)
-    → next ≡ duty seat.course.phase owes seat.course.is_readable seat.course.is_writable → next ≡ to → next_duty size seat ≡ to
-due_as size seat owes next to owed is comes = ap (λ (o : Bool). duty seat.course.phase o seat.course.is_readable seat.course.is_writable) (sym owed) ∙ (sym is ∙ comes)
+    → next ≡ duty seat.course.phase seat.course.is_awaited owes seat.course.is_readable seat.course.is_writable → next ≡ to → next_duty size seat ≡ to
+due_as size seat owes next to owed is comes = ap (λ (o : Bool). duty seat.course.phase seat.course.is_awaited o seat.course.is_readable seat.course.is_writable) (sym owed) ∙ (sym is ∙ comes)
 
 -- who sends owes, and of who is drained nothing comes to the hub any more
-pub sends_owed : (p : Phase) (owes r w : Bool) → duty p owes r w ≡ Flush → owes ≡ true
-sends_owed p true r w h = refl
-sends_owed Over false r w h = absurd (let bad : Wait ≡ Flush = h in cc)
-sends_owed Open false true w h = absurd (let bad : Read ≡ Flush = h in cc)
-sends_owed Open false false w h = absurd (let bad : Wait ≡ Flush = h in cc)
-sends_owed Answering false r w h = absurd (let bad : Answer ≡ Flush = h in cc)
-sends_owed Last false r w h = absurd (let bad : Finish ≡ Flush = h in cc)
-sends_owed Draining false true w h = absurd (let bad : Drain ≡ Flush = h in cc)
-sends_owed Draining false false w h = absurd (let bad : Wait ≡ Flush = h in cc)
+pub sends_owed : (p : Phase) (a owes r w : Bool) → duty p a owes r w ≡ Flush → owes ≡ true
+sends_owed p a true r w h = refl
+sends_owed Over a false r w h = absurd (let bad : Wait ≡ Flush = h in cc)
+sends_owed Open a false true w h = absurd (let bad : Read ≡ Flush = h in cc)
+sends_owed Open a false false w h = absurd (let bad : Wait ≡ Flush = h in cc)
+sends_owed Answering a false r w h = absurd (let bad : Answer ≡ Flush = h in cc)
+sends_owed Sending true false r w h = absurd (let bad : Send ≡ Flush = h in cc)
+sends_owed Sending false false r w h = absurd (let bad : Send ≡ Flush = h in cc)
+sends_owed SendingLast true false r w h = absurd (let bad : Send ≡ Flush = h in cc)
+sends_owed SendingLast false false r w h = absurd (let bad : Send ≡ Flush = h in cc)
+sends_owed Last a false r w h = absurd (let bad : Finish ≡ Flush = h in cc)
+sends_owed Draining a false true w h = absurd (let bad : Drain ≡ Flush = h in cc)
+sends_owed Draining a false false w h = absurd (let bad : Wait ≡ Flush = h in cc)
 
-pub drains_ended : (p : Phase) (owes r w : Bool) → duty p owes r w ≡ Drain → is_ended p ≡ true
-drains_ended Over owes r w h = refl
-drains_ended Last owes r w h = refl
-drains_ended Draining owes r w h = refl
-drains_ended Open true r true h = absurd (let bad : Flush ≡ Drain = h in cc)
-drains_ended Open true r false h = absurd (let bad : Wait ≡ Drain = h in cc)
-drains_ended Open false true w h = absurd (let bad : Read ≡ Drain = h in cc)
-drains_ended Open false false w h = absurd (let bad : Wait ≡ Drain = h in cc)
-drains_ended Answering true r true h = absurd (let bad : Flush ≡ Drain = h in cc)
-drains_ended Answering true r false h = absurd (let bad : Wait ≡ Drain = h in cc)
-drains_ended Answering false r w h = absurd (let bad : Answer ≡ Drain = h in cc)
+pub drains_ended : (p : Phase) (a owes r w : Bool) → duty p a owes r w ≡ Drain → is_ended p ≡ true
+drains_ended Over a owes r w h = refl
+drains_ended SendingLast a owes r w h = refl
+drains_ended Last a owes r w h = refl
+drains_ended Draining a owes r w h = refl
+drains_ended Open a true r true h = absurd (let bad : Flush ≡ Drain = h in cc)
+drains_ended Open a true r false h = absurd (let bad : Wait ≡ Drain = h in cc)
+drains_ended Open a false true w h = absurd (let bad : Read ≡ Drain = h in cc)
+drains_ended Open a false false w h = absurd (let bad : Wait ≡ Drain = h in cc)
+drains_ended Answering a true r true h = absurd (let bad : Flush ≡ Drain = h in cc)
+drains_ended Answering a true r false h = absurd (let bad : Wait ≡ Drain = h in cc)
+drains_ended Answering a false r w h = absurd (let bad : Answer ≡ Drain = h in cc)
+drains_ended Sending true owes r w h = absurd (let bad : Send ≡ Drain = h in cc)
+drains_ended Sending false true r true h = absurd (let bad : Flush ≡ Drain = h in cc)
+drains_ended Sending false true r false h = absurd (let bad : Wait ≡ Drain = h in cc)
+drains_ended Sending false false r w h = absurd (let bad : Send ≡ Drain = h in cc)
+
+-- who is told that nothing more is sent is read no more, and sent no content
+finishes_last : (p : Phase) (a owes r w : Bool) → duty p a owes r w ≡ Finish → SendsStill p Draining
+finishes_last Last a owes r w h = inr (refl, λ e. let bad : Last ≡ Over = e in cc)
+finishes_last Over a owes r w h = absurd (let bad : Wait ≡ Finish = h in cc)
+finishes_last Open a owes r w h = inr (refl, λ e. let bad : Open ≡ Over = e in cc)
+finishes_last Answering a owes r w h = inr (refl, λ e. let bad : Answering ≡ Over = e in cc)
+finishes_last Draining a owes r w h = inr (refl, λ e. let bad : Draining ≡ Over = e in cc)
+finishes_last Sending true owes r w h = absurd (let bad : Send ≡ Finish = h in cc)
+finishes_last Sending false true r true h = absurd (let bad : Flush ≡ Finish = h in cc)
+finishes_last Sending false true r false h = absurd (let bad : Wait ≡ Finish = h in cc)
+finishes_last Sending false false r w h = absurd (let bad : Send ≡ Finish = h in cc)
+finishes_last SendingLast true owes r w h = absurd (let bad : Send ≡ Finish = h in cc)
+finishes_last SendingLast false true r true h = absurd (let bad : Flush ≡ Finish = h in cc)
+finishes_last SendingLast false true r false h = absurd (let bad : Wait ≡ Finish = h in cc)
+finishes_last SendingLast false false r w h = absurd (let bad : Send ≡ Finish = h in cc)
+
+-- a content is sent on where one is sent, and where no request waits for it only where nothing is owed
+sends_content : (p : Phase) (a owes r w : Bool) → duty p a owes r w ≡ Send → is_sending p ≡ true
+sends_content Sending a owes r w h = refl
+sends_content SendingLast a owes r w h = refl
+sends_content Over a owes r w h = absurd (let bad : Wait ≡ Send = h in cc)
+sends_content Open a true r true h = absurd (let bad : Flush ≡ Send = h in cc)
+sends_content Open a true r false h = absurd (let bad : Wait ≡ Send = h in cc)
+sends_content Open a false true w h = absurd (let bad : Read ≡ Send = h in cc)
+sends_content Open a false false w h = absurd (let bad : Wait ≡ Send = h in cc)
+sends_content Answering a true r true h = absurd (let bad : Flush ≡ Send = h in cc)
+sends_content Answering a true r false h = absurd (let bad : Wait ≡ Send = h in cc)
+sends_content Answering a false r w h = absurd (let bad : Answer ≡ Send = h in cc)
+sends_content Last a true r true h = absurd (let bad : Flush ≡ Send = h in cc)
+sends_content Last a true r false h = absurd (let bad : Wait ≡ Send = h in cc)
+sends_content Last a false r w h = absurd (let bad : Finish ≡ Send = h in cc)
+sends_content Draining a true r true h = absurd (let bad : Flush ≡ Send = h in cc)
+sends_content Draining a true r false h = absurd (let bad : Wait ≡ Send = h in cc)
+sends_content Draining a false true w h = absurd (let bad : Drain ≡ Send = h in cc)
+sends_content Draining a false false w h = absurd (let bad : Wait ≡ Send = h in cc)
+
+pub sends_unowed : (p : Phase) (a owes r w : Bool) → duty p a owes r w ≡ Send → a ≡ false → owes ≡ false
+sends_unowed p a false r w h e = refl
+sends_unowed p true true r w h e = absurd (let bad : true ≡ false = e in cc)
+sends_unowed Over false true r w h e = absurd (let bad : Wait ≡ Send = h in cc)
+sends_unowed Open false true r true h e = absurd (let bad : Flush ≡ Send = h in cc)
+sends_unowed Open false true r false h e = absurd (let bad : Wait ≡ Send = h in cc)
+sends_unowed Answering false true r true h e = absurd (let bad : Flush ≡ Send = h in cc)
+sends_unowed Answering false true r false h e = absurd (let bad : Wait ≡ Send = h in cc)
+sends_unowed Sending false true r true h e = absurd (let bad : Flush ≡ Send = h in cc)
+sends_unowed Sending false true r false h e = absurd (let bad : Wait ≡ Send = h in cc)
+sends_unowed SendingLast false true r true h e = absurd (let bad : Flush ≡ Send = h in cc)
+sends_unowed SendingLast false true r false h e = absurd (let bad : Wait ≡ Send = h in cc)
+sends_unowed Last false true r true h e = absurd (let bad : Flush ≡ Send = h in cc)
+sends_unowed Last false true r false h e = absurd (let bad : Wait ≡ Send = h in cc)
+sends_unowed Draining false true r true h e = absurd (let bad : Flush ≡ Send = h in cc)
+sends_unowed Draining false true r false h e = absurd (let bad : Wait ≡ Send = h in cc)
+
+-- who has ended has ended once some of a content was sent, and is over only where it was
+ended_sent : (p : Phase) (answer : SentOn) → is_ended p ≡ true → is_ended (phase_sent p answer) ≡ true
+ended_sent p Part e = e
+ended_sent p Broken e = refl
+ended_sent Open All e = refl
+ended_sent Answering All e = refl
+ended_sent Sending All e = absurd (let bad : false ≡ true = e in cc)
+ended_sent SendingLast All e = refl
+ended_sent Last All e = refl
+ended_sent Draining All e = refl
+ended_sent Over All e = refl
+
+over_sent : (p : Phase) (answer : SentOn) → phase_sent p answer ≡ Over → p ≡ Over
+over_sent p Part e = e
+over_sent p Broken e = absurd (let bad : Last ≡ Over = e in cc)
+over_sent Open All e = absurd (let bad : Last ≡ Over = e in cc)
+over_sent Answering All e = absurd (let bad : Last ≡ Over = e in cc)
+over_sent Sending All e = absurd (let bad : Answering ≡ Over = e in cc)
+over_sent SendingLast All e = absurd (let bad : Last ≡ Over = e in cc)
+over_sent Last All e = absurd (let bad : Last ≡ Over = e in cc)
+over_sent Draining All e = absurd (let bad : Last ≡ Over = e in cc)
+over_sent Over All e = absurd (let bad : Last ≡ Over = e in cc)
 
 -- who is read or answered has not ended
 not_yet : (before after p : Phase) → before ≡ p → is_ended p ≡ false → is_ended before ≡ true → is_ended after ≡ true
@@ -124,12 +229,38 @@ over_offered came.Closed after p h = absurd (let bad : Last ≡ Over = sym p ∙
 over_offered came.Cut after p h = absurd (let bad : Last ≡ Over = sym p ∙ h in cc)
 over_offered came.NoSuch after p h = refl
 
-over_answered : (next : Next) (after : Phase) → after ≡ phase_answered next → after ≡ Over → next ≡ NoSuch
-over_answered More after p h = absurd (let bad : Answering ≡ Over = sym p ∙ h in cc)
-over_answered Waiting after p h = absurd (let bad : Open ≡ Over = sym p ∙ h in cc)
-over_answered Closed after p h = absurd (let bad : Last ≡ Over = sym p ∙ h in cc)
-over_answered Cut after p h = absurd (let bad : Last ≡ Over = sym p ∙ h in cc)
-over_answered NoSuch after p h = refl
+over_answered : (next : Next) (sends : Bool) (after : Phase) → after ≡ phase_answered next sends → after ≡ Over → next ≡ NoSuch
+over_answered More true after p h = absurd (let bad : Sending ≡ Over = sym p ∙ h in cc)
+over_answered More false after p h = absurd (let bad : Answering ≡ Over = sym p ∙ h in cc)
+over_answered Waiting true after p h = absurd (let bad : Sending ≡ Over = sym p ∙ h in cc)
+over_answered Waiting false after p h = absurd (let bad : Open ≡ Over = sym p ∙ h in cc)
+over_answered Closed true after p h = absurd (let bad : SendingLast ≡ Over = sym p ∙ h in cc)
+over_answered Closed false after p h = absurd (let bad : Last ≡ Over = sym p ∙ h in cc)
+over_answered Cut true after p h = absurd (let bad : SendingLast ≡ Over = sym p ∙ h in cc)
+over_answered Cut false after p h = absurd (let bad : Last ≡ Over = sym p ∙ h in cc)
+over_answered NoSuch sends after p h = refl
+
+empty_of : (l : List ℕ) → length l ≡ 0 → l ≡ []
+empty_of [] h = refl
+empty_of (x ∷ l) h = absurd (let none : ⊥ = omega (arith, h) in none)
+
+-- nothing is sent where nothing is with what is sent later
+sends_none : (t k : Option (List ℕ)) (more : Option (List ℕ)) (now : List ℕ) → Appends t k now → Keeps t (with_more k more) → Keeps t k
+sends_none t k None now a q = q
+sends_none None k (Some more) now a q = tt
+sends_none (Some x) None (Some more) now a q = absurd a
+sends_none (Some x) (Some y) (Some more) now a q =
+    let long = length-append y more in
+    let grown = length-append x now in
+    let same : length (y ++ more) ≡ length x = ap (λ (l : List ℕ). length l) q in
+    let all : length y ≡ length x + length now = ap (λ (l : List ℕ). length l) a ∙ grown in
+    let none : now ≡ [] = empty_of now (omega (arith, long, same, all)) in
+    a ∙ (ap (λ (l : List ℕ). x ++ l) none ∙ append-nil x)
+
+-- what was taken, with what is sent later, stays taken
+more_kept : (t k l : Option (List ℕ)) (more : Option (List ℕ)) (sent : List ℕ) → Appends t (with_more k more) sent → Keeps k l → Appends t (with_more l more) sent
+more_kept t k l None sent a q = Appends-kept t k l sent a q
+more_kept t k l (Some more) sent a q = Appends-kept t (append_known k more) (append_known l more) sent a (append_known-kept k l more q)
 
 -- what has its causes has them where more may be lost
 pub lost_too : {R K S : Type 0} (causes : Causes R K S) (lost more : Type 0) (before after : Seat R K S) → (lost → more) → HasCauses causes lost before after → HasCauses causes more before after
@@ -157,62 +288,102 @@ goes_as_was causes lost before after readable writable over = record {
 
 module _ {A R K S : Type 0} (condition : A → Condition) (unread : R → Option (List ℕ)) (taken : K → Option (List ℕ)) (held : S → Option (List ℕ)) where
   -- what was taken for an item stays taken
-  over_kept : (t k l : Option (List ℕ)) (f g h : ℕ) (old new : Hub A) (n : ℕ) (offered : List ℕ → List ℕ) (moment : ℕ) (answer : Arrived) (outcome : Outcome)
-      → AnswersOver condition t k f g old new n offered moment answer outcome → Keeps k l → h ≡ g → AnswersOver condition t l f h old new n offered moment answer outcome
-  over_kept t k l f g h old new n offered moment answer outcome a q same = subst (λ (x : ℕ). AnswersOver condition t l f x old new n offered moment answer outcome) (sym same)
-      (record { sent = a.sent; appends = Appends-kept t k l a.sent a.appends q; answers = a.answers; shut = a.shut })
+  over_kept : (t k l more : Option (List ℕ)) (f g h : ℕ) (old new : Hub A) (n : ℕ) (offered : List ℕ → List ℕ) (moment : ℕ) (answer : Arrived) (outcome : Outcome)
+      → AnswersOver condition t (with_more k more) f g old new n offered moment answer outcome → Keeps k l → h ≡ g → AnswersOver condition t (with_more l more) f h old new n offered moment answer outcome
+  over_kept t k l more f g h old new n offered moment answer outcome a q same = subst (λ (x : ℕ). AnswersOver condition t (with_more l more) f x old new n offered moment answer outcome) (sym same)
+      (record { sent = a.sent; appends = more_kept t k l more a.sent a.appends q; answers = a.answers; shut = a.shut })
 
-  answers_as : (old new : Hub A) (before mid after : Seat R K S) (moment : ℕ) (next : Next) → IsAtEnd (owed held before.wire) → before.course.phase ≡ Answering
-      → AnswersOver condition (told taken held before.wire) (told taken held mid.wire) before.wire.failures mid.wire.failures old new before.connection (λ kept. kept) moment (arrived_by next) (IsNext next)
-      → mid.course.phase ≡ phase_answered next → after.source ≡ before.source → Keeps (told taken held mid.wire) (told taken held after.wire) → after.wire.failures ≡ mid.wire.failures
-      → (after.course.phase ≡ mid.course.phase) ⊎ (after.course.phase ≡ Over) → after.course.has_moved ≡ true → after.course.unfinished ≡ left_unfinished next before.course.unfinished
-      → Answers condition unread taken held old new before after moment
-  answers_as old new before mid after moment next none was c m s k f p stirs leaves = record {
+  answers_as : (old new : Hub A) (before mid after : Seat R K S) (moment : ℕ) (next : Next) → (next ≡ NoSuch → ⊥) → IsAtEnd (owed held before.wire) → before.course.phase ≡ Answering
+      → (r : IsReplied condition unread taken held old new before mid moment (Some next))
+      → AnswersOver condition (told taken held before.wire) (with_more (told taken held mid.wire) r.0.more) before.wire.failures mid.wire.failures old new before.connection (λ kept. kept) moment (arrived_by next) (IsNext next)
+      → after.source ≡ before.source → Keeps (told taken held mid.wire) (told taken held after.wire) → after.wire.failures ≡ mid.wire.failures
+      → after.course ≡ mid.course → mid.course.has_moved ≡ true → Answers condition unread taken held old new before after moment
+  answers_as old new before mid after moment next known none was r c s k f same stirs = record {
     unowed = none;
     was_read = was;
     same_source = s;
     next = next;
-    answers = over_kept _ _ _ _ _ _ _ _ _ _ _ _ _ c k f;
-    opens = opened next mid.course.phase after.course.phase m p;
-    stirs = stirs;
-    leaves = leaves;
+    known = known;
+    more = r.0.more;
+    now = r.0.now;
+    appends = Appends-kept (told taken held before.wire) (told taken held mid.wire) (told taken held after.wire) r.0.now r.0.appends k;
+    answers = over_kept _ _ _ r.0.more _ _ _ _ _ _ _ _ _ _ c k f;
+    owes = r.0.owes;
+    paid = r.0.paid;
+    free = r.1;
+    others = r.0.others;
+    unbroken = r.2;
+    goes = ap (λ (d : Course). d.phase) same ∙ r.3;
+    stirs = ap (λ (d : Course). d.has_moved) same ∙ stirs;
+    leaves = ap (λ (d : Course). d.unfinished) same ∙ r.4;
   }
 
   -- an item was answered, and what was owed for it was sent as far as the socket took it
   pub answered : (old new : Hub A) (before mid after : Seat R K S) (moment : ℕ) (next : Next)
       → IsAtEnd (owed held before.wire) → before.course.phase ≡ Answering
-      → ComesToNext condition (told taken held before.wire) (told taken held mid.wire) before.wire.failures mid.wire.failures old new before.connection moment next
-      → mid.course.phase ≡ phase_answered next → mid.source ≡ before.source
+      → IsReplied condition unread taken held old new before mid moment (Some next)
+      → mid.source ≡ before.source
       → Keeps (told taken held mid.wire) (told taken held after.wire) → after.wire.failures ≡ mid.wire.failures → after.source ≡ mid.source
-      → (after.course.phase ≡ mid.course.phase) ⊎ (after.course.phase ≡ Over)
-      → after.course.has_moved ≡ true → after.course.unfinished ≡ left_unfinished next before.course.unfinished
+      → after.course ≡ mid.course → mid.course.has_moved ≡ true
       → (Rests condition unread taken held old new before after × IsUnknown old before.connection) ⊎ Answers condition unread taken held old new before after moment
-  answered old new before mid after moment NoSuch none was c m s k f t p stirs leaves =
-      let over = is_over mid.course.phase after.course.phase m p in
+  answered old new before mid after moment NoSuch none was r s k f t same stirs =
+      let over = ap (λ (d : Course). d.phase) same ∙ r.3 in
       inl (
         record {
-          same = c.same;
-          keeps = Keeps-trans (told taken held before.wire) (told taken held mid.wire) (told taken held after.wire) c.sends_nothing k;
+          same = r.0.answers.same;
+          keeps = Keeps-trans (told taken held before.wire) (told taken held mid.wire) (told taken held after.wire)
+              (sends_none (told taken held before.wire) (told taken held mid.wire) r.0.more r.0.now r.0.appends r.0.answers.sends_nothing) k;
           gives = λ h. absurd (not_ended after.course.phase over h);
           opens = λ h. absurd (not_open after.course.phase over h);
+          sends_still = inl over;
           keeps_count = λ h. absurd (not_ended after.course.phase over h);
         },
-        c.absent,
+        r.0.answers.absent,
       )
-  answered old new before mid after moment More none was c m s k f t p stirs leaves = inr (answers_as old new before mid after moment More none was c m (t ∙ s) k f p stirs leaves)
-  answered old new before mid after moment Waiting none was c m s k f t p stirs leaves = inr (answers_as old new before mid after moment Waiting none was c m (t ∙ s) k f p stirs leaves)
-  answered old new before mid after moment Closed none was c m s k f t p stirs leaves = inr (answers_as old new before mid after moment Closed none was c m (t ∙ s) k f p stirs leaves)
-  answered old new before mid after moment Cut none was c m s k f t p stirs leaves = inr (answers_as old new before mid after moment Cut none was c m (t ∙ s) k f p stirs leaves)
+  answered old new before mid after moment More none was r s k f t same stirs = inr (answers_as old new before mid after moment More (λ e. let bad : More ≡ NoSuch = e in cc) none was r r.0.answers (t ∙ s) k f same stirs)
+  answered old new before mid after moment Waiting none was r s k f t same stirs = inr (answers_as old new before mid after moment Waiting (λ e. let bad : Waiting ≡ NoSuch = e in cc) none was r r.0.answers (t ∙ s) k f same stirs)
+  answered old new before mid after moment Closed none was r s k f t same stirs = inr (answers_as old new before mid after moment Closed (λ e. let bad : Closed ≡ NoSuch = e in cc) none was r r.0.answers (t ∙ s) k f same stirs)
+  answered old new before mid after moment Cut none was r s k f t same stirs = inr (answers_as old new before mid after moment Cut (λ e. let bad : Cut ≡ NoSuch = e in cc) none was r r.0.answers (t ∙ s) k f same stirs)
 
   -- it goes on, unless the hub doesn't know it
   pub answered_on : (causes : Causes R K S) (old new : Hub A) (before mid after : Seat R K S) (moment : ℕ) (next : Next)
-      → ComesToNext condition (told taken held before.wire) (told taken held mid.wire) before.wire.failures mid.wire.failures old new before.connection moment next
-      → after.course.phase ≡ phase_answered next → after.course.is_readable ≡ before.course.is_readable → after.course.is_writable ≡ before.course.is_writable
+      → IsReplied condition unread taken held old new before mid moment (Some next)
+      → after.course.phase ≡ mid.course.phase → after.course.is_readable ≡ before.course.is_readable → after.course.is_writable ≡ before.course.is_writable
       → HasCauses causes (IsUnknown old before.connection) before after
-  answered_on causes old new before mid after moment next c phase readable writable =
+  answered_on causes old new before mid after moment next r phase readable writable =
       goes_as_was causes (IsUnknown old before.connection) before after readable writable (λ h.
-      let none = subst (λ (n : Next). ComesToNext condition (told taken held before.wire) (told taken held mid.wire) before.wire.failures mid.wire.failures old new before.connection moment n) (over_answered next after.course.phase phase h) c in
+      let none = subst (λ (n : Next). ComesToNext condition (told taken held before.wire) (with_more (told taken held mid.wire) r.0.more) before.wire.failures mid.wire.failures old new before.connection moment n)
+      (over_answered next (is_content (behind_at new.connections.items before.connection)) after.course.phase (phase ∙ r.3) h) r.0.answers in
       inr none.absent)
+
+  -- nothing is answered, and what was kept back stays so
+  back_kept : (t k l : Option (List ℕ)) (f g h : ℕ) (old new : Hub A) (n : ℕ) → KeepsBack condition t k f g old new n → Keeps k l → h ≡ g → KeepsBack condition t l f h old new n
+  back_kept t k l f g h old new n b q same = record {
+    same_store = b.same_store;
+    same_config = b.same_config;
+    same_next = b.same_next;
+    sends_nothing = Keeps-trans t k l b.sends_nothing q;
+    same_failures = same ∙ b.same_failures;
+    intakes = b.intakes;
+    others = b.others;
+    reading = b.reading;
+    there = b.there;
+    why = b.why;
+  }
+
+  -- what was sent of a content stays sent
+  sends_kept : (t k l : Option (List ℕ)) (f g h : ℕ) (old new : Hub A) (n : ℕ) (answer : SentOn) → HubSends condition t k f g old new n answer → Keeps k l → h ≡ g → HubSends condition t l f h old new n answer
+  sends_kept t k l f g h old new n answer s q same = record {
+    sent = s.sent;
+    appends = Appends-kept t k l s.sent s.appends q;
+    few = (s.few.0, s.few.1, Appends-kept t k l s.few.0 s.few.2 q);
+    sends = s.sends;
+    stands = s.stands;
+    shut = s.shut;
+    kept = λ whole. same ∙ s.kept whole;
+    left = s.left;
+    others = s.others;
+  }
 
   -- by what comes next it may rest
   rests_as : (size : S → ℕ) (hub : Hub A) (before after : Seat R K S) (is_full is_shut : Bool) (d : Duty) → next_duty size before ≡ d
@@ -240,6 +411,7 @@ module _ {A R K S : Type 0} (condition : A → Condition) (unread : R → Option
         keeps = Keeps-refl (told taken held before.wire);
         gives = λ h. Keeps-refl (unread before.source);
         opens = λ h. h;
+        sends_still = still_same before.course.phase;
         keeps_count = λ h. refl;
       }) (goes_as_was causes (IsUnknown hub before.connection) before before refl refl (λ h. inl h))
 
@@ -254,6 +426,7 @@ module _ {A R K S : Type 0} (condition : A → Condition) (unread : R → Option
         keeps = keeps;
         gives = λ h. subst (λ (r : R). Keeps (unread before.source) (unread r)) (sym (ap (λ (s : Seat R K S). s.source) same)) (Keeps-refl (unread before.source));
         opens = opened_still before.course.phase after.course.phase stays.phase;
+        sends_still = sends_still before.course.phase after.course.phase stays.phase;
         keeps_count = λ h. stays.unfinished;
       }) (lost_too causes ⊥ (IsUnknown hub before.connection) before after (λ h. absurd h) caused)
 
@@ -269,6 +442,7 @@ module _ {A R K S : Type 0} (condition : A → Condition) (unread : R → Option
         keeps = subst (λ (o : Option (List ℕ)). Keeps (told taken held before.wire) o) (sym keeps) (Keeps-refl (told taken held before.wire));
         gives = λ h. absurd (let bad : true ≡ false = sym (ap is_ended phase) ∙ h in cc);
         opens = λ h. absurd (let bad : Draining ≡ Open = sym phase ∙ h in cc);
+        sends_still = subst (λ (p : Phase). SendsStill before.course.phase p) (sym phase) (finishes_last _ _ _ _ _ due);
         keeps_count = λ h. absurd (let bad : true ≡ false = sym (ap is_ended phase) ∙ h in cc);
       }) (goes_as_was causes (IsUnknown hub before.connection) before after readable writable (λ h. absurd (let bad : Draining ≡ Over = sym phase ∙ h in cc)))
 
@@ -284,6 +458,7 @@ module _ {A R K S : Type 0} (condition : A → Condition) (unread : R → Option
         keeps = subst (λ (w : Wire K S). Keeps (told taken held before.wire) (told taken held w)) (sym (ap (λ (s : Seat R K S). s.wire) same)) (Keeps-refl (told taken held before.wire));
         gives = λ h. absurd (let bad : true ≡ false = sym ended ∙ h in cc);
         opens = opened_still before.course.phase after.course.phase stays.phase;
+        sends_still = sends_still before.course.phase after.course.phase stays.phase;
         keeps_count = λ h. stays.unfinished;
       }) (lost_too causes ⊥ (IsUnknown hub before.connection) before after (λ h. absurd h) caused)
 
@@ -305,34 +480,40 @@ module _ {A R K S : Type 0} (condition : A → Condition) (unread : R → Option
         keeps = subst (λ (w : Wire K S). Keeps (told taken held before.wire) (told taken held w)) (sym (ap (λ (s : Seat R K S). s.wire) same)) (Keeps-refl (told taken held before.wire));
         gives = λ h. gives;
         opens = λ h. was;
+        sends_still = sends_still before.course.phase after.course.phase (elim how [
+          | inl later ↦ inl later.1
+          | inr over ↦ inr over
+        ]);
         keeps_count = λ h. count;
       }) (lost_too causes ⊥ (IsUnknown hub before.connection) before after (λ h. absurd h) caused)
 
   -- a piece that was read was offered
-  offered : (size : S → ℕ) (old new : Hub A) (before after : Seat R K S) (piece : List ℕ) (answer : Arrived) (is_full is_shut : Bool) → next_duty size before ≡ Read → IsRead condition unread taken held before after piece is_full is_shut → new.store ≡ old.store
+  offered : (size : S → ℕ) (old new : Hub A) (before after : Seat R K S) (piece : List ℕ) (answer : Arrived) (is_full is_shut : Bool) → next_duty size before ≡ Read → IsRead condition unread taken held before after piece is_full is_shut → new.store ≡ old.store → SameBehind old new
       → OffersTo condition (told taken held before.wire) (told taken held after.wire) before.wire.failures after.wire.failures old new before.connection piece answer
       → after.course.phase ≡ phase_offered answer → (moment : ℕ) → ActsOnce condition unread taken held size old new before after moment is_full is_shut
-  offered size old new before after piece came.Open is_full is_shut due read store o p moment = inr (inl (
+  offered size old new before after piece came.Open is_full is_shut due read store behind o p moment = inr (inl (
     record {
       piece = piece;
       read = read;
       answers_next = p;
       keeps = o.sends_nothing;
       same_store = store;
+      behind = behind;
       holds = o.holds;
     },
     due,
   ))
-  offered size old new before after piece came.Closed is_full is_shut due read store o p moment =
-      inr (inr (inl (record { piece = piece; read = read; ends = ap is_ended p; answer = came.Closed; answers = o moment }, due)))
-  offered size old new before after piece came.Cut is_full is_shut due read store o p moment =
-      inr (inr (inl (record { piece = piece; read = read; ends = ap is_ended p; answer = came.Cut; answers = o moment }, due)))
-  offered size old new before after piece came.NoSuch is_full is_shut due read store o p moment = inl (
+  offered size old new before after piece came.Closed is_full is_shut due read store behind o p moment =
+      inr (inr (inl (record { piece = piece; read = read; ends = ap is_ended p; unsent = ap is_sending p; behind = behind; answer = came.Closed; answers = o moment }, due)))
+  offered size old new before after piece came.Cut is_full is_shut due read store behind o p moment =
+      inr (inr (inl (record { piece = piece; read = read; ends = ap is_ended p; unsent = ap is_sending p; behind = behind; answer = came.Cut; answers = o moment }, due)))
+  offered size old new before after piece came.NoSuch is_full is_shut due read store behind o p moment = inl (
     record {
       same = o.same;
       keeps = o.sends_nothing;
       gives = λ h. absurd (not_ended after.course.phase p h);
       opens = λ h. absurd (not_open after.course.phase p h);
+      sends_still = inl p;
       keeps_count = λ h. absurd (not_ended after.course.phase p h);
     },
     rests_as size old before after is_full is_shut Read due (inr (inr (p, inr o.absent))),
@@ -346,14 +527,14 @@ module _ {A R K S : Type 0} (condition : A → Condition) (unread : R → Option
 
   -- a front of the room was received, and offered
   pub received : (size : S → ℕ) (causes : Causes R K S) (old new : Hub A) (before after : Seat R K S) (got : R) (room : List ℕ) (n : ℕ) (answer : Arrived) (is_full is_shut : Bool) → next_duty size before ≡ Read → SameClient before after → HubStays condition old new → IsAtEnd (owed held before.wire) → before.course.phase ≡ Open
-      → 0 < n → n ≤ length room → length room ≤ most_read → Consumes (unread before.source) (unread got) (take n room) → after.source ≡ got → new.store ≡ old.store
+      → 0 < n → n ≤ length room → length room ≤ most_read → Consumes (unread before.source) (unread got) (take n room) → after.source ≡ got → new.store ≡ old.store → SameBehind old new
       → OffersTo condition (told taken held before.wire) (told taken held after.wire) before.wire.failures after.wire.failures old new before.connection (take n room) answer
       → after.course.phase ≡ phase_offered answer → after.course.is_readable ≡ before.course.is_readable → after.course.is_writable ≡ before.course.is_writable → (is_full ≡ true → before.course.unfinished ≡ 0) → is_shut ≡ false
       → after.course.has_moved ≡ (before.course.has_moved || nat_lt 0 (length (take n room)))
       → after.course.moved ≡ min (before.course.moved + length (take n room)) (2 ^ 64 - 1)
       → after.course.unfinished ≡ min (before.course.unfinished + length (take n room)) (2 ^ 64 - 1)
       → (moment : ℕ) → TakesTurn condition unread taken held size causes old new before after moment is_full is_shut
-  received size causes old new before after got room n answer is_full is_shut due client hub none was some within small gives same store o p readable writable allowed is_open stirs moved counts moment =
+  received size causes old new before after got room n answer is_full is_shut due client hub none was some within small gives same store behind o p readable writable allowed is_open stirs moved counts moment =
       let long : 0 < length (take n room) = let e = length-take n room in omega (arith, e, some, within) in
       record {
         client = client;
@@ -370,7 +551,7 @@ module _ {A R K S : Type 0} (condition : A → Condition) (unread : R → Option
           stirs = stirs ∙ (ap (λ (b : Bool). before.course.has_moved || b) (lt-ltb 0 (length (take n room)) long) ∙ or-true before.course.has_moved);
           moves = omega (arith, moved);
           counts = counts;
-        }) store o p moment;
+        }) store behind o p moment;
         caused = goes_as_was causes (IsUnknown old before.connection) before after readable writable (λ h. inr (unknown_offered old new before after (take n room) answer o (over_offered answer after.course.phase p h)));
       }
 
@@ -401,6 +582,7 @@ module _ {A R K S : Type 0} (condition : A → Condition) (unread : R → Option
       → MayRest condition unread taken held size hub before (with_counted mid bytes) is_full is_shut d
   rest_counted size hub before mid bytes is_full is_shut Flush may = may
   rest_counted size hub before mid bytes is_full is_shut Answer may = may
+  rest_counted size hub before mid bytes is_full is_shut Send may = may
   rest_counted size hub before mid bytes is_full is_shut Read may = may
   rest_counted size hub before mid bytes is_full is_shut Finish may = may
   rest_counted size hub before mid bytes is_full is_shut Drain may = may
@@ -409,7 +591,7 @@ module _ {A R K S : Type 0} (condition : A → Condition) (unread : R → Option
   acts_counted : (size : S → ℕ) (old new : Hub A) (before mid : Seat R K S) (bytes moment : ℕ) (is_full is_shut : Bool) → ActsOnce condition unread taken held size old new before mid moment is_full is_shut
       → ActsOnce condition unread taken held size old new before (with_counted mid bytes) moment is_full is_shut
   acts_counted size old new before mid bytes moment is_full is_shut (inl (r, may)) = inl (
-    record { same = r.same; keeps = r.keeps; gives = r.gives; opens = r.opens; keeps_count = r.keeps_count },
+    record { same = r.same; keeps = r.keeps; gives = r.gives; opens = r.opens; sends_still = r.sends_still; keeps_count = r.keeps_count },
     rest_counted size old before mid bytes is_full is_shut (next_duty size before) may,
   )
   acts_counted size old new before mid bytes moment is_full is_shut (inr (inl (o, due))) = inr (inl (
@@ -419,27 +601,62 @@ module _ {A R K S : Type 0} (condition : A → Condition) (unread : R → Option
       answers_next = o.answers_next;
       keeps = o.keeps;
       same_store = o.same_store;
+      behind = o.behind;
       holds = o.holds;
     },
     due,
   ))
   acts_counted size old new before mid bytes moment is_full is_shut (inr (inr (inl (r, due)))) = inr (inr (inl (
-    record { piece = r.piece; read = read_counted before mid bytes r.piece is_full is_shut r.read; ends = r.ends; answer = r.answer; answers = r.answers },
+    record { piece = r.piece; read = read_counted before mid bytes r.piece is_full is_shut r.read; ends = r.ends; unsent = r.unsent; behind = r.behind; answer = r.answer; answers = r.answers },
     due,
   )))
-  acts_counted size old new before mid bytes moment is_full is_shut (inr (inr (inr (a, due)))) = inr (inr (inr (
+  acts_counted size old new before mid bytes moment is_full is_shut (inr (inr (inr (inl (a, due))))) = inr (inr (inr (inl (
     record {
       unowed = a.unowed;
       was_read = a.was_read;
       same_source = a.same_source;
       next = a.next;
+      known = a.known;
+      more = a.more;
+      now = a.now;
+      appends = a.appends;
       answers = a.answers;
-      opens = a.opens;
+      owes = a.owes;
+      paid = a.paid;
+      free = a.free;
+      others = a.others;
+      unbroken = a.unbroken;
+      goes = a.goes;
       stirs = stirs_still mid bytes a.stirs;
       leaves = a.leaves;
     },
     due,
-  )))
+  ))))
+  acts_counted size old new before mid bytes moment is_full is_shut (inr (inr (inr (inr (inl (d, due)))))) = inr (inr (inr (inr (inl (
+    record {
+      unowed = d.unowed;
+      was_read = d.was_read;
+      same_source = d.same_source;
+      keeps = d.keeps;
+      stays = d.stays;
+      stirs = stirs_still mid bytes d.stirs;
+      counts_not = d.counts_not;
+      leaves = d.leaves;
+    },
+    due,
+  )))))
+  acts_counted size old new before mid bytes moment is_full is_shut (inr (inr (inr (inr (inr (s, due)))))) = inr (inr (inr (inr (inr (
+    record {
+      unowed = s.unowed;
+      was_sending = s.was_sending;
+      same_source = s.same_source;
+      answer = s.answer;
+      sends = s.sends;
+      goes = s.goes;
+      leaves = s.leaves;
+    },
+    due,
+  )))))
 
   pub counted : (size : S → ℕ) (causes : Causes R K S) (old new : Hub A) (before mid : Seat R K S) (course : Course) (bytes moment : ℕ) (is_full is_shut : Bool) → TakesTurn condition unread taken held size causes old new before mid moment is_full is_shut
       → course ≡ (with_counted mid bytes).course → TakesTurn condition unread taken held size causes old new before (record mid { course = course }) moment is_full is_shut
@@ -467,6 +684,78 @@ module _ {A R K S : Type 0} (condition : A → Condition) (unread : R → Option
     client = client;
     hub = hub;
     ended = not_yet before.course.phase after.course.phase Answering was refl;
-    acts = inr (inr (inr (a, due)));
+    acts = inr (inr (inr (inl (a, due))));
     caused = caused;
   }
+
+  -- it was kept back
+  pub delayed : (size : S → ℕ) (causes : Causes R K S) (old new : Hub A) (before mid after : Seat R K S) (moment : ℕ) → SameClient before after → HubStays condition old new
+      → IsAtEnd (owed held before.wire) → before.course.phase ≡ Answering → next_duty size before ≡ Answer
+      → IsReplied condition unread taken held old new before mid moment None → after.source ≡ before.source
+      → Keeps (told taken held mid.wire) (told taken held after.wire) → after.wire.failures ≡ mid.wire.failures → after.course ≡ mid.course → mid.course.has_moved ≡ true
+      → mid.course.is_readable ≡ before.course.is_readable → mid.course.is_writable ≡ before.course.is_writable
+      → (is_full is_shut : Bool) → TakesTurn condition unread taken held size causes old new before after moment is_full is_shut
+  delayed size causes old new before mid after moment client hub none was due r source k f same stirs readable writable is_full is_shut =
+      let phase : after.course.phase ≡ Answering = ap (λ (d : Course). d.phase) same ∙ (r.1 ∙ was) in
+      record {
+        client = client;
+        hub = hub;
+        ended = not_yet before.course.phase after.course.phase Answering was refl;
+        acts = inr (inr (inr (inr (inl (
+          record {
+            unowed = none;
+            was_read = was;
+            same_source = source;
+            keeps = back_kept _ _ _ _ _ _ old new before.connection r.0 k f;
+            stays = phase;
+            stirs = ap (λ (d : Course). d.has_moved) same ∙ stirs;
+            counts_not = ap (λ (d : Course). d.is_kept_back) same ∙ r.2;
+            leaves = ap (λ (d : Course). d.unfinished) same ∙ r.3;
+          },
+          due,
+        )))));
+        caused = goes_as_was causes (IsUnknown old before.connection) before after (ap (λ (d : Course). d.is_readable) same ∙ readable) (ap (λ (d : Course). d.is_writable) same ∙ writable)
+            (λ h. absurd (let bad : Answering ≡ Over = sym phase ∙ h in cc));
+      }
+
+  -- it was answered, or kept back
+  pub replied : (size : S → ℕ) (causes : Causes R K S) (old new : Hub A) (before mid after : Seat R K S) (moment : ℕ) (next : Option Next) → SameClient before after → HubStays condition old new
+      → IsAtEnd (owed held before.wire) → before.course.phase ≡ Answering → next_duty size before ≡ Answer
+      → IsReplied condition unread taken held old new before mid moment next → mid.source ≡ before.source → after.source ≡ mid.source
+      → Keeps (told taken held mid.wire) (told taken held after.wire) → after.wire.failures ≡ mid.wire.failures → after.course ≡ mid.course → mid.course.has_moved ≡ true
+      → mid.course.is_readable ≡ before.course.is_readable → mid.course.is_writable ≡ before.course.is_writable
+      → (is_full is_shut : Bool) → TakesTurn condition unread taken held size causes old new before after moment is_full is_shut
+  replied size causes old new before mid after moment None client hub none was due r s t k f same stirs readable writable =
+      delayed size causes old new before mid after moment client hub none was due r (t ∙ s) k f same stirs readable writable
+  replied size causes old new before mid after moment (Some next) client hub none was due r s t k f same stirs readable writable =
+      answers_turn size causes old new before after moment client hub was due (answered old new before mid after moment next none was r s k f t same stirs)
+      (answered_on causes old new before mid after moment next r (ap (λ (d : Course). d.phase) same) (ap (λ (d : Course). d.is_readable) same ∙ readable) (ap (λ (d : Course). d.is_writable) same ∙ writable))
+
+  -- some of a content were sent
+  pub sent_on : (size : S → ℕ) (causes : Causes R K S) (old new : Hub A) (before after : Seat R K S) (k : Option (List ℕ)) (g : ℕ) (answer : SentOn) → SameClient before after → HubStays condition old new
+      → next_duty size before ≡ Send → (before.course.is_awaited ≡ false → IsAtEnd (owed held before.wire)) → after.source ≡ before.source
+      → HubSends condition (told taken held before.wire) k before.wire.failures g old new before.connection answer
+      → Keeps k (told taken held after.wire) → after.wire.failures ≡ g
+      → after.course ≡ record before.course { phase = phase_sent before.course.phase answer }
+      → (moment : ℕ) (is_full is_shut : Bool) → TakesTurn condition unread taken held size causes old new before after moment is_full is_shut
+  sent_on size causes old new before after k g answer client hub due none source sends keeps f same moment is_full is_shut =
+      let phase : after.course.phase ≡ phase_sent before.course.phase answer = ap (λ (d : Course). d.phase) same in
+      record {
+        client = client;
+        hub = hub;
+        ended = λ e. ap is_ended phase ∙ ended_sent before.course.phase answer e;
+        acts = inr (inr (inr (inr (inr (
+          record {
+            unowed = none;
+            was_sending = sends_content _ _ _ _ _ due;
+            same_source = source;
+            answer = answer;
+            sends = sends_kept _ _ _ _ _ _ old new before.connection answer sends keeps f;
+            goes = phase;
+            leaves = ap (λ (d : Course). d.unfinished) same;
+          },
+          due,
+        )))));
+        caused = goes_as_was causes (IsUnknown old before.connection) before after (ap (λ (d : Course). d.is_readable) same) (ap (λ (d : Course). d.is_writable) same)
+            (λ h. inl (over_sent before.course.phase answer (sym phase ∙ h)));
+      }

@@ -7,6 +7,9 @@ use Rattle.std.specs.Prelude.{IfSome}
 use Rattle.std.specs.Option.{option_map_or}
 use Rattle.dep_types.specs.Conditions.{Condition}
 use Rattle.dep_types.specs.Writing.{HasRisen}
+use Rattle.dep_hub.specs.StandsOwing.{KeepsBack, is_awaited_at}
+use Rattle.dep_hub.specs.declared.hub.Hub.{Hub}
+use Rattle.dep_hub.specs.declared.sent_on.SentOn.{SentOn}
 use Rattle.dep_outbox.specs.Sockets.{after_receive, after_send}
 use Rattle.dep_outbox.specs.declared.socket.Received.TheVariants as gives
 use Rattle.dep_outbox.specs.declared.socket.Delivered.TheVariants as takes
@@ -14,20 +17,20 @@ use Rattle.dep_outbox.specs.declared.wire.Wire.{Wire}
 use Rattle.dep_outbox.specs.Wires.{told, owed_count}
 use Rattle.dep_host.specs.declared.ending.Shut.{Shut}
 use Rattle.dep_host.specs.declared.course.Phase.{Phase}
-use Rattle.dep_host.specs.Courses.{StaysOrIsOver, duty, is_ended, is_held_back, phase_begun}
+use Rattle.dep_host.specs.Courses.{SendsStill, StaysOrIsOver, duty, is_ended, is_held_back, is_sending, phase_begun}
 use Rattle.dep_host.specs.Causes.{Causes, HasCauses}
 use Rattle.dep_host.specs.declared.seat.Seat.{Seat}
 use Rattle.dep_host.specs.declared.seat.Time.{Time}
 use Rattle.dep_host.specs.declared.log.Closing.{Closing}
 use Rattle.dep_host.specs.declared.log.Closing.TheVariants.{Large}
-use Rattle.dep_host.specs.declared.course.Phase.TheVariants.{Open, Answering, Last, Draining, Over}
+use Rattle.dep_host.specs.declared.course.Phase.TheVariants.{Open, Answering, Sending, SendingLast, Last, Draining, Over}
 use Rattle.dep_host.specs.declared.course.Duty.{Duty}
 use Rattle.dep_host.specs.declared.course.Duty.TheVariants as to
-use Rattle.dep_host.specs.Seats.{IsUnknown, MayRest, ActsOnce, TakesTurn, next_duty}
-use Rattle.dep_host.specs.Hosting.{Position, slot, MayGo, farewell, note_of, closings_of, Deed, Takes, Replies, Declines, Closes, answers_at, pieces_at, unfinished_of, unfinished_in, AreDoneAt, HasTurn, Goes, rests, offers, refuses, answers, leaves, Steps, begins, goes_on, IsClosed, IsLeftAs, IsLost, IsServed, IsServedAt, turn_duty, Serves, GoesRound, Sheds}
+use Rattle.dep_host.specs.Seats.{IsUnknown, Delays, MayRest, ActsOnce, TakesTurn, next_duty, phase_sent}
+use Rattle.dep_host.specs.Hosting.{Position, slot, MayGo, farewell, note_of, closings_of, Deed, Takes, Replies, Sends, Declines, Closes, answers_at, pieces_at, sending_at, sendings_at, unfinished_of, unfinished_in, AreDoneAt, HasTurn, Goes, rests, offers, delays, sends, refuses, answers, leaves, Steps, begins, goes_on, IsClosed, IsLeftAs, IsOnce, IsLost, WasAwaited, IsKeptBack, IsServed, IsServedAt, turn_duty, Serves, GoesRound, Sheds}
 use Rattle.std.proofs.lemmas.Grind.{flat_map-append}
 use Rattle.dep_host.specs.Notes.{Note, LetGo, Grows}
-use Rattle.dep_host.proofs.SeatLemmas.{lost_too}
+use Rattle.dep_host.proofs.SeatLemmas.{lost_too, still_begun}
 use Rattle.dep_host.proofs.HostLemmas.{grows_none, grows_on, grows_same, slot_read, steps_join, unchanged, woken}
 
 -- what was set twice is as it was set last
@@ -43,6 +46,16 @@ answers_append place (d ∷ xs) ys = let e = answers_append place xs ys in omega
 pieces_append : (place : ℕ) (xs ys : List Deed) → pieces_at place (xs ++ ys) ≡ pieces_at place xs + pieces_at place ys
 pieces_append place [] ys = let none : pieces_at place [] ≡ 0 = refl in omega (arith, none)
 pieces_append place (d ∷ xs) ys = let e = pieces_append place xs ys in omega (arith, e)
+
+sendings_append : (place : ℕ) (xs ys : List Deed) → sendings_at place (xs ++ ys) ≡ sendings_at place xs ++ sendings_at place ys
+sendings_append place xs ys = flat_map-append (λ d. sending_at place d) xs ys
+
+-- no step of a content was sent there in the one stretch, or in the other
+sendings_after : (place : ℕ) (xs ys : List Deed) → sendings_at place ys ≡ [] → sendings_at place (xs ++ ys) ≡ sendings_at place xs
+sendings_after place xs ys none = sendings_append place xs ys ∙ (ap (λ l. sendings_at place xs ++ l) none ∙ append-nil (sendings_at place xs))
+
+sendings_before : (place : ℕ) (xs ys : List Deed) → sendings_at place xs ≡ [] → sendings_at place (xs ++ ys) ≡ sendings_at place ys
+sendings_before place xs ys none = sendings_append place xs ys ∙ ap (λ l. l ++ sendings_at place ys) none
 
 in_time_append : (time : Time) (xs ys : List Deed) → AreDoneAt time xs → AreDoneAt time ys → AreDoneAt time (xs ++ ys)
 in_time_append time [] ys h k = k
@@ -68,6 +81,8 @@ begun_once : (p : Phase) (is_shut : Bool) → phase_begun (phase_begun p is_shut
 begun_once Open true = refl
 begun_once Open false = refl
 begun_once Answering is_shut = refl
+begun_once Sending is_shut = refl
+begun_once SendingLast is_shut = refl
 begun_once Last is_shut = refl
 begun_once Draining is_shut = refl
 begun_once Over is_shut = refl
@@ -77,9 +92,42 @@ over_begun : (p : Phase) (is_shut : Bool) → phase_begun p is_shut ≡ Over →
 over_begun Open true h = absurd (let bad : Last ≡ Over = h in cc)
 over_begun Open false h = h
 over_begun Answering is_shut h = h
+over_begun Sending is_shut h = h
+over_begun SendingLast is_shut h = h
 over_begun Last is_shut h = h
 over_begun Draining is_shut h = h
 over_begun Over is_shut h = h
+
+-- a content is sent to whom one was sent
+sends_begun : (p : Phase) (is_shut : Bool) → is_sending (phase_begun p is_shut) ≡ is_sending p
+sends_begun Open true = refl
+sends_begun Open false = refl
+sends_begun Answering is_shut = refl
+sends_begun Sending is_shut = refl
+sends_begun SendingLast is_shut = refl
+sends_begun Last is_shut = refl
+sends_begun Draining is_shut = refl
+sends_begun Over is_shut = refl
+
+-- whether a request waits for a content tells only of who is sent one
+asks_sending : (p : Phase) (a owes r w : Bool) → duty p (is_sending p && a) owes r w ≡ duty p a owes r w
+asks_sending Over a owes r w = refl
+asks_sending Open a true r w = refl
+asks_sending Open a false r w = refl
+asks_sending Answering a true r w = refl
+asks_sending Answering a false r w = refl
+asks_sending Sending a owes r w = refl
+asks_sending SendingLast a owes r w = refl
+asks_sending Last a true r w = refl
+asks_sending Last a false r w = refl
+asks_sending Draining a true r w = refl
+asks_sending Draining a false r w = refl
+
+one_sent : (at : ℕ) (answer : SentOn) → (if at == at then answer ∷ [] else []) ++ [] ≡ answer ∷ []
+one_sent at answer = append-nil (if at == at then answer ∷ [] else []) ∙ ap (λ (b : Bool). if b then answer ∷ [] else []) (eq-eqb at at refl)
+
+none_sent : (at place : ℕ) (answer : SentOn) → (place ≡ at → ⊥) → (if at == place then answer ∷ [] else []) ++ [] ≡ []
+none_sent at place answer ne = append-nil (if at == place then answer ∷ [] else []) ∙ ap (λ (b : Bool). if b then answer ∷ [] else []) (ne_eqb at place (λ e. ne (sym e)))
 
 none_elsewhere : (at place : ℕ) → (place ≡ at → ⊥) → (if at == place then 1 else 0) + 0 ≡ 0
 none_elsewhere at place ne = ap (λ (b : Bool). (if b then 1 else 0) + 0) (ne_eqb at place (λ e. ne (sym e)))
@@ -92,55 +140,88 @@ module _ {A R K S : Type 0} (condition : A → Condition) (unread : R → Option
       let no : ⊥ = omega (arith, kept, none, some) in no)
 
   -- who was served is served still where the round began earlier
-  lost_before : (p q r : Position A R K S) (number : ℕ) (xs ys : List Deed) → Steps condition unread taken held p xs q → IsLost condition unread taken held size causes q r ys number → IsLost condition unread taken held size causes p r (xs ++ ys) number
-  lost_before p q r number xs ys s lost = record {
-    earlier = xs ++ lost.earlier;
-    later = lost.later;
-    all = ap (λ (l : List Deed). xs ++ l) lost.all ∙ sym (append_assoc xs lost.earlier lost.later);
-    mid = lost.mid;
-    came = steps_join condition unread taken held s lost.came;
-    absent = lost.absent;
-    goes = lost.goes;
+  once_before : (So : Hub A → Hub A → Type 0) (p q r : Position A R K S) (xs ys : List Deed) → Steps condition unread taken held p xs q → IsOnce condition unread taken held size causes So q r ys → IsOnce condition unread taken held size causes So p r (xs ++ ys)
+  once_before So p q r xs ys s once = record {
+    earlier = xs ++ once.earlier;
+    later = once.later;
+    all = ap (λ (l : List Deed). xs ++ l) once.all ∙ sym (append_assoc xs once.earlier once.later);
+    mid = once.mid;
+    next = once.next;
+    came = steps_join condition unread taken held s once.came;
+    is = once.is;
+    goes = once.goes;
   }
 
-  served_before : (p q r : Position A R K S) (xs ys : List Deed) (is_full : Bool) (before after : Seat R K S) (answered read : ℕ) (d : Duty) → Steps condition unread taken held p xs q → q.shut ≡ p.shut
-      → IsServed condition unread taken held size causes q r ys is_full before after answered read d → IsServed condition unread taken held size causes p r (xs ++ ys) is_full before after answered read d
-  served_before p q r xs ys is_full before after answered read to.Flush s shut h = (h.0, subst (λ (o : Option Shut). StaysOrIsOver (phase_begun before.course.phase (is_some o)) after.course.phase) shut h.1)
-  served_before p q r xs ys is_full before after answered read to.Answer s shut (inl one) = inl one
-  served_before p q r xs ys is_full before after answered read to.Answer s shut (inr lost) = inr (lost_before p q r before.connection xs ys s lost)
-  served_before p q r xs ys is_full before after answered read to.Read s shut (inl one) = inl one
-  served_before p q r xs ys is_full before after answered read to.Read s shut (inr (inl back)) = inr (inl (
+  lost_before : (p q r : Position A R K S) (number : ℕ) (xs ys : List Deed) → Steps condition unread taken held p xs q → IsLost condition unread taken held size causes q r ys number → IsLost condition unread taken held size causes p r (xs ++ ys) number
+  lost_before p q r number xs ys s lost = once_before (λ old new. IsUnknown old number) p q r xs ys s lost
+
+  kept_back_before : (p q r : Position A R K S) (xs ys : List Deed) (before after : Seat R K S) → Steps condition unread taken held p xs q → IsKeptBack condition unread taken held size causes q r ys before after
+      → IsKeptBack condition unread taken held size causes p r (xs ++ ys) before after
+  kept_back_before p q r xs ys before after s k = record {
+    keeps = once_before (λ old new. KeepsBack condition (told taken held before.wire) (told taken held after.wire) before.wire.failures after.wire.failures old new before.connection) p q r xs ys s k.keeps;
+    stays = k.stays;
+    stirs = k.stirs;
+    counts_not = k.counts_not;
+    leaves = k.leaves;
+  }
+
+  served_before : (p q r : Position A R K S) (xs ys : List Deed) (is_full : Bool) (before after : Seat R K S) (answered read : ℕ) (sent : List SentOn) (d : Duty) → Steps condition unread taken held p xs q → q.shut ≡ p.shut
+      → IsServed condition unread taken held size causes q r ys is_full before after answered read sent d → IsServed condition unread taken held size causes p r (xs ++ ys) is_full before after answered read sent d
+  served_before p q r xs ys is_full before after answered read sent to.Flush s shut h = (h.0, subst (λ (o : Option Shut). StaysOrIsOver (phase_begun before.course.phase (is_some o)) after.course.phase) shut h.1)
+  served_before p q r xs ys is_full before after answered read sent to.Answer s shut (inl one) = inl one
+  served_before p q r xs ys is_full before after answered read sent to.Answer s shut (inr (inl lost)) = inr (inl (lost_before p q r before.connection xs ys s lost))
+  served_before p q r xs ys is_full before after answered read sent to.Answer s shut (inr (inr k)) = inr (inr (kept_back_before p q r xs ys before after s k))
+  served_before p q r xs ys is_full before after answered read sent to.Send s shut h =
+      (h.0, h.1, subst (λ (o : Option Shut). after.course.phase ≡ phase_sent (phase_begun before.course.phase (is_some o)) h.0) shut h.2)
+  served_before p q r xs ys is_full before after answered read sent to.Read s shut (inl one) = inl one
+  served_before p q r xs ys is_full before after answered read sent to.Read s shut (inr (inl back)) = inr (inl (
     subst (λ (o : Option Shut). is_held_back before.course is_full (is_some o) ≡ true) shut back.0,
     subst (λ (o : Option Shut). after.course.phase ≡ phase_begun before.course.phase (is_some o)) shut back.1,
   ))
-  served_before p q r xs ys is_full before after answered read to.Read s shut (inr (inr (inl none))) =
+  served_before p q r xs ys is_full before after answered read sent to.Read s shut (inr (inr (inl none))) =
       inr (inr (inl (none.0, subst (λ (o : Option Shut). after.course.phase ≡ phase_begun before.course.phase (is_some o)) shut none.1)))
-  served_before p q r xs ys is_full before after answered read to.Read s shut (inr (inr (inr over))) = inr (inr (inr over))
-  served_before p q r xs ys is_full before after answered read to.Finish s shut h = h
-  served_before p q r xs ys is_full before after answered read to.Drain s shut h = subst (λ (o : Option Shut). StaysOrIsOver (phase_begun before.course.phase (is_some o)) after.course.phase) shut h
-  served_before p q r xs ys is_full before after answered read to.Wait s shut h = subst (λ (o : Option Shut). after.course.phase ≡ phase_begun before.course.phase (is_some o)) shut h
+  served_before p q r xs ys is_full before after answered read sent to.Read s shut (inr (inr (inr over))) = inr (inr (inr over))
+  served_before p q r xs ys is_full before after answered read sent to.Finish s shut h = h
+  served_before p q r xs ys is_full before after answered read sent to.Drain s shut h = subst (λ (o : Option Shut). StaysOrIsOver (phase_begun before.course.phase (is_some o)) after.course.phase) shut h
+  served_before p q r xs ys is_full before after answered read sent to.Wait s shut h = subst (λ (o : Option Shut). after.course.phase ≡ phase_begun before.course.phase (is_some o)) shut h
 
   -- and where it went on later
-  lost_later : (p q r : Position A R K S) (number : ℕ) (xs ys : List Deed) → Steps condition unread taken held q ys r → IsLost condition unread taken held size causes p q xs number → IsLost condition unread taken held size causes p r (xs ++ ys) number
-  lost_later p q r number xs ys s lost = record {
-    earlier = lost.earlier;
-    later = lost.later ++ ys;
-    all = ap (λ (l : List Deed). l ++ ys) lost.all ∙ append_assoc lost.earlier lost.later ys;
-    mid = lost.mid;
-    came = lost.came;
-    absent = lost.absent;
-    goes = steps_join condition unread taken held lost.goes s;
+  once_later : (So : Hub A → Hub A → Type 0) (p q r : Position A R K S) (xs ys : List Deed) → Steps condition unread taken held q ys r → IsOnce condition unread taken held size causes So p q xs → IsOnce condition unread taken held size causes So p r (xs ++ ys)
+  once_later So p q r xs ys s once = record {
+    earlier = once.earlier;
+    later = once.later ++ ys;
+    all = ap (λ (l : List Deed). l ++ ys) once.all ∙ append_assoc once.earlier once.later ys;
+    mid = once.mid;
+    next = once.next;
+    came = once.came;
+    is = once.is;
+    goes = steps_join condition unread taken held once.goes s;
   }
 
-  served_later : (p q r : Position A R K S) (xs ys : List Deed) (is_full : Bool) (before after : Seat R K S) (answered read : ℕ) (d : Duty) → Steps condition unread taken held q ys r
-      → IsServed condition unread taken held size causes p q xs is_full before after answered read d → IsServed condition unread taken held size causes p r (xs ++ ys) is_full before after answered read d
-  served_later p q r xs ys is_full before after answered read to.Flush s h = h
-  served_later p q r xs ys is_full before after answered read to.Answer s (inl one) = inl one
-  served_later p q r xs ys is_full before after answered read to.Answer s (inr lost) = inr (lost_later p q r before.connection xs ys s lost)
-  served_later p q r xs ys is_full before after answered read to.Read s h = h
-  served_later p q r xs ys is_full before after answered read to.Finish s h = h
-  served_later p q r xs ys is_full before after answered read to.Drain s h = h
-  served_later p q r xs ys is_full before after answered read to.Wait s h = h
+  lost_later : (p q r : Position A R K S) (number : ℕ) (xs ys : List Deed) → Steps condition unread taken held q ys r → IsLost condition unread taken held size causes p q xs number → IsLost condition unread taken held size causes p r (xs ++ ys) number
+  lost_later p q r number xs ys s lost = once_later (λ old new. IsUnknown old number) p q r xs ys s lost
+
+  kept_back_later : (p q r : Position A R K S) (xs ys : List Deed) (before after : Seat R K S) → Steps condition unread taken held q ys r → IsKeptBack condition unread taken held size causes p q xs before after
+      → IsKeptBack condition unread taken held size causes p r (xs ++ ys) before after
+  kept_back_later p q r xs ys before after s k = record {
+    keeps = once_later (λ old new. KeepsBack condition (told taken held before.wire) (told taken held after.wire) before.wire.failures after.wire.failures old new before.connection) p q r xs ys s k.keeps;
+    stays = k.stays;
+    stirs = k.stirs;
+    counts_not = k.counts_not;
+    leaves = k.leaves;
+  }
+
+  served_later : (p q r : Position A R K S) (xs ys : List Deed) (is_full : Bool) (before after : Seat R K S) (answered read : ℕ) (sent : List SentOn) (d : Duty) → Steps condition unread taken held q ys r
+      → IsServed condition unread taken held size causes p q xs is_full before after answered read sent d → IsServed condition unread taken held size causes p r (xs ++ ys) is_full before after answered read sent d
+  served_later p q r xs ys is_full before after answered read sent to.Flush s h = h
+  served_later p q r xs ys is_full before after answered read sent to.Answer s (inl one) = inl one
+  served_later p q r xs ys is_full before after answered read sent to.Answer s (inr (inl lost)) = inr (inl (lost_later p q r before.connection xs ys s lost))
+  served_later p q r xs ys is_full before after answered read sent to.Answer s (inr (inr k)) = inr (inr (kept_back_later p q r xs ys before after s k))
+  served_later p q r xs ys is_full before after answered read sent to.Send s h = h
+  served_later p q r xs ys is_full before after answered read sent to.Read s h = h
+  served_later p q r xs ys is_full before after answered read sent to.Finish s h = h
+  served_later p q r xs ys is_full before after answered read sent to.Drain s h = h
+  served_later p q r xs ys is_full before after answered read sent to.Wait s h = h
 
   -- who was closed was closed where it began earlier, and where it went on later
   closed_before : (p q r : Position A R K S) (xs ys : List Deed) (place : ℕ) (seat : Seat R K S) → Steps condition unread taken held p xs q → IsClosed condition unread taken held q r ys place seat → IsClosed condition unread taken held p r (xs ++ ys) place seat
@@ -200,40 +281,48 @@ module _ {A R K S : Type 0} (condition : A → Condition) (unread : R → Option
   left_later p q r xs ys place seat s t how (inr k) = inr (closed_later p q r xs ys place seat t k)
 
   -- the same of who sits at a place, or nobody does
-  at_before : (p q r : Position A R K S) (is_full : Bool) (xs ys : List Deed) (place : ℕ) (x : Option (Seat R K S)) → Steps condition unread taken held p xs q → q.shut ≡ p.shut → answers_at place xs ≡ 0 → pieces_at place xs ≡ 0
+  at_before : (p q r : Position A R K S) (is_full : Bool) (xs ys : List Deed) (place : ℕ) (x : Option (Seat R K S)) → Steps condition unread taken held p xs q → q.shut ≡ p.shut → answers_at place xs ≡ 0 → pieces_at place xs ≡ 0 → sendings_at place xs ≡ []
       → IsServedAt condition unread taken held size causes q r is_full ys place x → IsServedAt condition unread taken held size causes p r is_full (xs ++ ys) place x
-  at_before p q r is_full xs ys place None s shut none unread_yet h = tt
-  at_before p q r is_full xs ys place (Some seat) s shut none unread_yet h =
+  at_before p q r is_full xs ys place None s shut none unread_yet unsent_yet h = tt
+  at_before p q r is_full xs ys place (Some seat) s shut none unread_yet unsent_yet h =
       let answered : answers_at place ys ≡ answers_at place (xs ++ ys) = let e = answers_append place xs ys in omega (arith, e, none) in
       let pieces : pieces_at place ys ≡ pieces_at place (xs ++ ys) = let e = pieces_append place xs ys in omega (arith, e, unread_yet) in
+      let sent : sendings_at place ys ≡ sendings_at place (xs ++ ys) = sym (sendings_before place xs ys unsent_yet) in
       record {
         after = h.after;
         left = left_before p q r xs ys place h.after s h.left;
         caused = lost_too causes (IsLost condition unread taken held size causes q r ys seat.connection) (IsLost condition unread taken held size causes p r (xs ++ ys) seat.connection) seat h.after
             (lost_before p q r seat.connection xs ys s) h.caused;
-        served = served_before p q r xs ys is_full seat h.after (answers_at place (xs ++ ys)) (pieces_at place (xs ++ ys)) (turn_duty size p.shut seat) s shut
-            (subst (λ (o : Option Shut). IsServed condition unread taken held size causes q r ys is_full seat h.after (answers_at place (xs ++ ys)) (pieces_at place (xs ++ ys)) (turn_duty size o seat)) shut
-            (subst (λ (n : ℕ). IsServed condition unread taken held size causes q r ys is_full seat h.after (answers_at place (xs ++ ys)) n (turn_duty size q.shut seat)) pieces
-            (subst (λ (n : ℕ). IsServed condition unread taken held size causes q r ys is_full seat h.after n (pieces_at place ys) (turn_duty size q.shut seat)) answered h.served)));
+        is_awaited = h.is_awaited;
+        asked = once_before (λ old new. is_awaited_at old.connections.items seat.connection ≡ h.is_awaited) p q r xs ys s h.asked;
+        served = served_before p q r xs ys is_full seat h.after (answers_at place (xs ++ ys)) (pieces_at place (xs ++ ys)) (sendings_at place (xs ++ ys)) (turn_duty size p.shut seat h.is_awaited) s shut
+            (subst (λ (o : Option Shut). IsServed condition unread taken held size causes q r ys is_full seat h.after (answers_at place (xs ++ ys)) (pieces_at place (xs ++ ys)) (sendings_at place (xs ++ ys)) (turn_duty size o seat h.is_awaited)) shut
+            (subst (λ (l : List SentOn). IsServed condition unread taken held size causes q r ys is_full seat h.after (answers_at place (xs ++ ys)) (pieces_at place (xs ++ ys)) l (turn_duty size q.shut seat h.is_awaited)) sent
+            (subst (λ (n : ℕ). IsServed condition unread taken held size causes q r ys is_full seat h.after (answers_at place (xs ++ ys)) n (sendings_at place ys) (turn_duty size q.shut seat h.is_awaited)) pieces
+            (subst (λ (n : ℕ). IsServed condition unread taken held size causes q r ys is_full seat h.after n (pieces_at place ys) (sendings_at place ys) (turn_duty size q.shut seat h.is_awaited)) answered h.served))));
       }
 
   -- later deeds did not concern it, but that it may have been closed
   at_after : (p q r : Position A R K S) (is_full : Bool) (xs ys : List Deed) (place : ℕ) (x : Option (Seat R K S)) → Steps condition unread taken held p xs q → Steps condition unread taken held q ys r
       → ((other : Seat R K S) → slot place q.seats ≡ Some other → IsLeftAs condition unread taken held q r ys place other) → answers_at place ys ≡ 0
-      → pieces_at place ys ≡ 0 → IsServedAt condition unread taken held size causes p q is_full xs place x → IsServedAt condition unread taken held size causes p r is_full (xs ++ ys) place x
-  at_after p q r is_full xs ys place None s t how none unread_later h = tt
-  at_after p q r is_full xs ys place (Some seat) s t how none unread_later h =
+      → pieces_at place ys ≡ 0 → sendings_at place ys ≡ [] → IsServedAt condition unread taken held size causes p q is_full xs place x → IsServedAt condition unread taken held size causes p r is_full (xs ++ ys) place x
+  at_after p q r is_full xs ys place None s t how none unread_later unsent_later h = tt
+  at_after p q r is_full xs ys place (Some seat) s t how none unread_later unsent_later h =
       let answered : answers_at place xs ≡ answers_at place (xs ++ ys) = let e = answers_append place xs ys in omega (arith, e, none) in
       let pieces : pieces_at place xs ≡ pieces_at place (xs ++ ys) = let e = pieces_append place xs ys in omega (arith, e, unread_later) in
-      let d = turn_duty size p.shut seat in
+      let sent : sendings_at place xs ≡ sendings_at place (xs ++ ys) = sym (sendings_after place xs ys unsent_later) in
+      let d = turn_duty size p.shut seat h.is_awaited in
       record {
         after = h.after;
         left = left_later p q r xs ys place h.after s t how h.left;
         caused = lost_too causes (IsLost condition unread taken held size causes p q xs seat.connection) (IsLost condition unread taken held size causes p r (xs ++ ys) seat.connection) seat h.after
             (lost_later p q r seat.connection xs ys t) h.caused;
-        served = served_later p q r xs ys is_full seat h.after (answers_at place (xs ++ ys)) (pieces_at place (xs ++ ys)) d t
-            (subst (λ (n : ℕ). IsServed condition unread taken held size causes p q xs is_full seat h.after (answers_at place (xs ++ ys)) n d) pieces
-            (subst (λ (n : ℕ). IsServed condition unread taken held size causes p q xs is_full seat h.after n (pieces_at place xs) d) answered h.served));
+        is_awaited = h.is_awaited;
+        asked = once_later (λ old new. is_awaited_at old.connections.items seat.connection ≡ h.is_awaited) p q r xs ys t h.asked;
+        served = served_later p q r xs ys is_full seat h.after (answers_at place (xs ++ ys)) (pieces_at place (xs ++ ys)) (sendings_at place (xs ++ ys)) d t
+            (subst (λ (l : List SentOn). IsServed condition unread taken held size causes p q xs is_full seat h.after (answers_at place (xs ++ ys)) (pieces_at place (xs ++ ys)) l d) sent
+            (subst (λ (n : ℕ). IsServed condition unread taken held size causes p q xs is_full seat h.after (answers_at place (xs ++ ys)) n (sendings_at place xs) d) pieces
+            (subst (λ (n : ℕ). IsServed condition unread taken held size causes p q xs is_full seat h.after n (pieces_at place xs) (sendings_at place xs) d) answered h.served)));
       }
 
   -- nothing was done at a place
@@ -246,6 +335,8 @@ module _ {A R K S : Type 0} (condition : A → Condition) (unread : R → Option
     others = λ place ne. refl;
     waits = λ full some. refl;
     unread_others = λ place ne. refl;
+    sends_once = omega arith;
+    unsent_others = λ place ne. refl;
     served = subst (λ (o : Option (Seat R K S)). IsServedAt condition unread taken held size causes p q is_full [] at o) (sym (slot_read at p.seats x there read ∙ none)) tt;
     in_time = tt;
     noted = grows_same told tells same;
@@ -259,14 +350,17 @@ module _ {A R K S : Type 0} (condition : A → Condition) (unread : R → Option
     others : (place : ℕ) → (place ≡ at → ⊥) → answers_at place deeds ≡ 0
     waits : is_full ≡ true → 0 < unfinished_of (slot at p.seats) → pieces_at at deeds ≡ 0
     unread_others : (place : ℕ) → (place ≡ at → ⊥) → pieces_at place deeds ≡ 0
-    does : IsServed condition unread taken held size causes p q deeds is_full before after (answers_at at deeds) (pieces_at at deeds) (next_duty size before)
+    sends_once : length (sendings_at at deeds) ≤ 1
+    unsent_others : (place : ℕ) → (place ≡ at → ⊥) → sendings_at place deeds ≡ []
+    does : IsServed condition unread taken held size causes p q deeds is_full before after (answers_at at deeds) (pieces_at at deeds) (sendings_at at deeds) (next_duty size before)
     in_time : AreDoneAt time deeds
     quiet : closings_of deeds ≡ []
 
   rest_served : (p q : Position A R K S) (is_full : Bool) (before after : Seat R K S) (d : Duty) → before.course.phase ≡ phase_begun before.course.phase (is_some p.shut)
-      → Steps condition unread taken held p [] q → MayRest condition unread taken held size p.hub before after is_full (is_some p.shut) d → IsServed condition unread taken held size causes p q [] is_full before after 0 0 d
+      → Steps condition unread taken held p [] q → MayRest condition unread taken held size p.hub before after is_full (is_some p.shut) d → IsServed condition unread taken held size causes p q [] is_full before after 0 0 [] d
   rest_served p q is_full before after to.Flush e s may = (may.0, subst (λ (h : Phase). StaysOrIsOver h after.course.phase) e may.1)
-  rest_served p q is_full before after to.Answer e s may = inr (record { earlier = []; later = []; all = refl; mid = p; came = begins; absent = may; goes = s })
+  rest_served p q is_full before after to.Answer e s may = inr (inl (record { earlier = []; later = []; all = refl; mid = p; next = p; came = begins; is = may; goes = s }))
+  rest_served p q is_full before after to.Send e s may = absurd may
   rest_served p q is_full before after to.Read e s (inl back) = inr (inl (back.0, back.1 ∙ e))
   rest_served p q is_full before after to.Read e s (inr (inl later)) = inr (inr (inl (later.0, later.1 ∙ e)))
   rest_served p q is_full before after to.Read e s (inr (inr (over, kept))) = inr (inr (inr over))
@@ -274,13 +368,13 @@ module _ {A R K S : Type 0} (condition : A → Condition) (unread : R → Option
   rest_served p q is_full before after to.Drain e s may = subst (λ (h : Phase). StaysOrIsOver h after.course.phase) e may
   rest_served p q is_full before after to.Wait e s may = may ∙ e
 
-  read_served : (p q : Position A R K S) (deeds : List Deed) (is_full : Bool) (before after : Seat R K S) (answered read : ℕ) → next_duty size before ≡ to.Read → read ≡ 1
-      → IsServed condition unread taken held size causes p q deeds is_full before after answered read (next_duty size before)
-  read_served p q deeds is_full before after answered read due one = subst (λ (d : Duty). IsServed condition unread taken held size causes p q deeds is_full before after answered read d) (sym due) (inl one)
+  read_served : (p q : Position A R K S) (deeds : List Deed) (is_full : Bool) (before after : Seat R K S) (answered read : ℕ) (sent : List SentOn) → next_duty size before ≡ to.Read → read ≡ 1
+      → IsServed condition unread taken held size causes p q deeds is_full before after answered read sent (next_duty size before)
+  read_served p q deeds is_full before after answered read sent due one = subst (λ (d : Duty). IsServed condition unread taken held size causes p q deeds is_full before after answered read sent d) (sym due) (inl one)
 
-  answer_served : (p q : Position A R K S) (deeds : List Deed) (is_full : Bool) (before after : Seat R K S) (answered read : ℕ) → next_duty size before ≡ to.Answer → answered ≡ 1
-      → IsServed condition unread taken held size causes p q deeds is_full before after answered read (next_duty size before)
-  answer_served p q deeds is_full before after answered read due one = subst (λ (d : Duty). IsServed condition unread taken held size causes p q deeds is_full before after answered read d) (sym due) (inl one)
+  answer_served : (p q : Position A R K S) (deeds : List Deed) (is_full : Bool) (before after : Seat R K S) (answered read : ℕ) (sent : List SentOn) → next_duty size before ≡ to.Answer → answered ≡ 1
+      → IsServed condition unread taken held size causes p q deeds is_full before after answered read sent (next_duty size before)
+  answer_served p q deeds is_full before after answered read sent due one = subst (λ (d : Duty). IsServed condition unread taken held size causes p q deeds is_full before after answered read sent d) (sym due) (inl one)
 
   -- a connection had its turn
   took_turn : (p q : Position A R K S) (at : ℕ) (time : Time) (is_full : Bool) (before after : Seat R K S) → HasTurn condition unread taken held p q at before after
@@ -292,6 +386,8 @@ module _ {A R K S : Type 0} (condition : A → Condition) (unread : R → Option
     others = λ place ne. refl;
     waits = λ full some. refl;
     unread_others = λ place ne. refl;
+    sends_once = omega arith;
+    unsent_others = λ place ne. refl;
     does = rest_served p q is_full before after (next_duty size before) e (goes_on begins (rests t r)) may;
     in_time = tt;
     quiet = refl;
@@ -303,7 +399,9 @@ module _ {A R K S : Type 0} (condition : A → Condition) (unread : R → Option
     others = λ place ne. refl;
     waits = λ full some. none_read p at _ before t.sat (o.read.allowed full) some;
     unread_others = λ place ne. none_elsewhere at place ne;
-    does = read_served p q _ is_full before after _ _ due (one_here at);
+    sends_once = omega arith;
+    unsent_others = λ place ne. refl;
+    does = read_served p q _ is_full before after _ _ _ due (one_here at);
     in_time = (tt, tt);
     quiet = refl;
   }
@@ -314,30 +412,76 @@ module _ {A R K S : Type 0} (condition : A → Condition) (unread : R → Option
     others = λ place ne. none_elsewhere at place ne;
     waits = λ full some. none_read p at _ before t.sat (r.read.allowed full) some;
     unread_others = λ place ne. none_elsewhere at place ne;
-    does = read_served p q _ is_full before after _ _ due (one_here at);
+    sends_once = omega arith;
+    unsent_others = λ place ne. refl;
+    does = read_served p q _ is_full before after _ _ _ due (one_here at);
     in_time = (refl, tt);
     quiet = refl;
   }
-  took_turn p q at time is_full before after t e (inr (inr (inr (a, due)))) = record {
-    deeds = Replies at before.connection time.moment a.answers.sent ∷ [];
+  took_turn p q at time is_full before after t e (inr (inr (inr (inl (a, due))))) = record {
+    deeds = Replies at before.connection time.moment a.now a.answers.sent ∷ [];
     steps = goes_on begins (answers t a);
     once = one_at_most (at == at);
     others = λ place ne. none_elsewhere at place ne;
     waits = λ full some. refl;
     unread_others = λ place ne. refl;
-    does = answer_served p q _ is_full before after _ _ due (one_here at);
+    sends_once = omega arith;
+    unsent_others = λ place ne. refl;
+    does = answer_served p q _ is_full before after _ _ _ due (one_here at);
     in_time = (refl, tt);
+    quiet = refl;
+  }
+  took_turn p q at time is_full before after t e (inr (inr (inr (inr (inl (d, due)))))) =
+      let s = goes_on begins (delays t d) in
+      record {
+        deeds = [];
+        steps = s;
+        once = omega arith;
+        others = λ place ne. refl;
+        waits = λ full some. refl;
+        unread_others = λ place ne. refl;
+        sends_once = omega arith;
+        unsent_others = λ place ne. refl;
+        does = subst (λ (x : Duty). IsServed condition unread taken held size causes p q [] is_full before after 0 0 [] x) (sym due) (inr (inr (record {
+          keeps = record { earlier = []; later = []; all = refl; mid = p; next = q; came = begins; is = d.keeps; goes = begins };
+          stays = d.stays;
+          stirs = d.stirs;
+          counts_not = d.counts_not;
+          leaves = d.leaves;
+        })));
+        in_time = tt;
+        quiet = refl;
+      }
+  took_turn p q at time is_full before after t e (inr (inr (inr (inr (inr (s, due)))))) = record {
+    deeds = Sends at before.connection s.sends.sent s.answer ∷ [];
+    steps = goes_on begins (sends t s);
+    once = omega arith;
+    others = λ place ne. refl;
+    waits = λ full some. refl;
+    unread_others = λ place ne. refl;
+    sends_once = let e = ap (λ (l : List SentOn). length l) (one_sent at s.answer) in let one : length (s.answer ∷ []) ≡ 1 = refl in omega (arith, e, one);
+    unsent_others = λ place ne. none_sent at place s.answer ne;
+    does = subst (λ (x : Duty). IsServed condition unread taken held size causes p q (Sends at before.connection s.sends.sent s.answer ∷ []) is_full before after 0 0 (sendings_at at (Sends at before.connection s.sends.sent s.answer ∷ [])) x) (sym due)
+        (s.answer, one_sent at s.answer, s.goes ∙ ap (λ (h : Phase). phase_sent h s.answer) e);
+    in_time = (tt, tt);
     quiet = refl;
   }
 
   -- what comes next is what came next as the turn began
-  duty_begun : (shut : Option Shut) (is_shut : Bool) (before mid : Seat R K S) → is_shut ≡ is_some shut → mid.course.phase ≡ phase_begun before.course.phase is_shut → mid.wire ≡ before.wire
-      → mid.course.is_readable ≡ before.course.is_readable → mid.course.is_writable ≡ before.course.is_writable → next_duty size mid ≡ turn_duty size shut before
-  duty_begun shut is_shut before mid told phase wire readable writable =
-      ap (λ (h : Phase). duty h (nat_lt 0 (owed_count size mid.wire)) mid.course.is_readable mid.course.is_writable) (phase ∙ ap (λ (b : Bool). phase_begun before.course.phase b) told)
-      ∙ (ap (λ (w : Wire K S). duty (phase_begun before.course.phase (is_some shut)) (nat_lt 0 (owed_count size w)) mid.course.is_readable mid.course.is_writable) wire
-      ∙ (ap (λ (b : Bool). duty (phase_begun before.course.phase (is_some shut)) (nat_lt 0 (owed_count size before.wire)) b mid.course.is_writable) readable
-      ∙ ap (λ (b : Bool). duty (phase_begun before.course.phase (is_some shut)) (nat_lt 0 (owed_count size before.wire)) before.course.is_readable b) writable))
+  duty_begun : (shut : Option Shut) (is_shut is_awaited : Bool) (before mid : Seat R K S) → is_shut ≡ is_some shut → mid.course.phase ≡ phase_begun before.course.phase is_shut → mid.wire ≡ before.wire
+      → mid.course.is_readable ≡ before.course.is_readable → mid.course.is_writable ≡ before.course.is_writable → mid.course.is_awaited ≡ is_sending before.course.phase && is_awaited
+      → next_duty size mid ≡ turn_duty size shut before is_awaited
+  duty_begun shut is_shut is_awaited before mid told phase wire readable writable awaited =
+      let p = phase_begun before.course.phase (is_some shut) in
+      let phase_so : mid.course.phase ≡ p = phase ∙ ap (λ (b : Bool). phase_begun before.course.phase b) told in
+      let awaited_so : mid.course.is_awaited ≡ is_sending p && is_awaited =
+      awaited ∙ ap (λ (b : Bool). b && is_awaited) (sym (sends_begun before.course.phase (is_some shut))) in
+      ap (λ (h : Phase). duty h mid.course.is_awaited (nat_lt 0 (owed_count size mid.wire)) mid.course.is_readable mid.course.is_writable) phase_so
+      ∙ (ap (λ (w : Wire K S). duty p mid.course.is_awaited (nat_lt 0 (owed_count size w)) mid.course.is_readable mid.course.is_writable) wire
+      ∙ (ap (λ (b : Bool). duty p mid.course.is_awaited (nat_lt 0 (owed_count size before.wire)) b mid.course.is_writable) readable
+      ∙ (ap (λ (b : Bool). duty p mid.course.is_awaited (nat_lt 0 (owed_count size before.wire)) before.course.is_readable b) writable
+      ∙ (ap (λ (b : Bool). duty p b (nat_lt 0 (owed_count size before.wire)) before.course.is_readable before.course.is_writable) awaited_so
+      ∙ asks_sending p is_awaited (nat_lt 0 (owed_count size before.wire)) before.course.is_readable before.course.is_writable))))
 
   held_back : (p m : Position A R K S) (is_full : Bool) (before mid : Seat R K S) → m.shut ≡ p.shut → mid.course.unfinished ≡ before.course.unfinished
       → is_held_back mid.course is_full (is_some m.shut) ≡ true → is_held_back before.course is_full (is_some p.shut) ≡ true
@@ -346,24 +490,35 @@ module _ {A R K S : Type 0} (condition : A → Condition) (unread : R → Option
       (subst (λ (o : Option Shut). (is_some o || (is_full && nat_lt 0 mid.course.unfinished)) ≡ true) shut back)
 
   -- who was served once its turn had begun was served
-  served_begun : (p m q : Position A R K S) (deeds : List Deed) (is_full : Bool) (before mid after : Seat R K S) (answered read : ℕ) (d : Duty) → Steps condition unread taken held p [] m → m.shut ≡ p.shut
+  served_begun : (p m q : Position A R K S) (deeds : List Deed) (is_full : Bool) (before mid after : Seat R K S) (answered read : ℕ) (sent : List SentOn) (d : Duty) → Steps condition unread taken held p [] m → m.shut ≡ p.shut
       → mid.connection ≡ before.connection → mid.wire ≡ before.wire → mid.course.unfinished ≡ before.course.unfinished
       → phase_begun mid.course.phase (is_some m.shut) ≡ phase_begun before.course.phase (is_some p.shut)
-      → IsServed condition unread taken held size causes m q deeds is_full mid after answered read d → IsServed condition unread taken held size causes p q deeds is_full before after answered read d
-  served_begun p m q deeds is_full before mid after answered read to.Flush s shut number wire count phase (inl fewer, h) =
+      → IsServed condition unread taken held size causes m q deeds is_full mid after answered read sent d → IsServed condition unread taken held size causes p q deeds is_full before after answered read sent d
+  served_begun p m q deeds is_full before mid after answered read sent to.Flush s shut number wire count phase (inl fewer, h) =
       (inl (subst (λ (w : Wire K S). owed_count size after.wire < owed_count size w) wire fewer), subst (λ (x : Phase). StaysOrIsOver x after.course.phase) phase h)
-  served_begun p m q deeds is_full before mid after answered read to.Flush s shut number wire count phase (inr none, h) = (inr none, subst (λ (x : Phase). StaysOrIsOver x after.course.phase) phase h)
-  served_begun p m q deeds is_full before mid after answered read to.Answer s shut number wire count phase (inl one) = inl one
-  served_begun p m q deeds is_full before mid after answered read to.Answer s shut number wire count phase (inr lost) =
-      inr (subst (λ (n : ℕ). IsLost condition unread taken held size causes p q deeds n) number (lost_before p m q mid.connection [] deeds s lost))
-  served_begun p m q deeds is_full before mid after answered read to.Read s shut number wire count phase (inl one) = inl one
-  served_begun p m q deeds is_full before mid after answered read to.Read s shut number wire count phase (inr (inl back)) =
+  served_begun p m q deeds is_full before mid after answered read sent to.Flush s shut number wire count phase (inr none, h) = (inr none, subst (λ (x : Phase). StaysOrIsOver x after.course.phase) phase h)
+  served_begun p m q deeds is_full before mid after answered read sent to.Answer s shut number wire count phase (inl one) = inl one
+  served_begun p m q deeds is_full before mid after answered read sent to.Answer s shut number wire count phase (inr (inl lost)) =
+      inr (inl (subst (λ (n : ℕ). IsLost condition unread taken held size causes p q deeds n) number (lost_before p m q mid.connection [] deeds s lost)))
+  served_begun p m q deeds is_full before mid after answered read sent to.Answer s shut number wire count phase (inr (inr k)) =
+      let b = kept_back_before p m q [] deeds mid after s k in
+      inr (inr (record {
+        keeps = subst (λ (n : ℕ). IsOnce condition unread taken held size causes (λ old new. KeepsBack condition (told taken held before.wire) (told taken held after.wire) before.wire.failures after.wire.failures old new n) p q deeds) number
+            (subst (λ (w : Wire K S). IsOnce condition unread taken held size causes (λ old new. KeepsBack condition (told taken held w) (told taken held after.wire) w.failures after.wire.failures old new mid.connection) p q deeds) wire b.keeps);
+        stays = b.stays;
+        stirs = b.stirs;
+        counts_not = b.counts_not;
+        leaves = b.leaves ∙ count;
+      }))
+  served_begun p m q deeds is_full before mid after answered read sent to.Send s shut number wire count phase h = (h.0, h.1, h.2 ∙ ap (λ (x : Phase). phase_sent x h.0) phase)
+  served_begun p m q deeds is_full before mid after answered read sent to.Read s shut number wire count phase (inl one) = inl one
+  served_begun p m q deeds is_full before mid after answered read sent to.Read s shut number wire count phase (inr (inl back)) =
       inr (inl (held_back p m is_full before mid shut count back.0, back.1 ∙ phase))
-  served_begun p m q deeds is_full before mid after answered read to.Read s shut number wire count phase (inr (inr (inl none))) = inr (inr (inl (none.0, none.1 ∙ phase)))
-  served_begun p m q deeds is_full before mid after answered read to.Read s shut number wire count phase (inr (inr (inr over))) = inr (inr (inr over))
-  served_begun p m q deeds is_full before mid after answered read to.Finish s shut number wire count phase h = h
-  served_begun p m q deeds is_full before mid after answered read to.Drain s shut number wire count phase h = subst (λ (x : Phase). StaysOrIsOver x after.course.phase) phase h
-  served_begun p m q deeds is_full before mid after answered read to.Wait s shut number wire count phase h = h ∙ phase
+  served_begun p m q deeds is_full before mid after answered read sent to.Read s shut number wire count phase (inr (inr (inl none))) = inr (inr (inl (none.0, none.1 ∙ phase)))
+  served_begun p m q deeds is_full before mid after answered read sent to.Read s shut number wire count phase (inr (inr (inr over))) = inr (inr (inr over))
+  served_begun p m q deeds is_full before mid after answered read sent to.Finish s shut number wire count phase h = h
+  served_begun p m q deeds is_full before mid after answered read sent to.Drain s shut number wire count phase h = subst (λ (x : Phase). StaysOrIsOver x after.course.phase) phase h
+  served_begun p m q deeds is_full before mid after answered read sent to.Wait s shut number wire count phase h = h ∙ phase
 
   -- and had its causes since before
   caused_begun : (lost more : Type 0) (before mid after : Seat R K S) → mid.source ≡ before.source → mid.wire ≡ before.wire → mid.course.is_readable ≡ before.course.is_readable
@@ -388,13 +543,14 @@ module _ {A R K S : Type 0} (condition : A → Condition) (unread : R → Option
   }
 
   -- a connection had its turn, once that had begun
-  pub served : (p q : Position A R K S) (at : ℕ) (time : Time) (is_full is_shut : Bool) (told_old told_new : Option (List Note)) (before mid after : Seat R K S) → told_new ≡ told_old → at < length p.seats → slot at p.seats ≡ Some before
+  pub served : (p q : Position A R K S) (at : ℕ) (time : Time) (is_full is_shut is_awaited : Bool) (told_old told_new : Option (List Note)) (before mid after : Seat R K S) → told_new ≡ told_old → at < length p.seats → slot at p.seats ≡ Some before
       → q.seats ≡ set p.seats at (Some after) → q.limits ≡ p.limits → q.shut ≡ p.shut → mid ≡ record before { course = mid.course }
       → (mid.course.phase ≡ Open → before.course.phase ≡ Open) → (is_ended before.course.phase ≡ true → is_ended mid.course.phase ≡ true)
       → mid.course.unfinished ≡ before.course.unfinished → mid.course.phase ≡ phase_begun before.course.phase is_shut → mid.course.is_readable ≡ before.course.is_readable
       → mid.course.is_writable ≡ before.course.is_writable → is_shut ≡ is_some p.shut
+      → mid.course.is_awaited ≡ is_sending before.course.phase && is_awaited → is_awaited_at p.hub.connections.items before.connection ≡ is_awaited
       → TakesTurn condition unread taken held size causes p.hub q.hub mid after time.moment is_full is_shut → Serves condition unread taken held size causes p q at time is_full told_old told_new
-  served p q at time is_full is_shut told_old told_new before mid after quiet there sat sits limits shut same opens ended count phase readable writable told t =
+  served p q at time is_full is_shut is_awaited told_old told_new before mid after quiet there sat sits limits shut same opens ended count phase readable writable told awaited asked t =
       let m : Position A R K S = record p { seats = set p.seats at (Some mid) } in
       let begun : slot at m.seats ≡ Some mid = get_or-set_same p.seats at (Some mid) None there in
       let unfinished : unfinished_of (slot at m.seats) ≡ unfinished_of (slot at p.seats) =
@@ -402,7 +558,7 @@ module _ {A R K S : Type 0} (condition : A → Condition) (unread : R → Option
       let wire = ap (λ (x : Seat R K S). x.wire) same in
       let began = woken condition unread taken held p m at before mid there sat refl refl refl refl
       (record { connection = ap (λ (x : Seat R K S). x.connection) same; address = ap (λ (x : Seat R K S). x.address) same })
-      (ap (λ (x : Seat R K S). x.source) same) wire opens ended count in
+      (ap (λ (x : Seat R K S). x.source) same) wire opens (subst (λ (h : Phase). SendsStill before.course.phase h) (sym phase) (still_begun before.course.phase is_shut)) ended count in
       let stands : Some after ≡ slot at q.seats = sym (ap (λ (l : List (Option (Seat R K S))). slot at l) sits ∙ get_or-set_same p.seats at (Some after) None there) in
       let source = ap (λ (x : Seat R K S). x.source) same in
       let number = ap (λ (x : Seat R K S). x.connection) same in
@@ -426,6 +582,8 @@ module _ {A R K S : Type 0} (condition : A → Condition) (unread : R → Option
         others = s.others;
         waits = λ full some. s.waits full (omega (arith, unfinished, some));
         unread_others = s.unread_others;
+        sends_once = s.sends_once;
+        unsent_others = s.unsent_others;
         served = subst (λ (x : Option (Seat R K S)). IsServedAt condition unread taken held size causes p q is_full s.deeds at x) (sym sat) (record {
           after = after;
           left = inl (sym stands);
@@ -436,13 +594,16 @@ module _ {A R K S : Type 0} (condition : A → Condition) (unread : R → Option
                 later = s.deeds;
                 all = refl;
                 mid = p;
+                next = p;
                 came = begins;
-                absent = subst (λ (n : ℕ). IsUnknown p.hub n) number unknown;
+                is = subst (λ (n : ℕ). IsUnknown p.hub n) number unknown;
                 goes = steps_join condition unread taken held began s.steps;
               }) t.caused;
-          served = subst (λ (d : Duty). IsServed condition unread taken held size causes p q s.deeds is_full before after (answers_at at s.deeds) (pieces_at at s.deeds) d)
-              (duty_begun p.shut is_shut before mid told phase wire readable writable)
-              (served_begun p m q s.deeds is_full before mid after (answers_at at s.deeds) (pieces_at at s.deeds) (next_duty size mid) began refl number wire count twice s.does);
+          is_awaited = is_awaited;
+          asked = record { earlier = []; later = s.deeds; all = refl; mid = p; next = p; came = begins; is = asked; goes = steps_join condition unread taken held began s.steps };
+          served = subst (λ (d : Duty). IsServed condition unread taken held size causes p q s.deeds is_full before after (answers_at at s.deeds) (pieces_at at s.deeds) (sendings_at at s.deeds) d)
+              (duty_begun p.shut is_shut is_awaited before mid told phase wire readable writable awaited)
+              (served_begun p m q s.deeds is_full before mid after (answers_at at s.deeds) (pieces_at at s.deeds) (sendings_at at s.deeds) (next_duty size mid) began refl number wire count twice s.does);
         });
         in_time = s.in_time;
         noted = subst (λ (l : List Note). Grows told_old told_new l) (sym s.quiet) (grows_same told_old told_new quiet);
@@ -460,8 +621,10 @@ module _ {A R K S : Type 0} (condition : A → Condition) (unread : R → Option
         others = λ place ne. let e = answers_append place s.deeds more in let f : answers_at place more ≡ 0 = refl in let o = s.others place ne in omega (arith, e, f, o);
         waits = λ full some. let e = pieces_append at s.deeds more in let f : pieces_at at more ≡ 0 = refl in let o = s.waits full some in omega (arith, e, f, o);
         unread_others = λ place ne. let e = pieces_append place s.deeds more in let f : pieces_at place more ≡ 0 = refl in let o = s.unread_others place ne in omega (arith, e, f, o);
+        sends_once = let e = ap (λ (l : List SentOn). length l) (sendings_after at s.deeds more refl) in let o = s.sends_once in omega (arith, e, o);
+        unsent_others = λ place ne. sendings_after place s.deeds more refl ∙ s.unsent_others place ne;
         served = at_after p q r is_full s.deeds more at (slot at p.seats) s.steps (goes_on begins (leaves g))
-            (λ other sits. inr (closed_there q r at time.second reason seat other g sits)) refl refl s.served;
+            (λ other sits. inr (closed_there q r at time.second reason seat other g sits)) refl refl refl s.served;
         in_time = in_time_append time s.deeds more s.in_time (refl, tt);
         noted = noted_on told so_far tells s.deeds more s.noted noted;
       }
@@ -479,6 +642,8 @@ module _ {A R K S : Type 0} (condition : A → Condition) (unread : R → Option
     later : (place : ℕ) → at ≤ place → answers_at place deeds ≡ 0
     waits : is_full ≡ true → (place : ℕ) → 0 < unfinished_of (slot place p.seats) → pieces_at place deeds ≡ 0
     unread_later : (place : ℕ) → at ≤ place → pieces_at place deeds ≡ 0
+    sends_once : (place : ℕ) → length (sendings_at place deeds) ≤ 1
+    unsent_later : (place : ℕ) → at ≤ place → sendings_at place deeds ≡ []
     pub stays : (place : ℕ) → at ≤ place → slot place q.seats ≡ slot place p.seats
     served : (place : ℕ) → place < at → IsServedAt condition unread taken held size causes p q is_full deeds place (slot place p.seats)
     in_time : AreDoneAt time deeds
@@ -492,6 +657,8 @@ module _ {A R K S : Type 0} (condition : A → Condition) (unread : R → Option
     later = λ place h. refl;
     waits = λ full place some. refl;
     unread_later = λ place h. refl;
+    sends_once = λ place. omega arith;
+    unsent_later = λ place h. refl;
     stays = λ place h. refl;
     served = λ place h. absurd (let none : ⊥ = omega (arith, h) in none);
     in_time = tt;
@@ -521,12 +688,18 @@ module _ {A R K S : Type 0} (condition : A → Condition) (unread : R → Option
     unread_later = λ place h.
         let a = pieces_append place s.deeds t.deeds in let b = s.unread_later place (omega (arith, h, e)) in
         let c = t.unread_others place (λ is. omega (arith, is, h, e)) in omega (arith, a, b, c);
+    sends_once = λ place. elim (cases_eq place at) [
+      | inl h ↦ let a = ap (λ (l : List SentOn). length l) (sendings_before place s.deeds t.deeds (s.unsent_later place (omega (arith, h)))) in
+          let c : length (sendings_at place t.deeds) ≤ 1 = subst (λ (n : ℕ). length (sendings_at n t.deeds) ≤ 1) (sym h) t.sends_once in omega (arith, a, c)
+      | inr ne ↦ let a = ap (λ (l : List SentOn). length l) (sendings_after place s.deeds t.deeds (t.unsent_others place ne)) in let c = s.sends_once place in omega (arith, a, c)
+    ];
+    unsent_later = λ place h. sendings_after place s.deeds t.deeds (t.unsent_others place (λ is. omega (arith, is, h, e))) ∙ s.unsent_later place (omega (arith, h, e));
     stays = λ place h. same place (λ is. omega (arith, is, h, e)) ∙ s.stays place (omega (arith, h, e));
     served = λ place h. elim (cases_eq place at) [
       | inl is ↦ subst (λ (n : ℕ). IsServedAt condition unread taken held size causes p r is_full (s.deeds ++ t.deeds) n (slot n p.seats)) (sym is)
           (subst (λ (x : Option (Seat R K S)). IsServedAt condition unread taken held size causes p r is_full (s.deeds ++ t.deeds) at x) (s.stays at (omega arith))
-          (at_before p q r is_full s.deeds t.deeds at (slot at q.seats) s.steps shut (s.later at (omega arith)) (s.unread_later at (omega arith)) t.served))
-      | inr ne ↦ at_after p q r is_full s.deeds t.deeds place (slot place p.seats) s.steps t.steps (λ other sits. inl (same place ne ∙ sits)) (t.others place ne) (t.unread_others place ne) (s.served place (omega (arith, h, e, ne)))
+          (at_before p q r is_full s.deeds t.deeds at (slot at q.seats) s.steps shut (s.later at (omega arith)) (s.unread_later at (omega arith)) (s.unsent_later at (omega arith)) t.served))
+      | inr ne ↦ at_after p q r is_full s.deeds t.deeds place (slot place p.seats) s.steps t.steps (λ other sits. inl (same place ne ∙ sits)) (t.others place ne) (t.unread_others place ne) (t.unsent_others place ne) (s.served place (omega (arith, h, e, ne)))
     ];
     in_time = in_time_append time s.deeds t.deeds s.in_time t.in_time;
     noted = noted_on told so_far tells s.deeds t.deeds s.noted t.noted;
@@ -548,6 +721,7 @@ module _ {A R K S : Type 0} (condition : A → Condition) (unread : R → Option
     steps = s.steps;
     once = s.once;
     waits = λ more place some. s.waits (e ∙ lt-ltb p.limits.unfinished_bytes (unfinished_in p.seats) more) place some;
+    sends_once = s.sends_once;
     served = λ place. subst (λ (b : Bool). IsServedAt condition unread taken held size causes p q b s.deeds place (slot place p.seats)) e (all_served p q at time is_full told so_far s all place);
     in_time = s.in_time;
     noted = subst (λ (o : Option (List Note)). Grows told o (closings_of s.deeds)) (sym quiet) s.noted;
@@ -562,12 +736,13 @@ module _ {A R K S : Type 0} (condition : A → Condition) (unread : R → Option
         waits = λ full other some.
             let a = pieces_append other s.deeds more in let f : pieces_at other more ≡ 0 = refl in
             let o = s.waits (e ∙ lt-ltb p.limits.unfinished_bytes (unfinished_in p.seats) full) other some in omega (arith, a, f, o);
+        sends_once = λ other. let a = ap (λ (l : List SentOn). length l) (sendings_after other s.deeds more refl) in let o = s.sends_once other in omega (arith, a, o);
         served = λ other. subst (λ (b : Bool). IsServedAt condition unread taken held size causes p r b (s.deeds ++ more) other (slot other p.seats)) e
             (at_after p q r is_full s.deeds more other (slot other p.seats) s.steps (goes_on begins (leaves g)) (λ who sits. elim (cases_eq other place) [
               | inl is ↦ inr (subst (λ (n : ℕ). IsClosed condition unread taken held q r more n who) (sym is)
                   (closed_there q r place time.second Large seat who g (subst (λ (n : ℕ). slot n q.seats ≡ Some who) is sits)))
               | inr ne ↦ inl (ap (λ (l : List (Option (Seat R K S))). slot other l) g.gone ∙ get_or-set_other q.seats place other None None ne ∙ sits)
-            ]) refl refl (all_served p q at time is_full told so_far s all other));
+            ]) refl refl refl (all_served p q at time is_full told so_far s all other));
         in_time = in_time_append time s.deeds more s.in_time (refl, tt);
         noted = noted_on told so_far tells s.deeds more s.noted noted;
         sheds = (q, s.deeds, more, so_far, refl, s.steps, s.noted, inr (place, seat, g, refl, noted));

@@ -5,7 +5,7 @@ use Rattle.dep_hub.specs.Standing.{IsClean}
 use Rattle.dep_host.specs.declared.ending.Cause.TheVariants.{Store}
 use Rattle.dep_host.specs.declared.ending.Shut.{Shut}
 use Rattle.dep_host.specs.Meeting.{IsShutBy}
-use Rattle.dep_host.specs.Hosting.{Position, Deed, AreOutgoing, IsRightlyTold, Step, refused, asks, comes, rests, offers, refuses, answers, leaves, Steps, begins, goes_on}
+use Rattle.dep_host.specs.Hosting.{Position, Deed, AreOutgoing, IsRightlyTold, Step, refused, asks, comes, rests, offers, delays, sends, refuses, answers, leaves, Steps, begins, goes_on}
 use Rattle.dep_host.proofs.CloseLemmas.{clean_before}
 
 outgoing_append : (xs ys : List Deed) → AreOutgoing xs → AreOutgoing ys → AreOutgoing (xs ++ ys)
@@ -41,6 +41,8 @@ module _ {A R K S : Type 0} (condition : A → Condition) (unread : R → Option
   step_outgoing {p = p} since (offers t o) told = absurd (not_some p.shut since o.read.is_open told)
   step_outgoing {p = p} since (refuses t r) told = absurd (not_some p.shut since r.read.is_open told)
   step_outgoing since (answers t a) told = ((tt, tt), t.same_shut ∙ told)
+  step_outgoing since (delays t d) told = (tt, t.same_shut ∙ told)
+  step_outgoing since (sends t s) told = ((tt, tt), t.same_shut ∙ told)
   step_outgoing since (leaves r) told = ((tt, tt), r.same_shut ∙ told)
 
   pub steps_outgoing : {p q : Position A R K S} {deeds : List Deed} (since : Shut) → Steps condition unread taken held p deeds q → p.shut ≡ Some since → AreOutgoing deeds × (q.shut ≡ Some since)
@@ -65,6 +67,8 @@ module _ {A R K S : Type 0} (condition : A → Condition) (unread : R → Option
   step_rightly {p = p} {q = q} (offers t o) h = rightly_kept p q t.same_shut t.hub.clean h
   step_rightly {p = p} {q = q} (refuses t r) h = rightly_kept p q t.same_shut t.hub.clean h
   step_rightly {p = p} {q = q} (answers t a) h = rightly_kept p q t.same_shut t.hub.clean h
+  step_rightly {p = p} {q = q} (delays t d) h = rightly_kept p q t.same_shut t.hub.clean h
+  step_rightly {p = p} {q = q} (sends t s) h = rightly_kept p q t.same_shut t.hub.clean h
   step_rightly {p = p} {q = q} (leaves {at = at} {second = second} {reason = reason} {seat = seat} r) h = rightly_kept p q r.same_shut (clean_before condition unread taken held (leaves {at = at} {second = second} {reason = reason} {seat = seat} r)) h
 
   pub steps_rightly : {p q : Position A R K S} {deeds : List Deed} → Steps condition unread taken held p deeds q → IsRightlyTold condition p → IsRightlyTold condition q

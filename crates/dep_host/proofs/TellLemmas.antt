@@ -7,7 +7,7 @@ use Rattle.dep_types.specs.Conditions.{Condition}
 use Rattle.dep_host.specs.declared.seat.Seat.{Seat}
 use Rattle.dep_outbox.specs.Wires.{front_of, joined, told}
 use Rattle.dep_host.specs.Runs.{StaysOpen}
-use Rattle.dep_host.specs.Hosting.{Position, slot, Deed, Opens, Takes, Replies, Declines, Closes, sent_by, replies_to, Tells, Step, refused, asks, comes, rests, offers, refuses, answers, leaves, HasTurn, Steps, begins, goes_on}
+use Rattle.dep_host.specs.Hosting.{Position, slot, Deed, Opens, Takes, Replies, Sends, Declines, Closes, sent_by, replies_to, Tells, Step, refused, asks, comes, rests, offers, delays, sends, refuses, answers, leaves, HasTurn, Steps, begins, goes_on}
 use Rattle.std.proofs.lemmas.Grind.{flat_map-append}
 
 abbrev or_else : {X : Type 0} → X → Option X → X
@@ -66,7 +66,7 @@ module _ {A R K S : Type 0} (condition : A → Condition) (unread : R → Option
   abbrev pub AllTell : Type 0
   AllTell = ((sink : K) → Tells (taken sink)) × ((spool : S) → Tells (held spool))
 
-  tells_of : AllTell → (seat : Seat R K S) → Tells (told taken held seat.wire)
+  pub tells_of : AllTell → (seat : Seat R K S) → Tells (told taken held seat.wire)
   tells_of all seat = tells_joined (taken seat.wire.sink) (held seat.wire.backlog.spool) (front_of seat.wire.backlog) (all.0 seat.wire.sink) (all.1 seat.wire.backlog.spool)
 
   pub record Tidy (q : Position A R K S) (rs : List Deed) : Type 0 where
@@ -160,15 +160,15 @@ module _ {A R K S : Type 0} (condition : A → Condition) (unread : R → Option
   sent_tidy : (p q : Position A R K S) (rs : List Deed) (one : Deed) (at : ℕ) (before after : Seat R K S) (sent : List ℕ) → Tidy p rs → HasTurn condition unread taken held p q at before after
       → Appends (told taken held before.wire) (told taken held after.wire) sent → ((n : ℕ) → sent_by n one ≡ (if before.connection == n then sent else []))
       → ((n : ℕ) → StaysOpen n (one ∷ [])) → Tidy q (rs ++ one ∷ [])
-  sent_tidy p q rs one at before after sent tidy t appends sends unclosing =
+  sent_tidy p q rs one at before after sent tidy t appends told_so unclosing =
       let later : p.hub.next ≤ q.hub.next = let e = t.hub.next in omega (arith, e) in
-      let here : replies_to before.connection (one ∷ []) ≡ sent = ap (λ (l : List ℕ). l ++ []) (sends before.connection) ∙ sent_here before.connection sent in
+      let here : replies_to before.connection (one ∷ []) ≡ sent = ap (λ (l : List ℕ). l ++ []) (told_so before.connection) ∙ sent_here before.connection sent in
       tidy_set p q rs (one ∷ []) at (Some after) tidy t.there t.sits later
       (λ s e. put_there p q rs (one ∷ []) at after s (put_kept p q rs (one ∷ []) at before after tidy t.sat t.client.connection later (unclosing before.connection)
       (λ all. told_appends (told taken held before.wire) (told taken held after.wire) (replies_to before.connection rs) sent appends (tidy.telling all at before t.sat)
       ∙ ap (λ (l : List ℕ). Some (replies_to before.connection rs ++ l)) (sym here))) e)
-      (λ j u ne h. (ap (λ (l : List ℕ). l ++ []) (sends u.connection) ∙ sent_elsewhere before.connection u.connection sent (λ same. ne (tidy.apart j at u before h t.sat (sym same))), unclosing u.connection))
-      (λ n h. (ap (λ (l : List ℕ). l ++ []) (sends n) ∙ sent_elsewhere before.connection n sent (λ same. let lower = tidy.below at before t.sat in let e = t.hub.next in omega (arith, lower, h, same, e)), unclosing n))
+      (λ j u ne h. (ap (λ (l : List ℕ). l ++ []) (told_so u.connection) ∙ sent_elsewhere before.connection u.connection sent (λ same. ne (tidy.apart j at u before h t.sat (sym same))), unclosing u.connection))
+      (λ n h. (ap (λ (l : List ℕ). l ++ []) (told_so n) ∙ sent_elsewhere before.connection n sent (λ same. let lower = tidy.below at before t.sat in let e = t.hub.next in omega (arith, lower, h, same, e)), unclosing n))
 
   step_tidy : {p q : Position A R K S} {rs more : List Deed} → Tidy p rs → Step condition unread taken held p q more → Tidy q (rs ++ more)
   step_tidy {p = p} {q = q} {rs = rs} tidy (refused r) = tidy_same p q rs r.sits r.next tidy
@@ -192,7 +192,10 @@ module _ {A R K S : Type 0} (condition : A → Condition) (unread : R → Option
   step_tidy {p = p} {q = q} {rs = rs} tidy (refuses {at = at} {moment = moment} {before = before} {after = after} t r) =
       sent_tidy p q rs (Declines at before.connection r.piece moment r.answers.sent) at before after r.answers.sent tidy t r.answers.appends (λ n. refl) (λ n. (tt, tt))
   step_tidy {p = p} {q = q} {rs = rs} tidy (answers {at = at} {moment = moment} {before = before} {after = after} t a) =
-      sent_tidy p q rs (Replies at before.connection moment a.answers.sent) at before after a.answers.sent tidy t a.answers.appends (λ n. refl) (λ n. (tt, tt))
+      sent_tidy p q rs (Replies at before.connection moment a.now a.answers.sent) at before after a.now tidy t a.appends (λ n. refl) (λ n. (tt, tt))
+  step_tidy {p = p} {q = q} {rs = rs} tidy (delays {at = at} {before = before} {after = after} t d) = turn_tidy p q rs [] at before after tidy t d.keeps.sends_nothing (λ n. (refl, tt))
+  step_tidy {p = p} {q = q} {rs = rs} tidy (sends {at = at} {before = before} {after = after} t s) =
+      sent_tidy p q rs (Sends at before.connection s.sends.sent s.answer) at before after s.sends.sent tidy t s.sends.appends (λ n. refl) (λ n. (tt, tt))
   step_tidy {p = p} {q = q} {rs = rs} tidy (leaves {at = at} {second = second} {reason = reason} {seat = seat} r) =
       let later : p.hub.next ≤ q.hub.next = let e = r.next in omega (arith, e) in
       tidy_set p q rs (Closes at seat.connection second reason ∷ []) at None tidy r.there r.gone later

@@ -2,30 +2,51 @@
 use Rattle.std.specs.Prelude.{◌≡◌, ◌⊎◌, ℕ, ◌-◌, Bool, true, false, not, ◌&&◌, ◌||◌, nat_lt, if◌then◌else◌, Option, None, Some}
 use Rattle.dep_host.specs.declared.course.Course.{Course}
 use Rattle.dep_host.specs.declared.course.Phase.{Phase}
-use Rattle.dep_host.specs.declared.course.Phase.TheVariants.{Open, Answering, Last, Draining, Over}
+use Rattle.dep_host.specs.declared.course.Phase.TheVariants.{Open, Answering, Sending, SendingLast, Last, Draining, Over}
 use Rattle.dep_host.specs.declared.course.Duty.{Duty}
-use Rattle.dep_host.specs.declared.course.Duty.TheVariants.{Flush, Answer, Read, Finish, Drain, Wait}
+use Rattle.dep_host.specs.declared.course.Duty.TheVariants.{Flush, Answer, Send, Read, Finish, Drain, Wait}
 use Rattle.dep_host.specs.declared.ending.Shut.{Shut}
 use Rattle.dep_host.specs.declared.limits.Limits.{Limits}
 use Rattle.dep_host.specs.declared.log.Closing.{Closing}
 use Rattle.dep_host.specs.declared.log.Closing.TheVariants as ends
 
+-- What a connection does next to which a content is sent: it is sent on where nothing is owed, and where a
+-- request waits for it whatever is owed.
+abbrev pub duty_sending : (is_awaited owes is_writable : Bool) → Duty
+duty_sending true owes w = Send
+duty_sending false true w = if w then Flush else Wait
+duty_sending false false w = Send
+
 -- what it does next, where bytes are owed or not: they are sent before all else
-abbrev pub duty : Phase → (owes is_readable is_writable : Bool) → Duty
-duty Over owes r w = Wait
-duty Open true r w = if w then Flush else Wait
-duty Open false r w = if r then Read else Wait
-duty Answering true r w = if w then Flush else Wait
-duty Answering false r w = Answer
-duty Last true r w = if w then Flush else Wait
-duty Last false r w = Finish
-duty Draining true r w = if w then Flush else Wait
-duty Draining false r w = if r then Drain else Wait
+abbrev pub duty : Phase → (is_awaited owes is_readable is_writable : Bool) → Duty
+duty Over a owes r w = Wait
+duty Open a true r w = if w then Flush else Wait
+duty Open a false r w = if r then Read else Wait
+duty Answering a true r w = if w then Flush else Wait
+duty Answering a false r w = Answer
+duty Sending a owes r w = duty_sending a owes w
+duty SendingLast a owes r w = duty_sending a owes w
+duty Last a true r w = if w then Flush else Wait
+duty Last a false r w = Finish
+duty Draining a true r w = if w then Flush else Wait
+duty Draining a false r w = if r then Drain else Wait
+
+-- a content is sent behind its last reply
+abbrev pub is_sending : Phase → Bool
+is_sending Open = false
+is_sending Answering = false
+is_sending Sending = true
+is_sending SendingLast = true
+is_sending Last = false
+is_sending Draining = false
+is_sending Over = false
 
 -- how far it is once its turn begins: once the host is shut it is read no more
 abbrev pub phase_begun : Phase → (is_shut : Bool) → Phase
 phase_begun Open is_shut = if is_shut then Last else Open
 phase_begun Answering is_shut = Answering
+phase_begun Sending is_shut = Sending
+phase_begun SendingLast is_shut = SendingLast
 phase_begun Last is_shut = Last
 phase_begun Draining is_shut = Draining
 phase_begun Over is_shut = Over
@@ -57,6 +78,8 @@ abbrev pub closing_of : Phase → (silent slow : Bool) → Option Closing
 closing_of Over silent slow = Some ends.Over
 closing_of Open silent slow = if silent then Some ends.Silent else if slow then Some ends.Slow else None
 closing_of Answering silent slow = if silent then Some ends.Silent else if slow then Some ends.Slow else None
+closing_of Sending silent slow = if silent then Some ends.Silent else if slow then Some ends.Slow else None
+closing_of SendingLast silent slow = if silent then Some ends.Silent else if slow then Some ends.Slow else None
 closing_of Last silent slow = if silent then Some ends.Silent else if slow then Some ends.Slow else None
 closing_of Draining silent slow = if silent then Some ends.Silent else if slow then Some ends.Slow else None
 
@@ -64,11 +87,12 @@ closing_of Draining silent slow = if silent then Some ends.Silent else if slow t
 abbrev pub closing : Course → (second : ℕ) → Limits → Option Closing
 closing c second limits = closing_of c.phase (is_silent c second limits) (is_slow c second limits)
 
--- a request or a reply of it is under way
+-- a request or a reply of it is under way, and it isn't for others that its request was kept back
 abbrev pub is_under_way : Course → (owes : Bool) → Bool
-is_under_way c owes = owes || nat_lt 0 c.unfinished
+is_under_way c owes =
+    (owes || (nat_lt 0 c.unfinished || is_sending c.phase)) && not c.is_kept_back
 
--- its bytes are counted anew: nothing is under way, or enough moved in an idle time
+-- its bytes are counted anew: nothing is under way, a request was kept back, or enough moved in an idle time
 abbrev pub counts_anew : Course → (owes : Bool) → (second : ℕ) → Limits → Bool
 counts_anew c owes second limits =
     not (is_under_way c owes) || (is_past c.mark second limits && not (nat_lt c.moved limits.least_rate))
@@ -81,6 +105,8 @@ woken c r w = record c { is_readable = c.is_readable || r; is_writable = c.is_wr
 abbrev pub is_ended : Phase → Bool
 is_ended Open = false
 is_ended Answering = false
+is_ended Sending = false
+is_ended SendingLast = true
 is_ended Last = true
 is_ended Draining = true
 is_ended Over = true
@@ -91,6 +117,11 @@ pub record StaysOrEnds (before after : Course) : Type 0 where
   pub stirs : after.has_moved ≡ before.has_moved
   pub moved : after.moved ≡ before.moved
   pub unfinished : after.unfinished ≡ before.unfinished
+
+-- a content is sent to it where one was, or it is over
+abbrev pub SendsStill : (before after : Phase) → Type 0
+SendsStill before after = (after ≡ Over)
+    ⊎ ((is_sending after ≡ is_sending before) × (before ≡ Over → ⊥))
 
 -- its phase stays, or it is over
 abbrev pub StaysOrIsOver : (before after : Phase) → Type 0

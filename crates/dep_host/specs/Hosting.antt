@@ -3,12 +3,16 @@ use Rattle.std.specs.Prelude.{◌≡◌, ◌⊎◌, ◌<◌, ◌≤◌, ◌+◌,
 use Rattle.std.specs.List.{flat_map}
 use Rattle.std.specs.Io.KnownBytes.{IsAtEnd}
 use Rattle.dep_types.specs.Conditions.{Condition}
-use Rattle.dep_hub.specs.Records.{Line, Live, Absent}
+use Rattle.dep_hub.specs.Records.{Line, Live, Absent, World}
 use Rattle.dep_hub.specs.Standing.{IsClean}
-use Rattle.dep_hub.specs.Holding.{KeepsHolding, MovesLine, StandsOn, with_held}
+use Rattle.dep_hub.specs.Holding.{KeepsHolding, MovesLine, StandsHolding, with_held}
+use Rattle.dep_hub.specs.StandsOwing.{KeepsBack, behind_at, is_awaited_at}
+use Rattle.dep_hub.specs.declared.rest.Behind.{Behind}
+use Rattle.dep_hub.specs.declared.rest.Behind.TheVariants.{Nothing}
+use Rattle.dep_hub.specs.declared.sent_on.SentOn.{SentOn}
 use Rattle.dep_hub.specs.declared.hub.Hub.{Hub}
 use Rattle.dep_outbox.specs.Wires.{told, owed_count}
-use Rattle.dep_host.specs.declared.course.Phase.TheVariants.{Open, Draining, Over}
+use Rattle.dep_host.specs.declared.course.Phase.TheVariants.{Open, Answering, Draining, Over}
 use Rattle.dep_host.specs.declared.course.Duty.{Duty}
 use Rattle.dep_host.specs.declared.course.Duty.TheVariants as to
 use Rattle.dep_host.specs.declared.seat.Seat.{Seat}
@@ -22,7 +26,7 @@ use Rattle.dep_host.specs.declared.log.Closing.TheVariants as ends
 use Rattle.dep_host.specs.Courses.{StaysOrIsOver, closing, duty, is_ended, is_held_back, phase_begun}
 use Rattle.dep_host.specs.Causes.{Causes, HasCauses}
 use Rattle.dep_host.specs.Notes.{Note, LetGo, Grows}
-use Rattle.dep_host.specs.Seats.{HubStays, SameClient, SendsOn, next_duty, IsUnknown, Rests, Offers, Refuses, Answers}
+use Rattle.dep_host.specs.Seats.{HubStays, SameBehind, SameClient, SendsOn, next_duty, phase_sent, IsUnknown, Rests, Offers, Refuses, Answers, Delays, Sends as SendsContent}
 
 -- the hub, who sits where, what bounds them, and since when it is shut
 pub record Position (A R K S : Type 0) : Type 0 where
@@ -54,8 +58,10 @@ pub data Deed : Type 0 where
   Opens : (at number : ℕ) → (given : Option (List ℕ)) → Deed
   -- a piece is read, and comes to the hub
   Takes : (at number : ℕ) → (piece : List ℕ) → Deed
-  -- its next item is answered, where one is complete, and these bytes are sent for it
-  Replies : (at number moment : ℕ) → (sent : List ℕ) → Deed
+  -- its next item is answered, where one is complete: these bytes are sent for it at once, of this reply
+  Replies : (at number moment : ℕ) → (sent reply : List ℕ) → Deed
+  -- some of a content are sent that is behind its last reply, and what that came to
+  Sends : (at number : ℕ) → (sent : List ℕ) → (answer : SentOn) → Deed
   -- a piece is read for which memory runs out, and these bytes are sent for it
   Declines : (at number : ℕ) → (piece : List ℕ) → (moment : ℕ) → (sent : List ℕ) → Deed
   -- it is closed at a second, for a reason
@@ -65,7 +71,8 @@ pub data Deed : Type 0 where
 abbrev pub sent_by : ℕ → Deed → List ℕ
 sent_by number (Opens at n given) = []
 sent_by number (Takes at n piece) = []
-sent_by number (Replies at n moment sent) = if n == number then sent else []
+sent_by number (Replies at n moment sent reply) = if n == number then sent else []
+sent_by number (Sends at n sent answer) = if n == number then sent else []
 sent_by number (Declines at n piece moment sent) = if n == number then sent else []
 sent_by number (Closes at n second reason) = []
 
@@ -82,7 +89,8 @@ Tells (Some bytes) = Unit {0}
 abbrev pub answer_at : ℕ → Deed → ℕ
 answer_at place (Opens at n given) = 0
 answer_at place (Takes at n piece) = 0
-answer_at place (Replies at n moment sent) = if at == place then 1 else 0
+answer_at place (Replies at n moment sent reply) = if at == place then 1 else 0
+answer_at place (Sends at n sent answer) = 0
 answer_at place (Declines at n piece moment sent) = if at == place then 1 else 0
 answer_at place (Closes at n second reason) = 0
 
@@ -94,13 +102,26 @@ answers_at place (d ∷ deeds) = answer_at place d + answers_at place deeds
 abbrev pub piece_at : ℕ → Deed → ℕ
 piece_at place (Opens at n given) = 0
 piece_at place (Takes at n piece) = if at == place then 1 else 0
-piece_at place (Replies at n moment sent) = 0
+piece_at place (Replies at n moment sent reply) = 0
+piece_at place (Sends at n sent answer) = 0
 piece_at place (Declines at n piece moment sent) = if at == place then 1 else 0
 piece_at place (Closes at n second reason) = 0
 
 abbrev pub pieces_at : ℕ → List Deed → ℕ
 pieces_at place [] = 0
 pieces_at place (d ∷ deeds) = piece_at place d + pieces_at place deeds
+
+-- what each step of a content came to that was sent to the connection at a place
+abbrev pub sending_at : ℕ → Deed → List SentOn
+sending_at place (Opens at n given) = []
+sending_at place (Takes at n piece) = []
+sending_at place (Replies at n moment sent reply) = []
+sending_at place (Sends at n sent answer) = if at == place then answer ∷ [] else []
+sending_at place (Declines at n piece moment sent) = []
+sending_at place (Closes at n second reason) = []
+
+abbrev pub sendings_at : ℕ → List Deed → List SentOn
+sendings_at place deeds = flat_map (λ d. sending_at place d) deeds
 
 -- how many bytes of unfinished requests are kept for who sits at a place, and for all
 abbrev pub unfinished_of : {R K S : Type 0} → Option (Seat R K S) → ℕ
@@ -115,7 +136,8 @@ unfinished_in (s ∷ seats) = unfinished_of s + unfinished_in seats
 abbrev pub note_of : Deed → List Note
 note_of (Opens at n given) = []
 note_of (Takes at n piece) = []
-note_of (Replies at n moment sent) = []
+note_of (Replies at n moment sent reply) = []
+note_of (Sends at n sent answer) = []
 note_of (Declines at n piece moment sent) = []
 note_of (Closes at n second reason) = LetGo n reason ∷ []
 
@@ -127,7 +149,8 @@ closings_of deeds = flat_map note_of deeds
 abbrev pub IsDoneAt : Time → Deed → Type 0
 IsDoneAt time (Opens at n given) = Unit {0}
 IsDoneAt time (Takes at n piece) = Unit {0}
-IsDoneAt time (Replies at n moment sent) = moment ≡ time.moment
+IsDoneAt time (Replies at n moment sent reply) = moment ≡ time.moment
+IsDoneAt time (Sends at n sent answer) = Unit {0}
 IsDoneAt time (Declines at n piece moment sent) = moment ≡ time.moment
 IsDoneAt time (Closes at n second reason) = second ≡ time.second
 
@@ -144,7 +167,8 @@ IsRightlyTold condition p =
 abbrev pub IsOutgoing : Deed → Type 0
 IsOutgoing (Opens at n given) = ⊥
 IsOutgoing (Takes at n piece) = ⊥
-IsOutgoing (Replies at n moment sent) = Unit {0}
+IsOutgoing (Replies at n moment sent reply) = Unit {0}
+IsOutgoing (Sends at n sent answer) = Unit {0}
 IsOutgoing (Declines at n piece moment sent) = ⊥
 IsOutgoing (Closes at n second reason) = Unit {0}
 
@@ -152,6 +176,11 @@ IsOutgoing (Closes at n second reason) = Unit {0}
 abbrev pub AreOutgoing : List Deed → Type 0
 AreOutgoing [] = Unit {0}
 AreOutgoing (d ∷ deeds) = IsOutgoing d × AreOutgoing deeds
+
+-- the hub stands at each world at which it stood, while its store is open
+abbrev pub StandsStill : {A : Type 0} → (A → Condition) → (old new : Hub A) → Type 0
+StandsStill condition old new = IsClean condition new → (w : World) → (kept : ℕ → List ℕ)
+    → StandsHolding condition old w kept → StandsHolding condition new w kept
 
 -- more bytes of unfinished requests are kept than may be, and for no connection more than this one,
 -- of which no request can be complete
@@ -188,6 +217,8 @@ module _ {A R K S : Type 0} (condition : A → Condition) (unread : R → Option
     pub is_next : seat.connection ≡ p.hub.next
     pub next : q.hub.next ≡ p.hub.next + 1
     pub moves : MovesLine condition p.hub q.hub seat.connection (Live []) (λ kept. kept)
+    pub unowed : behind_at q.hub.connections.items seat.connection ≡ Nothing
+    pub behind : SameBehind p.hub q.hub
     pub same_store : q.hub.store ≡ p.hub.store
     pub same_config : q.hub.config ≡ p.hub.config
     pub fresh : IsAtEnd (told taken held seat.wire)
@@ -203,6 +234,7 @@ module _ {A R K S : Type 0} (condition : A → Condition) (unread : R → Option
     pub next : q.hub.next ≡ p.hub.next
     pub keeps : (lines : ℕ → Line) → (kept : ℕ → List ℕ) → KeepsHolding condition p.hub lines kept
         → KeepsHolding condition q.hub lines kept
+    pub behind : SameBehind p.hub q.hub
     pub same_store : q.hub.store ≡ p.hub.store
     pub same_config : q.hub.config ≡ p.hub.config
     pub same_limits : q.limits ≡ p.limits
@@ -213,7 +245,8 @@ module _ {A R K S : Type 0} (condition : A → Condition) (unread : R → Option
   pub record Asks (p q : Position A R K S) : Type 0 where
     pub sits : q.seats ≡ p.seats
     pub hub : HubStays condition p.hub q.hub
-    pub stands : StandsOn condition p.hub q.hub
+    pub stands : StandsStill condition p.hub q.hub
+    pub behind : SameBehind p.hub q.hub
     pub same_limits : q.limits ≡ p.limits
     pub told : (q.shut ≡ p.shut) ⊎ (IsNone p.shut × IsRightlyTold condition q)
 
@@ -237,6 +270,9 @@ module _ {A R K S : Type 0} (condition : A → Condition) (unread : R → Option
     pub done : HasReason p second seat reason
     pub next : q.hub.next ≡ p.hub.next
     pub moves : MovesLine condition p.hub q.hub seat.connection Absent (with_held seat.connection [])
+    pub behind : (number : ℕ) → behind_at q.hub.connections.items number
+        ≡ (if number == seat.connection then Nothing
+        else behind_at p.hub.connections.items number)
     pub same_store : q.hub.store ≡ p.hub.store
     pub same_config : q.hub.config ≡ p.hub.config
     pub same_limits : q.limits ≡ p.limits
@@ -253,6 +289,11 @@ module _ {A R K S : Type 0} (condition : A → Condition) (unread : R → Option
     offers : {at : ℕ} {is_full : Bool} {before after : Seat R K S} → HasTurn p q at before after
         → (o : Offers condition unread taken held p.hub q.hub before after is_full (is_some p.shut))
         → Step p q (Takes at before.connection o.piece ∷ [])
+    delays : {at : ℕ} {before after : Seat R K S} → HasTurn p q at before after
+        → Delays condition unread taken held p.hub q.hub before after → Step p q []
+    sends : {at : ℕ} {before after : Seat R K S} → HasTurn p q at before after
+        → (s : SendsContent condition unread taken held p.hub q.hub before after)
+        → Step p q (Sends at before.connection s.sends.sent s.answer ∷ [])
     refuses : {at moment : ℕ} {is_full : Bool} {before after : Seat R K S}
         → HasTurn p q at before after
         → (r : Refuses condition unread taken held p.hub q.hub before after moment is_full
@@ -260,7 +301,7 @@ module _ {A R K S : Type 0} (condition : A → Condition) (unread : R → Option
         → Step p q (Declines at before.connection r.piece moment r.answers.sent ∷ [])
     answers : {at moment : ℕ} {before after : Seat R K S} → HasTurn p q at before after
         → (a : Answers condition unread taken held p.hub q.hub before after moment)
-        → Step p q (Replies at before.connection moment a.answers.sent ∷ [])
+        → Step p q (Replies at before.connection moment a.now a.answers.sent ∷ [])
     leaves : {at second : ℕ} {reason : Closing} {seat : Seat R K S} → Goes p q at second reason seat
         → Step p q (Closes at seat.connection second reason ∷ [])
 
@@ -302,45 +343,72 @@ module _ {A R K S : Type 0} (condition : A → Condition) (unread : R → Option
   IsLeftAs p q deeds place seat = (slot place q.seats ≡ Some seat)
       ⊎ IsClosed p q deeds place seat
 
--- what a connection does next once its turn begins
-abbrev pub turn_duty : {R K S : Type 0} → (S → ℕ) → Option Shut → Seat R K S → Duty
-turn_duty size shut seat = duty (phase_begun seat.course.phase (is_some shut))
+-- what a connection does next once its turn begins, where a request waits for what is sent to it or not
+abbrev pub turn_duty : {R K S : Type 0} → (S → ℕ) → Option Shut → Seat R K S → (is_awaited : Bool)
+    → Duty
+turn_duty size shut seat is_awaited = duty (phase_begun seat.course.phase (is_some shut)) is_awaited
     (nat_lt 0 (owed_count size seat.wire)) seat.course.is_readable seat.course.is_writable
 
 module _ {A R K S : Type 0} (condition : A → Condition) (unread : R → Option (List ℕ))
     (taken : K → Option (List ℕ)) (held : S → Option (List ℕ)) (size : S → ℕ)
     (causes : Causes R K S) where
-  -- behind the first of these deeds the hub had no connection of that number
-  pub record IsLost (p q : Position A R K S) (deeds : List Deed) (number : ℕ) : Type 0 where
+  -- behind the first of these deeds the hub was asked, and this is so of what it was and what it then was
+  pub record IsOnce (So : (old new : Hub A) → Type 0) (p q : Position A R K S) (deeds : List Deed)
+      : Type 0 where
     pub earlier : List Deed
     pub later : List Deed
     pub all : deeds ≡ earlier ++ later
     pub mid : Position A R K S
+    pub next : Position A R K S
     pub came : Steps condition unread taken held p earlier mid
-    pub absent : IsUnknown mid.hub number
-    pub goes : Steps condition unread taken held mid later q
+    pub is : So mid.hub next.hub
+    pub goes : Steps condition unread taken held next later q
 
-  -- What was to be done for a connection was done, after which it is this: its next item was answered;
+  -- behind the first of these deeds the hub had no connection of that number
+  abbrev pub IsLost : (p q : Position A R K S) → List Deed → (number : ℕ) → Type 0
+  IsLost p q deeds number = IsOnce (λ old new. IsUnknown old number) p q deeds
+
+  -- and there a request waited for the content that is sent to it, or not
+  abbrev pub WasAwaited : (p q : Position A R K S) → List Deed → (number : ℕ) → Bool → Type 0
+  WasAwaited p q deeds number is_awaited =
+      IsOnce (λ old new. is_awaited_at old.connections.items number ≡ is_awaited) p q deeds
+
+  -- and there its next item was kept back: it stays as it was, and isn't closed for that
+  pub record IsKeptBack (p q : Position A R K S) (deeds : List Deed) (before after : Seat R K S)
+      : Type 0 where
+    pub keeps : IsOnce (λ old new. KeepsBack condition (told taken held before.wire)
+        (told taken held after.wire) before.wire.failures after.wire.failures old new
+        before.connection) p q deeds
+    pub stays : after.course.phase ≡ Answering
+    pub stirs : after.course.has_moved ≡ true
+    pub counts_not : after.course.is_kept_back ≡ true
+    pub leaves : after.course.unfinished ≡ before.course.unfinished
+
+  -- What was to be done for a connection was done, after which it is this: its next item was answered, or
+  -- kept back for what is sent to others; one step of a content was sent, and it goes on as that came to;
   -- what is owed was sent, as far as its socket takes it; a piece was read, where one may be and the
   -- socket had one; or its client was told that nothing more is sent. But for that it is as far as it
   -- was once its turn began, or over.
   abbrev pub IsServed : (p q : Position A R K S) → (deeds : List Deed) → (is_full : Bool)
-      → (before after : Seat R K S) → (answered read : ℕ) → Duty → Type 0
-  IsServed p q deeds is_full before after answered read to.Flush = SendsOn size before after
+      → (before after : Seat R K S) → (answered read : ℕ) → (sent : List SentOn) → Duty → Type 0
+  IsServed p q deeds is_full before after answered read sent to.Flush = SendsOn size before after
       × StaysOrIsOver (phase_begun before.course.phase (is_some p.shut)) after.course.phase
-  IsServed p q deeds is_full before after answered read to.Answer =
-      (answered ≡ 1) ⊎ IsLost p q deeds before.connection
-  IsServed p q deeds is_full before after answered read to.Read = (read ≡ 1)
+  IsServed p q deeds is_full before after answered read sent to.Answer = (answered ≡ 1)
+      ⊎ (IsLost p q deeds before.connection ⊎ IsKeptBack p q deeds before after)
+  IsServed p q deeds is_full before after answered read sent to.Send = (answer : SentOn)
+      × (sent ≡ answer ∷ []) × (after.course.phase
+      ≡ phase_sent (phase_begun before.course.phase (is_some p.shut)) answer)
+  IsServed p q deeds is_full before after answered read sent to.Read = (read ≡ 1)
       ⊎ (((is_held_back before.course is_full (is_some p.shut) ≡ true)
       × (after.course.phase ≡ phase_begun before.course.phase (is_some p.shut)))
       ⊎ (((after.course.is_readable ≡ false)
       × (after.course.phase ≡ phase_begun before.course.phase (is_some p.shut)))
       ⊎ (after.course.phase ≡ Over)))
-  IsServed p q deeds is_full before after answered read to.Finish =
+  IsServed p q deeds is_full before after answered read sent to.Finish =
       after.course.phase ≡ Draining
-  IsServed p q deeds is_full before after answered read to.Drain =
+  IsServed p q deeds is_full before after answered read sent to.Drain =
       StaysOrIsOver (phase_begun before.course.phase (is_some p.shut)) after.course.phase
-  IsServed p q deeds is_full before after answered read to.Wait =
+  IsServed p q deeds is_full before after answered read sent to.Wait =
       after.course.phase ≡ phase_begun before.course.phase (is_some p.shut)
 
   -- A connection had its turn, in which it was served, and after which it is or was this. Where it
@@ -350,8 +418,10 @@ module _ {A R K S : Type 0} (condition : A → Condition) (unread : R → Option
     pub after : Seat R K S
     pub left : IsLeftAs condition unread taken held p q deeds place after
     pub caused : HasCauses causes (IsLost p q deeds before.connection) before after
+    pub is_awaited : Bool
+    pub asked : WasAwaited p q deeds before.connection is_awaited
     pub served : IsServed p q deeds is_full before after (answers_at place deeds)
-        (pieces_at place deeds) (turn_duty size p.shut before)
+        (pieces_at place deeds) (sendings_at place deeds) (turn_duty size p.shut before is_awaited)
 
   -- so had who sat at a place, where somebody did
   abbrev pub IsServedAt : (p q : Position A R K S) → (is_full : Bool) → (deeds : List Deed)
@@ -368,13 +438,15 @@ module _ {A R K S : Type 0} (condition : A → Condition) (unread : R → Option
     pub others : (place : ℕ) → (place ≡ at → ⊥) → answers_at place deeds ≡ 0
     pub waits : is_full ≡ true → 0 < unfinished_of (slot at p.seats) → pieces_at at deeds ≡ 0
     pub unread_others : (place : ℕ) → (place ≡ at → ⊥) → pieces_at place deeds ≡ 0
+    pub sends_once : length (sendings_at at deeds) ≤ 1
+    pub unsent_others : (place : ℕ) → (place ≡ at → ⊥) → sendings_at place deeds ≡ []
     pub served : IsServedAt p q is_full deeds at (slot at p.seats)
     pub in_time : AreDoneAt time deeds
     -- what the log was told before, and what it was told then
     pub noted : Grows told tells (closings_of deeds)
 
   -- each place has its turn, in which it is served: of no connection more than one item is
-  -- answered, and where too many bytes of unfinished requests are kept, nothing more is read of
+  -- answered, to none more than one step of a content sent, and where too many bytes of unfinished requests are kept, nothing more is read of
   -- these
   pub record GoesRound (p q : Position A R K S) (time : Time) (told tells : Option (List Note))
       : Type 0 where
@@ -383,6 +455,7 @@ module _ {A R K S : Type 0} (condition : A → Condition) (unread : R → Option
     pub once : (place : ℕ) → answers_at place deeds ≤ 1
     pub waits : p.limits.unfinished_bytes < unfinished_in p.seats → (place : ℕ)
         → 0 < unfinished_of (slot place p.seats) → pieces_at place deeds ≡ 0
+    pub sends_once : (place : ℕ) → length (sendings_at place deeds) ≤ 1
     pub served : (place : ℕ) → IsServedAt p q
         (nat_lt p.limits.unfinished_bytes (unfinished_in p.seats)) deeds place (slot place p.seats)
     pub in_time : AreDoneAt time deeds

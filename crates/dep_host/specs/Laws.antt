@@ -1,15 +1,19 @@
 -- What follows from how a host goes on.
-use Rattle.std.specs.Prelude.{◌≡◌, ◌++◌, ℕ, List, [], Option, Some}
+use Rattle.std.specs.Prelude.{◌≡◌, ◌⊎◌, ◌++◌, ℕ, List, [], Option, Some}
 use Rattle.dep_types.specs.State.{State}
 use Rattle.dep_types.specs.Conditions.{Condition}
 use Rattle.dep_hub.specs.Records.{Record}
 use Rattle.dep_hub.specs.Standing.{IsClean}
 use Rattle.dep_hub.specs.Holding.{StandsHoldingAfter}
+use Rattle.dep_hub.specs.Claims.{is_content}
+use Rattle.dep_hub.specs.StandsOwing.{behind_at}
 use Rattle.dep_outbox.specs.Wires.{told}
+use Rattle.dep_host.specs.Courses.{is_sending}
+use Rattle.dep_host.specs.declared.course.Phase.TheVariants.{Over}
 use Rattle.dep_host.specs.declared.ending.Shut.{Shut}
 use Rattle.dep_host.specs.declared.seat.Seat.{Seat}
 use Rattle.dep_host.specs.Hosting.{Position, Deed, Steps, Tells, AreOutgoing, IsEmpty, slot, replies_to}
-use Rattle.dep_host.specs.Runs.{StandsBehind, KeepsPromise, Follows, StaysOpen, read_of, arrived_of}
+use Rattle.dep_host.specs.Runs.{StandsBehind, KeepsPromise, OwesNone, Follows, StaysOpen, read_of, arrived_of}
 
 -- what was read of a connection that stays open has arrived, but for what is held
 abbrev pub ReadsArrive : Type 0
@@ -48,10 +52,18 @@ module _ {A R K S : Type 0} (condition : A → Condition) (unread : R → Option
       → (at : ℕ) (seat : Seat R K S) → slot at q.seats ≡ Some seat
       → StaysOpen seat.connection deeds
 
+  -- a content that is still to be sent to who sits at a place is being sent to it, unless it is over
+  abbrev pub SendsContents : Type 0
+  SendsContents = (p q : Position A R K S) (deeds : List Deed) → IsEmpty p
+      → Steps condition unread taken held p deeds q
+      → (at : ℕ) (seat : Seat R K S) → slot at q.seats ≡ Some seat
+      → (is_sending seat.course.phase ≡ is_content (behind_at q.hub.connections.items seat.connection))
+      ⊎ (seat.course.phase ≡ Over)
+
   -- the archive promise, of any deeds from a host without connections
   abbrev pub KeepsPromises : Type 0
   KeepsPromises = (p q : Position A R K S) (deeds : List Deed) (first : State) (before : List Record)
-      → IsEmpty p → StandsHoldingAfter condition p.hub first before (λ n. [])
+      → IsEmpty p → OwesNone p.hub → StandsHoldingAfter condition p.hub first before (λ n. [])
       → Steps condition unread taken held p deeds q → IsClean condition q.hub
       → KeepsPromise condition unread taken held q first before deeds
 

@@ -1,20 +1,26 @@
 -- Which records the hub's machine makes of what a host does.
 use Rattle.std.specs.Prelude.{◌≡◌, ◌==◌, ℕ, List, [], ◌∷◌, ◌++◌, if◌then◌else◌, Option, Some, false}
 use Rattle.std.specs.List.{flat_map}
+use Rattle.std.specs.Io.KnownBytes.{append_known}
 use Rattle.dep_types.specs.State.{State}
 use Rattle.dep_types.specs.Conditions.{Condition}
 use Rattle.dep_hub.specs.Records.{Event, Record, Connect, Arrive, Close, Stop}
 use Rattle.dep_hub.specs.Standing.{IsClean}
 use Rattle.dep_hub.specs.Holding.{StandsHoldingAfter, with_held}
+use Rattle.dep_hub.specs.Owing.{IsOwed}
+use Rattle.dep_hub.specs.StandsOwing.{behind_at}
+use Rattle.dep_hub.specs.declared.rest.Behind.TheVariants.{Nothing}
+use Rattle.dep_hub.specs.declared.sent_on.SentOn.{SentOn}
 use Rattle.dep_hub.specs.declared.hub.Hub.{Hub}
 use Rattle.dep_outbox.specs.Wires.{told}
 use Rattle.dep_host.specs.declared.seat.Seat.{Seat}
 use Rattle.dep_host.specs.Courses.{is_ended}
 use Rattle.dep_host.specs.declared.log.Closing.{Closing}
-use Rattle.dep_host.specs.Hosting.{Position, Steps, IsEmpty, slot, Tells, Deed, Opens, Takes, Replies, Declines, Closes}
+use Rattle.dep_host.specs.Hosting.{Position, Steps, IsEmpty, slot, Tells, Deed, Opens, Takes, Replies, Sends, Declines, Closes}
 
 -- The records of the deeds, from what each connection held at first to what it holds now: a piece is
--- held until the items of it are answered, and a part of what is held arrives with each answer.
+-- held until the items of it are answered, and a part of what is held arrives with each answer. What is
+-- sent of a content is of the reply that its record has.
 pub data Follows (first : ℕ → List ℕ) : List Deed → List Record → (ℕ → List ℕ) → Type 0 where
   begins : Follows first [] [] first
   opens : {deeds : List Deed} {records : List Record} {held : ℕ → List ℕ} (at n : ℕ)
@@ -25,9 +31,12 @@ pub data Follows (first : ℕ → List ℕ) : List Deed → List Record → (ℕ
       (piece : List ℕ) → Follows first deeds records held
       → Follows first (deeds ++ Takes at n piece ∷ []) records (with_held n (held n ++ piece) held)
   replies : {deeds : List Deed} {records : List Record} {held : ℕ → List ℕ} (at n moment : ℕ)
-      (part rest sent : List ℕ) → Follows first deeds records held → held n ≡ part ++ rest
-      → Follows first (deeds ++ Replies at n moment sent ∷ [])
-      (records ++ record { event = Arrive n part moment; sent = sent } ∷ []) (with_held n rest held)
+      (part rest sent reply : List ℕ) → Follows first deeds records held → held n ≡ part ++ rest
+      → Follows first (deeds ++ Replies at n moment sent reply ∷ [])
+      (records ++ record { event = Arrive n part moment; sent = reply } ∷ []) (with_held n rest held)
+  sends : {deeds : List Deed} {records : List Record} {held : ℕ → List ℕ} (at n : ℕ)
+      (sent : List ℕ) (answer : SentOn) → Follows first deeds records held
+      → Follows first (deeds ++ Sends at n sent answer ∷ []) records held
   declines : {deeds : List Deed} {records : List Record} {held : ℕ → List ℕ} (at n moment : ℕ)
       (piece part rest sent : List ℕ) → Follows first deeds records held
       → held n ++ piece ≡ part ++ rest
@@ -50,7 +59,8 @@ pub record StandsBehind {A : Type 0} (condition : A → Condition) (hub : Hub A)
 abbrev pub read_by : ℕ → Deed → List ℕ
 read_by number (Opens at n given) = []
 read_by number (Takes at n piece) = if number == n then piece else []
-read_by number (Replies at n moment sent) = []
+read_by number (Replies at n moment sent reply) = []
+read_by number (Sends at n sent answer) = []
 read_by number (Declines at n piece moment sent) = if number == n then piece else []
 read_by number (Closes at n second reason) = []
 
@@ -62,7 +72,8 @@ read_of number deeds = flat_map (λ d. read_by number d) deeds
 abbrev pub given_by : ℕ → Deed → List (Option (List ℕ))
 given_by number (Opens at n given) = if number == n then given ∷ [] else []
 given_by number (Takes at n piece) = []
-given_by number (Replies at n moment sent) = []
+given_by number (Replies at n moment sent reply) = []
+given_by number (Sends at n sent answer) = []
 given_by number (Declines at n piece moment sent) = []
 given_by number (Closes at n second reason) = []
 
@@ -92,7 +103,8 @@ arrived_of number records = flat_map (λ r. arrived_by number r.event) records
 abbrev pub IsKept : ℕ → Deed → Type 0
 IsKept number (Opens at n given) = Unit {0}
 IsKept number (Takes at n piece) = Unit {0}
-IsKept number (Replies at n moment sent) = Unit {0}
+IsKept number (Replies at n moment sent reply) = Unit {0}
+IsKept number (Sends at n sent answer) = Unit {0}
 IsKept number (Declines at n piece moment sent) = Unit {0}
 IsKept number (Closes at n second reason) = number ≡ n → ⊥
 
@@ -112,20 +124,29 @@ abbrev pub sent_of : ℕ → List Record → List ℕ
 sent_of number records = flat_map (λ r. sent_for number r.event r.sent) records
 
 -- What a host did since it had no connection is a run behind the records before it. Each connection that
--- sits there was sent what the run says, of which its socket took a front; what was read of it has
--- arrived, but for what is held, and is a front of what its source had to give.
+-- sits there was sent what the run says, but for what is owed to it still: a rest of a stored content, as it
+-- is in the state in which the store is, unless a fault broke it off. Its socket took a front of what was
+-- sent. What was read of it has arrived, but for what is held, and is a front of what its source had to give.
 pub record KeepsPromise {A R K S : Type 0} (condition : A → Condition) (unread : R → Option (List ℕ))
     (taken : K → Option (List ℕ)) (held : S → Option (List ℕ)) (q : Position A R K S)
     (first : State) (before : List Record) (deeds : List Deed) : Type 0 where
   pub behind : StandsBehind condition q.hub first before (λ n. []) deeds
+  pub owed : ℕ → List ℕ
+  pub owes : (number : ℕ) → IsOwed behind.stands.world.state
+      (behind_at q.hub.connections.items number) (owed number)
   pub sent : ((sink : K) → Tells (taken sink)) → ((spool : S) → Tells (held spool)) → (at : ℕ)
       → (seat : Seat R K S) → slot at q.seats ≡ Some seat
-      → told taken held seat.wire ≡ Some (sent_of seat.connection behind.more)
+      → append_known (told taken held seat.wire) (owed seat.connection)
+      ≡ Some (sent_of seat.connection behind.more)
   pub read : (at : ℕ) → (seat : Seat R K S) → slot at q.seats ≡ Some seat
       → read_of seat.connection deeds
       ≡ arrived_of seat.connection behind.more ++ behind.holds seat.connection
   pub given : ((source : R) → Tells (unread source)) → (at : ℕ) → (seat : Seat R K S)
       → slot at q.seats ≡ Some seat → IsGiven unread deeds seat
+
+-- no content is still to be sent
+abbrev pub OwesNone : {A : Type 0} → Hub A → Type 0
+OwesNone hub = (number : ℕ) → behind_at hub.connections.items number ≡ Nothing
 
 -- The promise was kept at each moment at which a connection was closed, also to the one that was.
 abbrev pub KeptToTheLast : {A R K S : Type 0} → (A → Condition) → (R → Option (List ℕ))
@@ -138,12 +159,12 @@ KeptToTheLast {A = A} {R = R} {K = K} {S = S} condition unread taken held p firs
     × (KeepsPromise condition unread taken held m first before done
     × ((seat : Seat R K S) × ((slot at m.seats ≡ Some seat) × (seat.connection ≡ number)))))
 
--- The archive promise: from a host without connections over a store that stands for a state a host
--- gets where it keeps its promise, while its store is open.
+-- The archive promise: from a host without connections, to which nothing is owed, over a store that stands
+-- for a state a host gets where it keeps its promise, while its store is open.
 abbrev pub Promises : {A R K S : Type 0} → (A → Condition) → (R → Option (List ℕ))
     → (K → Option (List ℕ)) → (S → Option (List ℕ)) → Position A R K S → Position A R K S → Type 0
 Promises condition unread taken held p q = (first : State) → (before : List Record)
-    → IsEmpty p → StandsHoldingAfter condition p.hub first before (λ n. [])
+    → IsEmpty p → OwesNone p.hub → StandsHoldingAfter condition p.hub first before (λ n. [])
     → IsClean condition q.hub
     → (deeds : List Deed) × (Steps condition unread taken held p deeds q
     × (KeepsPromise condition unread taken held q first before deeds

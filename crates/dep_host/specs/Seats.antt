@@ -1,11 +1,17 @@
 -- What a turn of a connection does: what of it comes to the hub, and what is sent for it.
-use Rattle.std.specs.Prelude.{◌≡◌, ◌⊎◌, ◌<◌, ◌≤◌, ◌+◌, ◌-◌, ◌^◌, min, nat_lt, ℕ, Bool, List, ◌++◌, length, Option, None, true, false}
-use Rattle.std.specs.Io.KnownBytes.{Keeps, Consumes, IsAtEnd}
+use Rattle.std.specs.Prelude.{◌≡◌, ◌≢◌, ◌⊎◌, ◌<◌, ◌≤◌, ◌+◌, ◌-◌, ◌^◌, min, nat_lt, ℕ, Bool, List, ◌++◌, length, Option, None, Some, if◌then◌else◌, true, false}
+use Rattle.std.specs.Io.KnownBytes.{Appends, Keeps, Consumes, IsAtEnd}
 use Rattle.dep_types.specs.Conditions.{Condition}
 use Rattle.dep_hub.specs.Records.{Line}
 use Rattle.dep_hub.specs.Turns.{most_read}
 use Rattle.dep_hub.specs.Standing.{IsClean, IsHonest, intake_of}
 use Rattle.dep_hub.specs.Holding.{KeepsHolding, AnswersOver, OffersTo, IsNext, IsRefused, arrived_by, with_held}
+use Rattle.dep_hub.specs.Owing.{bytes_later, with_more}
+use Rattle.dep_hub.specs.Claims.{is_content}
+use Rattle.dep_hub.specs.StandsOwing.{KeepsBack, NextIsFree, OthersStay, Owes, RepliesOver, SendsOn as HubSends, behind_at, is_unsent}
+use Rattle.dep_hub.specs.declared.rest.Behind.TheVariants.{Broken}
+use Rattle.dep_hub.specs.declared.sent_on.SentOn.{SentOn}
+use Rattle.dep_hub.specs.declared.sent_on.SentOn.TheVariants.{Part, All, Broken as BrokenOff}
 use Rattle.dep_hub.specs.declared.hub.Hub.{Hub}
 use Rattle.dep_hub.specs.declared.arrived.Arrived.{Arrived}
 use Rattle.dep_hub.specs.declared.arrived.Arrived.TheVariants as came
@@ -14,10 +20,10 @@ use Rattle.dep_hub.specs.declared.next.Next.TheVariants.{More, Waiting, Closed, 
 use Rattle.dep_outbox.specs.Wires.{told, owed, owed_count}
 use Rattle.dep_host.specs.declared.seat.Seat.{Seat}
 use Rattle.dep_host.specs.declared.course.Phase.{Phase}
-use Rattle.dep_host.specs.declared.course.Phase.TheVariants.{Open, Answering, Last, Draining, Over}
+use Rattle.dep_host.specs.declared.course.Phase.TheVariants.{Open, Answering, Sending, SendingLast, Last, Draining, Over}
 use Rattle.dep_host.specs.declared.course.Duty.{Duty}
 use Rattle.dep_host.specs.declared.course.Duty.TheVariants as to
-use Rattle.dep_host.specs.Courses.{StaysOrEnds, StaysOrIsOver, duty, is_ended, is_held_back, woken}
+use Rattle.dep_host.specs.Courses.{SendsStill, StaysOrEnds, StaysOrIsOver, duty, is_ended, is_held_back, is_sending, woken}
 use Rattle.dep_host.specs.Causes.{Causes, HasCauses}
 
 -- its socket may be ready
@@ -31,13 +37,29 @@ phase_offered came.Closed = Last
 phase_offered came.Cut = Last
 phase_offered came.NoSuch = Over
 
--- and once its next item was answered
-abbrev pub phase_answered : Next → Phase
-phase_answered More = Answering
-phase_answered Waiting = Open
-phase_answered Closed = Last
-phase_answered Cut = Last
-phase_answered NoSuch = Over
+-- and once its next item was answered, behind whose reply a content is sent or not
+abbrev pub phase_answered : Next → (is_sending : Bool) → Phase
+phase_answered More sends = if sends then Sending else Answering
+phase_answered Waiting sends = if sends then Sending else Open
+phase_answered Closed sends = if sends then SendingLast else Last
+phase_answered Cut sends = if sends then SendingLast else Last
+phase_answered NoSuch sends = Over
+
+-- and once the content behind its last reply is out
+abbrev pub phase_behind : Phase → Phase
+phase_behind Open = Last
+phase_behind Answering = Last
+phase_behind Sending = Answering
+phase_behind SendingLast = Last
+phase_behind Last = Last
+phase_behind Draining = Last
+phase_behind Over = Last
+
+-- and once a few blocks of that were sent
+abbrev pub phase_sent : Phase → SentOn → Phase
+phase_sent p Part = p
+phase_sent p All = phase_behind p
+phase_sent p BrokenOff = Last
 
 -- how many bytes were read since an item was answered last, once that was answered
 abbrev pub left_unfinished : Next → ℕ → ℕ
@@ -54,8 +76,8 @@ pub record SameClient {R K S : Type 0} (before after : Seat R K S) : Type 0 wher
 
 -- what a connection does next
 abbrev pub next_duty : {R K S : Type 0} → (S → ℕ) → Seat R K S → Duty
-next_duty size seat = duty seat.course.phase (nat_lt 0 (owed_count size seat.wire))
-    seat.course.is_readable seat.course.is_writable
+next_duty size seat = duty seat.course.phase seat.course.is_awaited
+    (nat_lt 0 (owed_count size seat.wire)) seat.course.is_readable seat.course.is_writable
 
 -- it does this next, where it is so far and nothing is owed
 pub record IsDue {R K S : Type 0} (held : S → Option (List ℕ)) (size : S → ℕ) (seat : Seat R K S)
@@ -94,6 +116,11 @@ pub record Finishes {R K S : Type 0} (taken : K → Option (List ℕ)) (held : S
 abbrev pub IsUnknown : {A : Type 0} → Hub A → ℕ → Type 0
 IsUnknown hub number = intake_of hub.connections.items number ≡ None
 
+-- behind the last reply of each connection stands what stood there
+abbrev pub SameBehind : {A : Type 0} → (old new : Hub A) → Type 0
+SameBehind old new = (number : ℕ)
+    → behind_at new.connections.items number ≡ behind_at old.connections.items number
+
 -- no connection was opened, and the store is open only where it was before, and the disk honest
 pub record HubStays {A : Type 0} (condition : A → Condition) (old new : Hub A) : Type 0 where
   pub next : new.next ≡ old.next
@@ -111,6 +138,7 @@ module _ {A R K S : Type 0} (condition : A → Condition) (unread : R → Option
     pub gives : is_ended after.course.phase ≡ false
         → Keeps (unread before.source) (unread after.source)
     pub opens : after.course.phase ≡ Open → before.course.phase ≡ Open
+    pub sends_still : SendsStill before.course.phase after.course.phase
     pub keeps_count : is_ended after.course.phase ≡ false
         → after.course.unfinished ≡ before.course.unfinished
 
@@ -136,6 +164,7 @@ module _ {A R K S : Type 0} (condition : A → Condition) (unread : R → Option
     pub answers_next : after.course.phase ≡ Answering
     pub keeps : Keeps (told taken held before.wire) (told taken held after.wire)
     pub same_store : new.store ≡ old.store
+    pub behind : SameBehind old new
     pub holds : (lines : ℕ → Line) → (kept : ℕ → List ℕ) → KeepsHolding condition old lines kept
         → KeepsHolding condition new lines
         (with_held before.connection (kept before.connection ++ piece) kept)
@@ -146,24 +175,79 @@ module _ {A R K S : Type 0} (condition : A → Condition) (unread : R → Option
     pub piece : List ℕ
     pub read : IsRead before after piece is_full is_shut
     pub ends : is_ended after.course.phase ≡ true
+    pub unsent : is_sending after.course.phase ≡ false
+    pub behind : SameBehind old new
     pub answer : Arrived
     pub answers : AnswersOver condition (told taken held before.wire) (told taken held after.wire)
         before.wire.failures after.wire.failures old new before.connection
         (λ kept. kept ++ piece) moment answer (IsRefused answer)
 
-  -- the next item was answered where nothing was owed, and only what was sent for it was taken
+  -- what became of the next item of a connection: it was kept back, or answered
+  abbrev pub IsReplied : (old new : Hub A) → (before after : Seat R K S) → (moment : ℕ) → Option Next
+      → Type 0
+  IsReplied old new before after moment None =
+      KeepsBack condition (told taken held before.wire) (told taken held after.wire)
+      before.wire.failures after.wire.failures old new before.connection
+      × (after.course.phase ≡ before.course.phase) × (after.course.is_kept_back ≡ true)
+      × (after.course.unfinished ≡ before.course.unfinished)
+  IsReplied old new before after moment (Some next) =
+      RepliesOver condition (told taken held before.wire) (told taken held after.wire)
+      before.wire.failures after.wire.failures old new before.connection moment next
+      × NextIsFree old before.connection
+      × (behind_at new.connections.items before.connection ≢ Broken)
+      × (after.course.phase ≡ phase_answered next
+      (is_content (behind_at new.connections.items before.connection)))
+      × (after.course.unfinished ≡ left_unfinished next before.course.unfinished)
+
+  -- The next item was answered where nothing was owed, and only what was sent for it was taken; with what
+  -- is still to be sent of a content behind it that is the reply.
   pub record Answers (old new : Hub A) (before after : Seat R K S) (moment : ℕ) : Type 0 where
     pub unowed : IsAtEnd (owed held before.wire)
     pub was_read : before.course.phase ≡ Answering
     pub same_source : after.source ≡ before.source
     pub next : Next
-    pub answers : AnswersOver condition (told taken held before.wire) (told taken held after.wire)
-        before.wire.failures after.wire.failures old new before.connection
-        (λ kept. kept) moment (arrived_by next) (IsNext next)
-    -- a connection is read again once no item of it is complete
-    pub opens : after.course.phase ≡ Open → next ≡ Waiting
+    pub known : next ≢ NoSuch
+    pub more : Option (List ℕ)
+    pub now : List ℕ
+    pub appends : Appends (told taken held before.wire) (told taken held after.wire) now
+    pub answers : AnswersOver condition (told taken held before.wire)
+        (with_more (told taken held after.wire) more) before.wire.failures after.wire.failures
+        old new before.connection (λ kept. kept) moment (arrived_by next) (IsNext next)
+    pub owes : Owes condition new before.connection (bytes_later more)
+    pub paid : is_unsent (behind_at old.connections.items before.connection) ≡ false
+    pub free : NextIsFree old before.connection
+    pub others : OthersStay old new before.connection
+    pub unbroken : behind_at new.connections.items before.connection ≢ Broken
+    -- a connection is read again once no item of it is complete, and answered again once the content is out
+    pub goes : after.course.phase ≡ phase_answered next
+        (is_content (behind_at new.connections.items before.connection))
     pub stirs : after.course.has_moved ≡ true
     pub leaves : after.course.unfinished ≡ left_unfinished next before.course.unfinished
+
+  -- the next item was kept back where nothing was owed: it stays, and nothing is sent
+  pub record Delays (old new : Hub A) (before after : Seat R K S) : Type 0 where
+    pub unowed : IsAtEnd (owed held before.wire)
+    pub was_read : before.course.phase ≡ Answering
+    pub same_source : after.source ≡ before.source
+    pub keeps : KeepsBack condition (told taken held before.wire) (told taken held after.wire)
+        before.wire.failures after.wire.failures old new before.connection
+    pub stays : after.course.phase ≡ Answering
+    -- so that it isn't closed for that
+    pub stirs : after.course.has_moved ≡ true
+    pub counts_not : after.course.is_kept_back ≡ true
+    pub leaves : after.course.unfinished ≡ before.course.unfinished
+
+  -- A few blocks more of a content were sent, where nothing was owed, or a request waits for that content;
+  -- once all of it is out, or it broke off, the connection goes on.
+  pub record Sends (old new : Hub A) (before after : Seat R K S) : Type 0 where
+    pub unowed : before.course.is_awaited ≡ false → IsAtEnd (owed held before.wire)
+    pub was_sending : is_sending before.course.phase ≡ true
+    pub same_source : after.source ≡ before.source
+    pub answer : SentOn
+    pub sends : HubSends condition (told taken held before.wire) (told taken held after.wire)
+        before.wire.failures after.wire.failures old new before.connection answer
+    pub goes : after.course.phase ≡ phase_sent before.course.phase answer
+    pub leaves : after.course.unfinished ≡ before.course.unfinished
 
   -- Why nothing comes to the hub in a turn, by what comes next. Where an item is to be answered, no
   -- connection is there; where a piece is to be read, it isn't to be read now, or the socket gave
@@ -174,6 +258,7 @@ module _ {A R K S : Type 0} (condition : A → Condition) (unread : R → Option
   MayRest size hub before after is_full is_shut to.Flush =
       SendsOn size before after × StaysOrIsOver before.course.phase after.course.phase
   MayRest size hub before after is_full is_shut to.Answer = IsUnknown hub before.connection
+  MayRest size hub before after is_full is_shut to.Send = ⊥
   MayRest size hub before after is_full is_shut to.Read =
       ((is_held_back before.course is_full is_shut ≡ true)
       × (after.course.phase ≡ before.course.phase))
@@ -186,8 +271,8 @@ module _ {A R K S : Type 0} (condition : A → Condition) (unread : R → Option
   MayRest size hub before after is_full is_shut to.Wait =
       after.course.phase ≡ before.course.phase
 
-  -- a turn is one of these, by what comes next: at most one piece is read, and at most one item
-  -- answered
+  -- a turn is one of these, by what comes next: at most one piece is read, at most one item answered, and
+  -- at most one step of a content sent
   abbrev pub ActsOnce : (S → ℕ) → (old new : Hub A) → (before after : Seat R K S) → (moment : ℕ)
       → (is_full is_shut : Bool) → Type 0
   ActsOnce size old new before after moment is_full is_shut =
@@ -195,7 +280,9 @@ module _ {A R K S : Type 0} (condition : A → Condition) (unread : R → Option
       × MayRest size old before after is_full is_shut (next_duty size before))
       ⊎ ((Offers old new before after is_full is_shut × (next_duty size before ≡ to.Read))
       ⊎ ((Refuses old new before after moment is_full is_shut × (next_duty size before ≡ to.Read))
-      ⊎ (Answers old new before after moment × (next_duty size before ≡ to.Answer))))
+      ⊎ ((Answers old new before after moment × (next_duty size before ≡ to.Answer))
+      ⊎ ((Delays old new before after × (next_duty size before ≡ to.Answer))
+      ⊎ (Sends old new before after × (next_duty size before ≡ to.Send))))))
 
   -- a turn of a connection, which stays the one that it was, and waits for its socket, or is over, only
   -- for a cause
@@ -218,6 +305,11 @@ module _ {A R K S : Type 0} (condition : A → Condition) (unread : R → Option
   abbrev pub MayAnswer : (S → ℕ) → Causes R K S → (old new : Hub A) → (before after : Seat R K S)
       → (moment : ℕ) → Type 0
   MayAnswer size causes old new before after moment = (is_full is_shut : Bool)
+      → TakesTurn size causes old new before after moment is_full is_shut
+
+  -- a turn in which a content may be sent on
+  abbrev pub MaySend : (S → ℕ) → Causes R K S → (old new : Hub A) → (before after : Seat R K S) → Type 0
+  MaySend size causes old new before after = (moment : ℕ) (is_full is_shut : Bool)
       → TakesTurn size causes old new before after moment is_full is_shut
 
   -- what becomes of a piece that was offered

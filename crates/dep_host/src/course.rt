@@ -1,6 +1,6 @@
 //! How far a connection is, and what it does next.
 ghost use Rattle.std.specs.Prelude.{◌≡◌, ◌+◌, ◌^◌, ◌-◌, ◌||◌, nat_lt, min, if◌then◌else◌, true, false};
-ghost use Rattle.dep_host.specs.Courses.{duty, closing, counts_anew, is_under_way, is_past};
+ghost use Rattle.dep_host.specs.Courses.{duty, closing, counts_anew, is_under_way, is_past, is_sending};
 
 use crate::limits::Limits;
 use crate::log::Closing;
@@ -12,6 +12,10 @@ pub enum Phase {
     Open,
     /// A request may be complete of what was read, and is answered before more is read.
     Answering,
+    /// The content of a file is sent behind the last reply, before a further request is answered.
+    Sending,
+    /// It isn't read any more, and the content of a file is sent behind the last reply.
+    SendingLast,
     /// It isn't read any more, and what is owed is sent.
     Last,
     /// All was sent, and what the client still sends is thrown away, so that it isn't cut off from the
@@ -21,6 +25,15 @@ pub enum Phase {
     Over,
 }
 
+impl Phase {
+    /// Whether a content is sent behind the last reply.
+    pub fn is_sending(self) -> bool
+        ensures { result ≡ is_sending self }
+    {
+        self == Phase::Sending || self == Phase::SendingLast
+    }
+}
+
 /// What a connection does next.
 #[derive(Clone, Copy, Debug, PartialEq, Eq)]
 pub enum Duty {
@@ -28,6 +41,8 @@ pub enum Duty {
     Flush,
     /// The next request is answered, if it is complete.
     Answer,
+    /// A few blocks more of a content are sent.
+    Send,
     /// A piece is read.
     Read,
     /// The sending half of the socket is shut down, so that the client sees that nothing more is sent.
@@ -47,9 +62,14 @@ pub struct Course {
     pub is_readable: bool,
     /// Whether the socket may take something.
     pub is_writable: bool,
-    /// Whether something was read, answered or taken since its last turn began.
+    /// Whether a request of another connection waited for the content that is sent to this one, as its last
+    /// turn began. Then the content is sent on whatever the socket takes.
+    pub is_awaited: bool,
+    /// Whether its next request was kept back in its last turn, for what is sent to others.
+    pub is_kept_back: bool,
+    /// Whether something was read, answered or taken, or a request kept back, since its last turn began.
     pub has_moved: bool,
-    /// The second of its first turn after something was read, answered or taken.
+    /// The second of its first turn after something was read, answered or taken, or a request kept back.
     pub since: u64,
     /// Whether a request or a reply was under way when its last turn began.
     pub is_due: bool,
@@ -75,6 +95,8 @@ impl Course {
             phase: Phase::Open,
             is_readable: true,
             is_writable: true,
+            is_awaited: false,
+            is_kept_back: false,
             has_moved: true,
             since: 0,
             is_due: false,
@@ -86,11 +108,19 @@ impl Course {
 
     /// What it does next, where it owes bytes or not.
     pub fn duty(&self, owes: bool) -> Duty
-        ensures { result ≡ duty self.now.phase owes self.now.is_readable self.now.is_writable }
+        ensures { result ≡ duty self.now.phase self.now.is_awaited owes self.now.is_readable
+            self.now.is_writable }
     {
         match self.phase {
             Phase::Over => Duty::Wait,
-            Phase::Open | Phase::Answering | Phase::Last | Phase::Draining if owes => {
+            Phase::Sending | Phase::SendingLast if self.is_awaited => Duty::Send,
+            Phase::Open
+            | Phase::Answering
+            | Phase::Sending
+            | Phase::SendingLast
+            | Phase::Last
+            | Phase::Draining
+                if owes => {
                 if self.is_writable {
                     Duty::Flush
                 } else {
@@ -98,6 +128,7 @@ impl Course {
                 }
             }
             Phase::Answering => Duty::Answer,
+            Phase::Sending | Phase::SendingLast => Duty::Send,
             Phase::Open => if self.is_readable {
                 Duty::Read
             } else {
@@ -113,8 +144,8 @@ impl Course {
     }
 
     /// Begins a turn: takes note of when something moved last, and counts bytes anew where nothing is
-    /// under way, or enough moved in an idle time. What moved in the last turn counts from here on for
-    /// silence, since a turn may take long, and its client is told of the end first.
+    /// under way, a request was kept back, or enough moved in an idle time. What moved in the last turn counts
+    /// from here on for silence, since a turn may take long, and its client is told of the end first.
     pub fn begin_turn(&mut self, owes: bool, second: u64, limits: &Limits)
         ensures phase { self.new.phase ≡ self.old.phase }
         ensures readable { self.new.is_readable ≡ self.old.is_readable }
@@ -128,17 +159,28 @@ impl Course {
         ensures bytes { self.new.moved
             ≡ (if counts_anew self.old owes second limits.now then 0 else self.old.moved) }
         ensures unfinished { self.new.unfinished ≡ self.old.unfinished }
+        ensures kept_back { self.new.is_kept_back ≡ false }
     {
         if self.has_moved {
             self.since = second;
             self.has_moved = false;
         }
-        self.is_due = owes || self.unfinished > 0;
+        let is_any = owes || self.unfinished > 0 || self.phase.is_sending();
+        self.is_due = is_any && !self.is_kept_back;
+        self.is_kept_back = false;
         let is_enough = is_past(self.mark, second, limits) && self.moved >= limits.least_rate;
         if !self.is_due || is_enough {
             self.mark = second;
             self.moved = 0;
         }
+    }
+
+    /// Takes note that its next request was kept back, so that it isn't closed for that.
+    pub fn keep_back(&mut self)
+        ensures { self.new ≡ record self.old { has_moved = true; is_kept_back = true } }
+    {
+        self.has_moved = true;
+        self.is_kept_back = true;
     }
 
     /// Takes note that so many bytes were read or taken.

@@ -300,7 +300,8 @@ impl<A: Archive, R: Source + Drop, K: Sink + Drop, S: Spool + Drop> Host<A, R, K
         let Some(seat) = &mut self.seats[at] else {
             return false;
         };
-        seat.begin_turn(turn.time.second, &self.limits, turn.is_shut);
+        let is_awaited = seat.is_awaited(&self.hub);
+        seat.begin_turn(turn.time.second, &self.limits, turn.is_shut, is_awaited);
         seat.take_turn(&mut self.hub, buffer, turn, log);
         let is_busy = seat.is_busy();
         let closing = seat.course.closing(turn.time.second, &self.limits);
@@ -323,6 +324,7 @@ impl<A: Archive, R: Source + Drop, K: Sink + Drop, S: Spool + Drop> Host<A, R, K
     {
         if let Some(seat) = self.seats[at].take() {
             self.hub.close(seat.connection);
+            seat.break_off(log);
             log.closed(seat.connection, seat.address, closing, seat.bytes());
             drop(seat);
         }

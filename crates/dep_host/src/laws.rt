@@ -1,8 +1,8 @@
 //! What follows from how a host goes on, apart from any code.
-ghost use Rattle.dep_host.specs.Laws.{MakesRuns, TakesWhatIsSent, ReadsArrive, SitsApart, SitsOpen, KeepsPromises, TakesNothing};
+ghost use Rattle.dep_host.specs.Laws.{MakesRuns, TakesWhatIsSent, ReadsArrive, SitsApart, SitsOpen, KeepsPromises, TakesNothing, SendsContents};
 
 use dep_hub::Archive;
-use dep_hub::laws::{answers_make_a_run, connections_make_a_run};
+use dep_hub::laws::{answers_make_a_run, connections_make_a_run, replies_make_a_run};
 use dep_outbox::{Sink, Source, Spool};
 
 /// Whatever a host does, it makes a run: behind all records that its hub stood for, the hub stands for
@@ -32,15 +32,23 @@ pub fn seats_are_apart<A: Archive, R: Source, K: Sink, S: Spool>()
     ensures open { SitsOpen A.condition R.unread K.taken S.held }
 {}
 
+/// What is still to be sent of a content goes on: who sits at a place to whom it is owed is in a phase in which
+/// it is sent, unless it is over.
+pub fn contents_are_sent<A: Archive, R: Source, K: Sink, S: Spool>()
+    ensures { SendsContents A.condition R.unread K.taken S.held }
+{}
+
 /// The archive promise, for all connections at once. From a host without connections over a store that
 /// stands for a state, whatever peers, moments and events come: what was done is a run of the machine,
-/// each connection was sent a front of its replies to the requests that its bytes spell, these bytes are a
-/// front of what its client gave, and the store stands for the machine's state, while it is open.
+/// each connection was sent a front of its replies to the requests that its bytes spell, behind which the rest
+/// is owed, these bytes are a front of what its client gave, and the store stands for the machine's state, while
+/// it is open.
 pub fn hosts_keep_the_archive_promise<A: Archive, R: Source, K: Sink, S: Spool>()
     ensures { KeepsPromises A.condition R.unread K.taken S.held }
 {
     answers_make_a_run::<A>();
     connections_make_a_run::<A>();
+    replies_make_a_run::<A>();
 }
 
 /// Once a host is shut, as its store is or as it was told to stop, it stays so: it lets nobody in and reads

@@ -2,7 +2,7 @@
 ghost use Rattle.std.specs.Prelude.{◌≡◌, List, [], ◌∷◌, Option, None};
 ghost use Rattle.dep_host.specs.Notes.{Note, LetIn, TurnedAway, LetGo, Grows};
 
-use dep_hub::{AccessLog, ConnId, Next};
+use dep_hub::{AccessLog, ConnId, Next, SentOn};
 use std::net::IpAddr;
 
 /// Why a client was turned away.
@@ -62,9 +62,24 @@ pub trait HostLog {
     fn answering(&mut self, connection: ConnId, address: IpAddr) -> Self::Item
         ensures noted { notes self.new ≡ notes self.old };
 
+    /// It isn't answered yet, as it has to wait for what is sent to others. It is asked for again.
+    fn kept_back(&mut self, item: Self::Item)
+        ensures noted { notes self.new ≡ notes self.old };
+
     /// What that was told of it, how the connection stands then, how many bytes were read of it since the item
-    /// before, and how many the wire took for the reply.
+    /// before, and how many the wire took for the reply, which is whole, or was cut.
     fn answered(&mut self, item: Self::Item, next: Next, bytes: Bytes)
+        ensures noted { notes self.new ≡ notes self.old };
+
+    /// The same in place of `answered`, where the content of a file is still to be sent behind the reply: the
+    /// wire took so many bytes as yet.
+    fn begun(&mut self, item: Self::Item, bytes: Bytes)
+        ensures noted { notes self.new ≡ notes self.old };
+
+    /// No more is sent of the content behind the last reply of a connection: `All` of it was, it is `Broken`, or
+    /// the connection is closed next, with a `Part` sent. The wire took so many bytes for the whole reply. It is
+    /// told once for each `begun`.
+    fn sent(&mut self, connection: ConnId, address: IpAddr, sent_on: SentOn, bytes: u64)
         ensures noted { notes self.new ≡ notes self.old };
 
     /// A connection was closed, of which so many bytes were read, and so many taken by its socket.

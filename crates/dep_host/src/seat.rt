@@ -1,20 +1,20 @@
 //! A connection that is served.
-ghost use Rattle.std.specs.Prelude.{IsSomeAnd, ◌≡◌, ◌≢◌, ◌<◌, ◌≤◌, ◌+◌, ◌-◌, ◌^◌, ◌||◌, min, nat_lt, length, true, false};
+ghost use Rattle.std.specs.Prelude.{IsSomeAnd, ◌≡◌, ◌≢◌, ◌<◌, ◌≤◌, ◌+◌, ◌-◌, ◌^◌, ◌||◌, ◌&&◌, min, nat_lt, length, true, false};
 ghost use Rattle.std.specs.Io.KnownBytes.{Keeps, IsAtEnd};
-ghost use Rattle.dep_hub.specs.Holding.{ComesToNext};
+ghost use Rattle.dep_hub.specs.StandsOwing.{is_awaited_at};
 ghost use Rattle.dep_outbox.specs.Wires.{told, owed, owed_count};
-ghost use Rattle.dep_host.specs.Courses.{StaysOrEnds, is_ended, is_held_back, phase_begun};
+ghost use Rattle.dep_host.specs.Courses.{StaysOrEnds, is_ended, is_held_back, is_sending, phase_begun};
 ghost use Rattle.dep_host.specs.Causes.{HasCauses, causes_of};
 ghost use Rattle.dep_host.specs.Hosting.{unfinished_of};
 ghost use Rattle.dep_host.specs.declared.course.Phase.TheVariants.{Open};
-ghost use Rattle.dep_host.specs.Seats.{Finishes, Flushes, HubStays, IsDue, TakesTurn, MayRead, MayAnswer, IsOffered, next_duty, phase_answered, left_unfinished, woken_seat};
+ghost use Rattle.dep_host.specs.Seats.{Finishes, Flushes, HubStays, IsDue, SameBehind, TakesTurn, MayRead, MayAnswer, MaySend, IsOffered, IsReplied, next_duty, phase_answered, phase_sent, woken_seat};
 
 use crate::course::{Course, Duty, Phase};
 use crate::events::Client;
 use crate::limits::Limits;
 use crate::log::{Bytes, HostLog};
 use crate::read_buffer::ReadBuffer;
-use dep_hub::{AccessLog, Archive, Arrived, ConnId, Hub, Next};
+use dep_hub::{AccessLog, Archive, Arrived, ConnId, Hub, Next, SentOn};
 use dep_moment::Moment;
 use dep_outbox::{Flushed, Received, Sink, Source, Spool, Wire};
 use std::net::IpAddr;
@@ -49,6 +49,8 @@ pub struct Seat<R, K, S> {
     pub(crate) course: Course,
     /// How many bytes were read, up to 2^64 - 1.
     received: u64,
+    /// How many bytes the wire had taken before the last reply, up to 2^64 - 1.
+    reply_start: u64,
 }
 
 impl<R: Source, K: Sink, S: Spool> Seat<R, K, S> {
@@ -77,6 +79,7 @@ impl<R: Source, K: Sink, S: Spool> Seat<R, K, S> {
             wire,
             course: Course::new(),
             received: 0,
+            reply_start: 0,
         }
     }
 
@@ -99,8 +102,30 @@ impl<R: Source, K: Sink, S: Spool> Seat<R, K, S> {
         self.course.is_writable = self.course.is_writable || is_writable;
     }
 
-    /// Begins its turn. Once the host is shut it is read no more.
-    pub(crate) fn begin_turn(&mut self, second: u64, limits: &Limits, is_shut: bool)
+    /// Whether a content is sent behind its last reply.
+    pub(crate) fn is_sending(&self) -> bool
+        ensures { result ≡ is_sending self.now.course.phase }
+    {
+        self.course.phase.is_sending()
+    }
+
+    /// Whether a request waits for the content that is sent to it.
+    pub(crate) fn is_awaited<A: Archive>(&self, hub: &Hub<A>) -> bool
+        ensures { result ≡ is_sending self.now.course.phase
+            && is_awaited_at hub.now.connections.items self.now.connection }
+    {
+        self.is_sending() && hub.is_awaited(self.connection)
+    }
+
+    /// Begins its turn. Once the host is shut it is read no more. `is_awaited` tells whether a request waits
+    /// for the content that is sent to it.
+    pub(crate) fn begin_turn(
+        &mut self,
+        second: u64,
+        limits: &Limits,
+        is_shut: bool,
+        is_awaited: bool,
+    )
         ensures same { self.new ≡ record self.old { course = self.new.course } }
         ensures phase { self.new.course.phase ≡ phase_begun self.old.course.phase is_shut }
         ensures readable { self.new.course.is_readable ≡ self.old.course.is_readable }
@@ -111,9 +136,11 @@ impl<R: Source, K: Sink, S: Spool> Seat<R, K, S> {
             → is_ended self.new.course.phase ≡ true }
         ensures shut { is_shut ≡ true → self.new.course.phase ≢ Phase.Open }
         ensures unfinished { self.new.course.unfinished ≡ self.old.course.unfinished }
+        ensures awaited { self.new.course.is_awaited ≡ is_awaited }
     {
         let owes = self.wire.owes();
         self.course.begin_turn(owes, second, limits);
+        self.course.is_awaited = is_awaited;
         if is_shut && self.course.phase == Phase::Open {
             self.course.phase = Phase::Last;
         }
@@ -127,8 +154,8 @@ impl<R: Source, K: Sink, S: Spool> Seat<R, K, S> {
         self.course.duty(self.wire.owes()) != Duty::Wait
     }
 
-    /// Does what it does next: at most one piece is read, or one item answered. What it sends and
-    /// reads counts as moved.
+    /// Does what it does next: at most one piece is read, one item answered, or one step of a content sent.
+    /// What its socket takes and what is read counts as moved.
     pub(crate) fn take_turn<A: Archive, L: HostLog>(
         &mut self,
         hub: &mut Hub<A>,
@@ -182,6 +209,7 @@ impl<R: Source, K: Sink, S: Spool> Seat<R, K, S> {
         match self.course.duty(self.wire.owes()) {
             Duty::Flush => self.flush(),
             Duty::Answer => self.answer(hub, turn.time.moment, log),
+            Duty::Send => self.send_on(hub, log),
             Duty::Read => if self.may_read(turn) {
                 self.read(hub, buffer);
             },
@@ -191,7 +219,7 @@ impl<R: Source, K: Sink, S: Spool> Seat<R, K, S> {
         }
     }
 
-    /// Answers the next item, and sends what is owed for it.
+    /// Answers the next item, unless it is kept back, and sends what is owed for it.
     fn answer<A: Archive, L: HostLog>(&mut self, hub: &mut Hub<A>, moment: Moment, log: &mut L)
         requires { IsDue S.held S.size self.old Phase.Answering Duty.Answer }
         ensures turn { MayAnswer A.condition R.unread K.taken S.held S.size
@@ -201,50 +229,91 @@ impl<R: Source, K: Sink, S: Spool> Seat<R, K, S> {
     {
         let mut item = log.answering(self.connection, self.address);
         let received = self.course.unfinished;
-        let before = self.wire.written();
-        let next = self.answer_next(hub, moment, &mut item);
-        let sent = self.wire.written().saturating_sub(before);
-        log.answered(item, next, Bytes { received, sent });
+        self.reply_start = self.wire.written();
+        match self.answer_next(hub, moment, &mut item) {
+            Some(next) => self.tell(item, next, received, log),
+            None => log.kept_back(item),
+        }
         // Where it is stopped short, the next turn tries again, and takes note of that.
         let _flushed = self.wire.flush();
     }
 
-    /// Answers the next item.
+    /// Tells the log of an item that was answered.
+    fn tell<L: HostLog>(&self, item: L::Item, next: Next, received: u64, log: &mut L)
+        ensures { L.notes log.new ≡ L.notes log.old }
+    {
+        let bytes = Bytes {
+            received,
+            sent: self.replied(),
+        };
+        if self.is_sending() {
+            log.begun(item, bytes);
+        } else {
+            log.answered(item, next, bytes);
+        }
+    }
+
+    /// How many bytes the wire took since the last reply began.
+    fn replied(&self) -> u64 {
+        self.wire.written().saturating_sub(self.reply_start)
+    }
+
+    /// Answers the next item, unless it is kept back.
     fn answer_next<A: Archive, L: AccessLog>(
         &mut self,
         hub: &mut Hub<A>,
         moment: Moment,
         log: &mut L,
-    ) -> Next
+    ) -> Option<Next>
         ensures hub { HubStays A.condition hub.old hub.new }
         ensures same { self.new ≡ record self.old {
           wire = self.new.wire;
           course = self.new.course;
         } }
-        ensures answers { ComesToNext A.condition
-            (told K.taken S.held self.old.wire) (told K.taken S.held self.new.wire)
-            self.old.wire.failures self.new.wire.failures hub.old hub.new self.old.connection
-            moment result }
-        ensures phase { self.new.course.phase ≡ phase_answered result }
+        ensures replies { IsReplied A.condition R.unread K.taken S.held hub.old hub.new self.old
+            self.new moment result }
         ensures readable { self.new.course.is_readable ≡ self.old.course.is_readable }
         ensures writable { self.new.course.is_writable ≡ self.old.course.is_writable }
         ensures stirs { self.new.course.has_moved ≡ true }
         ensures moved { self.new.course.moved ≡ self.old.course.moved }
-        ensures unfinished { self.new.course.unfinished
-            ≡ left_unfinished result self.old.course.unfinished }
     {
-        let next = hub.answer(self.connection, moment, &mut self.wire, log);
-        self.course.has_moved = true;
-        self.course.phase = match next {
-            Next::More => Phase::Answering,
-            Next::Waiting => Phase::Open,
-            Next::Closed | Next::Cut => Phase::Last,
-            Next::NoSuch => Phase::Over,
+        let Some(next) = hub.reply(self.connection, moment, &mut self.wire, log) else {
+            self.course.keep_back();
+            return None;
         };
+        self.course.has_moved = true;
+        self.course.phase = phase_answered(next, hub.is_sending(self.connection));
         if next != Next::Waiting {
             self.course.unfinished = 0;
         }
-        next
+        Some(next)
+    }
+
+    /// Sends a few blocks more of the content behind its last reply.
+    fn send_on<A: Archive, L: HostLog>(&mut self, hub: &mut Hub<A>, log: &mut L)
+        requires due { next_duty S.size self.old ≡ Duty.Send }
+        requires unowed { self.old.course.is_awaited ≡ false → IsAtEnd (owed S.held self.old.wire) }
+        ensures turn { MaySend A.condition R.unread K.taken S.held S.size
+            (causes_of R.halts K.halts S.failures) hub.old hub.new self.old self.new }
+        ensures moved { self.new.course.moved ≡ self.old.course.moved }
+        ensures noted { L.notes log.new ≡ L.notes log.old }
+    {
+        let sent_on = hub.send_on(self.connection, &mut self.wire);
+        self.course.phase = phase_sent(self.course.phase, sent_on);
+        if sent_on != SentOn::Part {
+            log.sent(self.connection, self.address, sent_on, self.replied());
+        }
+        // As behind an answer.
+        let _left = self.wire.flush();
+    }
+
+    /// Tells the log that no more is sent of the content behind its last reply, where more of it was to be.
+    pub(crate) fn break_off<L: HostLog>(&self, log: &mut L)
+        ensures { L.notes log.new ≡ L.notes log.old }
+    {
+        if self.is_sending() {
+            log.sent(self.connection, self.address, SentOn::Part, self.replied());
+        }
     }
 
     /// Reads a piece, and offers it.
@@ -265,6 +334,7 @@ impl<R: Source, K: Sink, S: Spool> Seat<R, K, S> {
     fn offer<A: Archive>(&mut self, hub: &mut Hub<A>, piece: &[u8])
         ensures hub { HubStays A.condition hub.old hub.new }
         ensures store { hub.new.store ≡ hub.old.store }
+        ensures behind { SameBehind hub.old hub.new }
         ensures same { self.new ≡ record self.old {
           wire = self.new.wire;
           course = self.new.course;
@@ -328,6 +398,31 @@ impl<R: Source, K: Sink, S: Spool> Seat<R, K, S> {
             Received::Later => self.course.is_readable = false,
             Received::Ended | Received::Failed => self.course.phase = Phase::Over,
         }
+    }
+}
+
+/// How far a connection is once its next item was answered, behind whose reply a content is sent or not.
+fn phase_answered(next: Next, is_sending: bool) -> Phase
+    ensures { result ≡ phase_answered next is_sending }
+{
+    match next {
+        Next::More | Next::Waiting if is_sending => Phase::Sending,
+        Next::Closed | Next::Cut if is_sending => Phase::SendingLast,
+        Next::More => Phase::Answering,
+        Next::Waiting => Phase::Open,
+        Next::Closed | Next::Cut => Phase::Last,
+        Next::NoSuch => Phase::Over,
+    }
+}
+
+/// How far a connection is once a few blocks more were sent to it.
+fn phase_sent(phase: Phase, sent_on: SentOn) -> Phase
+    ensures { result ≡ phase_sent phase sent_on }
+{
+    match sent_on {
+        SentOn::Part => phase,
+        SentOn::All if phase == Phase::Sending => Phase::Answering,
+        SentOn::All | SentOn::Broken => Phase::Last,
     }
 }
 

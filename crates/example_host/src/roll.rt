@@ -2,7 +2,7 @@
 
 use crate::fate::Fate;
 use dep_host::{Bytes, Closing, HostLog, Refusal as TurnedAway};
-use dep_hub::{ConnId, Next, NoLog};
+use dep_hub::{ConnId, Next, NoLog, SentOn};
 use std::alloc::{AllocError, Global};
 use std::net::IpAddr;
 
@@ -67,7 +67,13 @@ impl HostLog for Roll {
         NoLog
     }
 
+    fn kept_back(&mut self, item: NoLog) {}
+
     fn answered(&mut self, item: NoLog, next: Next, bytes: Bytes) {}
+
+    fn begun(&mut self, item: NoLog, bytes: Bytes) {}
+
+    fn sent(&mut self, connection: ConnId, address: IpAddr, sent_on: SentOn, bytes: u64) {}
 
     fn closed(&mut self, connection: ConnId, address: IpAddr, closing: Closing, bytes: Bytes) {
         for entry in self.entries.iter_mut() {

@@ -7,7 +7,7 @@ use dep_configuration::{
     Closing as Closed, Exchange, GREATEST_PATH, Reason, closing_line, exchange_line,
 };
 use dep_host::{Bytes, Cause, Closing, Ended, HostLog, Refusal as TurnedAway};
-use dep_hub::{AccessLog, ConnId, Next};
+use dep_hub::{AccessLog, ConnId, Next, SentOn};
 use dep_program::{microseconds_since, moment_of};
 use dep_sockets::DoorLog;
 use dep_types::Refusal;
@@ -29,6 +29,8 @@ pub struct StandardErrorLog<'a> {
     open_microseconds: u64,
     /// The room of the item that is answered next.
     item: Item,
+    /// Items that were answered, behind whose replies contents are still to be sent.
+    begun: Vec<Item>,
 }
 
 /// What is known of an item that is answered.
@@ -43,6 +45,8 @@ pub struct Item {
     /// Why it is refused, if it is.
     refusal: Option<Refusal>,
     begun: Option<Instant>,
+    /// How many bytes were read for it, once it is answered.
+    received: u64,
 }
 
 impl<'a> StandardErrorLog<'a> {
@@ -54,6 +58,7 @@ impl<'a> StandardErrorLog<'a> {
             lines: HeldLines::new(rt),
             open_microseconds: microseconds_since(rt, place.begun),
             item: Item::new(rt.alloc()),
+            begun: Vec::new(rt.alloc()),
         }
     }
 
@@ -113,6 +118,7 @@ impl Item {
             status: None,
             refusal: None,
             begun: None,
+            received: 0,
         }
     }
 }
@@ -159,6 +165,10 @@ impl HostLog for StandardErrorLog<'_> {
         item
     }
 
+    fn kept_back(&mut self, item: Item) {
+        self.item = item;
+    }
+
     // A `100 Continue` has no line.
     fn answered(&mut self, item: Item, next: Next, bytes: Bytes) {
         if let Some(address) = item.address {
@@ -170,6 +180,31 @@ impl HostLog for StandardErrorLog<'_> {
             }
         }
         self.item = item;
+    }
+
+    // The line of a reply with a content is written once no more of that is sent, or at once where there is no
+    // memory to keep it so long.
+    fn begun(&mut self, mut item: Item, bytes: Bytes) {
+        item.received = bytes.received;
+        if let Err(item) = self.begun.push(item) {
+            self.answered(item, Next::More, bytes);
+        }
+    }
+
+    // Where a client ends its connection before all is sent, the line of the reply tells how much was.
+    fn sent(&mut self, connection: ConnId, address: IpAddr, sent_on: SentOn, bytes: u64) {
+        let number = connection.number();
+        if let Some(at) = self.begun.iter().position(|item| item.connection == number) {
+            let item = self.begun.swap_remove(at);
+            let bytes = Bytes {
+                received: item.received,
+                sent: bytes,
+            };
+            self.answered(item, Next::More, bytes);
+        }
+        if sent_on == SentOn::Broken {
+            self.write_closing(Some(number), address, Reason::ReplyCut);
+        }
     }
 
     // A client that ends its connection has no line.

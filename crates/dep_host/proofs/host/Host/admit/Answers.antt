@@ -1,11 +1,12 @@
-use Rattle.std.proofs.Common.{refl, sym, subst, [], ◌∷◌, inr, ◌∙◌, arith, rules}
+use Rattle.std.proofs.Common.{◌≡◌, None, refl, sym, subst, [], ◌∷◌, inr, ◌∙◌, arith, rules}
 use Rattle.std.specs.Io.KnownBytes.{IsAtEnd}
 use Rattle.dep_hub.specs.Records.{Live}
 use Rattle.dep_hub.specs.Holding.{MovesLine}
 use Rattle.dep_outbox.specs.Wires.{told}
 use Rattle.dep_host.specs.Notes.{Grows, LetIn}
 use Rattle.dep_host.specs.declared.log.Refusal.TheVariants.{Address, Full, Memory}
-use Rattle.dep_host.proofs.HostLemmas.{untouched, unopened, stays_same, stays_set}
+use Rattle.dep_hub.specs.Standing.{intake_of}
+use Rattle.dep_host.proofs.HostLemmas.{nothing_behind, untouched, unopened, stays_same, stays_set}
 use Rattle.dep_host.proofs.MeetLemmas.{turned}
 use Rattle.dep_host.proofs.host.Host.admit.Goals as goal
 
@@ -21,7 +22,7 @@ returns-then-seated_from-self g c =
 pub returns-in-Err-Full : goal.returns-in-Err-Full
 returns-in-Err-Full g c =
     turned g.A.Archive.condition g.R.Source.unread g.K.Sink.taken g.S.Spool.held g.L.HostLog.notes _ _ _ _ c.args.at c.args.client Full _ c.turn_away-in-Err-Full.ensures.same (record {
-      keeps = unopened g.A.Archive.condition g.R.Source.unread g.K.Sink.taken g.S.Spool.held _ _ refl c.in-Err-Full.ensures.kept c.in-Err-Full.ensures.holding c.connect.ensures.store c.connect.ensures.config refl refl;
+      keeps = unopened g.A.Archive.condition g.R.Source.unread g.K.Sink.taken g.S.Spool.held _ _ refl c.in-Err-Full.ensures.kept c.connect.ensures.behind c.in-Err-Full.ensures.holding c.connect.ensures.store c.connect.ensures.config refl refl;
       may = (c.requires.vacant.2, inr (c.in-Err-Full.ensures.full (search rules)));
       stays = record { places = refl; limits = refl; shut = refl; unanswered = refl };
       noted = c.turn_away-in-Err-Full.ensures.noted;
@@ -30,7 +31,7 @@ returns-in-Err-Full g c =
 pub returns-in-Err-Memory : goal.returns-in-Err-Memory
 returns-in-Err-Memory g c =
     turned g.A.Archive.condition g.R.Source.unread g.K.Sink.taken g.S.Spool.held g.L.HostLog.notes _ _ _ _ c.args.at c.args.client Memory _ c.turn_away-in-Err-Memory.ensures.same (record {
-      keeps = unopened g.A.Archive.condition g.R.Source.unread g.K.Sink.taken g.S.Spool.held _ _ refl c.in-Err-Memory.ensures.kept c.in-Err-Memory.ensures.holding c.connect.ensures.store c.connect.ensures.config refl refl;
+      keeps = unopened g.A.Archive.condition g.R.Source.unread g.K.Sink.taken g.S.Spool.held _ _ refl c.in-Err-Memory.ensures.kept c.connect.ensures.behind c.in-Err-Memory.ensures.holding c.connect.ensures.store c.connect.ensures.config refl refl;
       may = c.requires.vacant.2;
       stays = record { places = refl; limits = refl; shut = refl; unanswered = refl };
       noted = c.turn_away-in-Err-Memory.ensures.noted;
@@ -46,6 +47,9 @@ returns g c = record {
     is_next = c.new.ensures.number ∙ c.in-Ok.ensures.next.0;
     next = c.in-Ok.ensures.next.1;
     moves = subst (λ n. MovesLine g.A.Archive.condition c.args.self.now.hub c.connect.new.self n (Live []) (λ kept. kept)) (sym c.new.ensures.number) c.in-Ok.ensures.holding;
+    unowed = nothing_behind _ _ c.new.result.connection (c.connect.ensures.behind c.new.result.connection)
+        (subst (λ n. intake_of c.args.self.now.hub.connections.items n ≡ None) (sym c.new.ensures.number) c.in-Ok.ensures.fresh);
+    behind = c.connect.ensures.behind;
     same_store = c.connect.ensures.store;
     same_config = c.connect.ensures.config;
     fresh = subst (λ w. IsAtEnd (told g.K.Sink.taken g.S.Spool.held w)) (sym c.new.ensures.wire) c.requires.fresh;

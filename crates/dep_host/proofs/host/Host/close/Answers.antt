@@ -15,6 +15,7 @@ returns-in-Some-clause-goes g c = record {
         done = subst (λ o. MayGo (position c.args.self.now) c.args.second c.args.closing o) sat c.requires.done;
         next = c.close.ensures.kept.next;
         moves = c.close.ensures.holding;
+        behind = c.close.ensures.behind;
         same_store = c.close.ensures.kept.store;
         same_config = c.close.ensures.kept.config;
         same_limits = refl;

@@ -14,7 +14,7 @@ returns-then-is_some-clause-asks g c = record {
 
 pub returns-in-Ok-false-clause-asks : goal.returns-in-Ok-false-clause-asks
 returns-in-Ok-false-clause-asks g c = record {
-  steps = asked_alone g.A.Archive.condition g.R.Source.unread g.K.Sink.taken g.S.Spool.held _ _ KeepsAll c.is_open.ensures.rests c.is_open.ensures.rests.store.was_open c.is_open.ensures.rests.store.honest refl refl (inr (sym c.is_some.ensures ∙ c.if-is_some.false, λ is. told_shut (g.A.Archive.condition c.is_open.new.self.store) c.in-Ok-false.field-0 (search rules) c.in-Ok-false.ensures.told));
+  steps = asked_alone g.A.Archive.condition g.R.Source.unread g.K.Sink.taken g.S.Spool.held _ _ KeepsAll c.is_open.ensures.rests c.is_open.ensures.rests.store.kept c.is_open.ensures.rests.store.was_open c.is_open.ensures.rests.store.honest refl refl (inr (sym c.is_some.ensures ∙ c.if-is_some.false, λ is. told_shut (g.A.Archive.condition c.is_open.new.self.store) c.in-Ok-false.field-0 (search rules) c.in-Ok-false.ensures.told));
   told = inr (sym c.is_some.ensures ∙ c.if-is_some.false, Contains-push [] c.args.second);
   limits = refl;
   known = inr (
@@ -26,7 +26,7 @@ returns-in-Ok-false-clause-asks g c = record {
 
 pub returns-in-Ok-true-clause-asks : goal.returns-in-Ok-true-clause-asks
 returns-in-Ok-true-clause-asks g c = record {
-  steps = asked_alone g.A.Archive.condition g.R.Source.unread g.K.Sink.taken g.S.Spool.held _ _ KeepsAll c.is_open.ensures.rests c.is_open.ensures.rests.store.was_open c.is_open.ensures.rests.store.honest refl refl (inl refl);
+  steps = asked_alone g.A.Archive.condition g.R.Source.unread g.K.Sink.taken g.S.Spool.held _ _ KeepsAll c.is_open.ensures.rests c.is_open.ensures.rests.store.kept c.is_open.ensures.rests.store.was_open c.is_open.ensures.rests.store.honest refl refl (inl refl);
   told = inl refl;
   limits = refl;
   known = inr (
@@ -38,7 +38,7 @@ returns-in-Ok-true-clause-asks g c = record {
 
 pub returns-in-Err-clause-asks : goal.returns-in-Err-clause-asks
 returns-in-Err-clause-asks g c = record {
-  steps = asked_alone g.A.Archive.condition g.R.Source.unread g.K.Sink.taken g.S.Spool.held _ _ KeepsAll c.is_open.ensures.rests c.is_open.ensures.rests.store.was_open c.is_open.ensures.rests.store.honest refl refl (inl refl);
+  steps = asked_alone g.A.Archive.condition g.R.Source.unread g.K.Sink.taken g.S.Spool.held _ _ KeepsAll c.is_open.ensures.rests c.is_open.ensures.rests.store.kept c.is_open.ensures.rests.store.was_open c.is_open.ensures.rests.store.honest refl refl (inl refl);
   told = inl refl;
   limits = refl;
   known = inr (Err c.in-Err._fault, c.in-Err.ensures.asked, (sym c.is_some.ensures ∙ c.if-is_some.false, c.saturating_add-self.ensures, c.in-Err.ensures.cause));

@@ -6,4 +6,4 @@ use Rattle.dep_host.proofs.host.Host.work_ahead.Goals as goal
 pub returns-clause-goes : goal.returns-clause-goes
 returns-clause-goes g c =
     let rests = c.work_ahead-self.ensures.rests in
-    asked_alone g.A.Archive.condition g.R.Source.unread g.K.Sink.taken g.S.Spool.held _ _ KeepsEachState rests rests.store.was_open rests.store.honest refl refl (inl refl)
+    asked_alone g.A.Archive.condition g.R.Source.unread g.K.Sink.taken g.S.Spool.held _ _ KeepsEachState rests rests.store.kept rests.store.was_open rests.store.honest refl refl (inl refl)

@@ -1,15 +1,15 @@
 use Rattle.std.proofs.Common.{inl, refl, sym, ap, ◌∙◌}
 use Rattle.std.proofs.lemmas.Bool.{ltb-true}
 use Rattle.dep_host.specs.declared.course.Course.{Course}
-use Rattle.dep_host.specs.declared.course.Duty.TheVariants.{Flush, Read, Finish, Drain, Wait}
+use Rattle.dep_host.specs.declared.course.Duty.TheVariants.{Flush, Send, Read, Finish, Drain, Wait}
 use Rattle.dep_host.specs.Causes.{causes_of}
-use Rattle.dep_host.proofs.SeatLemmas.{due_as, sends_owed, drains_ended, flushed, finished, drained, rested_so}
+use Rattle.dep_host.proofs.SeatLemmas.{due_as, sends_owed, sends_unowed, drains_ended, flushed, finished, drained, rested_so}
 use Rattle.dep_host.proofs.seat.Seat.act.Goals as goal
 
 pub returns-in-Flush-clause-turn : goal.returns-in-Flush-clause-turn
 returns-in-Flush-clause-turn g c = flushed g.A.Archive.condition g.R.Source.unread g.K.Sink.taken g.S.Spool.held g.S.Spool.size (causes_of g.R.Source.halts g.K.Sink.halts g.S.Spool.failures) c.args.hub.now c.args.self.now c.flush.new.self c.args.turn.now.time.moment c.args.turn.now.is_full c.args.turn.now.is_shut _ _
     c.flush.ensures.same c.flush.ensures.keeps c.flush.ensures.course (due_as g.S.Spool.size c.args.self.now c.owes.result c.duty.result Flush c.owes.ensures.exact c.duty.ensures c.in-Flush.is)
-    (c.flush.ensures.sends (ltb-true 0 _ (sym c.owes.ensures.exact ∙ sends_owed _ c.owes.result _ _ (sym c.duty.ensures ∙ c.in-Flush.is)))) c.flush.ensures.caused
+    (c.flush.ensures.sends (ltb-true 0 _ (sym c.owes.ensures.exact ∙ sends_owed _ _ c.owes.result _ _ (sym c.duty.ensures ∙ c.in-Flush.is)))) c.flush.ensures.caused
 
 pub returns-in-Answer-clause-turn : goal.returns-in-Answer-clause-turn
 returns-in-Answer-clause-turn g c = c.answer.ensures.turn c.args.turn.now.is_full c.args.turn.now.is_shut
@@ -28,8 +28,17 @@ returns-in-Finish-clause-turn g c = finished g.A.Archive.condition g.R.Source.un
 pub returns-in-Drain-clause-turn : goal.returns-in-Drain-clause-turn
 returns-in-Drain-clause-turn g c = drained g.A.Archive.condition g.R.Source.unread g.K.Sink.taken g.S.Spool.held g.S.Spool.size (causes_of g.R.Source.halts g.K.Sink.halts g.S.Spool.failures) c.args.hub.now c.args.self.now c.drain.new.self c.args.turn.now.time.moment c.args.turn.now.is_full c.args.turn.now.is_shut _ _
     c.drain.ensures.same c.drain.ensures.course (due_as g.S.Spool.size c.args.self.now c.owes.result c.duty.result Drain c.owes.ensures.exact c.duty.ensures c.in-Drain.is)
-    (drains_ended _ c.owes.result _ _ (sym c.duty.ensures ∙ c.in-Drain.is)) c.drain.ensures.caused
+    (drains_ended _ _ c.owes.result _ _ (sym c.duty.ensures ∙ c.in-Drain.is)) c.drain.ensures.caused
 
 pub returns-in-Wait-clause-turn : goal.returns-in-Wait-clause-turn
 returns-in-Wait-clause-turn g c = rested_so g.A.Archive.condition g.R.Source.unread g.K.Sink.taken g.S.Spool.held g.S.Spool.size (causes_of g.R.Source.halts g.K.Sink.halts g.S.Spool.failures) c.args.hub.now c.args.self.now c.args.turn.now.time.moment c.args.turn.now.is_full c.args.turn.now.is_shut Wait
     (due_as g.S.Spool.size c.args.self.now c.owes.result c.duty.result Wait c.owes.ensures.exact c.duty.ensures c.in-Wait.is) refl
+
+pub returns-in-Send-clause-turn : goal.returns-in-Send-clause-turn
+returns-in-Send-clause-turn g c = c.send_on.ensures.turn c.args.turn.now.time.moment c.args.turn.now.is_full c.args.turn.now.is_shut
+
+pub send_on-requires-clause-due : goal.send_on-requires-clause-due
+send_on-requires-clause-due g c = due_as g.S.Spool.size c.args.self.now c.owes.result c.duty.result Send c.owes.ensures.exact c.duty.ensures c.in-Send.is
+
+pub send_on-requires-clause-unowed : goal.send_on-requires-clause-unowed
+send_on-requires-clause-unowed g c = λ none. c.owes.ensures.none (sends_unowed _ _ c.owes.result _ _ (sym c.duty.ensures ∙ c.in-Send.is) none)

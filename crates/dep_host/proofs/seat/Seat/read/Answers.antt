@@ -16,7 +16,7 @@ returns-in-Bytes-clause-turn g c = λ moment is_full is_shut allowed unshut.
     offers.0 is_full is_shut c.requires.due kept.0 c.offer.ensures.hub
     c.requires.unowed c.requires.phase bytes.0 within small
     (subst (λ (l : List ℕ). Consumes (g.R.Source.unread c.args.self.now.source) (g.R.Source.unread c.receive.new.source) (take c.in-Bytes.n l)) (sym c.deref.ensures.value) bytes.2)
-    kept.1 c.offer.ensures.store offers.1 offers.2 c.offer.ensures.readable c.offer.ensures.writable
+    kept.1 c.offer.ensures.store c.offer.ensures.behind offers.1 offers.2 c.offer.ensures.readable c.offer.ensures.writable
     allowed unshut c.offer.ensures.has_moved c.offer.ensures.moved c.offer.ensures.unfinished moment
 
 pub returns-in-Later-clause-turn : goal.returns-in-Later-clause-turn

@@ -1,0 +1,373 @@
+-- What a host sent and still owes is what a run says.
+use Rattle.std.proofs.Common.{◌≡◌, ◌⊎◌, inl, inr, ◌≤◌, ◌+◌, ◌==◌, ℕ, zero, suc, Bool, true, false, if◌then◌else◌, List, [], ◌∷◌, ◌++◌, Option, None, Some, refl, sym, ap, subst, ◌∙◌, append_assoc, length, IsTrue, arith}
+use Rattle.std.proofs.lemmas.List.{append-nil, append_cancel_left}
+use Rattle.std.proofs.lemmas.Bool.{cases_eq, eq-eqb, ne_eqb}
+use Rattle.std.specs.Io.KnownBytes.{Appends, append_known}
+use Rattle.dep_types.specs.State.{State}
+use Rattle.dep_types.specs.declared.config.Config.{Config}
+use Rattle.dep_types.specs.Conditions.{Condition, StandsFor, HasCleanDisk}
+use Rattle.dep_hub.specs.Machine.{serves_all, step_fails, gives_up}
+use Rattle.dep_hub.specs.Records.{Record, Connect, Arrive, Close, Line, Live, Absent, Arrives, at_live, at_shut_line, Run, goes_on as runs_on, connects, closes as closes_line, arrives, with_line}
+use Rattle.dep_hub.specs.Standing.{IsClean, IsHonest}
+use Rattle.dep_hub.specs.Holding.{KeepsHolding, StandsHoldingAfter, PartArrives, IsNext, items_answered, with_held}
+use Rattle.dep_hub.specs.Owing.{IsOwed, bytes_later, with_more}
+use Rattle.dep_hub.specs.Claims.{is_content}
+use Rattle.dep_hub.specs.StandsOwing.{KeepsBack, unsent, waits_still, begins_to_wait, wants_memory, StandsOwingAfter, NextIsFree, OthersStay, Owes, behind_at, is_unsent}
+use Rattle.dep_hub.specs.declared.arrived.Arrived.{Arrived}
+use Rattle.dep_hub.specs.declared.hub.Hub.{Hub}
+use Rattle.dep_hub.specs.declared.next.Next.{Next}
+use Rattle.dep_hub.specs.declared.next.Next.TheVariants.{More, Waiting, Closed, Cut, NoSuch}
+use Rattle.dep_hub.specs.declared.rest.Behind.{Behind}
+use Rattle.dep_hub.specs.declared.rest.Behind.TheVariants.{Nothing, Content, Broken, Waits}
+use Rattle.dep_outbox.specs.Wires.{told}
+use Rattle.dep_host.specs.declared.seat.Seat.{Seat}
+use Rattle.dep_host.specs.declared.course.Phase.{Phase}
+use Rattle.dep_host.specs.declared.course.Phase.TheVariants.{Open, Over}
+use Rattle.dep_host.specs.Courses.{is_sending}
+use Rattle.dep_host.specs.Seats.{SameBehind}
+use Rattle.dep_host.specs.Hosting.{Position, slot, Tells, Deed, Opens, Takes, Replies, Sends, Declines, Closes, sent_by, replies_to, StandsStill, Step, refused, asks, comes, rests, offers, delays, sends, refuses, answers, leaves, Steps, begins, goes_on}
+use Rattle.dep_host.specs.Runs.{Follows, begins as follows_none, opens, takes, replies, sends as follows_sent, declines, closes, StaysOpen, sent_for, sent_of, KeepsPromise, OwesNone}
+use Rattle.dep_host.proofs.CloseLemmas.{clean_before}
+use Rattle.dep_host.proofs.ReadLemmas.{open_before, open_last, replies_one, sent_one, reads_arrive}
+use Rattle.dep_host.proofs.TellLemmas.{AllTell, some_same, no_some, tells_of, wires_take, seats_stay}
+use Rattle.dep_host.proofs.GivenLemmas.{reads_given}
+use Rattle.dep_host.proofs.RunLemmas.{kept_back_still}
+use Rattle.dep_host.proofs.SendLemmas.{Agrees, AllAgree, steps_agree}
+
+-- nothing is owed where nothing is unsent
+paid_off : (s : State) (b : Behind) (owed : List ℕ) → is_unsent b ≡ false → IsOwed s b owed → owed ≡ []
+paid_off s Nothing owed u h = h
+paid_off s (Waits claim) owed u h = h
+paid_off s Broken owed u h = absurd (let bad : true ≡ false = u in cc)
+paid_off s (Content r) owed u h = absurd (let bad : true ≡ false = u in cc)
+
+-- nor of who is read
+read_unsent : (b : Behind) (p : Phase) → p ≡ Open → Agrees b p → is_unsent b ≡ false
+read_unsent Nothing p is_open h = refl
+read_unsent (Waits claim) p is_open h = refl
+read_unsent Broken p is_open h = absurd (h.unbroken is_open refl)
+read_unsent (Content r) p is_open h = absurd (elim h.content [
+  | inl content ↦ let bad : false ≡ true = sym (ap is_sending is_open) ∙ content in cc
+  | inr over ↦ let bad : Over ≡ Open = sym over ∙ is_open in cc
+])
+
+at_most_one : (next : Next) (items : ℕ) (rest sent : List ℕ) → IsNext next items rest sent → items ≤ 1
+at_most_one More items rest sent h = omega (arith, h)
+at_most_one Waiting items rest sent h = let none = h.0 in omega (arith, none)
+at_most_one Closed items rest sent h = h.0
+at_most_one Cut items rest sent h = h.0
+at_most_one NoSuch items rest sent h = absurd h
+
+-- where no item is answered the state stays
+stays_unanswered : {config : Config} {piece : List ℕ} {moment : ℕ} {line after : Line} {s left : State} {sent : List ℕ} {answer : Arrived}
+    → (a : Arrives config piece moment line s sent left after answer) → items_answered a ≡ 0 → left ≡ s
+stays_unanswered (at_live (serves_all [] reads at_rest)) none = refl
+stays_unanswered (at_live (serves_all (item ∷ items) reads at_rest)) none = absurd (let no : ⊥ = omega (arith, none) in no)
+stays_unanswered (at_live (gives_up [] at reads some up_to)) none = refl
+stays_unanswered (at_live (gives_up (item ∷ items) at reads some up_to)) none = absurd (let no : ⊥ = omega (arith, none) in no)
+stays_unanswered (at_live (step_fails items item at reads fails)) none = absurd (let no : ⊥ = omega (arith, none) in no)
+stays_unanswered at_shut_line none = refl
+
+-- what is sent at once and later is the reply
+joins_reply : (t k more : Option (List ℕ)) (now reply : List ℕ) → Appends t k now → Appends t (with_more k more) reply → Tells t → Tells k → now ++ bytes_later more ≡ reply
+joins_reply None k more now reply a b t u = absurd t
+joins_reply (Some x) None more now reply a b t u = absurd u
+joins_reply (Some x) (Some y) None now reply a b t u = append-nil now ∙ append_cancel_left x now reply (sym a ∙ b)
+joins_reply (Some x) (Some y) (Some m) now reply a b t u =
+    append_cancel_left x (now ++ m) reply (sym (append_assoc x now m) ∙ (ap (λ (l : List ℕ). l ++ m) (sym a) ∙ b))
+
+-- who is there and who isn't
+here : (n m : ℕ) (xs ys : List ℕ) → n ≡ m → (if n == m then xs else ys) ≡ xs
+here n m xs ys e = ap (λ (b : Bool). if b then xs else ys) (eq-eqb n m e)
+
+elsewhere : (n m : ℕ) (xs ys : List ℕ) → (n ≡ m → ⊥) → (if n == m then xs else ys) ≡ ys
+elsewhere n m xs ys ne = ap (λ (b : Bool). if b then xs else ys) (ne_eqb n m ne)
+
+-- what was sent and is owed, of a deed and a record more
+joins_more : (r o s now more reply : List ℕ) → r ++ o ≡ s → o ≡ [] → now ++ more ≡ reply → (r ++ now) ++ more ≡ s ++ reply
+joins_more r o s now more reply joined none whole = append_assoc r now more ∙ (ap (λ (l : List ℕ). r ++ l) whole ∙ ap (λ (l : List ℕ). l ++ reply) (sym (append-nil r) ∙ (ap (λ (l : List ℕ). r ++ l) (sym none) ∙ joined)))
+
+joins_less : (r o s sent rest : List ℕ) → r ++ o ≡ s → o ≡ sent ++ rest → (r ++ sent) ++ rest ≡ s
+joins_less r o s sent rest joined cut = append_assoc r sent rest ∙ (ap (λ (l : List ℕ). r ++ l) (sym cut) ∙ joined)
+
+joins_same : (r o s r' o' s' : List ℕ) → r ++ o ≡ s → r' ≡ r → o' ≡ o → s' ≡ s → r' ++ o' ≡ s'
+joins_same r o s r' o' s' joined er eo es = ap (λ (l : List ℕ). l ++ o') er ∙ (ap (λ (l : List ℕ). r ++ l) eo ∙ (joined ∙ sym es))
+
+known_joined : (t : Option (List ℕ)) (r o s : List ℕ) → t ≡ Some r → r ++ o ≡ s → append_known t o ≡ Some s
+known_joined t r o s is joined = ap (λ (k : Option (List ℕ)). append_known k o) is ∙ ap Some joined
+
+-- what is owed to a connection that is closed
+owed_closed : (s : State) (is_closed : Bool) (b : Behind) (owed : List ℕ) → IsOwed s b owed → IsOwed s (if is_closed then Nothing else b) (if is_closed then [] else owed)
+owed_closed s true b owed h = refl
+owed_closed s false b owed h = h
+
+-- and to one whose request was kept back
+kept_here : {A : Type 0} {condition : A → Condition} {t k : Option (List ℕ)} {f g : ℕ} (s : State) (n : ℕ) (owed : List ℕ) (old new : Hub A) → KeepsBack condition t k f g old new n
+    → IsOwed s (behind_at old.connections.items n) owed → IsOwed s (behind_at new.connections.items n) owed
+kept_here s n owed old new k h = elim k.why [
+  | unsent u same ↦ subst (λ (b : Behind). IsOwed s b owed) (sym same) h
+  | waits_still claim was now held ↦ subst (λ (b : Behind). IsOwed s b owed) (sym now) (subst (λ (b : Behind). IsOwed s b owed) was h)
+  | begins_to_wait claim u has now held ↦ subst (λ (b : Behind). IsOwed s b owed) (sym now) (paid_off s (behind_at old.connections.items n) owed u h)
+  | wants_memory u pending has now ↦ subst (λ (b : Behind). IsOwed s b owed) (sym now) (paid_off s (behind_at old.connections.items n) owed u h)
+]
+
+kept_owed : {A : Type 0} {condition : A → Condition} {t k : Option (List ℕ)} {f g : ℕ} (s : State) (n number : ℕ) (owes : ℕ → List ℕ) (old new : Hub A) → KeepsBack condition t k f g old new number
+    → IsOwed s (behind_at old.connections.items n) (owes n) → IsOwed s (behind_at new.connections.items n) (owes n)
+kept_owed s n number owes old new k h = elim (cases_eq n number) [
+  | inl e ↦ subst (λ (m : ℕ). IsOwed s (behind_at new.connections.items m) (owes m)) (sym e) (kept_here s number (owes number) old new k (subst (λ (m : ℕ). IsOwed s (behind_at old.connections.items m) (owes m)) e h))
+  | inr ne ↦ subst (λ (b : Behind). IsOwed s b (owes n)) (sym (k.others n ne)) h
+]
+
+module _ {A R K S : Type 0} (condition : A → Condition) (unread : R → Option (List ℕ)) (taken : K → Option (List ℕ)) (held : S → Option (List ℕ))
+    (honest : (a : A) → IsTrue (condition a).is_open → HasCleanDisk (condition a))
+    (replied : (old new : Hub A) (n : ℕ) (moment : ℕ) (sent : List ℕ) (failures failures_after : ℕ) (answer : Arrived) (first : State) (records : List Record) (holds owes : ℕ → List ℕ) (more : List ℕ)
+    (h : StandsOwingAfter condition old first records holds owes)
+    (a : PartArrives condition old.config new n (holds n) moment sent failures failures_after answer h.world holds)
+    → new.config ≡ old.config → items_answered a.arrives ≤ 1 → NextIsFree old n → OthersStay old new n → Owes condition new n more → IsHonest condition new → IsClean condition new
+    → StandsOwingAfter condition new first (records ++ record { event = Arrive n a.part moment; sent = sent } ∷ []) (with_held n a.rest holds) (with_held n more owes)) where
+  -- behind these deeds the hub stands for their records, and owes what was not sent of their replies
+  record OwesBehind (q : Position A R K S) (first : State) (before : List Record) (deeds : List Deed) : Type 0 where
+    more : List Record
+    holds : ℕ → List ℕ
+    owes : ℕ → List ℕ
+    follows : Follows (λ n. []) deeds more holds
+    stands : StandsOwingAfter condition q.hub first (before ++ more) holds owes
+    joins : AllTell condition unread taken held → (n : ℕ) → StaysOpen n deeds → replies_to n deeds ++ owes n ≡ sent_of n more
+
+  owed_still : (old new : Hub A) (w : State) (owes : ℕ → List ℕ) → SameBehind old new → ((n : ℕ) → IsOwed w (behind_at old.connections.items n) (owes n)) → (n : ℕ) → IsOwed w (behind_at new.connections.items n) (owes n)
+  owed_still old new w owes behind h n = subst (λ (b : Behind). IsOwed w b (owes n)) (sym (behind n)) (h n)
+
+  -- the hub keeps other bytes, over the same store
+  moved : (old new : Hub A) (first : State) (records : List Record) (holds later owes : ℕ → List ℕ) → new.store ≡ old.store → new.config ≡ old.config → SameBehind old new
+      → ((lines : ℕ → Line) → KeepsHolding condition old lines holds → KeepsHolding condition new lines later)
+      → StandsOwingAfter condition old first records holds owes → StandsOwingAfter condition new first records later owes
+  moved old new first records holds later owes store config behind keeps h = record {
+    world = h.world;
+    run = subst (λ (c : Config). Run c first records h.world) (sym config) h.run;
+    at = record {
+      at = record {
+        state = subst (λ (s : A). StandsFor (condition s) h.world.state) (sym store) h.at.at.state;
+        kept = keeps h.world.line h.at.at.kept;
+      };
+      owes = owed_still old new h.world.state owes behind h.at.owes;
+    };
+  }
+
+  stood : (old new : Hub A) (first : State) (records : List Record) (holds owes : ℕ → List ℕ) → StandsStill condition old new → new.config ≡ old.config
+      → ((s : State) (n : ℕ) → IsOwed s (behind_at old.connections.items n) (owes n) → IsOwed s (behind_at new.connections.items n) (owes n)) → IsClean condition new
+      → StandsOwingAfter condition old first records holds owes → StandsOwingAfter condition new first records holds owes
+  stood old new first records holds owes still config owed clean h = record {
+    world = h.world;
+    run = subst (λ (c : Config). Run c first records h.world) (sym config) h.run;
+    at = record { at = still clean h.world holds h.at.at; owes = λ n. owed h.world.state n (h.at.owes n) };
+  }
+
+  -- no deed more
+  none_more : (p q : Position A R K S) (first : State) (before : List Record) (deeds : List Deed) (m : OwesBehind p first before deeds) → StandsOwingAfter condition q.hub first (before ++ m.more) m.holds m.owes → OwesBehind q first before (deeds ++ [])
+  none_more p q first before deeds m stands = record {
+    more = m.more;
+    holds = m.holds;
+    owes = m.owes;
+    follows = subst (λ (l : List Deed). Follows (λ n. []) l m.more m.holds) (sym (append-nil deeds)) m.follows;
+    stands = stands;
+    joins = λ all n is_open. ap (λ (l : List Deed). replies_to n l ++ m.owes n) (append-nil deeds) ∙ m.joins all n (subst (λ (l : List Deed). StaysOpen n l) (append-nil deeds) is_open);
+  }
+
+  -- a record more
+  one_more : (new : Hub A) (first : State) (before more : List Record) (holds owes : ℕ → List ℕ) (one : Record) → StandsOwingAfter condition new first ((before ++ more) ++ one ∷ []) holds owes → StandsOwingAfter condition new first (before ++ (more ++ one ∷ [])) holds owes
+  one_more new first before more holds owes one stands = subst (λ (l : List Record). StandsOwingAfter condition new first l holds owes) (append_assoc before more (one ∷ [])) stands
+
+  -- a deed more, for which nothing is sent
+  unsent_one : (n : ℕ) (deeds : List Deed) (d : Deed) → sent_by n d ≡ [] → replies_to n (deeds ++ d ∷ []) ≡ replies_to n deeds
+  unsent_one n deeds d none = replies_one n deeds d ∙ (ap (λ (l : List ℕ). replies_to n deeds ++ l) none ∙ append-nil (replies_to n deeds))
+
+  untold_one : (n : ℕ) (records : List Record) (r : Record) → sent_for n r.event r.sent ≡ [] → sent_of n (records ++ r ∷ []) ≡ sent_of n records
+  untold_one n records r none = sent_one n records r ∙ (ap (λ (l : List ℕ). sent_of n records ++ l) none ∙ append-nil (sent_of n records))
+
+  step_owes : {p q : Position A R K S} {deeds more : List Deed} (first : State) (before : List Record) → AllAgree condition unread taken held p → OwesBehind p first before deeds → Step condition unread taken held p q more
+      → IsClean condition q.hub → OwesBehind q first before (deeds ++ more)
+  step_owes {p = p} {q = q} {deeds = deeds} first before all m (refused r) clean =
+      none_more p q first before deeds m (moved p.hub q.hub first (before ++ m.more) m.holds m.holds m.owes r.same_store r.same_config r.behind (λ lines h. r.keeps lines m.holds h) m.stands)
+  step_owes {p = p} {q = q} {deeds = deeds} first before all m (asks r) clean =
+      none_more p q first before deeds m (stood p.hub q.hub first (before ++ m.more) m.holds m.owes r.stands r.hub.same_config (λ s n h. subst (λ (b : Behind). IsOwed s b (m.owes n)) (sym (r.behind n)) h) clean m.stands)
+  step_owes {p = p} {q = q} {deeds = deeds} first before all m (rests t r) clean =
+      none_more p q first before deeds m (subst (λ (h : Hub A). StandsOwingAfter condition h first (before ++ m.more) m.holds m.owes) (sym r.same) m.stands)
+  step_owes {p = p} {q = q} {deeds = deeds} first before all m (delays {before = seat} t d) clean =
+      none_more p q first before deeds m (stood p.hub q.hub first (before ++ m.more) m.holds m.owes (kept_back_still condition p.hub q.hub seat.connection d.keeps) t.hub.same_config
+      (λ s n h. kept_owed s n seat.connection m.owes p.hub q.hub d.keeps h) clean m.stands)
+  step_owes {p = p} {q = q} {deeds = deeds} first before all m (comes {at = at} {seat = seat} r) clean =
+      let d : Deed = Opens at seat.connection (unread seat.source) in
+      let one : Record = record { event = Connect seat.connection; sent = [] } in
+      let h = m.stands in
+      record {
+        more = m.more ++ one ∷ [];
+        holds = m.holds;
+        owes = m.owes;
+        follows = opens at seat.connection (unread seat.source) m.follows;
+        stands = one_more q.hub first before m.more m.holds m.owes one (record {
+          world = record h.world { line = with_line seat.connection (Live []) h.world.line };
+          run = subst (λ (c : Config). Run c first ((before ++ m.more) ++ one ∷ []) (record h.world { line = with_line seat.connection (Live []) h.world.line })) (sym r.same_config) (runs_on h.run connects);
+          at = record {
+            at = record {
+              state = subst (λ (s : A). StandsFor (condition s) h.world.state) (sym r.same_store) h.at.at.state;
+              kept = r.moves h.world.line m.holds h.at.at.kept;
+            };
+            owes = owed_still p.hub q.hub h.world.state m.owes r.behind h.at.owes;
+          };
+        });
+        joins = λ tells n is_open. joins_same (replies_to n deeds) (m.owes n) (sent_of n m.more) _ (m.owes n) _ (m.joins tells n (open_before n deeds (d ∷ []) is_open)) (unsent_one n deeds d refl) refl (untold_one n m.more one refl);
+      }
+  step_owes {p = p} {q = q} {deeds = deeds} first before all m (offers {at = at} {before = seat} t o) clean =
+      let d : Deed = Takes at seat.connection o.piece in
+      record {
+        more = m.more;
+        holds = with_held seat.connection (m.holds seat.connection ++ o.piece) m.holds;
+        owes = m.owes;
+        follows = takes at seat.connection o.piece m.follows;
+        stands = moved p.hub q.hub first (before ++ m.more) m.holds (with_held seat.connection (m.holds seat.connection ++ o.piece) m.holds) m.owes o.same_store t.hub.same_config o.behind (λ lines h. o.holds lines m.holds h) m.stands;
+        joins = λ tells n is_open. joins_same (replies_to n deeds) (m.owes n) (sent_of n m.more) _ (m.owes n) (sent_of n m.more) (m.joins tells n (open_before n deeds (d ∷ []) is_open)) (unsent_one n deeds d refl) refl refl;
+      }
+  step_owes {p = p} {q = q} {deeds = deeds} first before all m (refuses {at = at} {moment = moment} {before = seat} t r) clean =
+      let h = m.stands in
+      let came = r.answers.answers (honest q.hub.store clean) h.world m.holds h.at.at in
+      let a = came.0 in
+      let d : Deed = Declines at seat.connection r.piece moment r.answers.sent in
+      let one : Record = record { event = Arrive seat.connection a.part moment; sent = r.answers.sent } in
+      let same : a.left ≡ h.world.state = stays_unanswered a.arrives came.1.0 in
+      let none : m.owes seat.connection ≡ [] = paid_off h.world.state _ (m.owes seat.connection) (read_unsent _ seat.course.phase r.read.waits (all at seat t.sat)) (h.at.owes seat.connection) in
+      record {
+        more = m.more ++ one ∷ [];
+        holds = with_held seat.connection a.rest m.holds;
+        owes = m.owes;
+        follows = declines at seat.connection moment r.piece a.part a.rest r.answers.sent m.follows a.whole;
+        stands = one_more q.hub first before m.more _ m.owes one (record {
+          world = record { state = a.left; line = with_line seat.connection a.line h.world.line };
+          run = subst (λ (c : Config). Run c first ((before ++ m.more) ++ one ∷ []) (record { state = a.left; line = with_line seat.connection a.line h.world.line })) (sym t.hub.same_config) (runs_on h.run (arrives a.arrives));
+          at = record {
+            at = a.stands clean;
+            owes = λ n. subst (λ (s : State). IsOwed s (behind_at q.hub.connections.items n) (m.owes n)) (sym same) (owed_still p.hub q.hub h.world.state m.owes r.behind h.at.owes n);
+          };
+        });
+        joins = λ tells n is_open.
+            let joined = m.joins tells n (open_before n deeds (d ∷ []) is_open) in
+            elim (cases_eq seat.connection n) [
+              | inl e ↦
+                  let gone : m.owes n ≡ [] = ap m.owes (sym e) ∙ none in
+                  ap (λ (l : List ℕ). l ++ m.owes n) (replies_one n deeds d ∙ ap (λ (l : List ℕ). replies_to n deeds ++ l) (here seat.connection n r.answers.sent [] e))
+                  ∙ (joins_more (replies_to n deeds) (m.owes n) (sent_of n m.more) r.answers.sent (m.owes n) r.answers.sent joined gone (ap (λ (l : List ℕ). r.answers.sent ++ l) gone ∙ append-nil r.answers.sent)
+                  ∙ sym (sent_one n m.more one ∙ ap (λ (l : List ℕ). sent_of n m.more ++ l) (here seat.connection n r.answers.sent [] e)))
+              | inr ne ↦ joins_same (replies_to n deeds) (m.owes n) (sent_of n m.more) _ (m.owes n) _ joined (unsent_one n deeds d (elsewhere seat.connection n r.answers.sent [] ne)) refl
+                  (untold_one n m.more one (elsewhere seat.connection n r.answers.sent [] ne))
+            ];
+      }
+  step_owes {p = p} {q = q} {deeds = deeds} first before all m (answers {at = at} {moment = moment} {before = seat} {after = after} t a) clean =
+      let h = m.stands in
+      let came = a.answers.answers (honest q.hub.store clean) h.world m.holds h.at.at in
+      let d : Deed = Replies at seat.connection moment a.now a.answers.sent in
+      let one : Record = record { event = Arrive seat.connection came.0.part moment; sent = a.answers.sent } in
+      let none : m.owes seat.connection ≡ [] = paid_off h.world.state _ (m.owes seat.connection) a.paid (h.at.owes seat.connection) in
+      record {
+        more = m.more ++ one ∷ [];
+        holds = with_held seat.connection came.0.rest m.holds;
+        owes = with_held seat.connection (bytes_later a.more) m.owes;
+        follows = replies at seat.connection moment came.0.part came.0.rest a.now a.answers.sent m.follows came.0.whole;
+        stands = one_more q.hub first before m.more _ _ one (replied p.hub q.hub seat.connection moment a.answers.sent _ _ _ first (before ++ m.more) m.holds m.owes (bytes_later a.more) h came.0 t.hub.same_config
+            (at_most_one a.next _ _ _ came.1) a.free a.others a.owes (honest q.hub.store clean) clean);
+        joins = λ tells n is_open.
+            let joined = m.joins tells n (open_before n deeds (d ∷ []) is_open) in
+            let whole = joins_reply (told taken held seat.wire) (told taken held after.wire) a.more a.now a.answers.sent a.appends a.answers.appends (tells_of condition unread taken held tells seat) (tells_of condition unread taken held tells after) in
+            elim (cases_eq seat.connection n) [
+              | inl e ↦
+                  let gone : m.owes n ≡ [] = ap m.owes (sym e) ∙ none in
+                  ap (λ (l : List ℕ). l ++ with_held seat.connection (bytes_later a.more) m.owes n) (replies_one n deeds d ∙ ap (λ (l : List ℕ). replies_to n deeds ++ l) (here seat.connection n a.now [] e))
+                  ∙ (ap (λ (l : List ℕ). (replies_to n deeds ++ a.now) ++ l) (here n seat.connection (bytes_later a.more) (m.owes n) (sym e))
+                  ∙ (joins_more (replies_to n deeds) (m.owes n) (sent_of n m.more) a.now (bytes_later a.more) a.answers.sent joined gone whole
+                  ∙ sym (sent_one n m.more one ∙ ap (λ (l : List ℕ). sent_of n m.more ++ l) (here seat.connection n a.answers.sent [] e))))
+              | inr ne ↦ joins_same (replies_to n deeds) (m.owes n) (sent_of n m.more) _ _ _ joined (unsent_one n deeds d (elsewhere seat.connection n a.now [] ne))
+                  (elsewhere n seat.connection (bytes_later a.more) (m.owes n) (λ e. ne (sym e))) (untold_one n m.more one (elsewhere seat.connection n a.answers.sent [] ne))
+            ];
+      }
+  step_owes {p = p} {q = q} {deeds = deeds} first before all m (sends {at = at} {before = seat} t s) clean =
+      let h = m.stands in
+      let paid = s.sends.sends (honest q.hub.store clean) h.world m.holds m.owes h.at in
+      let d : Deed = Sends at seat.connection s.sends.sent s.answer in
+      record {
+        more = m.more;
+        holds = m.holds;
+        owes = with_held seat.connection paid.0 m.owes;
+        follows = follows_sent at seat.connection s.sends.sent s.answer m.follows;
+        stands = record {
+          world = h.world;
+          run = subst (λ (c : Config). Run c first (before ++ m.more) h.world) (sym t.hub.same_config) h.run;
+          at = paid.3 clean;
+        };
+        joins = λ tells n is_open.
+            let joined = m.joins tells n (open_before n deeds (d ∷ []) is_open) in
+            elim (cases_eq seat.connection n) [
+              | inl e ↦ ap (λ (l : List ℕ). l ++ with_held seat.connection paid.0 m.owes n) (replies_one n deeds d ∙ ap (λ (l : List ℕ). replies_to n deeds ++ l) (here seat.connection n s.sends.sent [] e))
+                  ∙ (ap (λ (l : List ℕ). (replies_to n deeds ++ s.sends.sent) ++ l) (here n seat.connection paid.0 (m.owes n) (sym e))
+                  ∙ joins_less (replies_to n deeds) (m.owes n) (sent_of n m.more) s.sends.sent paid.0 joined (ap m.owes (sym e) ∙ paid.1))
+              | inr ne ↦ joins_same (replies_to n deeds) (m.owes n) (sent_of n m.more) _ _ (sent_of n m.more) joined (unsent_one n deeds d (elsewhere seat.connection n s.sends.sent [] ne))
+                  (elsewhere n seat.connection paid.0 (m.owes n) (λ e. ne (sym e))) refl
+            ];
+      }
+  step_owes {p = p} {q = q} {deeds = deeds} first before all m (leaves {at = at} {second = second} {reason = reason} {seat = seat} r) clean =
+      let h = m.stands in
+      let d : Deed = Closes at seat.connection second reason in
+      let one : Record = record { event = Close seat.connection; sent = [] } in
+      record {
+        more = m.more ++ one ∷ [];
+        holds = with_held seat.connection [] m.holds;
+        owes = with_held seat.connection [] m.owes;
+        follows = closes at seat.connection second reason m.follows;
+        stands = one_more q.hub first before m.more _ _ one (record {
+          world = record h.world { line = with_line seat.connection Absent h.world.line };
+          run = subst (λ (c : Config). Run c first ((before ++ m.more) ++ one ∷ []) (record h.world { line = with_line seat.connection Absent h.world.line })) (sym r.same_config) (runs_on h.run closes_line);
+          at = record {
+            at = record {
+              state = subst (λ (s : A). StandsFor (condition s) h.world.state) (sym r.same_store) h.at.at.state;
+              kept = r.moves h.world.line m.holds h.at.at.kept;
+            };
+            owes = λ n. subst (λ (b : Behind). IsOwed h.world.state b (with_held seat.connection [] m.owes n)) (sym (r.behind n)) (owed_closed h.world.state (n == seat.connection) _ (m.owes n) (h.at.owes n));
+          };
+        });
+        joins = λ tells n is_open. joins_same (replies_to n deeds) (m.owes n) (sent_of n m.more) _ _ _ (m.joins tells n (open_before n deeds (d ∷ []) is_open)) (unsent_one n deeds d refl)
+            (elsewhere n seat.connection [] (m.owes n) (open_last n deeds (d ∷ []) is_open).0) (untold_one n m.more one refl);
+      }
+
+  steps_owe : {p q : Position A R K S} {deeds : List Deed} (first : State) (before : List Record) → ((at : ℕ) → slot at p.seats ≡ None) → OwesNone p.hub
+      → StandsHoldingAfter condition p.hub first before (λ n. []) → Steps condition unread taken held p deeds q → IsClean condition q.hub → OwesBehind q first before deeds
+  steps_owe {p = p} first before empty unowed h begins clean = record {
+    more = [];
+    holds = λ n. [];
+    owes = λ n. [];
+    follows = follows_none;
+    stands = subst (λ (l : List Record). StandsOwingAfter condition p.hub first l (λ n. []) (λ n. [])) (sym (append-nil before)) (record {
+      world = h.world;
+      run = h.run;
+      at = record { at = h.at; owes = λ n. subst (λ (b : Behind). IsOwed h.world.state b []) (sym (unowed n)) refl };
+    });
+    joins = λ tells n is_open. refl;
+  }
+  steps_owe first before empty unowed h (goes_on s t) clean =
+      step_owes first before (steps_agree condition unread taken held empty s) (steps_owe first before empty unowed h s (clean_before condition unread taken held t clean)) t clean
+
+  -- the promise is kept
+  pub keeps_promise : (p q : Position A R K S) (deeds : List Deed) (first : State) (before : List Record) → ((at : ℕ) → slot at p.seats ≡ None) → OwesNone p.hub
+      → StandsHoldingAfter condition p.hub first before (λ n. []) → Steps condition unread taken held p deeds q → IsClean condition q.hub → KeepsPromise condition unread taken held q first before deeds
+  keeps_promise p q deeds first before empty unowed h steps clean =
+      let it = steps_owe first before empty unowed h steps clean in
+      record {
+        behind = record {
+          more = it.more;
+          holds = it.holds;
+          follows = it.follows;
+          stands = record { world = it.stands.world; run = it.stands.run; at = it.stands.at.at };
+        };
+        owed = it.owes;
+        owes = it.stands.at.owes;
+        sent = λ tells holds at seat sits. known_joined (told taken held seat.wire) (replies_to seat.connection deeds) (it.owes seat.connection) (sent_of seat.connection it.more)
+            (wires_take condition unread taken held p q deeds tells holds empty steps at seat sits) (it.joins (tells, holds) seat.connection (seats_stay condition unread taken held p q deeds empty steps at seat sits));
+        read = λ at seat sits. reads_arrive seat.connection it.follows (seats_stay condition unread taken held p q deeds empty steps at seat sits);
+        given = λ gives at seat sits. reads_given condition unread taken held gives p q deeds empty steps at seat sits;
+      }
