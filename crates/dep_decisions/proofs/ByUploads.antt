@@ -1,11 +1,10 @@
 -- What is refused by what is there of the uploads that references name.
-use Rattle.std.proofs.Common.{◌≡◌, ◌∙◌, ℕ, Bool, true, List, [], ◌∷◌, ◌++◌, map, Option, Some, None, is_some, option_map, option_and_then, if◌then◌else◌, refl, sym, ap}
+use Rattle.std.proofs.Common.{◌≡◌, ◌∙◌, ℕ, List, [], ◌∷◌, ◌++◌, Option, Some, None, option_map, option_and_then, if◌then◌else◌, refl, sym, ap}
 use Rattle.std.specs.List.{cons_option, filter_map}
 use Rattle.dep_types.specs.Maps.{first_of}
 use Rattle.dep_types.specs.State.{State, Upload}
 use Rattle.dep_types.specs.declared.config.Config.{Config}
 use Rattle.dep_types.specs.declared.refusal.Refusal.{Refusal}
-use Rattle.dep_types.specs.declared.refusal.Refusal.TheVariants.{BadRequest, ByReferenceNotAllowed, PackagingFormatNotAcceptable}
 use Rattle.dep_fields.specs.declared.kind.Kind.{Kind}
 use Rattle.dep_fields.specs.declared.kind.Kind.TheVariants as of
 use Rattle.dep_docs_in.specs.declared.reference.Reference.{Reference}
@@ -15,9 +14,9 @@ use Rattle.dep_decisions.specs.Decisions.{references_in, upload_number}
 use Rattle.dep_decisions.specs.Kinds.{kind_of}
 use Rattle.dep_decisions.specs.Laws.{refusal_before_room, segments_refusal, uploads_refusal}
 use Rattle.dep_decisions.specs.LookUps.{Entry, LookUps, entry_at, in_state, known_of, without_entries}
-use Rattle.dep_decisions.specs.Rules.{access_refusal, content_by, content_refusal, digest_rule, digests_refusal, document_refusal, document_rule, each, entries_refusal, fields_refusal, has_content, is_binary, length_refusal, refusal, references_refusal, refusal_by, room_rule, size_refusal, size_rule, stands_twice, there_refusal, unless, upload_refusal, when, whole_refusal}
+use Rattle.dep_decisions.specs.Rules.{access_refusal, content_by, content_refusal, digest_rule, digests_refusal, document_refusal, document_rule, each, entries_refusal, fields_refusal, length_refusal, refusal, references_refusal, refusal_by, room_rule, size_refusal, size_rule, there_refusal, upload_refusal, whole_refusal}
 use Rattle.dep_decisions.specs.declared.operation.Operation.{Operation}
-use Rattle.dep_decisions.proofs.BeforeDigests.{access_same, before_rest, first_three, single}
+use Rattle.dep_decisions.proofs.BeforeDigests.{access_same, before_rest, first_three}
 use Rattle.dep_decisions.proofs.Referred.{first_two}
 use Rattle.dep_decisions.proofs.Taken.{content_taken}
 

@@ -1,8 +1,8 @@
 //! A connection that is served.
 ghost use Rattle.std.specs.Prelude.{IsSomeAnd, ◌≡◌, ◌≢◌, ◌<◌, ◌≤◌, ◌+◌, ◌-◌, ◌^◌, ◌||◌, ◌&&◌, min, nat_lt, length, true, false};
-ghost use Rattle.std.specs.Io.KnownBytes.{Keeps, IsAtEnd};
+ghost use Rattle.std.specs.Io.KnownBytes.{IsAtEnd};
 ghost use Rattle.dep_hub.specs.StandsOwing.{is_awaited_at};
-ghost use Rattle.dep_outbox.specs.Wires.{told, owed, owed_count};
+ghost use Rattle.dep_outbox.specs.Wires.{owed};
 ghost use Rattle.dep_host.specs.Courses.{StaysOrEnds, is_ended, is_held_back, is_sending, phase_begun};
 ghost use Rattle.dep_host.specs.Causes.{HasCauses, causes_of};
 ghost use Rattle.dep_host.specs.Hosting.{unfinished_of};

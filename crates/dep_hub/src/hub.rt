@@ -18,7 +18,7 @@ use crate::next::Next;
 use crate::pending::{has_to_wait, is_any_pending, is_awaited, still_pending};
 use crate::rest::{Behind, Rest, behind_of};
 use crate::sent_on::SentOn;
-use crate::serving::{Piece, answer_next, give_up, serve, take_next};
+use crate::serving::{Piece, give_up, serve, take_next};
 use crate::site::{Context, Site};
 use dep_message::Intake;
 use dep_moment::Moment;
@@ -45,7 +45,7 @@ const LAST_NUMBER: u64 = 4_000_000_000_000_000_000;
 
 impl<A: Archive> Hub<A> {
     ghost use Rattle.dep_hub.specs.Standing.{StandsAfter, StandsAt, GoesOnFrom, GoesOnAs, IsHonest, KeepsStore, LeavesStore, LeavesItsState, store_of, Adds, Moves, ComesTo, intake_of};
-    ghost use Rattle.dep_hub.specs.Holding.{HoldsOn, RestsOn, MovesLine, OffersTo, ComesToNext, with_held};
+    ghost use Rattle.dep_hub.specs.Holding.{HoldsOn, RestsOn, MovesLine, OffersTo, with_held};
     ghost use Rattle.dep_hub.specs.StandsOwing.{behind_at, is_awaited_at, is_unsent, IsAnswerable, IsFree, KeptBack, KeepsBack, NextIsFree, RepliesOver, SendsOn};
     ghost use Rattle.dep_hub.specs.Claims.{is_content};
     ghost use Rattle.std.specs.Prelude.{ℕ, Some, ◌==◌, if◌then◌else◌, false};
@@ -195,37 +195,9 @@ impl<A: Archive> Hub<A> {
         }
     }
 
-    /// Answers the next item of a connection, where one is complete in what was offered. It sends one
-    /// reply at most, and the log is told of the request and the reply.
-    pub fn answer<O: Outlet, L: AccessLog>(
-        &mut self,
-        connection: ConnId,
-        moment: Moment,
-        out: &mut O,
-        log: &mut L,
-    ) -> Next
-        ensures goes { GoesOnAs A.condition self.old self.new }
-        ensures absent { intake_of self.old.connections.items connection ≡ None
-            → result ≡ Next.NoSuch }
-        // A connection that was there is there.
-        ensures there { IsSome (intake_of self.old.connections.items connection)
-            → (result ≢ Next.NoSuch) × IsSome (intake_of self.new.connections.items connection) }
-        ensures answers { ComesToNext A.condition (O.taken out.old) (O.taken out.new)
-            (O.failures out.old) (O.failures out.new) self.old self.new connection moment result }
-    {
-        let Some(i) = index_among(self.connections.as_slice(), connection) else {
-            return Next::NoSuch;
-        };
-        let kept = &mut self.connections[i];
-        let context = Context {
-            site: &self.config,
-            moment,
-        };
-        answer_next(&context, &mut self.store, &mut kept.intake, out, log)
-    }
-
-    /// Answers the next item of a connection as `answer`, but for the content of a file behind the reply: that is
-    /// sent by `send_on`. While it isn't all sent, no further item is answered, and nothing changes: `None`.
+    /// Answers the next item of a connection, where one is complete in what was offered. It sends one reply at
+    /// most, and the log is told of the request and the reply. The content of a file behind the reply is sent by
+    /// `send_on`. While it isn't all sent, no further item is answered, and nothing changes: `None`.
     ///
     /// So it is too where the next request has to wait. One that puts or deletes files waits for their contents
     /// that are being sent, and from then on no GET of these files is answered before it, so they end. It waits

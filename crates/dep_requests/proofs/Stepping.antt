@@ -27,7 +27,7 @@ use Rattle.dep_decisions.specs.Rules.{refusal}
 use Rattle.dep_decisions.specs.declared.decision.Decision.{Decision}
 use Rattle.dep_decisions.specs.declared.operation.Operation.{Operation}
 use Rattle.dep_operations.specs.Rulings.{IsRuling}
-use Rattle.dep_operations.specs.Views.{file_in, object_in, path_in, touched_by, true_view}
+use Rattle.dep_operations.specs.Views.{file_in, object_in, path_in, true_view}
 use Rattle.dep_operations.specs.declared.ruling.Ruling.{Ruling}
 use Rattle.dep_operations.specs.declared.ruling.Ruling.TheVariants.{Do, Refuse}
 use Rattle.dep_operations.specs.declared.view.View.{View}

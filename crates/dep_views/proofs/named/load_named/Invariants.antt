@@ -1,9 +1,7 @@
-use Rattle.std.proofs.Common.{◌≡◌, length, IsTrue}
+use Rattle.std.proofs.Common.{length, IsTrue}
 use Rattle.sqlite.specs.State.{HasCleanDisk}
 use Rattle.dep_types.specs.State.{State}
 use Rattle.dep_types.specs.Sound.{IsSound}
-use Rattle.dep_decisions.specs.LookUps.{in_state}
-use Rattle.dep_decisions.specs.Rules.{each, upload_refusal}
 use Rattle.dep_tables.specs.Tables.{tables_of, IsOurs}
 use Rattle.dep_tables.proofs.Chains.{MayReads}
 use Rattle.dep_row_maps.specs.TablesAre.{TablesAre}

@@ -1,4 +1,4 @@
-use Rattle.std.proofs.Common.{◌∙◌, List, [], ℕ, false, map, ap, sym}
+use Rattle.std.proofs.Common.{◌∙◌, [], false, map, ap, sym}
 use Rattle.std.specs.Prelude.{if◌then◌else◌}
 use Rattle.dep_operations.specs.Views.{upload_undigested}
 use Rattle.dep_tables.proofs.Chains.{may_put}
