@@ -5,7 +5,7 @@ ghost use Rattle.dep_types.specs.declared.store_fault.StoreFault.TheVariants.{St
 ghost use Rattle.dep_fields.specs.Fit.{AreFit};
 ghost use Rattle.dep_answers.specs.Steps.{operation_step};
 ghost use Rattle.dep_hub.specs.Archives.{Ticks, MakesStep, FallsDue, FailsIfShut, KeepsState, CountsFailures};
-ghost use Rattle.dep_hub.specs.Owing.{Begins, StreamsOn};
+ghost use Rattle.dep_hub.specs.Owing.{Begins, StreamsOn, TakesFew};
 ghost use Rattle.dep_reserve.specs.Reserving.{brings_content, is_low, turns_away};
 
 use crate::reserve::Reserve;
@@ -198,6 +198,7 @@ impl<A: Archive, R: Reserve + Drop> Archive for ReservedArchive<A, R> {
     ) -> Result<Option<u64>, StreamFault>
         ensures streams { StreamsOn (A.condition self.old.archive) (A.condition self.new.archive)
             (O.taken out.old) (O.taken out.new) it start result }
+        ensures few { TakesFew (O.taken out.old) (O.taken out.new) }
         ensures does { KeepsState (A.condition self.old.archive) (A.condition self.new.archive)
             result }
         ensures commits { A.may_commit self.new.archive ≡ A.may_commit self.old.archive }

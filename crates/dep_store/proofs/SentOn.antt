@@ -17,10 +17,10 @@ use Rattle.dep_schema.specs.States.{StandsFor}
 use Rattle.dep_schema.specs.Transactions.{IsRestored}
 use Rattle.dep_schema.proofs.Transacting.{IsSettled, back_then, leaves_still, none_then}
 use Rattle.dep_hub.specs.Archives.{KeepsState}
-use Rattle.dep_hub.specs.Owing.{HasBehind, IsFrontBehind, IsSentOn, StreamsOn}
+use Rattle.dep_hub.specs.Owing.{HasBehind, IsFrontBehind, IsSentOn, StreamsOn, TakesFew}
 use Rattle.dep_store.specs.Archive.{shown_by}
 use Rattle.dep_store.specs.Remembering.{HasSize}
-use Rattle.dep_store.specs.SendingOn.{AreFew, GivesNext, TakesFew}
+use Rattle.dep_store.specs.SendingOn.{AreFew, GivesNext}
 use Rattle.dep_store.specs.Shut.{StaysOpen}
 use Rattle.dep_store.proofs.ShutLemmas.{state_back, was_open_then}
 use Rattle.dep_store.proofs.Tries.{honest_back, keeps_state}

@@ -11,7 +11,7 @@ use Rattle.dep_answers.specs.declared.performed.StoredFile.{StoredFile}
 use Rattle.dep_schema.specs.States.{StandsFor}
 use Rattle.dep_schema.specs.Transactions.{FindsOpen}
 use Rattle.dep_hub.specs.Archives.{KeepsState, CountsFailures}
-use Rattle.dep_hub.specs.Owing.{Begins, StreamsOn}
+use Rattle.dep_hub.specs.Owing.{Begins, StreamsOn, TakesFew, step_bytes}
 use Rattle.dep_store.specs.Archive.{shown_by}
 use Rattle.dep_store.specs.Remembering.{HasSize}
 use Rattle.dep_store.specs.Shut.{StaysOpen, FailsIfShut}
@@ -25,7 +25,7 @@ pub record FindsSize {E : Type 0} (old new : db.State) (it : StoredFile) (result
 
 -- no more are sent at once than four blocks have
 abbrev pub AreFew : List ℕ → Type 0
-AreFew bytes = length bytes ≤ 262144
+AreFew bytes = length bytes ≤ step_bytes
 
 -- the next bytes of a content of so many were sent from a place on: all that were left, or some and where the
 -- next ones stand
@@ -39,10 +39,6 @@ GivesNext taken takes bytes start size (Err Writer) = AreFew bytes × TakesPart 
 GivesNext taken takes bytes start size (Err Store) = takes ≡ taken
 GivesNext taken takes bytes start size (Err Memory) = ⊥
 GivesNext taken takes bytes start size (Err NoSuchFile) = ⊥
-
--- an outlet took few bytes more
-abbrev pub TakesFew : (taken takes : Option (List ℕ)) → Type 0
-TakesFew taken takes = (sent : List ℕ) × AreFew sent × Appends taken takes sent
 
 -- a few blocks more are sent, over an outlet that took these bytes and failed so often
 pub record SendsOn (old new : db.State) (taken takes : Option (List ℕ)) (failures failures_after : ℕ)
