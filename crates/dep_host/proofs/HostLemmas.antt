@@ -29,7 +29,7 @@ use Rattle.dep_host.specs.declared.log.Closing.TheVariants.{Large}
 use Rattle.dep_host.specs.declared.course.Phase.TheVariants.{Open}
 use Rattle.dep_host.specs.Notes.{Note, Grows}
 use Rattle.dep_host.specs.Seats.{SameBehind, SameClient}
-use Rattle.dep_host.specs.Hosting.{Position, slot, farewell, MayGo, Stays, Deed, Closes, unfinished_of, unfinished_in, Goes, IsRightlyTold, StandsStill, Asks, Refused, Step, refused, asks, rests, Steps, begins, goes_on, Sheds}
+use Rattle.dep_host.specs.Hosting.{Position, slot, farewell, MayGo, Stays, Deed, Closes, unfinished_of, unfinished_in, Goes, IsRightlyTold, Asks, Refused, Step, refused, asks, rests, Steps, begins, goes_on, Sheds}
 
 -- what a log is told
 pub grows_none : {X : Type 0} (told : Option (List X)) → Grows told told []

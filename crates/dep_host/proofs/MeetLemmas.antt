@@ -27,7 +27,7 @@ use Rattle.dep_host.specs.Causes.{Causes}
 use Rattle.dep_host.specs.Seats.{woken_seat}
 use Rattle.dep_hub.specs.declared.hub.Hub.{Hub}
 use Rattle.dep_hub.specs.Standing.{IsClean, IsHonest}
-use Rattle.dep_hub.specs.Holding.{StandsHoldingAfter, StandsHolding}
+use Rattle.dep_hub.specs.Holding.{StandsHolding}
 use Rattle.dep_hub.specs.StandsOwing.{behind_at}
 use Rattle.dep_host.specs.Hosting.{Deed, IsEmpty, Position, Steps, position, slot, refused, comes, StandsStill}
 use Rattle.dep_host.specs.Meeting.{IsOffer, MayCall, IsShutBy, MayEnd, Stops, Wakes, MayRefuse, TurnsAway, Admits, Meets, refusal_for, refusal_of, shut_by, wakes, lets_in, turns_away, makes_round, stops, IsMet, begins, goes_on, all_given, Met}

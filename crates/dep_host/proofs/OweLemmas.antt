@@ -1,5 +1,5 @@
 -- What a host sent and still owes is what a run says.
-use Rattle.std.proofs.Common.{◌≡◌, ◌⊎◌, inl, inr, ◌≤◌, ◌+◌, ◌==◌, ℕ, zero, suc, Bool, true, false, if◌then◌else◌, List, [], ◌∷◌, ◌++◌, Option, None, Some, refl, sym, ap, subst, ◌∙◌, append_assoc, length, IsTrue, arith}
+use Rattle.std.proofs.Common.{◌≡◌, inl, inr, ◌≤◌, ◌+◌, ◌==◌, ℕ, Bool, true, false, if◌then◌else◌, List, [], ◌∷◌, ◌++◌, Option, None, Some, refl, sym, ap, subst, ◌∙◌, append_assoc, IsTrue, arith}
 use Rattle.std.proofs.lemmas.List.{append-nil, append_cancel_left}
 use Rattle.std.proofs.lemmas.Bool.{cases_eq, eq-eqb, ne_eqb}
 use Rattle.std.specs.Io.KnownBytes.{Appends, append_known}
@@ -11,7 +11,6 @@ use Rattle.dep_hub.specs.Records.{Record, Connect, Arrive, Close, Line, Live, Ab
 use Rattle.dep_hub.specs.Standing.{IsClean, IsHonest}
 use Rattle.dep_hub.specs.Holding.{KeepsHolding, StandsHoldingAfter, PartArrives, IsNext, items_answered, with_held}
 use Rattle.dep_hub.specs.Owing.{IsOwed, bytes_later, with_more}
-use Rattle.dep_hub.specs.Claims.{is_content}
 use Rattle.dep_hub.specs.StandsOwing.{KeepsBack, unsent, waits_still, begins_to_wait, wants_memory, StandsOwingAfter, NextIsFree, OthersStay, Owes, behind_at, is_unsent}
 use Rattle.dep_hub.specs.declared.arrived.Arrived.{Arrived}
 use Rattle.dep_hub.specs.declared.hub.Hub.{Hub}
@@ -20,7 +19,6 @@ use Rattle.dep_hub.specs.declared.next.Next.TheVariants.{More, Waiting, Closed, 
 use Rattle.dep_hub.specs.declared.rest.Behind.{Behind}
 use Rattle.dep_hub.specs.declared.rest.Behind.TheVariants.{Nothing, Content, Broken, Waits}
 use Rattle.dep_outbox.specs.Wires.{told}
-use Rattle.dep_host.specs.declared.seat.Seat.{Seat}
 use Rattle.dep_host.specs.declared.course.Phase.{Phase}
 use Rattle.dep_host.specs.declared.course.Phase.TheVariants.{Open, Over}
 use Rattle.dep_host.specs.Courses.{is_sending}
@@ -29,7 +27,7 @@ use Rattle.dep_host.specs.Hosting.{Position, slot, Tells, Deed, Opens, Takes, Re
 use Rattle.dep_host.specs.Runs.{Follows, begins as follows_none, opens, takes, replies, sends as follows_sent, declines, closes, StaysOpen, sent_for, sent_of, KeepsPromise, OwesNone}
 use Rattle.dep_host.proofs.CloseLemmas.{clean_before}
 use Rattle.dep_host.proofs.ReadLemmas.{open_before, open_last, replies_one, sent_one, reads_arrive}
-use Rattle.dep_host.proofs.TellLemmas.{AllTell, some_same, no_some, tells_of, wires_take, seats_stay}
+use Rattle.dep_host.proofs.TellLemmas.{AllTell, tells_of, wires_take, seats_stay}
 use Rattle.dep_host.proofs.GivenLemmas.{reads_given}
 use Rattle.dep_host.proofs.RunLemmas.{kept_back_still}
 use Rattle.dep_host.proofs.SendLemmas.{Agrees, AllAgree, steps_agree}

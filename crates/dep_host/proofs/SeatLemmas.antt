@@ -32,7 +32,7 @@ use Rattle.dep_host.specs.declared.course.Duty.{Duty}
 use Rattle.dep_host.specs.declared.course.Duty.TheVariants.{Flush, Answer, Send, Read, Finish, Drain, Wait}
 use Rattle.dep_host.specs.Courses.{duty, is_ended, is_sending, phase_begun, SendsStill, StaysOrEnds}
 use Rattle.dep_host.specs.Causes.{Causes, HasCauses}
-use Rattle.dep_host.specs.Seats.{HubStays, SameBehind, SameClient, SendsOn, IsUnknown, Rests, Answers, Delays, Sends, IsRead, IsReplied, MayRest, ActsOnce, TakesTurn, next_duty, phase_offered, phase_answered, phase_sent, left_unfinished}
+use Rattle.dep_host.specs.Seats.{HubStays, SameBehind, SameClient, SendsOn, IsUnknown, Rests, Answers, IsRead, IsReplied, MayRest, ActsOnce, TakesTurn, next_duty, phase_offered, phase_answered, phase_sent}
 
 is_over : (mid after : Phase) → mid ≡ Over → (after ≡ mid) ⊎ (after ≡ Over) → after ≡ Over
 is_over mid after m (inl s) = s ∙ m

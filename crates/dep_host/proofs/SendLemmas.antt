@@ -1,5 +1,5 @@
 -- Who sits at a place is sent what is owed of a content.
-use Rattle.std.proofs.Common.{◌≡◌, ◌⊎◌, inl, inr, ◌<◌, ◌==◌, ℕ, Bool, true, false, if◌then◌else◌, List, [], Option, None, Some, refl, sym, ap, subst, ◌∙◌, length, set}
+use Rattle.std.proofs.Common.{◌≡◌, ◌⊎◌, inl, inr, ◌<◌, ℕ, Bool, true, false, if◌then◌else◌, List, [], Option, None, Some, refl, sym, ap, subst, ◌∙◌, length, set}
 use Rattle.std.proofs.lemmas.Bool.{ne_eqb}
 use Rattle.dep_types.specs.Conditions.{Condition}
 use Rattle.dep_hub.specs.Claims.{is_content}

@@ -26,8 +26,8 @@ use Rattle.dep_host.specs.declared.log.Closing.TheVariants.{Large}
 use Rattle.dep_host.specs.declared.course.Phase.TheVariants.{Open, Answering, Sending, SendingLast, Last, Draining, Over}
 use Rattle.dep_host.specs.declared.course.Duty.{Duty}
 use Rattle.dep_host.specs.declared.course.Duty.TheVariants as to
-use Rattle.dep_host.specs.Seats.{IsUnknown, Delays, MayRest, ActsOnce, TakesTurn, next_duty, phase_sent}
-use Rattle.dep_host.specs.Hosting.{Position, slot, MayGo, farewell, note_of, closings_of, Deed, Takes, Replies, Sends, Declines, Closes, answers_at, pieces_at, sending_at, sendings_at, unfinished_of, unfinished_in, AreDoneAt, HasTurn, Goes, rests, offers, delays, sends, refuses, answers, leaves, Steps, begins, goes_on, IsClosed, IsLeftAs, IsOnce, IsLost, WasAwaited, IsKeptBack, IsServed, IsServedAt, turn_duty, Serves, GoesRound, Sheds}
+use Rattle.dep_host.specs.Seats.{IsUnknown, MayRest, ActsOnce, TakesTurn, next_duty, phase_sent}
+use Rattle.dep_host.specs.Hosting.{Position, slot, MayGo, farewell, note_of, closings_of, Deed, Takes, Replies, Sends, Declines, Closes, answers_at, pieces_at, sending_at, sendings_at, unfinished_of, unfinished_in, AreDoneAt, HasTurn, Goes, rests, offers, delays, sends, refuses, answers, leaves, Steps, begins, goes_on, IsClosed, IsLeftAs, IsOnce, IsLost, IsKeptBack, IsServed, IsServedAt, turn_duty, Serves, GoesRound, Sheds}
 use Rattle.std.proofs.lemmas.Grind.{flat_map-append}
 use Rattle.dep_host.specs.Notes.{Note, LetGo, Grows}
 use Rattle.dep_host.proofs.SeatLemmas.{lost_too, still_begun}

@@ -7,7 +7,6 @@ use Rattle.dep_hub.specs.Records.{Line, Live, Absent, World}
 use Rattle.dep_hub.specs.Standing.{IsClean}
 use Rattle.dep_hub.specs.Holding.{KeepsHolding, MovesLine, StandsHolding, with_held}
 use Rattle.dep_hub.specs.StandsOwing.{KeepsBack, behind_at, is_awaited_at}
-use Rattle.dep_hub.specs.declared.rest.Behind.{Behind}
 use Rattle.dep_hub.specs.declared.rest.Behind.TheVariants.{Nothing}
 use Rattle.dep_hub.specs.declared.sent_on.SentOn.{SentOn}
 use Rattle.dep_hub.specs.declared.hub.Hub.{Hub}
