@@ -186,8 +186,8 @@ impl HostLog for StandardErrorLog<'_> {
     // memory to keep it so long.
     fn begun(&mut self, mut item: Item, bytes: Bytes) {
         item.received = bytes.received;
-        if let Err(item) = self.begun.push(item) {
-            self.answered(item, Next::More, bytes);
+        if let Err(refused) = self.begun.push(item) {
+            self.answered(refused.value, Next::More, bytes);
         }
     }
 
