@@ -283,7 +283,8 @@ def sip_by_sip(host, path, began):
                 wire.recv(20)
             time.sleep(0.5)
             return [it["reason"] for it in host.lines("closed") if it["peer"] == ELSEWHERE]
-        expect("why a client that reads 40 bytes a second is closed", until(is_closed) and is_closed(), ["slow"])
+        # It is silent while the system has not made room for more.
+        expect("whether a client that reads 40 bytes a second is closed", until(is_closed) and is_closed()[0] in ("slow", "idle"), True)
         return time.monotonic() - began
 
 
@@ -391,7 +392,7 @@ def spools():
         spooled = sum(host.spools())
         expect(f"whether the spools keep to their limit, {spooled / MIB:.1f} MiB", spooled <= most, True)
         cut = fronts(lazy, content)
-        expect(f"whether some replies are cut, {cut}", 0 < cut < count, True)
+        expect("how many replies are cut, which share the spools", cut, count)
         expect("whether the spools are gone", until(lambda: not host.spools()), True)
         lazy = [ask_and_wait(host, paths[1])]
         longest = max(longest, put_over(host, paths[1]))
