@@ -19,7 +19,7 @@ use Rattle.dep_hub.specs.Sending.{Outside, outside}
 use Rattle.dep_hub.specs.Serving.{IsDeadIfShut, arrival_of, ServesFrom, ServesOver}
 use Rattle.dep_hub.specs.Standing.{intake_of, KeepsRest, IsKeptAs, StandsAt, StandsAfter, StopsAfter, Adds, Moves, ArrivesTo, ArrivesShut, ArrivesOver, ComesTo, store_of, IsClean, IsHonest}
 use Rattle.dep_hub.specs.Shut.{IfShut}
-use Rattle.dep_hub.specs.Claims.{is_any_pending}
+use Rattle.dep_hub.specs.Claims.{is_any_pending, is_any_waiting}
 use Rattle.dep_hub.specs.Numbers.{index_of, Ascends, Ascends-prop}
 use Rattle.dep_hub.specs.declared.arrived.Arrived.{Arrived}
 use Rattle.dep_hub.specs.declared.arrived.Arrived.TheVariants.{Open as StaysOpen, Closed, Cut, NoSuch}
@@ -271,10 +271,11 @@ module _ (n i : ℕ) (cs : List Connection) (c : Connection) (index : index_of n
 
 -- the numbers ascend in one way
 pub same_hub : {A : Type 0} (hub : Hub A) (a : Ascends 0 hub.connections.items hub.next) (b : hub.is_busy ≡ is_any_pending hub.connections.items)
-    → record hub { ascends = a; busy = b } ≡ hub
-same_hub hub a b i = record hub {
+    (w : hub.is_awaiting ≡ is_any_waiting hub.connections.items) → record hub { ascends = a; busy = b; awaiting = w } ≡ hub
+same_hub hub a b w i = record hub {
   ascends = Ascends-prop 0 hub.connections.items hub.next a hub.ascends i;
   busy = Bool-set hub.is_busy (is_any_pending hub.connections.items) b hub.busy i;
+  awaiting = Bool-set hub.is_awaiting (is_any_waiting hub.connections.items) w hub.awaiting i;
 }
 
 module _ {A : Type 0} (condition : A → Condition) (old new : Hub A) (n i : ℕ) (piece : List ℕ) (moment : ℕ) (c : Connection) (now : Reading) (b : Behind)

@@ -11,8 +11,8 @@ use Rattle.dep_hub.specs.Numbers.{Ascends}
 use Rattle.dep_hub.specs.Standing.{intake_of}
 use Rattle.dep_hub.specs.Holding.{IsHeldAs}
 use Rattle.dep_hub.specs.Owing.{IsOwed, later_than}
-use Rattle.dep_hub.specs.Claims.{has_to_wait, is_any_pending, is_awaited_by, is_content, is_in_the_way, is_pending, sends_of, waits_to_take}
-use Rattle.dep_hub.specs.StandsOwing.{behind_at, is_unsent, is_waiting, KeptBack, unsent, waits_still, begins_to_wait, wants_memory, AnswersAtOnce, AwaitsContent, AwaitsTaker, ContentsStay, WaitingStands}
+use Rattle.dep_hub.specs.Claims.{any_waits_to_take, has_to_wait, is_any_pending, is_any_waiting, is_awaited_by, is_content, is_in_the_way, is_pending, is_waiting, sends_of, waits_to_take}
+use Rattle.dep_hub.specs.StandsOwing.{behind_at, is_unsent, KeptBack, unsent, waits_still, begins_to_wait, wants_memory, AnswersAtOnce, AwaitsContent, AwaitsTaker, ContentsStay, WaitingStands}
 use Rattle.dep_hub.specs.declared.claim.Claim.{Claim}
 use Rattle.dep_hub.specs.declared.claim.Claim.TheVariants.{Takes, Reads, Neither}
 use Rattle.dep_hub.specs.declared.claim.Files.{Files}
@@ -44,6 +44,47 @@ pending_unset zero (x ∷ cs) d e none =
 pending_unset (suc i) (x ∷ cs) d e none =
     let p = or_parts (is_pending x.behind) (is_any_pending cs) none in
     either_false (is_pending x.behind) (is_any_pending (set cs i d)) p.0 (pending_unset i cs d e p.1)
+
+-- ---- so whether a request waits
+
+pub waiting_push : (cs : List Connection) (d : Connection) → is_waiting d.behind ≡ false → is_any_waiting (cs ++ d ∷ []) ≡ is_any_waiting cs
+waiting_push [] d e = ap (λ (b : Bool). b || false) e
+waiting_push (c ∷ cs) d e = ap (λ (b : Bool). is_waiting c.behind || b) (waiting_push cs d e)
+
+pub waiting_set : (i : ℕ) (cs : List Connection) (c d : Connection) → c ≡ get_or cs i c → is_waiting d.behind ≡ is_waiting c.behind
+    → is_any_waiting (set cs i d) ≡ is_any_waiting cs
+waiting_set i [] c d item e = refl
+waiting_set zero (x ∷ cs) c d item e =
+    ap (λ (b : Bool). b || is_any_waiting cs) (e ∙ ap (λ (y : Connection). is_waiting y.behind) item)
+waiting_set (suc i) (x ∷ cs) c d item e = ap (λ (b : Bool). is_waiting x.behind || b) (waiting_set i cs c d item e)
+
+pub waiting_unset : (i : ℕ) (cs : List Connection) (d : Connection) → is_waiting d.behind ≡ false → is_any_waiting cs ≡ false → is_any_waiting (set cs i d) ≡ false
+waiting_unset i [] d e none = refl
+waiting_unset zero (x ∷ cs) d e none =
+    let p = or_parts (is_waiting x.behind) (is_any_waiting cs) none in
+    either_false (is_waiting d.behind) (is_any_waiting cs) e p.1
+waiting_unset (suc i) (x ∷ cs) d e none =
+    let p = or_parts (is_waiting x.behind) (is_any_waiting cs) none in
+    either_false (is_waiting x.behind) (is_any_waiting (set cs i d)) p.0 (waiting_unset i cs d e p.1)
+
+-- then no content is awaited
+takes_none : (object file : ℕ) (b : Behind) → is_waiting b ≡ false → waits_to_take object file b ≡ false
+takes_none object file (Waits claim) e = cc
+takes_none object file Nothing e = refl
+takes_none object file (Content r) e = refl
+takes_none object file Broken e = refl
+
+none_takes : (object file : ℕ) (cs : List Connection) → is_any_waiting cs ≡ false → any_waits_to_take cs object file ≡ false
+none_takes object file [] e = refl
+none_takes object file (c ∷ cs) e =
+    let p = or_parts (is_waiting c.behind) (is_any_waiting cs) e in
+    either_false (waits_to_take object file c.behind) (any_waits_to_take cs object file) (takes_none object file c.behind p.0) (none_takes object file cs p.1)
+
+pub none_awaited : (cs : List Connection) (b : Behind) → is_any_waiting cs ≡ false → is_awaited_by cs b ≡ false
+none_awaited cs (Content r) e = none_takes r.file.object r.file.file cs e
+none_awaited cs Nothing e = refl
+none_awaited cs Broken e = refl
+none_awaited cs (Waits claim) e = refl
 
 -- ---- what holds of some connection holds of one that is found by its number, and the other way round
 

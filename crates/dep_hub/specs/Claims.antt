@@ -92,6 +92,15 @@ is_pending behind = false
 abbrev pub is_any_pending : List Connection → Bool
 is_any_pending connections = list_any (λ c. is_pending c.behind) connections
 
+-- a request waits
+abbrev pub is_waiting : Behind → Bool
+is_waiting (Waits claim) = true
+is_waiting behind = false
+
+-- so it is with some connection
+abbrev pub is_any_waiting : List Connection → Bool
+is_any_waiting connections = list_any (λ c. is_waiting c.behind) connections
+
 -- the request that waits with some connection takes the file
 abbrev pub any_waits_to_take : List Connection → (object file : ℕ) → Bool
 any_waits_to_take connections n f = list_any (λ c. waits_to_take n f c.behind) connections

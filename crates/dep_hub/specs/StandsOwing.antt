@@ -25,7 +25,7 @@ use Rattle.dep_hub.specs.declared.rest.Behind.TheVariants.{Nothing, Content, Bro
 use Rattle.dep_hub.specs.declared.claim.Claim.{Claim}
 use Rattle.dep_hub.specs.declared.claim.Claim.TheVariants.{Takes, Reads}
 use Rattle.dep_hub.specs.declared.claim.Files.{Files}
-use Rattle.dep_hub.specs.Claims.{claim_of, has_to_wait, is_any_pending, is_awaited_by, is_content, waits_to_take}
+use Rattle.dep_hub.specs.Claims.{claim_of, has_to_wait, is_any_pending, is_awaited_by, is_content, is_waiting, waits_to_take}
 use Rattle.dep_hub.specs.declared.sent_on.SentOn.{SentOn}
 use Rattle.dep_hub.specs.declared.sent_on.SentOn.TheVariants.{Part, All, Broken as BrokenOff}
 use Rattle.dep_hub.specs.declared.arrived.Arrived.{Arrived}
@@ -88,10 +88,6 @@ abbrev pub is_unsent : Behind → Bool
 is_unsent (Content r) = true
 is_unsent Broken = true
 is_unsent behind = false
-
-abbrev pub is_waiting : Behind → Bool
-is_waiting (Waits claim) = true
-is_waiting behind = false
 
 -- a content is being sent to the connection that a waiting request takes
 abbrev pub is_awaited_at : List Connection → (number : ℕ) → Bool

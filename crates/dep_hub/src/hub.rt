@@ -4,7 +4,7 @@ ghost use Rattle.dep_types.specs.State.{State};
 ghost use Rattle.dep_types.specs.Config.{IsChecked};
 ghost use Rattle.dep_types.specs.Conditions.{StandsFor, Leaves};
 ghost use Rattle.dep_hub.specs.Records.{Connect, Close, Record, World, Run, Absent, Live, stopped, first_world};
-ghost use Rattle.dep_hub.specs.Claims.{is_any_pending};
+ghost use Rattle.dep_hub.specs.Claims.{is_any_pending, is_any_waiting};
 ghost use Rattle.dep_hub.specs.Numbers.{Ascends, Ascends-prop, HasPlace, most_connections, last_number};
 
 use crate::access_log::{AccessLog, NoLog};
@@ -15,7 +15,9 @@ use crate::connections::{ConnId, Connection, index_among};
 use crate::contents::InSteps;
 use crate::faults::{ConnectFault, HubFault};
 use crate::next::Next;
-use crate::pending::{has_to_wait, is_any_pending, is_awaited, still_pending};
+use crate::pending::{
+    has_to_wait, is_any_pending, is_any_waiting, is_awaited, still_pending, still_waiting,
+};
 use crate::rest::{Behind, Rest, behind_of};
 use crate::sent_on::SentOn;
 use crate::serving::{Piece, give_up, serve, take_next};
@@ -34,9 +36,12 @@ pub struct Hub<A> {
     next: u64,
     // A content is being sent, or a request waits.
     is_busy: bool,
+    // A request waits.
+    is_awaiting: bool,
     // No number is there twice, and the next one is above them.
     ghost ascends: { Ascends 0 connections.items next } by { Ascends-prop 0 connections.items next },
     ghost busy: { is_busy ≡ is_any_pending connections.items },
+    ghost awaiting: { is_awaiting ≡ is_any_waiting connections.items },
 }
 
 const MOST_CONNECTIONS: usize = 1_024;
@@ -86,6 +91,7 @@ impl<A: Archive> Hub<A> {
             connections: Vec::new(alloc),
             next: 0,
             is_busy: false,
+            is_awaiting: false,
         })
     }
 
@@ -232,6 +238,7 @@ impl<A: Archive> Hub<A> {
         if let Some(behind) = self.kept_back(&self.connections[i]) {
             self.connections[i].behind = behind;
             self.is_busy = is_any_pending(self.connections.as_slice());
+            self.is_awaiting = is_any_waiting(self.connections.as_slice());
             return None;
         }
         let kept = &mut self.connections[i];
@@ -251,6 +258,7 @@ impl<A: Archive> Hub<A> {
         let behind = behind_of(contents.rest);
         kept.behind = behind;
         self.is_busy = still_pending(self.connections.as_slice(), self.is_busy, behind);
+        self.is_awaiting = still_waiting(self.connections.as_slice(), self.is_awaiting);
         Some(next)
     }
 
@@ -314,6 +322,9 @@ impl<A: Archive> Hub<A> {
     pub fn is_awaited(&self, connection: ConnId) -> bool
         ensures { result ≡ is_awaited_at self.now.connections.items connection }
     {
+        if !self.is_awaiting {
+            return false;
+        }
         is_awaited(self.connections.as_slice(), self.behind(connection))
     }
 
@@ -408,6 +419,7 @@ impl<A: Archive> Hub<A> {
         if let Some(i) = index_among(self.connections.as_slice(), connection) {
             drop(self.connections.remove(i));
             self.is_busy = is_any_pending(self.connections.as_slice());
+            self.is_awaiting = is_any_waiting(self.connections.as_slice());
         }
     }
 
@@ -429,6 +441,7 @@ impl<A: Archive> Hub<A> {
             connections,
             next: _,
             is_busy: _,
+            is_awaiting: _,
         } = self;
         drop(config);
         drop(connections);

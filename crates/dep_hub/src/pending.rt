@@ -32,6 +32,35 @@ pub(crate) fn still_pending(connections: &[Connection], before: bool, behind: Be
     false
 }
 
+/// Whether a request of one of them waits.
+pub(crate) fn is_any_waiting(connections: &[Connection]) -> bool
+    ensures { result ≡ spec.is_any_waiting connections.now }
+{
+    connections
+        .iter()
+        .any(|connection| is_waiting(connection.behind))
+}
+
+/// The same where no request waits that didn't before.
+pub(crate) fn still_waiting(connections: &[Connection], before: bool) -> bool
+    requires { before ≡ false → spec.is_any_waiting connections.now ≡ false }
+    ensures { result ≡ spec.is_any_waiting connections.now }
+{
+    if before {
+        return is_any_waiting(connections);
+    }
+    false
+}
+
+fn is_waiting(behind: Behind) -> bool
+    ensures { result ≡ spec.is_waiting behind }
+{
+    match behind {
+        Behind::Waits(_) => true,
+        _ => false,
+    }
+}
+
 fn is_pending(behind: Behind) -> bool
     ensures { result ≡ spec.is_pending behind }
 {

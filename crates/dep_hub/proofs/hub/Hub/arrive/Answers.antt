@@ -2,7 +2,7 @@ use Rattle.std.proofs.Common.{refl, sym, ap, ◌∙◌}
 use Rattle.dep_hub.specs.Numbers.{index_of}
 use Rattle.dep_hub.proofs.ConnectionLemmas.{index_none, ascends_set}
 use Rattle.dep_hub.proofs.HubLemmas.{comes_to, same_hub}
-use Rattle.dep_hub.proofs.PendingLemmas.{pending_set}
+use Rattle.dep_hub.proofs.PendingLemmas.{pending_set, waiting_set}
 use Rattle.dep_hub.proofs.hub.Hub.arrive.Goals as goal
 use Rattle.std.proofs.KnownBytes.{Keeps-refl}
 
@@ -10,7 +10,7 @@ pub returns-in_default : goal.returns-in_default
 returns-in_default g c = record {
   arrival = record {
     absent = index_none c.args.connection c.args.self.now.connections.items (ap (index_of c.args.connection) (sym c.as_slice.ensures.value) ∙ (sym c.index_among.ensures.value ∙ c.in_default.is));
-    same = same_hub c.args.self.now _ _;
+    same = same_hub c.args.self.now _ _ _;
     sends_nothing = Keeps-refl (g.O.Outlet.taken c.args.out.now);
   };
 }
@@ -32,5 +32,7 @@ invariant_of-self-2 g c = record {
   ascends = ascends_set 0 c.args.self.now.next c.in-Some.i c.args.self.now.connections.items c.index_mut-kept.result.now
       (record { number = c.index_mut-kept.result.now.number; intake = c.serve.new.intake; behind = c.index_mut-kept.result.now.behind }) c.index_mut-kept.ensures.value refl c.args.self.now.ascends;
   busy = c.args.self.now.busy ∙ sym (pending_set c.in-Some.i c.args.self.now.connections.items c.index_mut-kept.result.now
+      (record { number = c.index_mut-kept.result.now.number; intake = c.serve.new.intake; behind = c.index_mut-kept.result.now.behind }) c.index_mut-kept.ensures.value refl);
+  awaiting = c.args.self.now.awaiting ∙ sym (waiting_set c.in-Some.i c.args.self.now.connections.items c.index_mut-kept.result.now
       (record { number = c.index_mut-kept.result.now.number; intake = c.serve.new.intake; behind = c.index_mut-kept.result.now.behind }) c.index_mut-kept.ensures.value refl);
 }

@@ -9,7 +9,7 @@ use Rattle.dep_hub.proofs.HubLemmas.{closes_moves, moves_adds, absent_already, l
 use Rattle.dep_hub.proofs.HoldingLemmas.{closes_line}
 use Rattle.dep_hub.specs.StandsOwing.{behind_at}
 use Rattle.dep_hub.proofs.BehindLemmas.{behind_gone, behind_none, behind_remove}
-use Rattle.dep_hub.specs.Claims.{is_any_pending}
+use Rattle.dep_hub.specs.Claims.{is_any_pending, is_any_waiting}
 use Rattle.dep_hub.proofs.hub.Hub.close.Goals as goal
 
 -- it is taken out
@@ -60,4 +60,5 @@ invariant_of-self g c = record {
   ascends = subst (λ (cs : List Connection). Ascends 0 cs c.args.self.now.next) (sym c.remove.ensures.items)
       (ascends_remove 0 c.args.self.now.next c.in-Some.i c.args.self.now.connections.items (rw c.as_slice.ensures.value at c.in-Some.ensures.within) c.args.self.now.ascends);
   busy = c.is_any_pending-self.ensures ∙ ap is_any_pending c.as_slice-in-Some.ensures.value;
+  awaiting = c.is_any_waiting-self.ensures ∙ ap is_any_waiting c.as_slice-in-Some-2.ensures.value;
 }

@@ -12,14 +12,15 @@ use Rattle.dep_hub.proofs.HoldingLemmas.{connects_line, holds_same}
 use Rattle.dep_hub.specs.declared.rest.Behind.TheVariants.{Nothing}
 use Rattle.dep_hub.specs.StandsOwing.{behind_at}
 use Rattle.dep_hub.proofs.BehindLemmas.{behind_push}
-use Rattle.dep_hub.specs.Claims.{is_any_pending}
-use Rattle.dep_hub.proofs.PendingLemmas.{pending_push}
+use Rattle.dep_hub.specs.Claims.{is_any_pending, is_any_waiting}
+use Rattle.dep_hub.proofs.PendingLemmas.{pending_push, waiting_push}
 use Rattle.dep_hub.proofs.hub.Hub.connect.Goals as goal
 
 pub invariant_of-self : goal.invariant_of-self
 invariant_of-self g c = record {
   ascends = subst (λ (cs : List Connection). Ascends 0 cs c.args.self.now.next) (sym c.in-Err.ensures.items) c.args.self.now.ascends;
   busy = c.args.self.now.busy ∙ ap is_any_pending (sym c.in-Err.ensures.items);
+  awaiting = c.args.self.now.awaiting ∙ ap is_any_waiting (sym c.in-Err.ensures.items);
 }
 
 pub invariant_of-self-2 : goal.invariant_of-self-2
@@ -28,6 +29,7 @@ invariant_of-self-2 g c =
     record {
       ascends = subst (λ (cs : List Connection). Ascends 0 cs (d.number + 1)) (sym c.in_default.ensures.items) (ascends_push 0 c.args.self.now.connections.items d c.args.self.now.ascends);
       busy = c.args.self.now.busy ∙ sym (ap is_any_pending c.in_default.ensures.items ∙ pending_push c.args.self.now.connections.items d refl);
+      awaiting = c.args.self.now.awaiting ∙ sym (ap is_any_waiting c.in_default.ensures.items ∙ waiting_push c.args.self.now.connections.items d refl);
     }
 
 -- there are too many, or no number is left

@@ -4,7 +4,7 @@ use Rattle.dep_types.specs.declared.config.Config.{Config}
 use Rattle.dep_hub.specs.Records.{Line, Run, begins, first_world}
 use Rattle.dep_hub.specs.Standing.{IsKeptAs, intake_of}
 use Rattle.dep_hub.specs.declared.connections.Connection.{Connection}
-use Rattle.dep_hub.specs.Claims.{is_any_pending}
+use Rattle.dep_hub.specs.Claims.{is_any_pending, is_any_waiting}
 use Rattle.dep_hub.proofs.hub.Hub.new.Goals as goal
 
 pub returns-in-Err-Memory-clause-refused : goal.returns-in-Err-Memory-clause-refused
@@ -39,4 +39,5 @@ pub invariant_of-result : goal.invariant_of-result
 invariant_of-result g c = record {
   ascends = subst (λ (cs : List Connection). Ascends 0 cs 0) (sym c.new-2.ensures.items) (omega arith);
   busy = ap is_any_pending (sym c.new-2.ensures.items);
+  awaiting = ap is_any_waiting (sym c.new-2.ensures.items);
 }

@@ -7,7 +7,7 @@ use Rattle.dep_hub.proofs.HoldingLemmas.{held_fed, refuses}
 use Rattle.dep_hub.proofs.NextLemmas.{open_there, runs_out}
 use Rattle.dep_hub.proofs.ShutLemmas.{there_sent}
 use Rattle.dep_hub.proofs.BehindLemmas.{behind_as_was}
-use Rattle.dep_hub.proofs.PendingLemmas.{pending_set}
+use Rattle.dep_hub.proofs.PendingLemmas.{pending_set, waiting_set}
 use Rattle.dep_hub.proofs.hub.Hub.offer.Goals as goal
 use Rattle.std.proofs.KnownBytes.{Keeps-refl}
 
@@ -19,7 +19,7 @@ returns-in_default g c =
       kept = record { config = refl; next = refl; store = refl };
       absent = λ _. refl;
       there = λ there. absurd (none_there _ none there);
-      offers = record { absent = none; same = same_hub c.args.self.now _ _; sends_nothing = Keeps-refl (g.O.Outlet.taken c.args.out.now) };
+      offers = record { absent = none; same = same_hub c.args.self.now _ _ _; sends_nothing = Keeps-refl (g.O.Outlet.taken c.args.out.now) };
       behind = λ m. refl;
     }
 
@@ -70,6 +70,8 @@ invariant_of-self g c = record {
       (record { number = c.index_mut-kept.result.now.number; intake = c.feed.new.self; behind = c.index_mut-kept.result.now.behind }) c.index_mut-kept.ensures.value refl c.args.self.now.ascends;
   busy = c.args.self.now.busy ∙ sym (pending_set c.in-Some.i c.args.self.now.connections.items c.index_mut-kept.result.now
       (record { number = c.index_mut-kept.result.now.number; intake = c.feed.new.self; behind = c.index_mut-kept.result.now.behind }) c.index_mut-kept.ensures.value refl);
+  awaiting = c.args.self.now.awaiting ∙ sym (waiting_set c.in-Some.i c.args.self.now.connections.items c.index_mut-kept.result.now
+      (record { number = c.index_mut-kept.result.now.number; intake = c.feed.new.self; behind = c.index_mut-kept.result.now.behind }) c.index_mut-kept.ensures.value refl);
 }
 
 pub invariant_of-self-in-Err : goal.invariant_of-self-in-Err
@@ -77,5 +79,7 @@ invariant_of-self-in-Err g c = record {
   ascends = ascends_set 0 c.args.self.now.next c.in-Some.i c.args.self.now.connections.items c.index_mut-kept.result.now
       (record { number = c.index_mut-kept.result.now.number; intake = c.give_up.new.intake; behind = c.index_mut-kept.result.now.behind }) c.index_mut-kept.ensures.value refl c.args.self.now.ascends;
   busy = c.args.self.now.busy ∙ sym (pending_set c.in-Some.i c.args.self.now.connections.items c.index_mut-kept.result.now
+      (record { number = c.index_mut-kept.result.now.number; intake = c.give_up.new.intake; behind = c.index_mut-kept.result.now.behind }) c.index_mut-kept.ensures.value refl);
+  awaiting = c.args.self.now.awaiting ∙ sym (waiting_set c.in-Some.i c.args.self.now.connections.items c.index_mut-kept.result.now
       (record { number = c.index_mut-kept.result.now.number; intake = c.give_up.new.intake; behind = c.index_mut-kept.result.now.behind }) c.index_mut-kept.ensures.value refl);
 }

@@ -4,8 +4,8 @@ use Rattle.std.proofs.lemmas.Bool.{eq-eqb}
 use Rattle.dep_message.specs.Places.{Reading}
 use Rattle.dep_hub.specs.Numbers.{index_of}
 use Rattle.dep_hub.specs.Owing.{IsOwed, with_more, bytes_later}
-use Rattle.dep_hub.specs.Claims.{is_any_pending}
-use Rattle.dep_hub.specs.StandsOwing.{IsFree, behind_at, is_unsent, is_waiting}
+use Rattle.dep_hub.specs.Claims.{is_any_pending, is_any_waiting, is_waiting}
+use Rattle.dep_hub.specs.StandsOwing.{IsFree, behind_at, is_unsent}
 use Rattle.dep_hub.specs.declared.rest.Behind.{Behind}
 use Rattle.dep_hub.specs.Sending.{outside}
 use Rattle.dep_hub.proofs.ConnectionLemmas.{index_none, index_some, ascends_set}
@@ -13,7 +13,7 @@ use Rattle.dep_hub.proofs.HubLemmas.{same_hub, stays_there, none_there, not_abse
 use Rattle.dep_hub.proofs.HoldingLemmas.{comes_next}
 use Rattle.dep_hub.proofs.NextLemmas.{next_there, next_passes}
 use Rattle.dep_hub.proofs.BehindLemmas.{some_such, behind_none, behind_some, behinds_are, intakes_stay, others_are, not_there, owed_at, owed_later, some_reading}
-use Rattle.dep_hub.proofs.PendingLemmas.{kept_back_as, not_broken, not_waiting, pending_unset}
+use Rattle.dep_hub.proofs.PendingLemmas.{kept_back_as, not_broken, not_waiting, pending_unset, waiting_unset}
 use Rattle.dep_hub.proofs.hub.Hub.reply.Goals as goal
 
 -- there is no such connection
@@ -27,7 +27,7 @@ returns-in_default-clause-replies g c =
       more = None;
       answers = record {
         absent = index_none c.args.connection c.args.self.now.connections.items none;
-        same = same_hub c.args.self.now _ _;
+        same = same_hub c.args.self.now _ _ _;
         sends_nothing = Keeps-refl (g.O.Outlet.taken c.args.out.now);
       };
       owes = λ honest s stands. subst (λ (b : Behind). IsOwed s b []) (sym empty) refl;
@@ -57,6 +57,7 @@ invariant_of-self-in-Some-kept_back g c = record {
   ascends = ascends_set 0 c.args.self.now.next c.in-Some.i c.args.self.now.connections.items c.index_mut.result.now
       (record { number = c.index_mut.result.now.number; intake = c.index_mut.result.now.intake; behind = c.in-Some-kept_back.behind }) c.index_mut.ensures.value refl c.args.self.now.ascends;
   busy = c.is_any_pending-self.ensures ∙ ap is_any_pending c.as_slice-in-Some-kept_back.ensures.value;
+  awaiting = c.is_any_waiting-self.ensures ∙ ap is_any_waiting c.as_slice-in-Some-kept_back-2.ensures.value;
 }
 
 pub returns-in-Some-kept_back-clause-absent : goal.returns-in-Some-kept_back-clause-absent
@@ -103,11 +104,19 @@ still_pending-self-requires g c before none =
     ∙ pending_unset c.in-Some.i c.args.self.now.connections.items (record { number = kept.number; intake = c.take_next-next.new.intake; behind = c.behind_of-behind.result }) none
     (sym c.args.self.now.busy ∙ before)
 
+pub still_waiting-self-requires : goal.still_waiting-self-requires
+still_waiting-self-requires g c before =
+    let kept = c.index_mut-kept.result.now in
+    ap is_any_waiting c.as_slice-3.ensures.value
+    ∙ waiting_unset c.in-Some.i c.args.self.now.connections.items (record { number = kept.number; intake = c.take_next-next.new.intake; behind = c.behind_of-behind.result })
+    (ap is_waiting c.behind_of-behind.ensures ∙ not_waiting c.take_next-next.new.contents.rest) (sym c.args.self.now.awaiting ∙ before)
+
 pub invariant_of-self-2 : goal.invariant_of-self-2
 invariant_of-self-2 g c = record {
   ascends = ascends_set 0 c.args.self.now.next c.in-Some.i c.args.self.now.connections.items c.index_mut-kept.result.now
       (record { number = c.index_mut-kept.result.now.number; intake = c.take_next-next.new.intake; behind = c.behind_of-behind.result }) c.index_mut-kept.ensures.value refl c.args.self.now.ascends;
   busy = c.still_pending-self.ensures ∙ ap is_any_pending c.as_slice-2.ensures.value;
+  awaiting = c.still_waiting-self.ensures ∙ ap is_any_waiting c.as_slice-3.ensures.value;
 }
 
 pub returns-clause-free : goal.returns-clause-free

@@ -1,8 +1,8 @@
 use Rattle.std.proofs.Common.{[], refl, sym, ap, subst, ◌∙◌}
 use Rattle.dep_hub.specs.Numbers.{index_of}
 use Rattle.dep_hub.specs.Owing.{IsOwed}
-use Rattle.dep_hub.specs.Claims.{is_any_pending, is_content, is_pending}
-use Rattle.dep_hub.proofs.PendingLemmas.{pending_set}
+use Rattle.dep_hub.specs.Claims.{is_any_pending, is_content, is_pending, is_waiting}
+use Rattle.dep_hub.proofs.PendingLemmas.{pending_set, waiting_set}
 use Rattle.dep_hub.specs.StandsOwing.{behind_at}
 use Rattle.dep_hub.specs.declared.rest.Behind.{Behind}
 use Rattle.dep_hub.specs.declared.rest.Behind.TheVariants.{Nothing, Content, Broken}
@@ -21,6 +21,9 @@ invariant_of-self-in-Ok-Some g c = record {
   busy = c.args.self.now.busy ∙ sym (pending_set c.in-Some.i c.args.self.now.connections.items c.index_mut-kept.result.now
       (record { number = c.index_mut-kept.result.now.number; intake = c.index_mut-kept.result.now.intake; behind = (Content (record { file = c.in-Content.rest.file; sent = c.in-Ok-Some.sent })) })
       c.index_mut-kept.ensures.value (sym (ap is_pending c.in-Content.is)));
+  awaiting = c.args.self.now.awaiting ∙ sym (waiting_set c.in-Some.i c.args.self.now.connections.items c.index_mut-kept.result.now
+      (record { number = c.index_mut-kept.result.now.number; intake = c.index_mut-kept.result.now.intake; behind = (Content (record { file = c.in-Content.rest.file; sent = c.in-Ok-Some.sent })) })
+      c.index_mut-kept.ensures.value (sym (ap is_waiting c.in-Content.is)));
 }
 
 pub invariant_of-self-in-Ok-None : goal.invariant_of-self-in-Ok-None
@@ -28,6 +31,9 @@ invariant_of-self-in-Ok-None g c = record {
   ascends = ascends_set 0 c.args.self.now.next c.in-Some.i c.args.self.now.connections.items c.index_mut-kept.result.now
       (record { number = c.index_mut-kept.result.now.number; intake = c.index_mut-kept.result.now.intake; behind = Nothing }) c.index_mut-kept.ensures.value refl c.args.self.now.ascends;
   busy = c.is_any_pending-self.ensures ∙ ap is_any_pending c.as_slice-in-Ok-None.ensures.value;
+  awaiting = c.args.self.now.awaiting ∙ sym (waiting_set c.in-Some.i c.args.self.now.connections.items c.index_mut-kept.result.now
+      (record { number = c.index_mut-kept.result.now.number; intake = c.index_mut-kept.result.now.intake; behind = Nothing })
+      c.index_mut-kept.ensures.value (sym (ap is_waiting c.in-Content.is)));
 }
 
 pub invariant_of-self-in-Err : goal.invariant_of-self-in-Err
@@ -35,6 +41,9 @@ invariant_of-self-in-Err g c = record {
   ascends = ascends_set 0 c.args.self.now.next c.in-Some.i c.args.self.now.connections.items c.index_mut-kept.result.now
       (record { number = c.index_mut-kept.result.now.number; intake = c.index_mut-kept.result.now.intake; behind = Broken }) c.index_mut-kept.ensures.value refl c.args.self.now.ascends;
   busy = c.is_any_pending-self-in-Err.ensures ∙ ap is_any_pending c.as_slice-in-Err.ensures.value;
+  awaiting = c.args.self.now.awaiting ∙ sym (waiting_set c.in-Some.i c.args.self.now.connections.items c.index_mut-kept.result.now
+      (record { number = c.index_mut-kept.result.now.number; intake = c.index_mut-kept.result.now.intake; behind = Broken })
+      c.index_mut-kept.ensures.value (sym (ap is_waiting c.in-Content.is)));
 }
 
 pub returns-in_default-clause-sends : goal.returns-in_default-clause-sends
