@@ -14,15 +14,16 @@ sys.path.insert(0, f"{sys.path[0]}/lib")
 import argparse
 import json
 import os
+import subprocess
 import tempfile
-import threading
 import time
 
 from depositing import JSON, Client, as_file, by_reference, exchange, first_file
-from hosted import MIB, Host
+from hosted import MIB, Host, rest
 from host_waits import MOST, SEGMENT_SIZE, Other, upload
 
 PATIENCE, CLIENTS, IDLE = 900, 10, 8
+READ = "import sys, urllib.request\nwith urllib.request.urlopen(sys.argv[1]) as it:\n    while it.read(1 << 20): pass"
 METADATA = {"Content-Disposition": "attachment; metadata=true", **JSON}
 
 
@@ -89,11 +90,10 @@ class Acts:
         self.ask(204, method, path, *((b"x", as_file("a")) if method == "PUT" else ()))
 
     def read_at_once(self):
-        threads = [threading.Thread(target=self.ask, args=(200, "GET", self.file)) for _ in range(CLIENTS)]
-        for it in threads:
-            it.start()
-        for it in threads:
-            it.join()
+        """By programs of their own, since threads of this one would hold up the other client."""
+        readers = [subprocess.Popen([sys.executable, "-c", READ, self.host.base + self.file]) for _ in range(CLIENTS)]
+        for it in readers:
+            it.wait()
 
     def leave_unread(self):
         """Asks for the file, and reads nothing of it."""
@@ -121,6 +121,8 @@ class Acts:
         size, path = f"{self.options.mib} MiB", "/objects/999999999"
         sent, kept = lambda: self.made("upload", self.send), lambda: self.made("file", lambda: sent() and self.deposit())
         described, filled = lambda: self.made("described", self.describe), lambda: self.made("filled", self.fill)
+        # The log of the deposit is copied by then.
+        rested = lambda: (kept(), rest(self.host))
         yield "nothing", 0, None, lambda: time.sleep(1)
         yield "deposit of 16 MiB", 16 * MIB, None, lambda: self.ask(201, "POST", "/service", os.urandom(16 * MIB), as_file("a"))
         yield f"{size} in segments of 16 MiB", SEGMENT_SIZE, None, sent
@@ -129,9 +131,9 @@ class Acts:
         yield "by reference, another digest (412)", 0, sent, lambda: self.refer(412, digest=f"SHA-256={64 * '0'}")
         yield "the same again (412)", 0, sent, lambda: self.refer(412, digest=f"SHA-256={64 * '0'}")
         yield f"by reference {size}", self.size, sent, kept
-        yield f"GET of {size}", 0, kept, lambda: self.ask(200, "GET", self.file)
-        yield f"{CLIENTS} GETs of {size} at once", 0, kept, self.read_at_once
-        yield f"GET of {size} that isn't read", 0, kept, self.leave_unread
+        yield f"GET of {size}", 0, rested, lambda: self.ask(200, "GET", self.file)
+        yield f"{CLIENTS} GETs of {size} at once", 0, rested, self.read_at_once
+        yield f"GET of {size} that isn't read", 0, rested, self.leave_unread
         yield f"DELETE of its object, {size}", self.size, kept, lambda: self.ask(204, "DELETE", self.file.partition("/files")[0])
         for method, is_set in (("PUT", False), ("DELETE", False), ("PUT", True), ("DELETE", True)):
             yield (f"{method} of a file{' set' * is_set}, {size}", self.size, self.remake,
