@@ -4,15 +4,11 @@ pub mod Opened
 pub mod Sources
 pub mod Carrying
 pub mod Remembered
-pub mod ReportLemmas
-pub mod LineLemmas
 pub mod ShutLemmas
 pub mod Tries
 pub mod KnownFiles
 pub mod Copied
-pub mod Exported
 pub mod KeepingLemmas
-pub mod StartingLemmas
 pub mod LogLemmas
 pub mod Contents
 pub mod Begun

@@ -3,6 +3,7 @@ use Rattle.std.proofs.Common.{◌≡◌, ℕ, List, [], Option, inl, inr, Result
 use Rattle.std.proofs.KnownBytes.{Appends-nil}
 use Rattle.sqlite.specs.State as db
 use Rattle.sqlite.specs.State.{HasCleanDisk, Survives}
+use Rattle.sqlite.specs.Tree.{Trees}
 use Rattle.dep_types.specs.State.{State, tick}
 use Rattle.dep_types.specs.declared.config.Config.{Config}
 use Rattle.dep_types.specs.declared.stream_fault.StreamFault.{StreamFault}
@@ -10,7 +11,7 @@ use Rattle.dep_types.specs.declared.stream_fault.StreamFault.TheVariants.{Writer
 use Rattle.dep_tables.specs.Tables.{Tables}
 use Rattle.dep_staging.specs.declared.running.RunningHashes.{RunningHashes}
 use Rattle.dep_files.specs.Faults.{BlamesOutlet}
-use Rattle.dep_schema.specs.Standing.{Stands}
+use Rattle.dep_schema.specs.Standing.{Holds, Stands}
 use Rattle.dep_schema.specs.States.{TablesStandFor, StandsFor, Leaves}
 use Rattle.dep_schema.specs.Transactions.{Transacts, OnlyTells, OverStates, IsBackAt, IsGivenBack, IsRestored}
 use Rattle.dep_schema.proofs.Transacting.{IsSettled, IsOver, ok_over_states, err_state, stop_over_states, ok_tells, still_tells, left_tells, leaves_still, leaves_as_was}
@@ -20,7 +21,15 @@ use Rattle.dep_store.specs.Shut.{FailsIfShut, SendsFile}
 use Rattle.dep_schema.specs.Performing.{KeepsRunning}
 use Rattle.dep_store.specs.Staying.{TellsTables, KeepsTables, LeavesOnly, HashesOn}
 use Rattle.dep_store.proofs.ShutLemmas.{state_back}
-use Rattle.dep_store.proofs.ReportLemmas.{leaves_held, stands_still}
+
+-- what a stop leaves of a state whose tables stay
+pub leaves_held : (d : db.State) {tables : Tables} (s : State) → TablesStandFor tables s
+    → ((trees : Trees) → d.may_leave trees → Holds trees tables) → Leaves d (λ left. left ≡ s)
+leaves_held d {tables = tables} s means holds trees may = (s, inl (tables, holds trees may, means), refl)
+
+-- tables that stay stand for the state still
+pub stands_still : {old new : db.State} (s : State) (h : StandsFor old s) → Stands new h.tables → StandsFor new s
+stands_still s h stands = record { tables = h.tables; stands = stands; means = h.means }
 
 -- a transaction goes on from each state of which this holds
 pub tries_over : {A E : Type 0} (old new : db.State) (r : Result A E) (Makes : Tables → A → Tables → Type 0) (holds : State → Type 0)

@@ -5,13 +5,8 @@ pub mod Shut
 pub mod Staying
 pub mod Glancing
 pub mod Archive
-pub mod Exports
-pub mod Audits
-pub mod Reporting
-pub mod Working
 pub mod Copying
 pub mod Tasks
 pub mod HashingStores
 pub mod LogCopies
-pub mod Starting
 pub mod SendingOn

@@ -1,7 +1,8 @@
 //! Calls of a store that no request makes.
 
+use dep_commands::{audit_all, export_object};
 use dep_program::Outcome;
-use dep_store::{Store, Unwatched, audit_all, export_object};
+use dep_store::{Store, Unwatched};
 use dep_types::{StoreFault, Through};
 use example_player::Shelf;
 use example_text::{ArchiveCall, Page, Trouble};

@@ -14,9 +14,9 @@ use Rattle.dep_schema.specs.declared.opening.OpenFault.{OpenFault}
 use Rattle.dep_store.specs.HashingStores.{condition_of}
 use Rattle.dep_store.specs.declared.archive.HashingStore.{HashingStore}
 use Rattle.dep_store.specs.Migrating.{Keeps, OpenLeaves}
-use Rattle.dep_store.specs.Starting.{IsGivenOrStore, IsStore, OpeningLeaves, RefusesConfig, outcome_of_start}
-use Rattle.dep_store.specs.declared.starting.StartFault.{StartFault}
-use Rattle.dep_store.specs.declared.starting.StartFault.TheVariants as fault
+use Rattle.dep_commands.specs.Starting.{IsGivenOrStore, IsStore, OpeningLeaves, RefusesConfig, outcome_of_start}
+use Rattle.dep_commands.specs.declared.starting.StartFault.{StartFault}
+use Rattle.dep_commands.specs.declared.starting.StartFault.TheVariants as fault
 use Rattle.dep_hub.specs.Records.{World, Record, Run, begins, stops, stopped, first_world}
 use Rattle.dep_hub.specs.Standing.{StandsAfter, IsClean, IsHonest}
 use Rattle.dep_hub.specs.declared.faults.HubFault.TheVariants as refused

@@ -10,12 +10,12 @@ use Rattle.dep_tables.specs.Tables.{Tables}
 use Rattle.dep_tables.specs.Versions.{our_version, older_version, HasVersion}
 use Rattle.dep_schema.specs.Standing.{Holds, HoldsOlder, HoldsNone, Stands, first_tables}
 use Rattle.dep_schema.specs.States.{StandsFor, IsLeftAs, Leaves}
-use Rattle.dep_store.specs.Audits.{Audits, IsBegun, object_rows}
+use Rattle.dep_commands.specs.Audits.{Audits, IsBegun, object_rows}
 use Rattle.dep_schema.proofs.Transacting.{IsSettled, leaves_as_was}
 use Rattle.dep_schema.proofs.Version.{not_older}
 use Rattle.dep_store.proofs.Opened.{first_means, version_is}
 use Rattle.dep_store.specs.Migrating.{IsUpgraded, OpensOlder}
-use Rattle.dep_store.proofs.ReportLemmas.{stands_still}
+use Rattle.dep_store.proofs.Tries.{stands_still}
 use Rattle.dep_program.specs.Folders.{without_folder}
 use Rattle.dep_program.specs.declared.outcome.Outcome.{Outcome}
 use Rattle.dep_program.specs.declared.outcome.Outcome.TheVariants.{StoreFault}

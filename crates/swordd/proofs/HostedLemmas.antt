@@ -12,9 +12,9 @@ use Rattle.dep_schema.specs.States.{StandsFor}
 use Rattle.dep_schema.specs.declared.opening.OpenFault.{OpenFault}
 use Rattle.dep_schema.proofs.Transacting.{IsSettled, leaves_as_was}
 use Rattle.dep_store.specs.Migrating.{Keeps}
-use Rattle.dep_store.specs.Starting.{IsGivenOrStore, IsStore, OpeningLeaves, RefusesConfig, outcome_of_start}
-use Rattle.dep_store.specs.declared.starting.StartFault.{StartFault}
-use Rattle.dep_store.specs.declared.starting.StartFault.TheVariants as fault
+use Rattle.dep_commands.specs.Starting.{IsGivenOrStore, IsStore, OpeningLeaves, RefusesConfig, outcome_of_start}
+use Rattle.dep_commands.specs.declared.starting.StartFault.{StartFault}
+use Rattle.dep_commands.specs.declared.starting.StartFault.TheVariants as fault
 use Rattle.dep_hub.specs.declared.faults.HubFault.TheVariants as refused_by
 use Rattle.dep_hub.specs.Records.{Record, Run, stops, stopped, first_world}
 use Rattle.dep_hub.specs.Records as records_of

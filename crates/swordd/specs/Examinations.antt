@@ -8,8 +8,8 @@ use Rattle.dep_tables.specs.Versions.{our_version, older_version, HasVersion}
 use Rattle.dep_schema.specs.Standing.{Holds, HoldsOlder, HoldsNone, Stands}
 use Rattle.dep_store.specs.Migrating.{IsUpgraded}
 use Rattle.dep_schema.specs.States.{TablesStandFor, IsLeftAs}
-use Rattle.dep_store.specs.Audits.{Audits}
-use Rattle.dep_store.specs.Exports.{Exports}
+use Rattle.dep_commands.specs.Audits.{Audits}
+use Rattle.dep_commands.specs.Exports.{Exports}
 use Rattle.dep_program.specs.declared.outcome.Outcome.{Outcome}
 use Rattle.dep_program.specs.declared.outcome.Outcome.TheVariants.{StoreFault, TransferFault}
 use Rattle.swordd.specs.Databases.{IsKept, IsRefused}

@@ -16,7 +16,7 @@ use Rattle.dep_store.specs.declared.archive.HashingStore.{HashingStore}
 use Rattle.dep_reserve.specs.declared.reserved_archive.ReservedArchive.{ReservedArchive}
 use Rattle.dep_hub.specs.Errands.{Account}
 use Rattle.swordd.specs.declared.logged_reserve.LoggedReserve.{LoggedReserve}
-use Rattle.dep_store.specs.Starting.{OpeningLeaves}
+use Rattle.dep_commands.specs.Starting.{OpeningLeaves}
 use Rattle.dep_hub.specs.Records.{World, Record, Run, first_world, stopped}
 use Rattle.dep_hub.specs.Standing.{StandsAfter, IsHonest}
 use Rattle.dep_hub.specs.declared.hub.Hub.{Hub}

@@ -7,8 +7,9 @@ ghost use Rattle.dep_types.specs.Writing.{HasRisen};
 ghost use Rattle.swordd.specs.Examinations.{AuditsDatabase, ExportsDatabase};
 
 use crate::progress::Told;
+use dep_commands::{audit_all, export_object};
 use dep_program::{Folder, FolderSink, Outcome, without_folder};
-use dep_store::{Store, audit_all, export_object};
+use dep_store::Store;
 use dep_types::Outlet;
 use sqlite::{Alter, Connection};
 use std::alloc::Global;

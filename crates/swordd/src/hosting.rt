@@ -8,6 +8,7 @@ ghost use Rattle.swordd.specs.Hosted.{HostsDatabase, IsEntranceOf, IsPlaceOf, ho
 use crate::host_log::StandardErrorLog;
 use crate::logged_reserve::LoggedReserve;
 use crate::reserved_hub::open_reserved_hub;
+use dep_commands::{Work, work_on_file};
 use dep_configuration::{Configuration, Limits};
 use dep_host::HostLog;
 use dep_outbox::{Sink, Source, Spool};
@@ -15,7 +16,6 @@ use dep_program::Outcome;
 use dep_sockets::{
     Door, Entrance, FileSpool, SocketDoor, SocketSink, SocketSource, Spools, serve_hub,
 };
-use dep_store::{Work, work_on_file};
 use dep_types::{Config, Text};
 use sqlite::{Alter, Connection};
 use std::alloc::{AllocError, Global};

@@ -22,8 +22,8 @@ use crate::called::is_called_host;
 use crate::commands::run_command;
 use crate::host::run_host;
 pub use crate::replay::{replay, replay_gathered};
+pub use dep_commands::{audit_all, export_object};
 pub use dep_program::{Outcome, serve_on};
-pub use dep_store::{audit_all, export_object};
 use std::process::ExitCode;
 
 fn main(rt: HostRuntime) -> ExitCode {

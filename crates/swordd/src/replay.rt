@@ -6,10 +6,11 @@ ghost use Rattle.dep_connection.specs.Flushing.{IsFlushed};
 ghost use Rattle.dep_program.specs.Gathering.{told, held_in, given};
 ghost use Rattle.swordd.specs.Replays.{FromNothing, Replays, ReplaysIn, ReplaysSent, wire_gathered, wire_of};
 
+use dep_commands::{close_hub, open_hub};
 use dep_connection::{Flush, serve_connection};
 use dep_moment::Moment;
 use dep_program::{Gathered, Outcome, configuration, outcome_of, outcome_sent};
-use dep_store::{Unwatched, close_hub, open_hub};
+use dep_store::Unwatched;
 use dep_types::Inlet;
 use sqlite::{Alter, Connection};
 use std::alloc::Global;

@@ -5,20 +5,21 @@ ghost use Rattle.dep_types.specs.State.{empty_state};
 ghost use Rattle.dep_types.specs.Config.{IsChecked};
 ghost use Rattle.dep_schema.specs.Standing.{HoldsNone};
 ghost use Rattle.dep_store.specs.Migrating.{Keeps};
-ghost use Rattle.dep_store.specs.Starting.{IsGivenOrStore, OpeningLeaves, RefusesConfig};
+ghost use Rattle.dep_commands.specs.Starting.{IsGivenOrStore, OpeningLeaves, RefusesConfig};
 ghost use Rattle.dep_hub.specs.Standing.{StandsAfter, IsHonest};
 ghost use Rattle.swordd.specs.Hosted.{condition_of, GoesOnFromLeft};
 
+use dep_commands::{StartFault, check_config};
 use dep_hub::{Hub, HubFault};
 use dep_reserve::{Reserve, ReservedArchive};
 use dep_schema::OpenFault;
-use dep_store::{HashingStore, StartFault, Store, Unwatched, check_config};
+use dep_store::{HashingStore, Store, Unwatched};
 use dep_types::Config;
 use sqlite::{Alter, Connection};
 use std::alloc::Global;
 
 /// Checks the configuration, opens the database as a store, takes the reserve, if there is one, and makes a hub over both,
-/// without connections. A refusal hands the connection back, as one of `dep_store::open_hub` does.
+/// without connections. A refusal hands the connection back, as one of `dep_commands::open_hub` does.
 pub fn open_reserved_hub<S: Alter, R: Reserve + Drop>(
     alloc: Global,
     config: Config,

@@ -3,8 +3,8 @@
 use crate::examination::{audit_database, export_database};
 use crate::progress::Told;
 use crate::service::serve_database;
+use dep_commands::{Work, work_on_file};
 use dep_program::{Job, Outcome, Progress};
-use dep_store::{Work, work_on_file};
 use dep_types::Through;
 use sqlite::{Alter, Connection};
 use std::fs;

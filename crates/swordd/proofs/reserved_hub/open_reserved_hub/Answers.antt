@@ -11,9 +11,9 @@ use Rattle.dep_hub.specs.Records.{first_world}
 use Rattle.dep_hub.specs.declared.faults.HubFault.{HubFault}
 use Rattle.dep_reserve.specs.declared.reserved_archive.ReservedArchive.{ReservedArchive}
 use Rattle.dep_store.specs.declared.archive.HashingStore.{HashingStore}
-use Rattle.dep_store.specs.declared.starting.StartFault.TheVariants as start
+use Rattle.dep_commands.specs.declared.starting.StartFault.TheVariants as start
 use Rattle.dep_store.proofs.Opened.{leaves_alone}
-use Rattle.dep_store.proofs.StartingLemmas.{opening_leaves}
+use Rattle.dep_commands.proofs.StartingLemmas.{opening_leaves}
 use Rattle.swordd.proofs.reserved_hub.open_reserved_hub.Goals as goal
 
 other_fault : (a : HubFault) (b : OpenFault) → start.Hub a ≡ start.Open b → ⊥

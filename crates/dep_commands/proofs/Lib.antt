@@ -1,0 +1,4 @@
+pub mod ReportLemmas
+pub mod LineLemmas
+pub mod Exported
+pub mod StartingLemmas

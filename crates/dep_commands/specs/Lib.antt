@@ -1,0 +1,5 @@
+pub mod Exports
+pub mod Audits
+pub mod Reporting
+pub mod Working
+pub mod Starting

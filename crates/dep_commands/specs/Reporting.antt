@@ -1,0 +1,102 @@
+-- What is to be written so far, and how far it was written.
+use Rattle.std.specs.Prelude.{◌≡◌, ◌≢◌, ◌⊎◌, ℕ, ◌≤◌, ◌-◌, ◌^◌, List, [], ◌++◌, length, filter, Option, Some, None, Result, Ok, Err}
+use Rattle.std.specs.Io.KnownBytes.{Appends}
+use Rattle.sqlite.specs.State as db
+use Rattle.sqlite.specs.Order.{Row}
+use Rattle.dep_statements.specs.Rows.{is_after}
+use Rattle.dep_tables.specs.Tables.{Tables}
+use Rattle.dep_types.specs.Sinks.{IsFront}
+use Rattle.dep_schema.specs.Standing.{Stands}
+use Rattle.dep_types.specs.Writing.{HasRisen}
+use Rattle.dep_files.specs.Faults.{BlamesOutlet}
+use Rattle.dep_files.specs.Fixity.{IsAudited}
+use Rattle.dep_files.specs.declared.auditing.Audit.{Audit}
+use Rattle.dep_store.specs.Staying.{KeepsTables}
+use Rattle.dep_commands.specs.Audits.{Audited, AreAudits, object_rows, damaged_lines, lines_of, checked_in, damaged_in, IsBegun}
+use Rattle.dep_commands.specs.declared.audit_fault.AuditFault.{AuditFault}
+use Rattle.dep_commands.specs.declared.audit_fault.AuditFault.TheVariants.{Store, Writer}
+use Rattle.dep_program.specs.declared.outcome.Outcome.{Outcome}
+use Rattle.dep_program.specs.declared.outcome.Outcome.TheVariants.{StoreFault, TransferFault}
+use Rattle.dep_commands.specs.declared.tally.Tally.{Tally}
+
+-- all of a text was written, or after a fault a front of it
+abbrev pub IsWritten : {X : Type 0} → (whole written : List ℕ) → Result X AuditFault → Type 0
+IsWritten whole written (Ok x) = written ≡ whole
+IsWritten whole written (Err fault) = IsFront written whole
+
+-- what the program says of it
+abbrev pub outcome_of_fault : AuditFault → Outcome
+outcome_of_fault Store = StoreFault
+outcome_of_fault Writer = TransferFault
+
+-- a text was written so far as the result says
+abbrev pub Writes : {X : Type 0} → (taken takes : Option (List ℕ)) → (whole : List ℕ)
+    → Result X AuditFault → Type 0
+Writes taken takes whole result =
+    (written : List ℕ) × Appends taken takes written × IsWritten whole written result
+
+-- this was written of each tables that the store has, whether they stand for a state or not
+abbrev pub WritesOf : (old new : db.State) → (taken takes : Option (List ℕ))
+    → (Tables → (written : List ℕ) → Type 0) → Type 0
+WritesOf old new taken takes told = (written : List ℕ) × Appends taken takes written
+    × (db.HasCleanDisk new → (t : Tables) → Stands old t → told t written)
+
+-- a text was written so far as the result says, and the writer failed where that is returned, and nowhere else
+pub record WritesTo {W X : Type 0} (taken : W → Option (List ℕ)) (failures : W → ℕ) (before after : W)
+    (whole : List ℕ) (result : Result X AuditFault) : Type 0 where
+  pub writes : Writes (taken before) (taken after) whole result
+  pub blames : BlamesOutlet Writer (failures before) (failures after) result
+
+-- so is what was written of the tables that the store has, which stay
+pub record Reports {W X : Type 0} (old new : db.State) (taken : W → Option (List ℕ))
+    (failures : W → ℕ) (before after : W) (result : Result X AuditFault)
+    (told : Tables → (written : List ℕ) → Result X AuditFault → Type 0) : Type 0 where
+  pub writes : WritesOf old new (taken before) (taken after) (λ t written. told t written result)
+  pub stays : KeepsTables old new
+  pub blames : BlamesOutlet Writer (failures before) (failures after) result
+
+-- the same by what the program says: the transfer failed
+pub record BlamesTransfer (failures failures_after : ℕ) (outcome : Outcome) : Type 0 where
+  pub count : outcome ≢ TransferFault → failures_after ≡ failures
+  pub cause : outcome ≡ TransferFault → HasRisen failures failures_after
+
+-- the lines of an object were written
+pub record IsReportedObject (t : Tables) (object : ℕ) (written : List ℕ) (tally : Tally) : Type 0 where
+  pub audit : Audit
+  pub audited : IsAudited t object audit
+  pub lines : written ≡ damaged_lines (record { object = object; audit = audit })
+  pub checked : tally.checked ≡ audit.checked
+  pub damaged : tally.damaged ≡ length audit.damaged.items
+
+-- a front of them was
+pub record IsPartOfObject (t : Tables) (object : ℕ) (written : List ℕ) : Type 0 where
+  pub audit : Audit
+  pub audited : IsAudited t object audit
+  pub front : IsFront written (damaged_lines (record { object = object; audit = audit }))
+
+abbrev pub ReportsObject : Tables → (object : ℕ) → (written : List ℕ) → Result Tally AuditFault → Type 0
+ReportsObject t object written (Ok tally) = IsReportedObject t object written tally
+ReportsObject t object written (Err fault) = (written ≡ []) ⊎ IsPartOfObject t object written
+
+-- the objects up to this number were audited, and their lines were written
+pub record IsReported (t : Tables) (rows : List Row) (written : List ℕ) (tally : Tally) : Type 0 where
+  pub found : List Audited
+  pub are : AreAudits t rows found
+  pub lines : written ≡ lines_of found
+  pub checked : tally.checked ≡ checked_in found
+  pub damaged : tally.damaged ≡ damaged_in found
+
+pub record IsReportedTo (t : Tables) (after : ℕ) (written : List ℕ) (tally : Tally) : Type 0 where
+  pub rows : List Row
+  pub first : object_rows t ≡ rows ++ filter (is_after after) t.objects
+  pub told : IsReported t rows written tally
+
+-- so many objects, or files of them, that 64 bits don't count them
+abbrev pub IsUncounted : {t : Tables} {written : List ℕ} → IsBegun t written → Type 0
+IsUncounted begun = (2 ^ 64 - 1 ≤ length begun.rows)
+    ⊎ ((2 ^ 64 ≤ checked_in begun.found) ⊎ (2 ^ 64 ≤ damaged_in begun.found))
+
+abbrev pub ReportsObjects : Tables → (written : List ℕ) → Result (Option Tally) AuditFault → Type 0
+ReportsObjects t written (Ok (Some tally)) = IsReported t (object_rows t) written tally
+ReportsObjects t written (Ok None) = (begun : IsBegun t written) × IsUncounted begun
+ReportsObjects t written (Err fault) = IsBegun t written

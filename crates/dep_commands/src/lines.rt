@@ -1,0 +1,85 @@
+//! The lines of an audit.
+ghost use Rattle.std.specs.Prelude.{◌≡◌, IfOk, flat_map, string_bytes};
+ghost use Rattle.dep_commands.specs.Audits.{damaged_line, count_line, two_numbers};
+ghost use Rattle.dep_commands.specs.Reporting.{WritesTo};
+
+use crate::audit_fault::AuditFault;
+use crate::tally::Tally;
+use dep_types::{Outlet, StoreFault};
+use itoa::Buffer;
+use std::alloc::Global;
+
+/// A line of two numbers, each behind a text.
+#[derive(Clone, Copy)]
+struct Line<'a> {
+    before: &'a str,
+    first: u64,
+    between: &'a str,
+    second: u64,
+}
+
+/// Writes a line for each of the damaged files of an object.
+pub(crate) fn write_damaged<W: Outlet>(
+    alloc: Global,
+    object: u64,
+    files: &[u64],
+    out: &mut W,
+) -> Result<(), AuditFault>
+    ensures { WritesTo W.taken W.failures out.old out.new
+        (flat_map (damaged_line object) files.now) result }
+{
+    'files: for file in files {
+        let line = Line {
+            before: "damaged ",
+            first: object,
+            between: " ",
+            second: *file,
+        };
+        write_line(alloc, &line, out)?;
+    }
+    Ok(())
+}
+
+/// Writes the last line.
+pub(crate) fn write_count<W: Outlet>(
+    alloc: Global,
+    tally: Tally,
+    out: &mut W,
+) -> Result<(), AuditFault>
+    ensures { WritesTo W.taken W.failures out.old out.new
+        (count_line tally.checked tally.damaged) result }
+{
+    let line = Line {
+        before: "files ",
+        first: tally.checked,
+        between: " damaged ",
+        second: tally.damaged,
+    };
+    write_line(alloc, &line, out)
+}
+
+fn write_line<W: Outlet>(alloc: Global, line: &Line<'_>, out: &mut W) -> Result<(), AuditFault>
+    ensures { WritesTo W.taken W.failures out.old out.new
+        (two_numbers line.now.before.now line.now.first line.now.between.now line.now.second) result }
+{
+    let text = spell(alloc, line)?;
+    out.write(text.as_bytes())?;
+    Ok(())
+}
+
+fn spell(alloc: Global, line: &Line<'_>) -> Result<String, StoreFault>
+    ensures { IfOk result (λ text. string_bytes text
+        ≡ two_numbers line.now.before.now line.now.first line.now.between.now line.now.second) }
+{
+    let mut first = Buffer::new();
+    let mut second = Buffer::new();
+    let text = [
+        line.before,
+        first.format(line.first),
+        line.between,
+        second.format(line.second),
+        "\n",
+    ]
+    .concat(alloc)?;
+    Ok(text)
+}

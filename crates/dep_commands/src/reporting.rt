@@ -1,0 +1,104 @@
+//! The audit of all files of a store.
+ghost use Rattle.std.specs.Prelude.{◌≡◌, OnOk};
+ghost use Rattle.sqlite.specs.State.{HasCleanDisk};
+ghost use Rattle.sqlite.specs.Held.{state};
+ghost use Rattle.dep_tables.specs.Tables.{Tables};
+ghost use Rattle.dep_schema.specs.Standing.{Stands};
+ghost use Rattle.dep_commands.specs.Audits.{Audits};
+ghost use Rattle.dep_store.specs.Staying.{KeepsTables};
+ghost use Rattle.dep_commands.specs.Reporting.{ReportsObject, ReportsObjects, Reports, WritesOf, BlamesTransfer, outcome_of_fault};
+
+use crate::audit_fault::AuditFault;
+use crate::lines::{write_count, write_damaged};
+use crate::tally::Tally;
+use dep_files::Watch;
+use dep_program::Outcome;
+use dep_store::Store;
+use dep_types::Outlet;
+use sqlite::Alter;
+use std::alloc::Global;
+
+/// Checks all files of all objects by both digests, in the order of the objects' numbers and then of the files'. It
+/// writes a line for each damaged one, once its object was checked, and at last a line of how many were checked and
+/// how many are damaged. The watch is told of each block that is read.
+pub fn audit_all<S: Alter, W: Outlet, P: Watch>(
+    alloc: Global,
+    store: &mut Store<S>,
+    out: &mut W,
+    watch: &mut P,
+) -> Outcome
+    ensures writes { WritesOf (state S.Store store.old) (state S.Store store.new)
+        (W.taken out.old) (W.taken out.new) (λ t written. Audits t written result) }
+    ensures stays { KeepsTables (state S.Store store.old) (state S.Store store.new) }
+    ensures blames { BlamesTransfer (W.failures out.old) (W.failures out.new) result }
+{
+    let tally = match report_objects(alloc, store, out, watch) {
+        Ok(Some(tally)) => tally,
+        Ok(None) => return Outcome::StoreFault,
+        Err(fault) => return outcome_of(fault),
+    };
+    match write_count(alloc, tally, out) {
+        Ok(()) if tally.damaged == 0 => Outcome::Done,
+        Ok(()) => Outcome::Damaged,
+        Err(fault) => outcome_of(fault),
+    }
+}
+
+fn outcome_of(fault: AuditFault) -> Outcome
+    ensures { result ≡ outcome_of_fault fault }
+{
+    match fault {
+        AuditFault::Store => Outcome::StoreFault,
+        AuditFault::Writer => Outcome::TransferFault,
+    }
+}
+
+// Writes the lines of all objects. It gives up where more are checked than 64 bits count.
+fn report_objects<S: Alter, W: Outlet, P: Watch>(
+    alloc: Global,
+    store: &mut Store<S>,
+    out: &mut W,
+    watch: &mut P,
+) -> Result<Option<Tally>, AuditFault>
+    ensures { Reports (state S.Store store.old) (state S.Store store.new)
+        W.taken W.failures out.old out.new result ReportsObjects }
+{
+    let mut tally = Tally {
+        checked: 0,
+        damaged: 0,
+    };
+    let mut after = 0;
+    'objects: for _ in 0..u64::MAX {
+        let Some(object) = store.next_object(after)? else {
+            return Ok(Some(tally));
+        };
+        let more = report_object(alloc, store, object, out, watch)?;
+        let Some(sum) = tally.plus(more) else {
+            return Ok(None);
+        };
+        tally = sum;
+        after = object;
+    }
+    Ok(None)
+}
+
+// Writes the lines of an object.
+fn report_object<S: Alter, W: Outlet, P: Watch>(
+    alloc: Global,
+    store: &mut Store<S>,
+    object: u64,
+    out: &mut W,
+    watch: &mut P,
+) -> Result<Tally, AuditFault>
+    ensures reports { Reports (state S.Store store.old) (state S.Store store.new)
+        W.taken W.failures out.old out.new result (λ t. ReportsObject t object) }
+    ensures kept { HasCleanDisk (state S.Store store.new) → (t : Tables)
+        → Stands (state S.Store store.old) t → OnOk result (Stands (state S.Store store.new) t) }
+{
+    let audit = store.audit(object, watch)?;
+    write_damaged(alloc, object, audit.damaged.as_slice(), out)?;
+    Ok(Tally {
+        checked: audit.checked,
+        damaged: audit.damaged.len() as u64,
+    })
+}
