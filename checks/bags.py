@@ -6,8 +6,7 @@ Then it audits the store, before and after statements of Python's sqlite3 that d
 
     checks/bags.py
 
-It is the story of checks/bag.sh without curl, sha256sum and sqlite3, and more. The status is 0 where all is so. It needs
-the kit's clang (checks/lib/system_faults.py), and takes three seconds.
+The status is 0 where all is so. It needs the kit's clang (checks/lib/system_faults.py), and takes three seconds.
 """
 
 import sys

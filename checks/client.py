@@ -4,8 +4,7 @@ large file in segments, its bag and its end, against `swordd serve` on a new sto
 
     checks/client.py
 
-It is the story of checks/curl.sh without curl and sqlite3. The status is 0 where all came as it should. It needs nothing
-else, and takes a second.
+The status is 0 where all came as it should. It needs nothing else, and takes a second.
 """
 
 import sys

@@ -4,8 +4,7 @@ of which has to show what is written there.
 
     checks/tables.py
 
-checks/tables.sh does the same by curl and the sqlite3 shell. The status is 0 where all is so. It needs nothing else, and
-takes a second.
+The status is 0 where all is so. It needs nothing else, and takes a second.
 """
 
 import sys
