@@ -5,7 +5,8 @@
 
 One client does one thing after another; a second one asks for the service document over and over. Each line tells how long the
 act took, how long the other waited at most, and how long it may: 100 ms, and 100 ms for each 16 MiB that the request brings or
-moves. With words it does only the acts whose line has one of them. With --check its status is 1 where another waited longer.
+moves. Where the tables or the JSON of the kit take more than that, an act may take so many microseconds for each text or reference
+(EACH). With words it does only the acts whose line has one of them. With --check its status is 1 where another waited longer.
 """
 
 import sys
@@ -23,7 +24,26 @@ from hosted import MIB, Host, rest
 from host_waits import MOST, SEGMENT_SIZE, Other, upload
 
 PATIENCE, CLIENTS, IDLE = 900, 10, 8
+CROWD, CROWD_SECONDS = 900, 5
+# What a text takes at most to be kept, to be deleted, to be shown, and to be shown and hashed; and what a reference takes to be read.
+EACH = {"kept": 20, "deleted": 12, "shown": 2, "hashed": 3, "read": 7}
 READ = "import sys, urllib.request\nwith urllib.request.urlopen(sys.argv[1]) as it:\n    while it.read(1 << 20): pass"
+# Asks for a path over so many connections, and reads what comes until the time is over.
+READ_BY_MANY = """
+import selectors, socket, sys, time
+port, path, count, seconds = int(sys.argv[1]), sys.argv[2], int(sys.argv[3]), float(sys.argv[4])
+ready = selectors.DefaultSelector()
+for _ in range(count):
+    wire = socket.create_connection(("127.0.0.1", port))
+    wire.sendall(f"GET {path} HTTP/1.1\\r\\nHost: a\\r\\n\\r\\n".encode())
+    wire.setblocking(False)
+    ready.register(wire, selectors.EVENT_READ)
+end, came = time.monotonic() + seconds, 0
+while time.monotonic() < end:
+    for key, _ in ready.select(1):
+        came += len(key.fileobj.recv(1 << 18))
+print(f"    {came >> 20} MiB came")
+"""
 METADATA = {"Content-Disposition": "attachment; metadata=true", **JSON}
 
 
@@ -95,6 +115,10 @@ class Acts:
         for it in readers:
             it.wait()
 
+    def read_by_many(self):
+        words = [str(self.host.port), self.file, str(CROWD), str(CROWD_SECONDS)]
+        subprocess.run([sys.executable, "-c", READ_BY_MANY, *words], check=True)
+
     def leave_unread(self):
         """Asks for the file, and reads nothing of it."""
         wire = self.host.connect(room=16_384)
@@ -117,10 +141,19 @@ class Acts:
         time.sleep(IDLE + 2)
 
     def all(self):
-        """Each act: its line, the bytes that it brings or moves, what comes before and isn't measured, and what is done."""
+        """Each act: its line, the milliseconds that others may wait, what comes before and isn't measured, and what is done."""
+        for line, moved, before, act in self.with_contents():
+            yield line, MOST * max(1, moved / (16 * MIB)), before, act
+        for line, count, each, before, act in self.with_many():
+            yield line, max(MOST, count * EACH.get(each, 0) / 1_000), before, act
+        size = f"{self.options.mib} MiB"
+        yield (f"1,000 uploads and one of {size} end idle", MOST * max(1, self.options.mib / 16), self.leave_uploads,
+               lambda: self.ask(200, "GET", "/service"))
+
+    def with_contents(self):
+        """Those with large contents: each with the bytes that it brings or moves."""
         size, path = f"{self.options.mib} MiB", "/objects/999999999"
         sent, kept = lambda: self.made("upload", self.send), lambda: self.made("file", lambda: sent() and self.deposit())
-        described, filled = lambda: self.made("described", self.describe), lambda: self.made("filled", self.fill)
         # The log of the deposit is copied by then.
         rested = lambda: (kept(), rest(self.host))
         yield "nothing", 0, None, lambda: time.sleep(1)
@@ -134,22 +167,30 @@ class Acts:
         yield f"GET of {size}", 0, rested, lambda: self.ask(200, "GET", self.file)
         yield f"{CLIENTS} GETs of {size} at once", 0, rested, self.read_at_once
         yield f"GET of {size} that isn't read", 0, rested, self.leave_unread
+        yield f"{CROWD} clients that read {size}", 0, rested, self.read_by_many
         yield f"DELETE of its object, {size}", self.size, kept, lambda: self.ask(204, "DELETE", self.file.partition("/files")[0])
         for method, is_set in (("PUT", False), ("DELETE", False), ("PUT", True), ("DELETE", True)):
             yield (f"{method} of a file{' set' * is_set}, {size}", self.size, self.remake,
                    lambda method=method, is_set=is_set: self.remove(method, is_set))
-        yield f"metadata of {self.options.texts:,} texts", 3 * self.options.texts, None, described
-        yield "HEAD of its object", 0, described, lambda: self.ask(200, "HEAD", self.described)
-        for it in ("bagit.txt", "manifest-sha512.txt", "tagmanifest-sha256.txt"):
-            yield f"{it} of its object", 0, described, lambda it=it: self.ask(200, "GET", f"{self.described}/bag/{it}")
-        yield "HEAD of its tagmanifest-sha256.txt", 0, described, lambda: self.ask(200, "HEAD", f"{self.described}/bag/tagmanifest-sha256.txt")
-        yield "GET of the metadata", 0, described, lambda: self.ask(200, "GET", f"{self.described}/metadata")
-        yield "DELETE of its object", 3 * self.options.texts, described, lambda: self.ask(204, "DELETE", self.described)
-        yield f"{self.options.references:,} references of nothing", 100 * self.options.references, None, self.refer_to_nothing
-        yield f"an object of {self.options.files:,} files, one by one", 0, None, filled
-        yield "GET of that object", 0, filled, lambda: self.ask(200, "GET", self.filled)
-        yield "DELETE of that object", 0, filled, lambda: self.ask(204, "DELETE", self.filled)
-        yield f"1,000 uploads and one of {size} end idle", self.size, self.leave_uploads, lambda: self.ask(200, "GET", "/service")
+
+    def with_many(self):
+        """Those of many texts, references or files: each with how many there are, and what each of them may take."""
+        texts, references, files = self.options.texts, self.options.references, self.options.files
+        described, filled = lambda: self.made("described", self.describe), lambda: self.made("filled", self.fill)
+        shown = lambda status, method, path: self.ask(status, method, f"{self.described}{path}")
+        yield f"metadata of {texts:,} texts", texts, "kept", None, described
+        yield "HEAD of its object", 0, None, described, lambda: shown(200, "HEAD", "")
+        for it in ("bagit.txt", "manifest-sha512.txt"):
+            yield f"{it} of its object", 0, None, described, lambda it=it: shown(200, "GET", f"/bag/{it}")
+        for method, each in (("HEAD", None), ("GET", "hashed")):
+            yield (f"{method} of its tagmanifest-sha256.txt", texts, each, described,
+                   lambda method=method: shown(200, method, "/bag/tagmanifest-sha256.txt"))
+        yield "GET of the metadata", texts, "shown", described, lambda: shown(200, "GET", "/metadata")
+        yield "DELETE of its object", texts, "deleted", described, lambda: shown(204, "DELETE", "")
+        yield f"{references:,} references of nothing", references, "read", None, self.refer_to_nothing
+        yield f"an object of {files:,} files, one by one", 0, None, None, filled
+        yield "GET of that object", 0, None, filled, lambda: self.ask(200, "GET", self.filled)
+        yield "DELETE of that object", 0, None, filled, lambda: self.ask(204, "DELETE", self.filled)
 
 
 def main():
@@ -162,7 +203,7 @@ def main():
     longer = 0
     with tempfile.TemporaryDirectory() as folder:
         acts = Acts(options, folder)
-        for line, moved, before, act in acts.all():
+        for line, most, before, act in acts.all():
             if options.words and not any(it in line for it in options.words):
                 continue
             if before:
@@ -172,7 +213,6 @@ def main():
                 began = time.monotonic()
                 act()
                 took = time.monotonic() - began
-            most = MOST * max(1, moved / (16 * MIB))
             longer += other.longest > most
             print(f"{line:<44} took {took:6.2f} s, others waited {other.longest:6.0f} ms of {most:5.0f}, {acts.host.peak():5.0f} MiB"
                   f"{'  LONGER' if other.longest > most else ''}", flush=True)
