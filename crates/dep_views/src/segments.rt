@@ -38,5 +38,5 @@ pub(crate) fn is_whole<T: Statements>(
         return Ok(true);
     }
     let received = segments_of(tx, alloc, row.upload)?;
-    Ok(received.len() as u64 == row.count)
+    Ok(received.as_slice().len() as u64 == row.count)
 }
