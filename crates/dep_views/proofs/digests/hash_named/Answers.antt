@@ -1,4 +1,3 @@
-use Rattle.std.proofs.Common.{Ok}
 use Rattle.dep_tables.proofs.Chains.{clean_before, may_err, may_ok, may_put, may_then}
 use Rattle.dep_views.proofs.Chains.{over_behind}
 use Rattle.dep_views.proofs.digests.hash_named.Goals as goal
