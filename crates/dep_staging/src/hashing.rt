@@ -33,8 +33,8 @@ fn hash_block<T: Statements>(tx: &mut T, run: &mut RunningHash) -> Result<bool, 
     Ok(true)
 }
 
-// Hashes so many blocks of an upload, as far as no segment is missing, and returns how many of them weren't there: none
-// where more may be left.
+// Hashes so many blocks of an upload, as far as no segment is missing, and returns how many of them
+// weren't there: none where more may be left.
 fn hash_blocks<T: Statements>(
     tx: &mut T,
     run: &mut RunningHash,
@@ -49,6 +49,22 @@ fn hash_blocks<T: Statements>(
         }
     }
     Ok(0)
+}
+
+// The same, and keeps how far it was hashed, whatever is returned.
+fn hash_on<T: Statements>(
+    tx: &mut T,
+    running: &mut RunningHashes,
+    upload: u64,
+    most: u64,
+) -> Result<u64, StoreFault>
+    ensures does { MayReadOver T.lenders T.state tx.old tx.new result
+        (λ s. IsSound s → AreRunning s running.old → AreRunning s running.new) }
+{
+    let mut run = running.take(upload);
+    let hashed = hash_blocks(tx, &mut run, most);
+    running.put(run);
+    hashed
 }
 
 /// Returns the SHA-256 and the SHA-512 (FIPS 180-4) of the assembled bytes of the upload of this row, none of whose
@@ -74,27 +90,11 @@ pub fn hash_upload<T: Statements>(
     Ok(digests)
 }
 
-// Hashes so many blocks of an upload, and keeps how far it was hashed, whatever is returned: how many of them weren't
-// there.
-fn hash_on<T: Statements>(
-    tx: &mut T,
-    running: &mut RunningHashes,
-    upload: u64,
-    most: u64,
-) -> Result<u64, StoreFault>
-    ensures does { MayReadOver T.lenders T.state tx.old tx.new result
-        (λ s. IsSound s → AreRunning s running.old → AreRunning s running.new) }
-{
-    let mut run = running.take(upload);
-    let hashed = hash_blocks(tx, &mut run, most);
-    running.put(run);
-    hashed
-}
-
-/// Hashes at most so many blocks of an upload, of which no row of a segment is read, and keeps how far it was hashed,
-/// whatever is returned. Returns how many of them weren't needed for all of it: none where more may be left. Returns
-/// `None` where it can't be hashed whole: the upload isn't there, or it lacks a segment, or there is no memory to keep
-/// how far it was hashed. A number of 2^63 or more is a fault of the store.
+/// Hashes at most so many blocks of an upload, and keeps how far it was hashed, whatever is returned:
+/// how many of these blocks weren't needed to hash all of it, none where more may be left. It is
+/// `None` where the upload can't be hashed whole: it isn't there, or lacks a segment, or there is no
+/// memory to keep how far it was hashed. No row of a segment is read, and of an upload that was
+/// hashed whole its own row alone. A number of 2^63 or more is a fault of the store.
 pub fn hash_some<T: Statements>(
     tx: &mut T,
     running: &mut RunningHashes,

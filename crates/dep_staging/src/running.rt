@@ -113,8 +113,8 @@ impl RunningHashes {
         }
     }
 
-    /// Whether all of an upload was hashed that comes in so many segments, so that it lacks none. Nothing is read. An
-    /// upload of which this isn't known may be whole as well.
+    /// Whether all of an upload was hashed that comes in so many segments, so that it lacks none.
+    /// Nothing is read. An upload of which this isn't known may be whole as well.
     pub fn is_hashed_whole(&self, upload: u64, count: u64) -> bool
         ensures { IsTrue result → (s : State) → AreRunning s self.now
             → LacksNone s upload count }

@@ -1,9 +1,9 @@
 -- One call after another that only reads.
 use Rattle.std.proofs.Common.{Result, IsTrue, sym, subst}
-use Rattle.sqlite.specs.State.{State, HasCleanDisk, IsUnchanged}
+use Rattle.sqlite.specs.State.{State, IsUnchanged}
 use Rattle.dep_types.specs.State as machine
 use Rattle.dep_types.specs.declared.store_fault.StoreFault.{StoreFault}
-use Rattle.dep_tables.specs.Tables.{Tables, IsOurs, tables_of}
+use Rattle.dep_tables.specs.Tables.{Tables, tables_of}
 use Rattle.dep_tables.proofs.Chains.{MayReads, clean_before, still_ours}
 use Rattle.dep_row_maps.specs.Clauses.{FromMaps, MayFind, MayReadOver, OverMaps}
 use Rattle.dep_row_maps.specs.TablesAre.{TablesAre}

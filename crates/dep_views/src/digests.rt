@@ -15,7 +15,8 @@ use dep_tables::Statements;
 use dep_types::StoreFault;
 use std::alloc::Global;
 
-/// Of so many uploads that a document names they are hashed before it is answered: of half as many as are kept.
+/// Of so many uploads that a document names all is hashed before it is answered: of half as many as
+/// it is kept how far they were hashed.
 const MOST_HASHED: usize = 1_024;
 
 /// How many blocks of them are hashed at once.
@@ -87,9 +88,10 @@ fn hash_uploads<T: Statements>(
     Ok(UploadViews::from_vec(hashed))
 }
 
-/// Hashes up to 64 blocks (4 MiB) of the uploads of these numbers, which references name, one after another, and returns
-/// whether more may be left: of the first 1,024, so that none of them gives way to another. No row of a segment is read.
-/// Where one isn't there, or lacks a segment, nothing behind it is hashed, since it refuses the deposit.
+/// Hashes up to 64 blocks (4 MiB) of the uploads of these numbers, which references name, one after
+/// another, and returns whether more may be left: of the first 1,024, so that none of them gives way
+/// to another. Of each one row is read, and none of a segment. Where one isn't there, or lacks a
+/// segment, nothing behind it is hashed, since it refuses the deposit.
 pub fn hash_named<T: Statements>(
     tx: &mut T,
     running: &mut RunningHashes,
@@ -109,9 +111,9 @@ pub fn hash_named<T: Statements>(
     Ok(false)
 }
 
-/// Returns what was loaded, with the digests of each upload that references name and that lacks no segment. Its bytes
-/// are read, one block at a time, but for those that were hashed before, which stay known whatever is returned. No row
-/// of a segment is read, and nothing without references.
+/// Returns what was loaded, with the digests of each upload that references name and that lacks no
+/// segment. Its bytes are read, one block at a time, but for those that were hashed before; what is
+/// hashed stays known, whatever is returned. No row is read, and nothing without references.
 pub fn load_digests<T: Statements>(
     tx: &mut T,
     alloc: Global,

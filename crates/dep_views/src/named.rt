@@ -68,9 +68,9 @@ fn first_missing<T: Statements>(tx: &mut T, uploads: &[u64]) -> Result<Option<Re
     Ok(None)
 }
 
-/// Looks up the uploads of these numbers, which references name, in their order: up to the first that isn't there.
-/// No row of a segment is read of an upload that was hashed whole, nor behind the first that lacks a segment. An upload
-/// that is named twice is read twice.
+/// Looks up the uploads of these numbers, which references name, in their order: up to the first that
+/// isn't there. Of an upload that was hashed whole no row of a segment is read, of another each, but
+/// none behind the first that lacks a segment. An upload that is named twice is read twice.
 pub fn load_named<T: Statements>(
     tx: &mut T,
     alloc: Global,

@@ -23,8 +23,8 @@ pub(crate) fn numbers_of(alloc: Global, segments: &[SegmentRow]) -> Result<Numbe
     Ok(Numbers::from_vec(numbers))
 }
 
-/// Whether the upload of this row lacks no segment. Of one that was hashed whole no row of a segment is read, of another
-/// each row.
+/// Whether the upload of this row lacks no segment. Of one that was hashed whole no row of a segment
+/// is read, of another each.
 pub(crate) fn is_whole<T: Statements>(
     tx: &mut T,
     alloc: Global,
@@ -38,5 +38,5 @@ pub(crate) fn is_whole<T: Statements>(
         return Ok(true);
     }
     let received = segments_of(tx, alloc, row.upload)?;
-    Ok(received.len() as u64 == row.count)
+    Ok(received.as_slice().len() as u64 == row.count)
 }

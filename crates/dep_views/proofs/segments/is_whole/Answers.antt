@@ -1,6 +1,7 @@
-use Rattle.std.proofs.Common.{◌∙◌, ap, length, nat_eq, sym}
+use Rattle.std.proofs.Common.{◌∙◌, List, ap, length, nat_eq, sym}
 use Rattle.std.proofs.lemmas.Result.{IfOk-from_err}
 use Rattle.dep_tables.specs.Tables.{tables_of}
+use Rattle.dep_tables.specs.declared.segments.SegmentRow.{SegmentRow}
 use Rattle.dep_tables.proofs.Chains.{may_err, may_ok, may_put, may_read}
 use Rattle.dep_views.proofs.Counted.{counted_whole}
 use Rattle.dep_views.proofs.Found.{segments_within}
@@ -20,7 +21,7 @@ returns g c = record {
     found = λ clean inside ours s are sound running it there same.
         let row = c.args.row.now in
         let t = tables_of (g.T.Statements.state c.args.tx.now) in
-        ap (λ n. nat_eq n row.count) (ap length c.as_slice.ensures)
+        ap (λ (rows : List SegmentRow). nat_eq (length rows) row.count) c.as_slice.ensures.value
         ∙ counted_whole t s are row.upload row.count it there same (segments_within s row.upload it sound there) c.in_ok-received.received.items (c.in_ok-received.ensures.does.ok clean ours);
     keeps = may_ok (may_read c.in_ok-received.ensures.does.keeps);
   };
