@@ -1,4 +1,5 @@
 //! What follows from how a host goes on, apart from any code.
+ghost use Rattle.dep_host.specs.Sharing.{TurnsCome};
 ghost use Rattle.dep_host.specs.Laws.{MakesRuns, TakesWhatIsSent, ReadsArrive, SitsApart, SitsOpen, KeepsPromises, TakesNothing, SendsContents};
 
 use dep_hub::Archive;
@@ -36,6 +37,11 @@ pub fn seats_are_apart<A: Archive, R: Source, K: Sink, S: Spool>()
 /// it is sent, unless it is over.
 pub fn contents_are_sent<A: Archive, R: Source, K: Sink, S: Spool>()
     ensures { SendsContents A.condition R.unread K.taken S.held }
+{}
+
+/// The turn of each place comes, also while contents are sent on to all others: within any 17 rounds of 1,024 places.
+pub fn turns_come()
+    ensures { TurnsCome }
 {}
 
 /// The archive promise, for all connections at once. From a host without connections over a store that
