@@ -1,6 +1,6 @@
 //! What follows from how a host goes on, apart from any code.
 ghost use Rattle.dep_host.specs.Sharing.{TurnsCome};
-ghost use Rattle.dep_host.specs.Laws.{MakesRuns, TakesWhatIsSent, ReadsArrive, SitsApart, SitsOpen, KeepsPromises, TakesNothing, SendsContents};
+ghost use Rattle.dep_host.specs.Laws.{SendingEnds, MakesRuns, TakesWhatIsSent, ReadsArrive, SitsApart, SitsOpen, KeepsPromises, TakesNothing, SendsContents};
 
 use dep_hub::Archive;
 use dep_hub::laws::{answers_make_a_run, connections_make_a_run, replies_make_a_run};
@@ -51,6 +51,16 @@ pub fn turns_come()
 /// it is open.
 pub fn hosts_keep_the_archive_promise<A: Archive, R: Source, K: Sink, S: Spool>()
     ensures { KeepsPromises A.condition R.unread K.taken S.held }
+{
+    answers_make_a_run::<A>();
+    connections_make_a_run::<A>();
+    replies_make_a_run::<A>();
+}
+
+/// A content that is sent in steps ends: each step of it sends some bytes of what is owed, or ends it, so that there
+/// are no more of them than bytes are owed.
+pub fn sending_ends<A: Archive, R: Source, K: Sink, S: Spool>()
+    ensures { SendingEnds A.condition R.unread K.taken S.held }
 {
     answers_make_a_run::<A>();
     connections_make_a_run::<A>();

@@ -1,9 +1,5 @@
-use Rattle.std.proofs.Common.{Bool, ap, is_some, sym, subst, ◌∙◌}
+use Rattle.std.proofs.Common.{Bool, sym, subst, ◌∙◌}
 use Rattle.dep_hub.specs.Errands.{WorkedAhead, Runs}
-use Rattle.dep_host.specs.declared.serving.Ended.TheVariants.{Events, Shut, Spent}
-use Rattle.dep_host.proofs.HostLemmas.{stands_still, stays_same}
-use Rattle.dep_host.proofs.MeetLemmas.{not_told, not_yet_ended}
-use Rattle.dep_host.proofs.RoundLemmas.{untold_in_time}
 use Rattle.dep_host.proofs.serving.go_on.Goals as goal
 
 pub returns-clause-asks : goal.returns-clause-asks

@@ -1,4 +1,4 @@
-use Rattle.std.proofs.Common.{◌≡◌, ℕ, Bool, Option, true, false, is_some, refl, sym, ap, subst, ◌∙◌, arith}
+use Rattle.std.proofs.Common.{ℕ, Bool, Option, is_some, refl, sym, ap, subst, ◌∙◌, arith}
 use Rattle.dep_host.specs.Causes.{causes_of}
 use Rattle.dep_host.specs.declared.ending.Shut.{Shut}
 use Rattle.dep_host.specs.declared.limits.Limits.{Limits}
