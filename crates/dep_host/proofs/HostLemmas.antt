@@ -1,5 +1,5 @@
 -- How a host goes on.
-use Rattle.std.proofs.Common.{◌≡◌, ◌⊎◌, ◌<◌, ◌≤◌, ◌+◌, ◌==◌, if◌then◌else◌, ℕ, zero, suc, Bool, true, false, List, [], ◌∷◌, ◌++◌, Option, None, Some, refl, sym, ap, subst, ◌∙◌, append_assoc, length, get_or, set, take, Vec, Global, is_some, Ok, IsTrue, add-one, inl, inr, arith}
+use Rattle.std.proofs.Common.{◌≡◌, ◌⊎◌, ◌<◌, ◌≤◌, ◌+◌, ◌==◌, ◌||◌, if◌then◌else◌, ℕ, zero, suc, Bool, true, false, List, [], ◌∷◌, ◌++◌, Option, None, Some, refl, sym, ap, subst, ◌∙◌, append_assoc, length, get_or, set, take, Vec, Global, is_some, Ok, IsTrue, add-one, inl, inr, arith}
 use Rattle.std.proofs.lemmas.List.{append-nil, get_or_default, set-get_or, get_or-set_same, get_or-set_other}
 use Rattle.std.proofs.Math.ListN.{length-set}
 use Rattle.std.proofs.lemmas.Bool.{cases_eq, cases_lt}
@@ -44,6 +44,11 @@ grows_on (Some o) (Some m) (Some n) xs ys g h = h ∙ (ap (λ l. l ++ ys) g ∙ 
 
 pub grows_same : {X : Type 0} (told tells : Option (List X)) → tells ≡ told → Grows told tells []
 grows_same {X = X} told tells same = subst (λ (o : Option (List X)). Grows told o []) (sym same) (grows_none told)
+
+-- nobody is busy where neither is
+pub neither : (a b : Bool) → (a || b) ≡ false → (a ≡ false) × (b ≡ false)
+neither true b h = absurd (let bad : true ≡ false = h in cc)
+neither false b h = (refl, h)
 
 -- what was read at a place is what stands there
 pub slot_read : {X : Type 0} (at : ℕ) (seats : List (Option X)) (x : Option X) → at < length seats → x ≡ get_or seats at x → slot at seats ≡ x
@@ -108,16 +113,17 @@ closes_there {R = R} {K = K} {S = S} p at second seat told reason sat e is = sub
 
 -- nothing of what stays changed
 pub stays_same : {A R K S : Type 0} (p : Host A R K S) → Stays p p
-stays_same p = record { places = refl; limits = refl; shut = refl; unanswered = refl }
+stays_same p = record { places = refl; limits = refl; shut = refl; unanswered = refl; first = refl }
 
 -- one place changed
 pub stays_set : {A R K S : Type 0} (p q : Host A R K S) (at : ℕ) (x : Option (Seat R K S)) → q.seats.items ≡ set p.seats.items at x → q.limits ≡ p.limits → q.shut ≡ p.shut
-    → q.unanswered ≡ p.unanswered → Stays p q
-stays_set {R = R} {K = K} {S = S} p q at x seats limits shut unanswered = record {
+    → q.unanswered ≡ p.unanswered → q.first ≡ p.first → Stays p q
+stays_set {R = R} {K = K} {S = S} p q at x seats limits shut unanswered first = record {
   places = ap (λ (l : List (Option (Seat R K S))). length l) seats ∙ length-set p.seats.items at x;
   limits = limits;
   shut = shut;
   unanswered = unanswered;
+  first = first;
 }
 
 pub stays_on : {A R K S : Type 0} (p q r : Host A R K S) → Stays p q → Stays q r → Stays p r
@@ -126,6 +132,7 @@ stays_on p q r s t = record {
   limits = t.limits ∙ s.limits;
   shut = t.shut ∙ s.shut;
   unanswered = t.unanswered ∙ s.unanswered;
+  first = t.first ∙ s.first;
 }
 
 -- the store is shut where the hub tells that it is

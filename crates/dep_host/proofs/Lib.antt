@@ -1,5 +1,6 @@
 mod SeatLemmas
 mod HostLemmas
+mod ShareLemmas
 mod ServeLemmas
 mod RunLemmas
 mod TellLemmas

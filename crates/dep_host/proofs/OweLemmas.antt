@@ -1,6 +1,6 @@
 -- What a host sent and still owes is what a run says.
-use Rattle.std.proofs.Common.{◌≡◌, inl, inr, ◌≤◌, ◌+◌, ◌==◌, ℕ, Bool, true, false, if◌then◌else◌, List, [], ◌∷◌, ◌++◌, Option, None, Some, refl, sym, ap, subst, ◌∙◌, append_assoc, IsTrue, arith}
-use Rattle.std.proofs.lemmas.List.{append-nil, append_cancel_left}
+use Rattle.std.proofs.Common.{◌≡◌, inl, inr, ◌≤◌, ◌+◌, ◌==◌, ℕ, suc, length, Bool, true, false, if◌then◌else◌, List, [], ◌∷◌, ◌++◌, Option, None, Some, refl, sym, ap, subst, ◌∙◌, append_assoc, IsTrue, arith}
+use Rattle.std.proofs.lemmas.List.{append-nil, append_cancel_left, length-append}
 use Rattle.std.proofs.lemmas.Bool.{cases_eq, eq-eqb, ne_eqb}
 use Rattle.std.specs.Io.KnownBytes.{Appends, append_known}
 use Rattle.dep_types.specs.State.{State}
@@ -11,12 +11,14 @@ use Rattle.dep_hub.specs.Records.{Record, Connect, Arrive, Close, Line, Live, Ab
 use Rattle.dep_hub.specs.Standing.{IsClean, IsHonest}
 use Rattle.dep_hub.specs.Holding.{KeepsHolding, StandsHoldingAfter, PartArrives, IsNext, items_answered, with_held}
 use Rattle.dep_hub.specs.Owing.{IsOwed, bytes_later, with_more}
-use Rattle.dep_hub.specs.StandsOwing.{KeepsBack, unsent, waits_still, begins_to_wait, wants_memory, StandsOwingAfter, NextIsFree, OthersStay, Owes, behind_at, is_unsent}
+use Rattle.dep_hub.specs.StandsOwing.{KeepsBack, unsent, waits_still, begins_to_wait, wants_memory, StandsOwingAfter, NextIsFree, OthersStay, Owes, IsPaid, behind_at, is_part, is_unsent}
 use Rattle.dep_hub.specs.declared.arrived.Arrived.{Arrived}
 use Rattle.dep_hub.specs.declared.hub.Hub.{Hub}
 use Rattle.dep_hub.specs.declared.next.Next.{Next}
 use Rattle.dep_hub.specs.declared.next.Next.TheVariants.{More, Waiting, Closed, Cut, NoSuch}
 use Rattle.dep_hub.specs.declared.rest.Behind.{Behind}
+use Rattle.dep_hub.specs.declared.sent_on.SentOn.{SentOn}
+use Rattle.dep_hub.specs.declared.sent_on.SentOn.TheVariants.{Part, All, Broken as BrokenOff}
 use Rattle.dep_hub.specs.declared.rest.Behind.TheVariants.{Nothing, Content, Broken, Waits}
 use Rattle.dep_outbox.specs.Wires.{told}
 use Rattle.dep_host.specs.declared.course.Phase.{Phase}
@@ -24,8 +26,9 @@ use Rattle.dep_host.specs.declared.course.Phase.TheVariants.{Open, Over}
 use Rattle.dep_host.specs.Courses.{is_sending}
 use Rattle.dep_host.specs.Seats.{SameBehind}
 use Rattle.dep_host.specs.Hosting.{Position, slot, Tells, Deed, Opens, Takes, Replies, Sends, Declines, Closes, sent_by, replies_to, StandsStill, Step, refused, asks, comes, rests, offers, delays, sends, refuses, answers, leaves, Steps, begins, goes_on}
-use Rattle.dep_host.specs.Runs.{Follows, begins as follows_none, opens, takes, replies, sends as follows_sent, declines, closes, StaysOpen, sent_for, sent_of, KeepsPromise, OwesNone}
+use Rattle.dep_host.specs.Runs.{Follows, begins as follows_none, opens, takes, replies, sends as follows_sent, declines, closes, StaysOpen, replies_of, parts_of, sent_for, sent_of, KeepsPromise, OwesNone}
 use Rattle.dep_host.proofs.CloseLemmas.{clean_before}
+use Rattle.dep_host.proofs.HostLemmas.{steps_join}
 use Rattle.dep_host.proofs.ReadLemmas.{open_before, open_last, replies_one, sent_one, reads_arrive}
 use Rattle.dep_host.proofs.TellLemmas.{AllTell, tells_of, wires_take, seats_stay}
 use Rattle.dep_host.proofs.GivenLemmas.{reads_given}
@@ -93,6 +96,31 @@ joins_same r o s r' o' s' joined er eo es = ap (λ (l : List ℕ). l ++ o') er �
 
 known_joined : (t : Option (List ℕ)) (r o s : List ℕ) → t ≡ Some r → r ++ o ≡ s → append_known t o ≡ Some s
 known_joined t r o s is joined = ap (λ (k : Option (List ℕ)). append_known k o) is ∙ ap Some joined
+
+replies_join : (n : ℕ) (xs ys : List Deed) → replies_of n (xs ++ ys) ≡ replies_of n xs + replies_of n ys
+replies_join n [] ys = let none : replies_of n [] ≡ 0 = refl in omega (arith, none)
+replies_join n (d ∷ xs) ys = let e = replies_join n xs ys in omega (arith, e)
+
+parts_join : (n : ℕ) (xs ys : List Deed) → parts_of n (xs ++ ys) ≡ parts_of n xs + parts_of n ys
+parts_join n [] ys = let none : parts_of n [] ≡ 0 = refl in omega (arith, none)
+parts_join n (d ∷ xs) ys = let e = parts_join n xs ys in omega (arith, e)
+
+as_many : (n : ℕ) → 0 + n ≤ n
+as_many n = omega arith
+
+-- a part takes some of what is owed
+paid_part : (answer : SentOn) (sent rest owed : List ℕ) → owed ≡ sent ++ rest → IsPaid answer sent rest → (if is_part answer then 1 else 0) + length rest ≤ length owed
+paid_part Part [] rest owed cut some = absurd (some refl)
+paid_part Part (x ∷ sent) rest owed cut some =
+    let long = ap (λ (l : List ℕ). length l) cut ∙ length-append (x ∷ sent) rest in
+    let l : length (x ∷ sent) ≡ suc (length sent) = refl in
+    omega (arith, long, l)
+paid_part All sent rest owed cut some =
+    let long = ap (λ (l : List ℕ). length l) cut ∙ length-append sent rest in
+    omega (arith, long)
+paid_part BrokenOff sent rest owed cut some =
+    let long = ap (λ (l : List ℕ). length l) cut ∙ length-append sent rest in
+    omega (arith, long)
 
 -- what is owed to a connection that is closed
 owed_closed : (s : State) (is_closed : Bool) (b : Behind) (owed : List ℕ) → IsOwed s b owed → IsOwed s (if is_closed then Nothing else b) (if is_closed then [] else owed)
@@ -350,22 +378,104 @@ module _ {A R K S : Type 0} (condition : A → Condition) (unread : R → Option
   steps_owe first before empty unowed h (goes_on s t) clean =
       step_owes first before (steps_agree condition unread taken held empty s) (steps_owe first before empty unowed h s (clean_before condition unread taken held t clean)) t clean
 
-  -- the promise is kept
+  -- so the promise is kept
+  promise_of : (p q : Position A R K S) (deeds : List Deed) (first : State) (before : List Record) → ((at : ℕ) → slot at p.seats ≡ None) → Steps condition unread taken held p deeds q
+      → OwesBehind q first before deeds → KeepsPromise condition unread taken held q first before deeds
+  promise_of p q deeds first before empty steps it = record {
+    behind = record {
+      more = it.more;
+      holds = it.holds;
+      follows = it.follows;
+      stands = record { world = it.stands.world; run = it.stands.run; at = it.stands.at.at };
+    };
+    owed = it.owes;
+    owes = it.stands.at.owes;
+    sent = λ tells holds at seat sits. known_joined (told taken held seat.wire) (replies_to seat.connection deeds) (it.owes seat.connection) (sent_of seat.connection it.more)
+        (wires_take condition unread taken held p q deeds tells holds empty steps at seat sits) (it.joins (tells, holds) seat.connection (seats_stay condition unread taken held p q deeds empty steps at seat sits));
+    read = λ at seat sits. reads_arrive seat.connection it.follows (seats_stay condition unread taken held p q deeds empty steps at seat sits);
+    given = λ gives at seat sits. reads_given condition unread taken held gives p q deeds empty steps at seat sits;
+  }
+
   pub keeps_promise : (p q : Position A R K S) (deeds : List Deed) (first : State) (before : List Record) → ((at : ℕ) → slot at p.seats ≡ None) → OwesNone p.hub
       → StandsHoldingAfter condition p.hub first before (λ n. []) → Steps condition unread taken held p deeds q → IsClean condition q.hub → KeepsPromise condition unread taken held q first before deeds
-  keeps_promise p q deeds first before empty unowed h steps clean =
-      let it = steps_owe first before empty unowed h steps clean in
-      record {
-        behind = record {
-          more = it.more;
-          holds = it.holds;
-          follows = it.follows;
-          stands = record { world = it.stands.world; run = it.stands.run; at = it.stands.at.at };
-        };
-        owed = it.owes;
-        owes = it.stands.at.owes;
-        sent = λ tells holds at seat sits. known_joined (told taken held seat.wire) (replies_to seat.connection deeds) (it.owes seat.connection) (sent_of seat.connection it.more)
-            (wires_take condition unread taken held p q deeds tells holds empty steps at seat sits) (it.joins (tells, holds) seat.connection (seats_stay condition unread taken held p q deeds empty steps at seat sits));
-        read = λ at seat sits. reads_arrive seat.connection it.follows (seats_stay condition unread taken held p q deeds empty steps at seat sits);
-        given = λ gives at seat sits. reads_given condition unread taken held gives p q deeds empty steps at seat sits;
-      }
+  keeps_promise p q deeds first before empty unowed h steps clean = promise_of p q deeds first before empty steps (steps_owe first before empty unowed h steps clean)
+
+  -- of the same deeds, written in another way
+  behind_all : (q : Position A R K S) (first : State) (before : List Record) (xs ys : List Deed) (m : OwesBehind q first before xs) → xs ≡ ys → OwesBehind q first before ys
+  behind_all q first before xs ys m e = record {
+    more = m.more;
+    holds = m.holds;
+    owes = m.owes;
+    follows = subst (λ (l : List Deed). Follows (λ n. []) l m.more m.holds) e m.follows;
+    stands = m.stands;
+    joins = λ all n is_open. subst (λ (l : List Deed). replies_to n l ++ m.owes n ≡ sent_of n m.more) e (m.joins all n (subst (λ (l : List Deed). StaysOpen n l) (sym e) is_open));
+  }
+
+  all_clean : {m q : Position A R K S} {late : List Deed} → Steps condition unread taken held m late q → IsClean condition q.hub → IsClean condition m.hub
+  all_clean begins clean = clean
+  all_clean (goes_on s t) clean = all_clean s (clean_before condition unread taken held t clean)
+
+  -- a step that sends a part makes what is owed shorter, and none makes it longer, but an answer
+  step_pays : {p q : Position A R K S} {deeds more : List Deed} (first : State) (before : List Record) (all : AllAgree condition unread taken held p) (m : OwesBehind p first before deeds) (s : Step condition unread taken held p q more)
+      (clean : IsClean condition q.hub) (n : ℕ) → replies_of n more ≡ 0 → parts_of n more + length ((step_owes first before all m s clean).owes n) ≤ length (m.owes n)
+  unfolding step_owes none_more
+  step_pays first before all m (refused r) clean n none = as_many (length (m.owes n))
+  step_pays first before all m (asks r) clean n none = as_many (length (m.owes n))
+  step_pays first before all m (rests t r) clean n none = as_many (length (m.owes n))
+  step_pays first before all m (delays t d) clean n none = as_many (length (m.owes n))
+  step_pays first before all m (comes r) clean n none = as_many (length (m.owes n))
+  step_pays first before all m (offers t o) clean n none = as_many (length (m.owes n))
+  step_pays first before all m (refuses t r) clean n none = as_many (length (m.owes n))
+  step_pays first before all m (answers {at = at} {moment = moment} {before = seat} t a) clean n none = elim (cases_eq seat.connection n) [
+    | inl e ↦ absurd (let one = ap (λ (b : Bool). (if b then 1 else 0) + 0) (eq-eqb seat.connection n e) in let no : ⊥ = omega (arith, none, one) in no)
+    | inr ne ↦
+        let same = ap (λ (l : List ℕ). length l) (elsewhere n seat.connection (bytes_later a.more) (m.owes n) (λ e. ne (sym e))) in
+        let less : 0 + length (with_held seat.connection (bytes_later a.more) m.owes n) ≤ length (m.owes n) = omega (arith, same) in less
+  ]
+  step_pays first before all m (sends {at = at} {before = seat} t s) clean n none =
+      let paid = s.sends.sends (honest _ clean) m.stands.world m.holds m.owes m.stands.at in
+      elim (cases_eq seat.connection n) [
+        | inl e ↦
+            let few = paid_part s.answer s.sends.sent paid.0 (m.owes seat.connection) paid.1 paid.2 in
+            let here_too = ap (λ (l : List ℕ). length l) (here n seat.connection paid.0 (m.owes n) (sym e)) in
+            let one = ap (λ (b : Bool). (if b then if is_part s.answer then 1 else 0 else 0) + 0) (eq-eqb seat.connection n e) in
+            let owed = ap (λ (k : ℕ). length (m.owes k)) e in
+            let less : ((if seat.connection == n then if is_part s.answer then 1 else 0 else 0) + 0) + length (with_held seat.connection paid.0 m.owes n) ≤ length (m.owes n) = omega (arith, few, here_too, one, owed) in less
+        | inr ne ↦
+            let same = ap (λ (l : List ℕ). length l) (elsewhere n seat.connection paid.0 (m.owes n) (λ e. ne (sym e))) in
+            let zero_parts = ap (λ (b : Bool). (if b then if is_part s.answer then 1 else 0 else 0) + 0) (ne_eqb seat.connection n ne) in
+            let less : ((if seat.connection == n then if is_part s.answer then 1 else 0 else 0) + 0) + length (with_held seat.connection paid.0 m.owes n) ≤ length (m.owes n) = omega (arith, same, zero_parts) in less
+      ]
+  step_pays first before all m (leaves {seat = seat} r) clean n none = elim (cases_eq n seat.connection) [
+    | inl e ↦ let gone = ap (λ (l : List ℕ). length l) (here n seat.connection [] (m.owes n) e) in let less : 0 + length (with_held seat.connection [] m.owes n) ≤ length (m.owes n) = omega (arith, gone) in less
+    | inr ne ↦ let same = ap (λ (l : List ℕ). length l) (elsewhere n seat.connection [] (m.owes n) ne) in let less : 0 + length (with_held seat.connection [] m.owes n) ≤ length (m.owes n) = omega (arith, same) in less
+  ]
+
+  -- so do all of them
+  steps_pay : {p m q : Position A R K S} {early late : List Deed} (first : State) (before : List Record) → ((at : ℕ) → slot at p.seats ≡ None) → Steps condition unread taken held p early m → (it : OwesBehind m first before early)
+      → Steps condition unread taken held m late q → IsClean condition q.hub → (now : OwesBehind q first before (early ++ late)) × ((n : ℕ) → replies_of n late ≡ 0 → parts_of n late + length (now.owes n) ≤ length (it.owes n))
+  unfolding none_more behind_all step_owes
+  steps_pay {early = early} first before empty came it begins clean =
+      (none_more _ _ first before early it it.stands, λ n none. as_many (length (it.owes n)))
+  steps_pay {p = p} {q = q} {early = early} first before empty came it (goes_on {deeds = deeds} {more = more} s t) clean =
+      let so_far = steps_pay first before empty came it s (clean_before condition unread taken held t clean) in
+      let all = steps_agree condition unread taken held empty (steps_join condition unread taken held came s) in
+      let one = step_owes first before all so_far.0 t clean in (
+        behind_all q first before ((early ++ deeds) ++ more) (early ++ (deeds ++ more)) one (append_assoc early deeds more),
+        λ n none.
+            let a = replies_join n deeds more in
+            let b = parts_join n deeds more in
+            let x = so_far.1 n (omega (arith, a, none)) in
+            let y = step_pays first before all so_far.0 t clean n (omega (arith, a, none)) in
+            let less : parts_of n (deeds ++ more) + length (one.owes n) ≤ length (it.owes n) = omega (arith, b, x, y) in less,
+      )
+
+  pub pays_off : (p m q : Position A R K S) (early late : List Deed) (first : State) (before : List Record) → ((at : ℕ) → slot at p.seats ≡ None) → OwesNone p.hub → StandsHoldingAfter condition p.hub first before (λ n. [])
+      → Steps condition unread taken held p early m → Steps condition unread taken held m late q → IsClean condition q.hub
+      → (was : KeepsPromise condition unread taken held m first before early) × (now : KeepsPromise condition unread taken held q first before (early ++ late))
+      × ((number : ℕ) → replies_of number late ≡ 0 → parts_of number late + length (now.owed number) ≤ length (was.owed number))
+  unfolding promise_of steps_owe
+  pays_off p m q early late first before empty unowed h came goes clean =
+      let it = steps_owe first before empty unowed h came (all_clean goes clean) in
+      let now = steps_pay first before empty came it goes clean in
+      (promise_of p m early first before empty came it, promise_of p q (early ++ late) first before empty (steps_join condition unread taken held came goes) now.0, now.1)

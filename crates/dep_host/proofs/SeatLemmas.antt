@@ -32,7 +32,7 @@ use Rattle.dep_host.specs.declared.course.Duty.{Duty}
 use Rattle.dep_host.specs.declared.course.Duty.TheVariants.{Flush, Answer, Send, Read, Finish, Drain, Wait}
 use Rattle.dep_host.specs.Courses.{duty, is_ended, is_sending, phase_begun, SendsStill, StaysOrEnds}
 use Rattle.dep_host.specs.Causes.{Causes, HasCauses}
-use Rattle.dep_host.specs.Seats.{HubStays, SameBehind, SameClient, SendsOn, IsUnknown, Rests, Answers, IsRead, IsReplied, MayRest, ActsOnce, TakesTurn, next_duty, phase_offered, phase_answered, phase_sent}
+use Rattle.dep_host.specs.Seats.{HubStays, PutsOff, SameBehind, SameClient, SendsOn, IsUnknown, Rests, Answers, IsRead, IsReplied, MayRest, ActsOnce, TakesTurn, next_duty, phase_offered, phase_answered, phase_sent}
 
 is_over : (mid after : Phase) → mid ≡ Over → (after ≡ mid) ⊎ (after ≡ Over) → after ≡ Over
 is_over mid after m (inl s) = s ∙ m
@@ -386,27 +386,27 @@ module _ {A R K S : Type 0} (condition : A → Condition) (unread : R → Option
   }
 
   -- by what comes next it may rest
-  rests_as : (size : S → ℕ) (hub : Hub A) (before after : Seat R K S) (is_full is_shut : Bool) (d : Duty) → next_duty size before ≡ d
-      → MayRest condition unread taken held size hub before after is_full is_shut d → MayRest condition unread taken held size hub before after is_full is_shut (next_duty size before)
-  rests_as size hub before after is_full is_shut d due may = subst (λ (x : Duty). MayRest condition unread taken held size hub before after is_full is_shut x) (sym due) may
+  rests_as : (size : S → ℕ) (hub : Hub A) (before after : Seat R K S) (is_full is_shut may_send : Bool) (d : Duty) → next_duty size before ≡ d
+      → MayRest condition unread taken held size hub before after is_full is_shut may_send d → MayRest condition unread taken held size hub before after is_full is_shut may_send (next_duty size before)
+  rests_as size hub before after is_full is_shut may_send d due may = subst (λ (x : Duty). MayRest condition unread taken held size hub before after is_full is_shut may_send x) (sym due) may
 
   -- nothing came to the hub
-  pub rested : (size : S → ℕ) (causes : Causes R K S) (hub : Hub A) (before after : Seat R K S) (moment : ℕ) (is_full is_shut : Bool) (d : Duty) → SameClient before after → (is_ended before.course.phase ≡ true → is_ended after.course.phase ≡ true)
-      → next_duty size before ≡ d → MayRest condition unread taken held size hub before after is_full is_shut d → Rests condition unread taken held hub hub before after
-      → HasCauses causes (IsUnknown hub before.connection) before after → TakesTurn condition unread taken held size causes hub hub before after moment is_full is_shut
-  rested size causes hub before after moment is_full is_shut d client ended due may rests caused = record {
+  pub rested : (size : S → ℕ) (causes : Causes R K S) (hub : Hub A) (before after : Seat R K S) (moment : ℕ) (is_full is_shut may_send : Bool) (d : Duty) → SameClient before after → (is_ended before.course.phase ≡ true → is_ended after.course.phase ≡ true)
+      → next_duty size before ≡ d → MayRest condition unread taken held size hub before after is_full is_shut may_send d → Rests condition unread taken held hub hub before after
+      → HasCauses causes (IsUnknown hub before.connection) before after → TakesTurn condition unread taken held size causes hub hub before after moment is_full is_shut may_send
+  rested size causes hub before after moment is_full is_shut may_send d client ended due may rests caused = record {
     client = client;
     hub = record { next = refl; same_config = refl; clean = λ h. h; honest = λ h. h };
     ended = ended;
-    acts = inl (rests, rests_as size hub before after is_full is_shut d due may);
+    acts = inl (rests, rests_as size hub before after is_full is_shut may_send d due may);
     caused = caused;
   }
 
   -- it changed in nothing
-  pub rested_so : (size : S → ℕ) (causes : Causes R K S) (hub : Hub A) (before : Seat R K S) (moment : ℕ) (is_full is_shut : Bool) (d : Duty) → next_duty size before ≡ d → MayRest condition unread taken held size hub before before is_full is_shut d
-      → TakesTurn condition unread taken held size causes hub hub before before moment is_full is_shut
-  rested_so size causes hub before moment is_full is_shut d due may =
-      rested size causes hub before before moment is_full is_shut d (record { connection = refl; address = refl }) (λ h. h) due may (record {
+  pub rested_so : (size : S → ℕ) (causes : Causes R K S) (hub : Hub A) (before : Seat R K S) (moment : ℕ) (is_full is_shut may_send : Bool) (d : Duty) → next_duty size before ≡ d → MayRest condition unread taken held size hub before before is_full is_shut may_send d
+      → TakesTurn condition unread taken held size causes hub hub before before moment is_full is_shut may_send
+  rested_so size causes hub before moment is_full is_shut may_send d due may =
+      rested size causes hub before before moment is_full is_shut may_send d (record { connection = refl; address = refl }) (λ h. h) due may (record {
         same = refl;
         keeps = Keeps-refl (told taken held before.wire);
         gives = λ h. Keeps-refl (unread before.source);
@@ -416,11 +416,11 @@ module _ {A R K S : Type 0} (condition : A → Condition) (unread : R → Option
       }) (goes_as_was causes (IsUnknown hub before.connection) before before refl refl (λ h. inl h))
 
   -- what is owed was sent, as far as the socket takes it
-  pub flushed : (size : S → ℕ) (causes : Causes R K S) (hub : Hub A) (before after : Seat R K S) (moment : ℕ) (is_full is_shut : Bool) (w : Wire K S) (c : Course) → after ≡ record before { wire = w; course = c }
+  pub flushed : (size : S → ℕ) (causes : Causes R K S) (hub : Hub A) (before after : Seat R K S) (moment : ℕ) (is_full is_shut may_send : Bool) (w : Wire K S) (c : Course) → after ≡ record before { wire = w; course = c }
       → Keeps (told taken held before.wire) (told taken held after.wire) → StaysOrEnds before.course after.course → next_duty size before ≡ Flush → SendsOn size before after
-      → HasCauses causes ⊥ before after → TakesTurn condition unread taken held size causes hub hub before after moment is_full is_shut
-  flushed size causes hub before after moment is_full is_shut w c same keeps stays due sends caused =
-      rested size causes hub before after moment is_full is_shut Flush (record { connection = ap (λ (s : Seat R K S). s.connection) same; address = ap (λ (s : Seat R K S). s.address) same })
+      → HasCauses causes ⊥ before after → TakesTurn condition unread taken held size causes hub hub before after moment is_full is_shut may_send
+  flushed size causes hub before after moment is_full is_shut may_send w c same keeps stays due sends caused =
+      rested size causes hub before after moment is_full is_shut may_send Flush (record { connection = ap (λ (s : Seat R K S). s.connection) same; address = ap (λ (s : Seat R K S). s.address) same })
       (ended_still before.course.phase after.course.phase stays.phase) due (sends, stays.phase) (record {
         same = refl;
         keeps = keeps;
@@ -430,13 +430,27 @@ module _ {A R K S : Type 0} (condition : A → Condition) (unread : R → Option
         keeps_count = λ h. stays.unfinished;
       }) (lost_too causes ⊥ (IsUnknown hub before.connection) before after (λ h. absurd h) caused)
 
+  -- its content was put off
+  pub put_off : (size : S → ℕ) (causes : Causes R K S) (hub : Hub A) (before after : Seat R K S) (moment : ℕ) (is_full is_shut may_send : Bool) → may_send ≡ false → next_duty size before ≡ Send
+      → PutsOff taken held size causes before after → TakesTurn condition unread taken held size causes hub hub before after moment is_full is_shut may_send
+  put_off size causes hub before after moment is_full is_shut may_send none due p =
+      rested size causes hub before after moment is_full is_shut may_send Send (record { connection = ap (λ (s : Seat R K S). s.connection) p.same; address = ap (λ (s : Seat R K S). s.address) p.same })
+      (ended_still before.course.phase after.course.phase p.phase) due (none, p.put_off, p.phase) (record {
+        same = refl;
+        keeps = p.keeps;
+        gives = λ h. subst (λ (r : R). Keeps (unread before.source) (unread r)) (sym (ap (λ (s : Seat R K S). s.source) p.same)) (Keeps-refl (unread before.source));
+        opens = opened_still before.course.phase after.course.phase p.phase;
+        sends_still = sends_still before.course.phase after.course.phase p.phase;
+        keeps_count = λ h. p.unfinished;
+      }) (lost_too causes ⊥ (IsUnknown hub before.connection) before after (λ h. absurd h) p.caused)
+
   -- its client was told that nothing more is sent
-  pub finished : (size : S → ℕ) (causes : Causes R K S) (hub : Hub A) (before after : Seat R K S) (moment : ℕ) (is_full is_shut : Bool) (w : Wire K S) (c : Course) → after ≡ record before { wire = w; course = c }
+  pub finished : (size : S → ℕ) (causes : Causes R K S) (hub : Hub A) (before after : Seat R K S) (moment : ℕ) (is_full is_shut may_send : Bool) (w : Wire K S) (c : Course) → after ≡ record before { wire = w; course = c }
       → told taken held after.wire ≡ told taken held before.wire → after.course.phase ≡ Draining → after.course.is_readable ≡ before.course.is_readable → after.course.is_writable ≡ before.course.is_writable
       → next_duty size before ≡ Finish
-      → TakesTurn condition unread taken held size causes hub hub before after moment is_full is_shut
-  finished size causes hub before after moment is_full is_shut w c same keeps phase readable writable due =
-      rested size causes hub before after moment is_full is_shut Finish (record { connection = ap (λ (s : Seat R K S). s.connection) same; address = ap (λ (s : Seat R K S). s.address) same })
+      → TakesTurn condition unread taken held size causes hub hub before after moment is_full is_shut may_send
+  finished size causes hub before after moment is_full is_shut may_send w c same keeps phase readable writable due =
+      rested size causes hub before after moment is_full is_shut may_send Finish (record { connection = ap (λ (s : Seat R K S). s.connection) same; address = ap (λ (s : Seat R K S). s.address) same })
       (λ h. ap is_ended phase) due phase (record {
         same = refl;
         keeps = subst (λ (o : Option (List ℕ)). Keeps (told taken held before.wire) o) (sym keeps) (Keeps-refl (told taken held before.wire));
@@ -447,12 +461,12 @@ module _ {A R K S : Type 0} (condition : A → Condition) (unread : R → Option
       }) (goes_as_was causes (IsUnknown hub before.connection) before after readable writable (λ h. absurd (let bad : Draining ≡ Over = sym phase ∙ h in cc)))
 
   -- a piece was thrown away
-  pub drained : (size : S → ℕ) (causes : Causes R K S) (hub : Hub A) (before after : Seat R K S) (moment : ℕ) (is_full is_shut : Bool) (r : R) (c : Course) → after ≡ record before { source = r; course = c }
+  pub drained : (size : S → ℕ) (causes : Causes R K S) (hub : Hub A) (before after : Seat R K S) (moment : ℕ) (is_full is_shut may_send : Bool) (r : R) (c : Course) → after ≡ record before { source = r; course = c }
       → StaysOrEnds before.course after.course → next_duty size before ≡ Drain → is_ended before.course.phase ≡ true → HasCauses causes ⊥ before after
-      → TakesTurn condition unread taken held size causes hub hub before after moment is_full is_shut
-  drained size causes hub before after moment is_full is_shut r c same stays due ends caused =
+      → TakesTurn condition unread taken held size causes hub hub before after moment is_full is_shut may_send
+  drained size causes hub before after moment is_full is_shut may_send r c same stays due ends caused =
       let ended = ended_still before.course.phase after.course.phase stays.phase ends in
-      rested size causes hub before after moment is_full is_shut Drain (record { connection = ap (λ (s : Seat R K S). s.connection) same; address = ap (λ (s : Seat R K S). s.address) same })
+      rested size causes hub before after moment is_full is_shut may_send Drain (record { connection = ap (λ (s : Seat R K S). s.connection) same; address = ap (λ (s : Seat R K S). s.address) same })
       (λ h. ended) due stays.phase (record {
         same = refl;
         keeps = subst (λ (w : Wire K S). Keeps (told taken held before.wire) (told taken held w)) (sym (ap (λ (s : Seat R K S). s.wire) same)) (Keeps-refl (told taken held before.wire));
@@ -462,20 +476,20 @@ module _ {A R K S : Type 0} (condition : A → Condition) (unread : R → Option
         keeps_count = λ h. stays.unfinished;
       }) (lost_too causes ⊥ (IsUnknown hub before.connection) before after (λ h. absurd h) caused)
 
-  gave_none : (size : S → ℕ) (hub : Hub A) (before after : Seat R K S) (is_full is_shut : Bool) → Keeps (unread before.source) (unread after.source) → ((after.course.is_readable ≡ false) × (after.course.phase ≡ before.course.phase)) ⊎ (after.course.phase ≡ Over)
-      → MayRest condition unread taken held size hub before after is_full is_shut Read
-  gave_none size hub before after is_full is_shut keeps (inl later) = inr (inl later)
-  gave_none size hub before after is_full is_shut keeps (inr over) = inr (inr (over, inl keeps))
+  gave_none : (size : S → ℕ) (hub : Hub A) (before after : Seat R K S) (is_full is_shut may_send : Bool) → Keeps (unread before.source) (unread after.source) → ((after.course.is_readable ≡ false) × (after.course.phase ≡ before.course.phase)) ⊎ (after.course.phase ≡ Over)
+      → MayRest condition unread taken held size hub before after is_full is_shut may_send Read
+  gave_none size hub before after is_full is_shut may_send keeps (inl later) = inr (inl later)
+  gave_none size hub before after is_full is_shut may_send keeps (inr over) = inr (inr (over, inl keeps))
 
   -- its socket gave no piece
-  pub none_read : (size : S → ℕ) (causes : Causes R K S) (hub : Hub A) (before after : Seat R K S) (is_full is_shut : Bool) (moment : ℕ) (r : R) (c : Course) → after ≡ record before { source = r; course = c }
+  pub none_read : (size : S → ℕ) (causes : Causes R K S) (hub : Hub A) (before after : Seat R K S) (is_full is_shut may_send : Bool) (moment : ℕ) (r : R) (c : Course) → after ≡ record before { source = r; course = c }
       → Keeps (unread before.source) (unread after.source) → next_duty size before ≡ Read → before.course.phase ≡ Open
       → ((after.course.is_readable ≡ false) × (after.course.phase ≡ before.course.phase)) ⊎ (after.course.phase ≡ Over) → after.course.unfinished ≡ before.course.unfinished
       → HasCauses causes ⊥ before after
-      → TakesTurn condition unread taken held size causes hub hub before after moment is_full is_shut
-  none_read size causes hub before after is_full is_shut moment r c same gives due was how count caused =
-      rested size causes hub before after moment is_full is_shut Read (record { connection = ap (λ (s : Seat R K S). s.connection) same; address = ap (λ (s : Seat R K S). s.address) same })
-      (not_yet before.course.phase after.course.phase Open was refl) due (gave_none size hub before after is_full is_shut gives how) (record {
+      → TakesTurn condition unread taken held size causes hub hub before after moment is_full is_shut may_send
+  none_read size causes hub before after is_full is_shut may_send moment r c same gives due was how count caused =
+      rested size causes hub before after moment is_full is_shut may_send Read (record { connection = ap (λ (s : Seat R K S). s.connection) same; address = ap (λ (s : Seat R K S). s.address) same })
+      (not_yet before.course.phase after.course.phase Open was refl) due (gave_none size hub before after is_full is_shut may_send gives how) (record {
         same = refl;
         keeps = subst (λ (w : Wire K S). Keeps (told taken held before.wire) (told taken held w)) (sym (ap (λ (s : Seat R K S). s.wire) same)) (Keeps-refl (told taken held before.wire));
         gives = λ h. gives;
@@ -488,10 +502,10 @@ module _ {A R K S : Type 0} (condition : A → Condition) (unread : R → Option
       }) (lost_too causes ⊥ (IsUnknown hub before.connection) before after (λ h. absurd h) caused)
 
   -- a piece that was read was offered
-  offered : (size : S → ℕ) (old new : Hub A) (before after : Seat R K S) (piece : List ℕ) (answer : Arrived) (is_full is_shut : Bool) → next_duty size before ≡ Read → IsRead condition unread taken held before after piece is_full is_shut → new.store ≡ old.store → SameBehind old new
+  offered : (size : S → ℕ) (old new : Hub A) (before after : Seat R K S) (piece : List ℕ) (answer : Arrived) (is_full is_shut may_send : Bool) → next_duty size before ≡ Read → IsRead condition unread taken held before after piece is_full is_shut → new.store ≡ old.store → SameBehind old new
       → OffersTo condition (told taken held before.wire) (told taken held after.wire) before.wire.failures after.wire.failures old new before.connection piece answer
-      → after.course.phase ≡ phase_offered answer → (moment : ℕ) → ActsOnce condition unread taken held size old new before after moment is_full is_shut
-  offered size old new before after piece came.Open is_full is_shut due read store behind o p moment = inr (inl (
+      → after.course.phase ≡ phase_offered answer → (moment : ℕ) → ActsOnce condition unread taken held size old new before after moment is_full is_shut may_send
+  offered size old new before after piece came.Open is_full is_shut may_send due read store behind o p moment = inr (inl (
     record {
       piece = piece;
       read = read;
@@ -503,11 +517,11 @@ module _ {A R K S : Type 0} (condition : A → Condition) (unread : R → Option
     },
     due,
   ))
-  offered size old new before after piece came.Closed is_full is_shut due read store behind o p moment =
+  offered size old new before after piece came.Closed is_full is_shut may_send due read store behind o p moment =
       inr (inr (inl (record { piece = piece; read = read; ends = ap is_ended p; unsent = ap is_sending p; behind = behind; answer = came.Closed; answers = o moment }, due)))
-  offered size old new before after piece came.Cut is_full is_shut due read store behind o p moment =
+  offered size old new before after piece came.Cut is_full is_shut may_send due read store behind o p moment =
       inr (inr (inl (record { piece = piece; read = read; ends = ap is_ended p; unsent = ap is_sending p; behind = behind; answer = came.Cut; answers = o moment }, due)))
-  offered size old new before after piece came.NoSuch is_full is_shut due read store behind o p moment = inl (
+  offered size old new before after piece came.NoSuch is_full is_shut may_send due read store behind o p moment = inl (
     record {
       same = o.same;
       keeps = o.sends_nothing;
@@ -516,7 +530,7 @@ module _ {A R K S : Type 0} (condition : A → Condition) (unread : R → Option
       sends_still = inl p;
       keeps_count = λ h. absurd (not_ended after.course.phase p h);
     },
-    rests_as size old before after is_full is_shut Read due (inr (inr (p, inr o.absent))),
+    rests_as size old before after is_full is_shut may_send Read due (inr (inr (p, inr o.absent))),
   )
 
   unknown_offered : (old new : Hub A) (before after : Seat R K S) (piece : List ℕ) (answer : Arrived)
@@ -526,21 +540,21 @@ module _ {A R K S : Type 0} (condition : A → Condition) (unread : R → Option
       let none = subst (λ (a : Arrived). OffersTo condition (told taken held before.wire) (told taken held after.wire) before.wire.failures after.wire.failures old new before.connection piece a) e o in none.absent
 
   -- a front of the room was received, and offered
-  pub received : (size : S → ℕ) (causes : Causes R K S) (old new : Hub A) (before after : Seat R K S) (got : R) (room : List ℕ) (n : ℕ) (answer : Arrived) (is_full is_shut : Bool) → next_duty size before ≡ Read → SameClient before after → HubStays condition old new → IsAtEnd (owed held before.wire) → before.course.phase ≡ Open
+  pub received : (size : S → ℕ) (causes : Causes R K S) (old new : Hub A) (before after : Seat R K S) (got : R) (room : List ℕ) (n : ℕ) (answer : Arrived) (is_full is_shut may_send : Bool) → next_duty size before ≡ Read → SameClient before after → HubStays condition old new → IsAtEnd (owed held before.wire) → before.course.phase ≡ Open
       → 0 < n → n ≤ length room → length room ≤ most_read → Consumes (unread before.source) (unread got) (take n room) → after.source ≡ got → new.store ≡ old.store → SameBehind old new
       → OffersTo condition (told taken held before.wire) (told taken held after.wire) before.wire.failures after.wire.failures old new before.connection (take n room) answer
       → after.course.phase ≡ phase_offered answer → after.course.is_readable ≡ before.course.is_readable → after.course.is_writable ≡ before.course.is_writable → (is_full ≡ true → before.course.unfinished ≡ 0) → is_shut ≡ false
       → after.course.has_moved ≡ (before.course.has_moved || nat_lt 0 (length (take n room)))
       → after.course.moved ≡ min (before.course.moved + length (take n room)) (2 ^ 64 - 1)
       → after.course.unfinished ≡ min (before.course.unfinished + length (take n room)) (2 ^ 64 - 1)
-      → (moment : ℕ) → TakesTurn condition unread taken held size causes old new before after moment is_full is_shut
-  received size causes old new before after got room n answer is_full is_shut due client hub none was some within small gives same store behind o p readable writable allowed is_open stirs moved counts moment =
+      → (moment : ℕ) → TakesTurn condition unread taken held size causes old new before after moment is_full is_shut may_send
+  received size causes old new before after got room n answer is_full is_shut may_send due client hub none was some within small gives same store behind o p readable writable allowed is_open stirs moved counts moment =
       let long : 0 < length (take n room) = let e = length-take n room in omega (arith, e, some, within) in
       record {
         client = client;
         hub = hub;
         ended = not_yet before.course.phase after.course.phase Open was refl;
-        acts = offered size old new before after (take n room) answer is_full is_shut due (record {
+        acts = offered size old new before after (take n room) answer is_full is_shut may_send due (record {
           unowed = none;
           waits = was;
           some = long;
@@ -578,23 +592,24 @@ module _ {A R K S : Type 0} (condition : A → Condition) (unread : R → Option
     counts = r.counts;
   }
 
-  rest_counted : (size : S → ℕ) (hub : Hub A) (before mid : Seat R K S) (bytes : ℕ) (is_full is_shut : Bool) (d : Duty) → MayRest condition unread taken held size hub before mid is_full is_shut d
-      → MayRest condition unread taken held size hub before (with_counted mid bytes) is_full is_shut d
-  rest_counted size hub before mid bytes is_full is_shut Flush may = may
-  rest_counted size hub before mid bytes is_full is_shut Answer may = may
-  rest_counted size hub before mid bytes is_full is_shut Send may = may
-  rest_counted size hub before mid bytes is_full is_shut Read may = may
-  rest_counted size hub before mid bytes is_full is_shut Finish may = may
-  rest_counted size hub before mid bytes is_full is_shut Drain may = may
-  rest_counted size hub before mid bytes is_full is_shut Wait may = may
+  rest_counted : (size : S → ℕ) (hub : Hub A) (before mid : Seat R K S) (bytes : ℕ) (is_full is_shut may_send : Bool) (d : Duty) → MayRest condition unread taken held size hub before mid is_full is_shut may_send d
+      → MayRest condition unread taken held size hub before (with_counted mid bytes) is_full is_shut may_send d
+  rest_counted size hub before mid bytes is_full is_shut may_send Flush may = may
+  rest_counted size hub before mid bytes is_full is_shut may_send Answer may = may
+  rest_counted size hub before mid bytes is_full is_shut may_send Send (none, off, phase) =
+      (none, record { sends = off.sends; stirs = λ h. stirs_still mid bytes (off.stirs h); counts_not = off.counts_not }, phase)
+  rest_counted size hub before mid bytes is_full is_shut may_send Read may = may
+  rest_counted size hub before mid bytes is_full is_shut may_send Finish may = may
+  rest_counted size hub before mid bytes is_full is_shut may_send Drain may = may
+  rest_counted size hub before mid bytes is_full is_shut may_send Wait may = may
 
-  acts_counted : (size : S → ℕ) (old new : Hub A) (before mid : Seat R K S) (bytes moment : ℕ) (is_full is_shut : Bool) → ActsOnce condition unread taken held size old new before mid moment is_full is_shut
-      → ActsOnce condition unread taken held size old new before (with_counted mid bytes) moment is_full is_shut
-  acts_counted size old new before mid bytes moment is_full is_shut (inl (r, may)) = inl (
+  acts_counted : (size : S → ℕ) (old new : Hub A) (before mid : Seat R K S) (bytes moment : ℕ) (is_full is_shut may_send : Bool) → ActsOnce condition unread taken held size old new before mid moment is_full is_shut may_send
+      → ActsOnce condition unread taken held size old new before (with_counted mid bytes) moment is_full is_shut may_send
+  acts_counted size old new before mid bytes moment is_full is_shut may_send (inl (r, may)) = inl (
     record { same = r.same; keeps = r.keeps; gives = r.gives; opens = r.opens; sends_still = r.sends_still; keeps_count = r.keeps_count },
-    rest_counted size old before mid bytes is_full is_shut (next_duty size before) may,
+    rest_counted size old before mid bytes is_full is_shut may_send (next_duty size before) may,
   )
-  acts_counted size old new before mid bytes moment is_full is_shut (inr (inl (o, due))) = inr (inl (
+  acts_counted size old new before mid bytes moment is_full is_shut may_send (inr (inl (o, due))) = inr (inl (
     record {
       piece = o.piece;
       read = read_counted before mid bytes o.piece is_full is_shut o.read;
@@ -606,11 +621,11 @@ module _ {A R K S : Type 0} (condition : A → Condition) (unread : R → Option
     },
     due,
   ))
-  acts_counted size old new before mid bytes moment is_full is_shut (inr (inr (inl (r, due)))) = inr (inr (inl (
+  acts_counted size old new before mid bytes moment is_full is_shut may_send (inr (inr (inl (r, due)))) = inr (inr (inl (
     record { piece = r.piece; read = read_counted before mid bytes r.piece is_full is_shut r.read; ends = r.ends; unsent = r.unsent; behind = r.behind; answer = r.answer; answers = r.answers },
     due,
   )))
-  acts_counted size old new before mid bytes moment is_full is_shut (inr (inr (inr (inl (a, due))))) = inr (inr (inr (inl (
+  acts_counted size old new before mid bytes moment is_full is_shut may_send (inr (inr (inr (inl (a, due))))) = inr (inr (inr (inl (
     record {
       unowed = a.unowed;
       was_read = a.was_read;
@@ -632,7 +647,7 @@ module _ {A R K S : Type 0} (condition : A → Condition) (unread : R → Option
     },
     due,
   ))))
-  acts_counted size old new before mid bytes moment is_full is_shut (inr (inr (inr (inr (inl (d, due)))))) = inr (inr (inr (inr (inl (
+  acts_counted size old new before mid bytes moment is_full is_shut may_send (inr (inr (inr (inr (inl (d, due)))))) = inr (inr (inr (inr (inl (
     record {
       unowed = d.unowed;
       was_read = d.was_read;
@@ -645,7 +660,7 @@ module _ {A R K S : Type 0} (condition : A → Condition) (unread : R → Option
     },
     due,
   )))))
-  acts_counted size old new before mid bytes moment is_full is_shut (inr (inr (inr (inr (inr (s, due)))))) = inr (inr (inr (inr (inr (
+  acts_counted size old new before mid bytes moment is_full is_shut may_send (inr (inr (inr (inr (inr (s, due, may)))))) = inr (inr (inr (inr (inr (
     record {
       unowed = s.unowed;
       was_sending = s.was_sending;
@@ -656,31 +671,32 @@ module _ {A R K S : Type 0} (condition : A → Condition) (unread : R → Option
       leaves = s.leaves;
     },
     due,
+    may,
   )))))
 
-  pub counted : (size : S → ℕ) (causes : Causes R K S) (old new : Hub A) (before mid : Seat R K S) (course : Course) (bytes moment : ℕ) (is_full is_shut : Bool) → TakesTurn condition unread taken held size causes old new before mid moment is_full is_shut
-      → course ≡ (with_counted mid bytes).course → TakesTurn condition unread taken held size causes old new before (record mid { course = course }) moment is_full is_shut
-  counted size causes old new before mid course bytes moment is_full is_shut t e =
-      subst (λ (k : Course). TakesTurn condition unread taken held size causes old new before (record mid { course = k }) moment is_full is_shut) (sym e) (record {
+  pub counted : (size : S → ℕ) (causes : Causes R K S) (old new : Hub A) (before mid : Seat R K S) (course : Course) (bytes moment : ℕ) (is_full is_shut may_send : Bool) → TakesTurn condition unread taken held size causes old new before mid moment is_full is_shut may_send
+      → course ≡ (with_counted mid bytes).course → TakesTurn condition unread taken held size causes old new before (record mid { course = course }) moment is_full is_shut may_send
+  counted size causes old new before mid course bytes moment is_full is_shut may_send t e =
+      subst (λ (k : Course). TakesTurn condition unread taken held size causes old new before (record mid { course = k }) moment is_full is_shut may_send) (sym e) (record {
         client = record { connection = t.client.connection; address = t.client.address };
         hub = t.hub;
         ended = t.ended;
-        acts = acts_counted size old new before mid bytes moment is_full is_shut t.acts;
+        acts = acts_counted size old new before mid bytes moment is_full is_shut may_send t.acts;
         caused = record { readable = t.caused.readable; writable = t.caused.writable; over = t.caused.over };
       })
 
   -- an item was answered, whatever else may be
   pub answers_turn : (size : S → ℕ) (causes : Causes R K S) (old new : Hub A) (before after : Seat R K S) (moment : ℕ) → SameClient before after → HubStays condition old new → before.course.phase ≡ Answering → next_duty size before ≡ Answer
       → (Rests condition unread taken held old new before after × IsUnknown old before.connection) ⊎ Answers condition unread taken held old new before after moment
-      → HasCauses causes (IsUnknown old before.connection) before after → (is_full is_shut : Bool) → TakesTurn condition unread taken held size causes old new before after moment is_full is_shut
-  answers_turn size causes old new before after moment client hub was due (inl (r, unknown)) caused is_full is_shut = record {
+      → HasCauses causes (IsUnknown old before.connection) before after → (is_full is_shut may_send : Bool) → TakesTurn condition unread taken held size causes old new before after moment is_full is_shut may_send
+  answers_turn size causes old new before after moment client hub was due (inl (r, unknown)) caused is_full is_shut may_send = record {
     client = client;
     hub = hub;
     ended = not_yet before.course.phase after.course.phase Answering was refl;
-    acts = inl (r, rests_as size old before after is_full is_shut Answer due unknown);
+    acts = inl (r, rests_as size old before after is_full is_shut may_send Answer due unknown);
     caused = caused;
   }
-  answers_turn size causes old new before after moment client hub was due (inr a) caused is_full is_shut = record {
+  answers_turn size causes old new before after moment client hub was due (inr a) caused is_full is_shut may_send = record {
     client = client;
     hub = hub;
     ended = not_yet before.course.phase after.course.phase Answering was refl;
@@ -694,8 +710,8 @@ module _ {A R K S : Type 0} (condition : A → Condition) (unread : R → Option
       → IsReplied condition unread taken held old new before mid moment None → after.source ≡ before.source
       → Keeps (told taken held mid.wire) (told taken held after.wire) → after.wire.failures ≡ mid.wire.failures → after.course ≡ mid.course → mid.course.has_moved ≡ true
       → mid.course.is_readable ≡ before.course.is_readable → mid.course.is_writable ≡ before.course.is_writable
-      → (is_full is_shut : Bool) → TakesTurn condition unread taken held size causes old new before after moment is_full is_shut
-  delayed size causes old new before mid after moment client hub none was due r source k f same stirs readable writable is_full is_shut =
+      → (is_full is_shut may_send : Bool) → TakesTurn condition unread taken held size causes old new before after moment is_full is_shut may_send
+  delayed size causes old new before mid after moment client hub none was due r source k f same stirs readable writable is_full is_shut may_send =
       let phase : after.course.phase ≡ Answering = ap (λ (d : Course). d.phase) same ∙ (r.1 ∙ was) in
       record {
         client = client;
@@ -724,7 +740,7 @@ module _ {A R K S : Type 0} (condition : A → Condition) (unread : R → Option
       → IsReplied condition unread taken held old new before mid moment next → mid.source ≡ before.source → after.source ≡ mid.source
       → Keeps (told taken held mid.wire) (told taken held after.wire) → after.wire.failures ≡ mid.wire.failures → after.course ≡ mid.course → mid.course.has_moved ≡ true
       → mid.course.is_readable ≡ before.course.is_readable → mid.course.is_writable ≡ before.course.is_writable
-      → (is_full is_shut : Bool) → TakesTurn condition unread taken held size causes old new before after moment is_full is_shut
+      → (is_full is_shut may_send : Bool) → TakesTurn condition unread taken held size causes old new before after moment is_full is_shut may_send
   replied size causes old new before mid after moment None client hub none was due r s t k f same stirs readable writable =
       delayed size causes old new before mid after moment client hub none was due r (t ∙ s) k f same stirs readable writable
   replied size causes old new before mid after moment (Some next) client hub none was due r s t k f same stirs readable writable =
@@ -737,7 +753,7 @@ module _ {A R K S : Type 0} (condition : A → Condition) (unread : R → Option
       → HubSends condition (told taken held before.wire) k before.wire.failures g old new before.connection answer
       → Keeps k (told taken held after.wire) → after.wire.failures ≡ g
       → after.course ≡ record before.course { phase = phase_sent before.course.phase answer }
-      → (moment : ℕ) (is_full is_shut : Bool) → TakesTurn condition unread taken held size causes old new before after moment is_full is_shut
+      → (moment : ℕ) (is_full is_shut : Bool) → TakesTurn condition unread taken held size causes old new before after moment is_full is_shut true
   sent_on size causes old new before after k g answer client hub due none source sends keeps f same moment is_full is_shut =
       let phase : after.course.phase ≡ phase_sent before.course.phase answer = ap (λ (d : Course). d.phase) same in
       record {
@@ -755,6 +771,7 @@ module _ {A R K S : Type 0} (condition : A → Condition) (unread : R → Option
             leaves = ap (λ (d : Course). d.unfinished) same;
           },
           due,
+          refl,
         )))));
         caused = goes_as_was causes (IsUnknown old before.connection) before after (ap (λ (d : Course). d.is_readable) same) (ap (λ (d : Course). d.is_writable) same)
             (λ h. inl (over_sent before.course.phase answer (sym phase ∙ h)));

@@ -26,10 +26,13 @@ use Rattle.dep_host.specs.declared.log.Closing.TheVariants.{Large}
 use Rattle.dep_host.specs.declared.course.Phase.TheVariants.{Open, Answering, Sending, SendingLast, Last, Draining, Over}
 use Rattle.dep_host.specs.declared.course.Duty.{Duty}
 use Rattle.dep_host.specs.declared.course.Duty.TheVariants as to
-use Rattle.dep_host.specs.Seats.{IsUnknown, MayRest, ActsOnce, TakesTurn, next_duty, phase_sent}
-use Rattle.dep_host.specs.Hosting.{Position, slot, MayGo, farewell, note_of, closings_of, Deed, Takes, Replies, Sends, Declines, Closes, answers_at, pieces_at, sending_at, sendings_at, unfinished_of, unfinished_in, AreDoneAt, HasTurn, Goes, rests, offers, delays, sends, refuses, answers, leaves, Steps, begins, goes_on, IsClosed, IsLeftAs, IsOnce, IsLost, IsKeptBack, IsServed, IsServedAt, turn_duty, Serves, GoesRound, Sheds}
+use Rattle.dep_host.specs.Seats.{IsPutOff, IsUnknown, MayRest, ActsOnce, TakesTurn, next_duty, phase_sent}
+use Rattle.dep_host.specs.Hosting.{Position, slot, MayGo, farewell, note_of, closings_of, Deed, Takes, Replies, Sends, Declines, Closes, answers_at, pieces_at, sending_at, sendings_at, sendings_in, unfinished_of, unfinished_in, AreDoneAt, HasTurn, Goes, rests, offers, delays, sends, refuses, answers, leaves, Steps, begins, goes_on, IsClosed, IsLeftAs, IsOnce, IsLost, IsKeptBack, IsServed, IsServedAt, turn_duty, Serves, GoesRound, Sheds}
 use Rattle.std.proofs.lemmas.Grind.{flat_map-append}
 use Rattle.dep_host.specs.Notes.{Note, LetGo, Grows}
+use Rattle.dep_host.specs.declared.share.Share.{Share}
+use Rattle.dep_host.specs.Sharing.{IsNext, counted, is_turn, most_sent}
+use Rattle.dep_host.proofs.ShareLemmas.{SharesSo, room_left, shares_begin, shares_on, shares_end, sent_few}
 use Rattle.dep_host.proofs.SeatLemmas.{lost_too, still_begun}
 use Rattle.dep_host.proofs.HostLemmas.{grows_none, grows_on, grows_same, slot_read, steps_join, unchanged, woken}
 
@@ -46,6 +49,15 @@ answers_append place (d ∷ xs) ys = let e = answers_append place xs ys in omega
 pieces_append : (place : ℕ) (xs ys : List Deed) → pieces_at place (xs ++ ys) ≡ pieces_at place xs + pieces_at place ys
 pieces_append place [] ys = let none : pieces_at place [] ≡ 0 = refl in omega (arith, none)
 pieces_append place (d ∷ xs) ys = let e = pieces_append place xs ys in omega (arith, e)
+
+sendings_in_append : (xs ys : List Deed) → sendings_in (xs ++ ys) ≡ sendings_in xs + sendings_in ys
+sendings_in_append [] ys = let none : sendings_in [] ≡ 0 = refl in omega (arith, none)
+sendings_in_append (d ∷ xs) ys = let e = sendings_in_append xs ys in omega (arith, e)
+
+-- a content was sent on, or none was
+counted_by : (n : ℕ) (has_sent : Bool) → (has_sent ≡ true → n ≡ 1) → (has_sent ≡ false → n ≡ 0) → n ≡ (if has_sent then 1 else 0)
+counted_by n true one none = one refl
+counted_by n false one none = none refl
 
 sendings_append : (place : ℕ) (xs ys : List Deed) → sendings_at place (xs ++ ys) ≡ sendings_at place xs ++ sendings_at place ys
 sendings_append place xs ys = flat_map-append (λ d. sending_at place d) xs ys
@@ -165,25 +177,27 @@ module _ {A R K S : Type 0} (condition : A → Condition) (unread : R → Option
     leaves = k.leaves;
   }
 
-  served_before : (p q r : Position A R K S) (xs ys : List Deed) (is_full : Bool) (before after : Seat R K S) (answered read : ℕ) (sent : List SentOn) (d : Duty) → Steps condition unread taken held p xs q → q.shut ≡ p.shut
-      → IsServed condition unread taken held size causes q r ys is_full before after answered read sent d → IsServed condition unread taken held size causes p r (xs ++ ys) is_full before after answered read sent d
-  served_before p q r xs ys is_full before after answered read sent to.Flush s shut h = (h.0, subst (λ (o : Option Shut). StaysOrIsOver (phase_begun before.course.phase (is_some o)) after.course.phase) shut h.1)
-  served_before p q r xs ys is_full before after answered read sent to.Answer s shut (inl one) = inl one
-  served_before p q r xs ys is_full before after answered read sent to.Answer s shut (inr (inl lost)) = inr (inl (lost_before p q r before.connection xs ys s lost))
-  served_before p q r xs ys is_full before after answered read sent to.Answer s shut (inr (inr k)) = inr (inr (kept_back_before p q r xs ys before after s k))
-  served_before p q r xs ys is_full before after answered read sent to.Send s shut h =
-      (h.0, h.1, subst (λ (o : Option Shut). after.course.phase ≡ phase_sent (phase_begun before.course.phase (is_some o)) h.0) shut h.2)
-  served_before p q r xs ys is_full before after answered read sent to.Read s shut (inl one) = inl one
-  served_before p q r xs ys is_full before after answered read sent to.Read s shut (inr (inl back)) = inr (inl (
+  served_before : (p q r : Position A R K S) (xs ys : List Deed) (is_full may_send : Bool) (before after : Seat R K S) (answered read : ℕ) (sent : List SentOn) (d : Duty) → Steps condition unread taken held p xs q → q.shut ≡ p.shut
+      → IsServed condition unread taken held size causes q r ys is_full may_send before after answered read sent d → IsServed condition unread taken held size causes p r (xs ++ ys) is_full may_send before after answered read sent d
+  served_before p q r xs ys is_full may_send before after answered read sent to.Flush s shut h = (h.0, subst (λ (o : Option Shut). StaysOrIsOver (phase_begun before.course.phase (is_some o)) after.course.phase) shut h.1)
+  served_before p q r xs ys is_full may_send before after answered read sent to.Answer s shut (inl one) = inl one
+  served_before p q r xs ys is_full may_send before after answered read sent to.Answer s shut (inr (inl lost)) = inr (inl (lost_before p q r before.connection xs ys s lost))
+  served_before p q r xs ys is_full may_send before after answered read sent to.Answer s shut (inr (inr k)) = inr (inr (kept_back_before p q r xs ys before after s k))
+  served_before p q r xs ys is_full may_send before after answered read sent to.Send s shut (inl (may, h)) =
+      inl (may, (h.0, h.1, subst (λ (o : Option Shut). after.course.phase ≡ phase_sent (phase_begun before.course.phase (is_some o)) h.0) shut h.2))
+  served_before p q r xs ys is_full may_send before after answered read sent to.Send s shut (inr (none, unsent, off, phase)) =
+      inr (none, unsent, off, subst (λ (o : Option Shut). StaysOrIsOver (phase_begun before.course.phase (is_some o)) after.course.phase) shut phase)
+  served_before p q r xs ys is_full may_send before after answered read sent to.Read s shut (inl one) = inl one
+  served_before p q r xs ys is_full may_send before after answered read sent to.Read s shut (inr (inl back)) = inr (inl (
     subst (λ (o : Option Shut). is_held_back before.course is_full (is_some o) ≡ true) shut back.0,
     subst (λ (o : Option Shut). after.course.phase ≡ phase_begun before.course.phase (is_some o)) shut back.1,
   ))
-  served_before p q r xs ys is_full before after answered read sent to.Read s shut (inr (inr (inl none))) =
+  served_before p q r xs ys is_full may_send before after answered read sent to.Read s shut (inr (inr (inl none))) =
       inr (inr (inl (none.0, subst (λ (o : Option Shut). after.course.phase ≡ phase_begun before.course.phase (is_some o)) shut none.1)))
-  served_before p q r xs ys is_full before after answered read sent to.Read s shut (inr (inr (inr over))) = inr (inr (inr over))
-  served_before p q r xs ys is_full before after answered read sent to.Finish s shut h = h
-  served_before p q r xs ys is_full before after answered read sent to.Drain s shut h = subst (λ (o : Option Shut). StaysOrIsOver (phase_begun before.course.phase (is_some o)) after.course.phase) shut h
-  served_before p q r xs ys is_full before after answered read sent to.Wait s shut h = subst (λ (o : Option Shut). after.course.phase ≡ phase_begun before.course.phase (is_some o)) shut h
+  served_before p q r xs ys is_full may_send before after answered read sent to.Read s shut (inr (inr (inr over))) = inr (inr (inr over))
+  served_before p q r xs ys is_full may_send before after answered read sent to.Finish s shut h = h
+  served_before p q r xs ys is_full may_send before after answered read sent to.Drain s shut h = subst (λ (o : Option Shut). StaysOrIsOver (phase_begun before.course.phase (is_some o)) after.course.phase) shut h
+  served_before p q r xs ys is_full may_send before after answered read sent to.Wait s shut h = subst (λ (o : Option Shut). after.course.phase ≡ phase_begun before.course.phase (is_some o)) shut h
 
   -- and where it went on later
   once_later : (So : Hub A → Hub A → Type 0) (p q r : Position A R K S) (xs ys : List Deed) → Steps condition unread taken held q ys r → IsOnce condition unread taken held size causes So p q xs → IsOnce condition unread taken held size causes So p r (xs ++ ys)
@@ -211,17 +225,17 @@ module _ {A R K S : Type 0} (condition : A → Condition) (unread : R → Option
     leaves = k.leaves;
   }
 
-  served_later : (p q r : Position A R K S) (xs ys : List Deed) (is_full : Bool) (before after : Seat R K S) (answered read : ℕ) (sent : List SentOn) (d : Duty) → Steps condition unread taken held q ys r
-      → IsServed condition unread taken held size causes p q xs is_full before after answered read sent d → IsServed condition unread taken held size causes p r (xs ++ ys) is_full before after answered read sent d
-  served_later p q r xs ys is_full before after answered read sent to.Flush s h = h
-  served_later p q r xs ys is_full before after answered read sent to.Answer s (inl one) = inl one
-  served_later p q r xs ys is_full before after answered read sent to.Answer s (inr (inl lost)) = inr (inl (lost_later p q r before.connection xs ys s lost))
-  served_later p q r xs ys is_full before after answered read sent to.Answer s (inr (inr k)) = inr (inr (kept_back_later p q r xs ys before after s k))
-  served_later p q r xs ys is_full before after answered read sent to.Send s h = h
-  served_later p q r xs ys is_full before after answered read sent to.Read s h = h
-  served_later p q r xs ys is_full before after answered read sent to.Finish s h = h
-  served_later p q r xs ys is_full before after answered read sent to.Drain s h = h
-  served_later p q r xs ys is_full before after answered read sent to.Wait s h = h
+  served_later : (p q r : Position A R K S) (xs ys : List Deed) (is_full may_send : Bool) (before after : Seat R K S) (answered read : ℕ) (sent : List SentOn) (d : Duty) → Steps condition unread taken held q ys r
+      → IsServed condition unread taken held size causes p q xs is_full may_send before after answered read sent d → IsServed condition unread taken held size causes p r (xs ++ ys) is_full may_send before after answered read sent d
+  served_later p q r xs ys is_full may_send before after answered read sent to.Flush s h = h
+  served_later p q r xs ys is_full may_send before after answered read sent to.Answer s (inl one) = inl one
+  served_later p q r xs ys is_full may_send before after answered read sent to.Answer s (inr (inl lost)) = inr (inl (lost_later p q r before.connection xs ys s lost))
+  served_later p q r xs ys is_full may_send before after answered read sent to.Answer s (inr (inr k)) = inr (inr (kept_back_later p q r xs ys before after s k))
+  served_later p q r xs ys is_full may_send before after answered read sent to.Send s h = h
+  served_later p q r xs ys is_full may_send before after answered read sent to.Read s h = h
+  served_later p q r xs ys is_full may_send before after answered read sent to.Finish s h = h
+  served_later p q r xs ys is_full may_send before after answered read sent to.Drain s h = h
+  served_later p q r xs ys is_full may_send before after answered read sent to.Wait s h = h
 
   -- who was closed was closed where it began earlier, and where it went on later
   closed_before : (p q r : Position A R K S) (xs ys : List Deed) (place : ℕ) (seat : Seat R K S) → Steps condition unread taken held p xs q → IsClosed condition unread taken held q r ys place seat → IsClosed condition unread taken held p r (xs ++ ys) place seat
@@ -281,10 +295,10 @@ module _ {A R K S : Type 0} (condition : A → Condition) (unread : R → Option
   left_later p q r xs ys place seat s t how (inr k) = inr (closed_later p q r xs ys place seat t k)
 
   -- the same of who sits at a place, or nobody does
-  at_before : (p q r : Position A R K S) (is_full : Bool) (xs ys : List Deed) (place : ℕ) (x : Option (Seat R K S)) → Steps condition unread taken held p xs q → q.shut ≡ p.shut → answers_at place xs ≡ 0 → pieces_at place xs ≡ 0 → sendings_at place xs ≡ []
-      → IsServedAt condition unread taken held size causes q r is_full ys place x → IsServedAt condition unread taken held size causes p r is_full (xs ++ ys) place x
-  at_before p q r is_full xs ys place None s shut none unread_yet unsent_yet h = tt
-  at_before p q r is_full xs ys place (Some seat) s shut none unread_yet unsent_yet h =
+  at_before : (p q r : Position A R K S) (is_full may_send : Bool) (xs ys : List Deed) (place : ℕ) (x : Option (Seat R K S)) → Steps condition unread taken held p xs q → q.shut ≡ p.shut → answers_at place xs ≡ 0 → pieces_at place xs ≡ 0 → sendings_at place xs ≡ []
+      → IsServedAt condition unread taken held size causes q r is_full may_send ys place x → IsServedAt condition unread taken held size causes p r is_full may_send (xs ++ ys) place x
+  at_before p q r is_full may_send xs ys place None s shut none unread_yet unsent_yet h = tt
+  at_before p q r is_full may_send xs ys place (Some seat) s shut none unread_yet unsent_yet h =
       let answered : answers_at place ys ≡ answers_at place (xs ++ ys) = let e = answers_append place xs ys in omega (arith, e, none) in
       let pieces : pieces_at place ys ≡ pieces_at place (xs ++ ys) = let e = pieces_append place xs ys in omega (arith, e, unread_yet) in
       let sent : sendings_at place ys ≡ sendings_at place (xs ++ ys) = sym (sendings_before place xs ys unsent_yet) in
@@ -295,19 +309,19 @@ module _ {A R K S : Type 0} (condition : A → Condition) (unread : R → Option
             (lost_before p q r seat.connection xs ys s) h.caused;
         is_awaited = h.is_awaited;
         asked = once_before (λ old new. is_awaited_at old.connections.items seat.connection ≡ h.is_awaited) p q r xs ys s h.asked;
-        served = served_before p q r xs ys is_full seat h.after (answers_at place (xs ++ ys)) (pieces_at place (xs ++ ys)) (sendings_at place (xs ++ ys)) (turn_duty size p.shut seat h.is_awaited) s shut
-            (subst (λ (o : Option Shut). IsServed condition unread taken held size causes q r ys is_full seat h.after (answers_at place (xs ++ ys)) (pieces_at place (xs ++ ys)) (sendings_at place (xs ++ ys)) (turn_duty size o seat h.is_awaited)) shut
-            (subst (λ (l : List SentOn). IsServed condition unread taken held size causes q r ys is_full seat h.after (answers_at place (xs ++ ys)) (pieces_at place (xs ++ ys)) l (turn_duty size q.shut seat h.is_awaited)) sent
-            (subst (λ (n : ℕ). IsServed condition unread taken held size causes q r ys is_full seat h.after (answers_at place (xs ++ ys)) n (sendings_at place ys) (turn_duty size q.shut seat h.is_awaited)) pieces
-            (subst (λ (n : ℕ). IsServed condition unread taken held size causes q r ys is_full seat h.after n (pieces_at place ys) (sendings_at place ys) (turn_duty size q.shut seat h.is_awaited)) answered h.served))));
+        served = served_before p q r xs ys is_full may_send seat h.after (answers_at place (xs ++ ys)) (pieces_at place (xs ++ ys)) (sendings_at place (xs ++ ys)) (turn_duty size p.shut seat h.is_awaited) s shut
+            (subst (λ (o : Option Shut). IsServed condition unread taken held size causes q r ys is_full may_send seat h.after (answers_at place (xs ++ ys)) (pieces_at place (xs ++ ys)) (sendings_at place (xs ++ ys)) (turn_duty size o seat h.is_awaited)) shut
+            (subst (λ (l : List SentOn). IsServed condition unread taken held size causes q r ys is_full may_send seat h.after (answers_at place (xs ++ ys)) (pieces_at place (xs ++ ys)) l (turn_duty size q.shut seat h.is_awaited)) sent
+            (subst (λ (n : ℕ). IsServed condition unread taken held size causes q r ys is_full may_send seat h.after (answers_at place (xs ++ ys)) n (sendings_at place ys) (turn_duty size q.shut seat h.is_awaited)) pieces
+            (subst (λ (n : ℕ). IsServed condition unread taken held size causes q r ys is_full may_send seat h.after n (pieces_at place ys) (sendings_at place ys) (turn_duty size q.shut seat h.is_awaited)) answered h.served))));
       }
 
   -- later deeds did not concern it, but that it may have been closed
-  at_after : (p q r : Position A R K S) (is_full : Bool) (xs ys : List Deed) (place : ℕ) (x : Option (Seat R K S)) → Steps condition unread taken held p xs q → Steps condition unread taken held q ys r
+  at_after : (p q r : Position A R K S) (is_full may_send : Bool) (xs ys : List Deed) (place : ℕ) (x : Option (Seat R K S)) → Steps condition unread taken held p xs q → Steps condition unread taken held q ys r
       → ((other : Seat R K S) → slot place q.seats ≡ Some other → IsLeftAs condition unread taken held q r ys place other) → answers_at place ys ≡ 0
-      → pieces_at place ys ≡ 0 → sendings_at place ys ≡ [] → IsServedAt condition unread taken held size causes p q is_full xs place x → IsServedAt condition unread taken held size causes p r is_full (xs ++ ys) place x
-  at_after p q r is_full xs ys place None s t how none unread_later unsent_later h = tt
-  at_after p q r is_full xs ys place (Some seat) s t how none unread_later unsent_later h =
+      → pieces_at place ys ≡ 0 → sendings_at place ys ≡ [] → IsServedAt condition unread taken held size causes p q is_full may_send xs place x → IsServedAt condition unread taken held size causes p r is_full may_send (xs ++ ys) place x
+  at_after p q r is_full may_send xs ys place None s t how none unread_later unsent_later h = tt
+  at_after p q r is_full may_send xs ys place (Some seat) s t how none unread_later unsent_later h =
       let answered : answers_at place xs ≡ answers_at place (xs ++ ys) = let e = answers_append place xs ys in omega (arith, e, none) in
       let pieces : pieces_at place xs ≡ pieces_at place (xs ++ ys) = let e = pieces_append place xs ys in omega (arith, e, unread_later) in
       let sent : sendings_at place xs ≡ sendings_at place (xs ++ ys) = sym (sendings_after place xs ys unsent_later) in
@@ -319,16 +333,16 @@ module _ {A R K S : Type 0} (condition : A → Condition) (unread : R → Option
             (lost_later p q r seat.connection xs ys t) h.caused;
         is_awaited = h.is_awaited;
         asked = once_later (λ old new. is_awaited_at old.connections.items seat.connection ≡ h.is_awaited) p q r xs ys t h.asked;
-        served = served_later p q r xs ys is_full seat h.after (answers_at place (xs ++ ys)) (pieces_at place (xs ++ ys)) (sendings_at place (xs ++ ys)) d t
-            (subst (λ (l : List SentOn). IsServed condition unread taken held size causes p q xs is_full seat h.after (answers_at place (xs ++ ys)) (pieces_at place (xs ++ ys)) l d) sent
-            (subst (λ (n : ℕ). IsServed condition unread taken held size causes p q xs is_full seat h.after (answers_at place (xs ++ ys)) n (sendings_at place xs) d) pieces
-            (subst (λ (n : ℕ). IsServed condition unread taken held size causes p q xs is_full seat h.after n (pieces_at place xs) (sendings_at place xs) d) answered h.served)));
+        served = served_later p q r xs ys is_full may_send seat h.after (answers_at place (xs ++ ys)) (pieces_at place (xs ++ ys)) (sendings_at place (xs ++ ys)) d t
+            (subst (λ (l : List SentOn). IsServed condition unread taken held size causes p q xs is_full may_send seat h.after (answers_at place (xs ++ ys)) (pieces_at place (xs ++ ys)) l d) sent
+            (subst (λ (n : ℕ). IsServed condition unread taken held size causes p q xs is_full may_send seat h.after (answers_at place (xs ++ ys)) n (sendings_at place xs) d) pieces
+            (subst (λ (n : ℕ). IsServed condition unread taken held size causes p q xs is_full may_send seat h.after n (pieces_at place xs) (sendings_at place xs) d) answered h.served)));
       }
 
   -- nothing was done at a place
-  pub served_none : (p q : Position A R K S) (at : ℕ) (time : Time) (is_full : Bool) (told tells : Option (List Note)) (x : Option (Seat R K S)) → tells ≡ told → q.hub ≡ p.hub → q.limits ≡ p.limits → q.shut ≡ p.shut → q.seats ≡ set p.seats at x → at < length p.seats → x ≡ get_or p.seats at x → x ≡ None
-      → Serves condition unread taken held size causes p q at time is_full told tells
-  served_none p q at time is_full told tells x same hub limits shut seats there read none = record {
+  pub served_none : (p q : Position A R K S) (at : ℕ) (time : Time) (is_full may_send : Bool) (told tells : Option (List Note)) (x : Option (Seat R K S)) → tells ≡ told → q.hub ≡ p.hub → q.limits ≡ p.limits → q.shut ≡ p.shut → q.seats ≡ set p.seats at x → at < length p.seats → x ≡ get_or p.seats at x → x ≡ None
+      → Serves condition unread taken held size causes p q at time is_full may_send false told tells
+  served_none p q at time is_full may_send told tells x same hub limits shut seats there read none = record {
     deeds = [];
     steps = goes_on begins (unchanged condition unread taken held p q at x hub limits shut seats there read);
     once = omega arith;
@@ -337,13 +351,15 @@ module _ {A R K S : Type 0} (condition : A → Condition) (unread : R → Option
     unread_others = λ place ne. refl;
     sends_once = omega arith;
     unsent_others = λ place ne. refl;
-    served = subst (λ (o : Option (Seat R K S)). IsServedAt condition unread taken held size causes p q is_full [] at o) (sym (slot_read at p.seats x there read ∙ none)) tt;
+    counted = refl;
+    allowed = λ h. let bad : false ≡ true = h in cc;
+    served = subst (λ (o : Option (Seat R K S)). IsServedAt condition unread taken held size causes p q is_full may_send [] at o) (sym (slot_read at p.seats x there read ∙ none)) tt;
     in_time = tt;
     noted = grows_same told tells same;
   }
 
   -- what a turn did, and that it was what came next
-  record Turned (p q : Position A R K S) (at : ℕ) (time : Time) (is_full : Bool) (before after : Seat R K S) : Type 0 where
+  record Turned (p q : Position A R K S) (at : ℕ) (time : Time) (is_full may_send : Bool) (before after : Seat R K S) : Type 0 where
     deeds : List Deed
     steps : Steps condition unread taken held p deeds q
     once : answers_at at deeds ≤ 1
@@ -352,34 +368,42 @@ module _ {A R K S : Type 0} (condition : A → Condition) (unread : R → Option
     unread_others : (place : ℕ) → (place ≡ at → ⊥) → pieces_at place deeds ≡ 0
     sends_once : length (sendings_at at deeds) ≤ 1
     unsent_others : (place : ℕ) → (place ≡ at → ⊥) → sendings_at place deeds ≡ []
-    does : IsServed condition unread taken held size causes p q deeds is_full before after (answers_at at deeds) (pieces_at at deeds) (sendings_at at deeds) (next_duty size before)
+    sends_on : next_duty size before ≡ to.Send → may_send ≡ true → sendings_in deeds ≡ 1
+    sends_none : (next_duty size before ≡ to.Send → may_send ≡ true → ⊥) → sendings_in deeds ≡ 0
+    does : IsServed condition unread taken held size causes p q deeds is_full may_send before after (answers_at at deeds) (pieces_at at deeds) (sendings_at at deeds) (next_duty size before)
     in_time : AreDoneAt time deeds
     quiet : closings_of deeds ≡ []
 
-  rest_served : (p q : Position A R K S) (is_full : Bool) (before after : Seat R K S) (d : Duty) → before.course.phase ≡ phase_begun before.course.phase (is_some p.shut)
-      → Steps condition unread taken held p [] q → MayRest condition unread taken held size p.hub before after is_full (is_some p.shut) d → IsServed condition unread taken held size causes p q [] is_full before after 0 0 [] d
-  rest_served p q is_full before after to.Flush e s may = (may.0, subst (λ (h : Phase). StaysOrIsOver h after.course.phase) e may.1)
-  rest_served p q is_full before after to.Answer e s may = inr (inl (record { earlier = []; later = []; all = refl; mid = p; next = p; came = begins; is = may; goes = s }))
-  rest_served p q is_full before after to.Send e s may = absurd may
-  rest_served p q is_full before after to.Read e s (inl back) = inr (inl (back.0, back.1 ∙ e))
-  rest_served p q is_full before after to.Read e s (inr (inl later)) = inr (inr (inl (later.0, later.1 ∙ e)))
-  rest_served p q is_full before after to.Read e s (inr (inr (over, kept))) = inr (inr (inr over))
-  rest_served p q is_full before after to.Finish e s may = may
-  rest_served p q is_full before after to.Drain e s may = subst (λ (h : Phase). StaysOrIsOver h after.course.phase) e may
-  rest_served p q is_full before after to.Wait e s may = may ∙ e
+  rest_served : (p q : Position A R K S) (is_full may_send : Bool) (before after : Seat R K S) (d : Duty) → before.course.phase ≡ phase_begun before.course.phase (is_some p.shut)
+      → Steps condition unread taken held p [] q → MayRest condition unread taken held size p.hub before after is_full (is_some p.shut) may_send d → IsServed condition unread taken held size causes p q [] is_full may_send before after 0 0 [] d
+  rest_served p q is_full may_send before after to.Flush e s may = (may.0, subst (λ (h : Phase). StaysOrIsOver h after.course.phase) e may.1)
+  rest_served p q is_full may_send before after to.Answer e s may = inr (inl (record { earlier = []; later = []; all = refl; mid = p; next = p; came = begins; is = may; goes = s }))
+  rest_served p q is_full may_send before after to.Send e s (none, off, phase) = inr (none, refl, off, subst (λ (h : Phase). StaysOrIsOver h after.course.phase) e phase)
+  rest_served p q is_full may_send before after to.Read e s (inl back) = inr (inl (back.0, back.1 ∙ e))
+  rest_served p q is_full may_send before after to.Read e s (inr (inl later)) = inr (inr (inl (later.0, later.1 ∙ e)))
+  rest_served p q is_full may_send before after to.Read e s (inr (inr (over, kept))) = inr (inr (inr over))
+  rest_served p q is_full may_send before after to.Finish e s may = may
+  rest_served p q is_full may_send before after to.Drain e s may = subst (λ (h : Phase). StaysOrIsOver h after.course.phase) e may
+  rest_served p q is_full may_send before after to.Wait e s may = may ∙ e
 
-  read_served : (p q : Position A R K S) (deeds : List Deed) (is_full : Bool) (before after : Seat R K S) (answered read : ℕ) (sent : List SentOn) → next_duty size before ≡ to.Read → read ≡ 1
-      → IsServed condition unread taken held size causes p q deeds is_full before after answered read sent (next_duty size before)
-  read_served p q deeds is_full before after answered read sent due one = subst (λ (d : Duty). IsServed condition unread taken held size causes p q deeds is_full before after answered read sent d) (sym due) (inl one)
+  read_served : (p q : Position A R K S) (deeds : List Deed) (is_full may_send : Bool) (before after : Seat R K S) (answered read : ℕ) (sent : List SentOn) → next_duty size before ≡ to.Read → read ≡ 1
+      → IsServed condition unread taken held size causes p q deeds is_full may_send before after answered read sent (next_duty size before)
+  read_served p q deeds is_full may_send before after answered read sent due one = subst (λ (d : Duty). IsServed condition unread taken held size causes p q deeds is_full may_send before after answered read sent d) (sym due) (inl one)
 
-  answer_served : (p q : Position A R K S) (deeds : List Deed) (is_full : Bool) (before after : Seat R K S) (answered read : ℕ) (sent : List SentOn) → next_duty size before ≡ to.Answer → answered ≡ 1
-      → IsServed condition unread taken held size causes p q deeds is_full before after answered read sent (next_duty size before)
-  answer_served p q deeds is_full before after answered read sent due one = subst (λ (d : Duty). IsServed condition unread taken held size causes p q deeds is_full before after answered read sent d) (sym due) (inl one)
+  answer_served : (p q : Position A R K S) (deeds : List Deed) (is_full may_send : Bool) (before after : Seat R K S) (answered read : ℕ) (sent : List SentOn) → next_duty size before ≡ to.Answer → answered ≡ 1
+      → IsServed condition unread taken held size causes p q deeds is_full may_send before after answered read sent (next_duty size before)
+  answer_served p q deeds is_full may_send before after answered read sent due one = subst (λ (d : Duty). IsServed condition unread taken held size causes p q deeds is_full may_send before after answered read sent d) (sym due) (inl one)
+
+  -- where it rested it wasn't its turn
+  rested_unsent : (p : Position A R K S) (before after : Seat R K S) (is_full may_send : Bool) → next_duty size before ≡ to.Send
+      → MayRest condition unread taken held size p.hub before after is_full (is_some p.shut) may_send (next_duty size before) → may_send ≡ false
+  rested_unsent p before after is_full may_send due may =
+      let r = subst (λ (d : Duty). MayRest condition unread taken held size p.hub before after is_full (is_some p.shut) may_send d) due may in r.0
 
   -- a connection had its turn
-  took_turn : (p q : Position A R K S) (at : ℕ) (time : Time) (is_full : Bool) (before after : Seat R K S) → HasTurn condition unread taken held p q at before after
-      → before.course.phase ≡ phase_begun before.course.phase (is_some p.shut) → ActsOnce condition unread taken held size p.hub q.hub before after time.moment is_full (is_some p.shut) → Turned p q at time is_full before after
-  took_turn p q at time is_full before after t e (inl (r, may)) = record {
+  took_turn : (p q : Position A R K S) (at : ℕ) (time : Time) (is_full may_send : Bool) (before after : Seat R K S) → HasTurn condition unread taken held p q at before after
+      → before.course.phase ≡ phase_begun before.course.phase (is_some p.shut) → ActsOnce condition unread taken held size p.hub q.hub before after time.moment is_full (is_some p.shut) may_send → Turned p q at time is_full may_send before after
+  took_turn p q at time is_full may_send before after t e (inl (r, may)) = record {
     deeds = [];
     steps = goes_on begins (rests t r);
     once = omega arith;
@@ -388,11 +412,13 @@ module _ {A R K S : Type 0} (condition : A → Condition) (unread : R → Option
     unread_others = λ place ne. refl;
     sends_once = omega arith;
     unsent_others = λ place ne. refl;
-    does = rest_served p q is_full before after (next_duty size before) e (goes_on begins (rests t r)) may;
+    sends_on = λ due now. let r = rested_unsent p before after is_full may_send due may in let bad : true ≡ false = sym now ∙ r in cc;
+    sends_none = λ no. refl;
+    does = rest_served p q is_full may_send before after (next_duty size before) e (goes_on begins (rests t r)) may;
     in_time = tt;
     quiet = refl;
   }
-  took_turn p q at time is_full before after t e (inr (inl (o, due))) = record {
+  took_turn p q at time is_full may_send before after t e (inr (inl (o, due))) = record {
     deeds = Takes at before.connection o.piece ∷ [];
     steps = goes_on begins (offers t o);
     once = omega arith;
@@ -401,11 +427,13 @@ module _ {A R K S : Type 0} (condition : A → Condition) (unread : R → Option
     unread_others = λ place ne. none_elsewhere at place ne;
     sends_once = omega arith;
     unsent_others = λ place ne. refl;
-    does = read_served p q _ is_full before after _ _ _ due (one_here at);
+    sends_on = λ h now. let bad : to.Read ≡ to.Send = sym due ∙ h in cc;
+    sends_none = λ no. refl;
+    does = read_served p q _ is_full may_send before after _ _ _ due (one_here at);
     in_time = (tt, tt);
     quiet = refl;
   }
-  took_turn p q at time is_full before after t e (inr (inr (inl (r, due)))) = record {
+  took_turn p q at time is_full may_send before after t e (inr (inr (inl (r, due)))) = record {
     deeds = Declines at before.connection r.piece time.moment r.answers.sent ∷ [];
     steps = goes_on begins (refuses t r);
     once = one_at_most (at == at);
@@ -414,11 +442,13 @@ module _ {A R K S : Type 0} (condition : A → Condition) (unread : R → Option
     unread_others = λ place ne. none_elsewhere at place ne;
     sends_once = omega arith;
     unsent_others = λ place ne. refl;
-    does = read_served p q _ is_full before after _ _ _ due (one_here at);
+    sends_on = λ h now. let bad : to.Read ≡ to.Send = sym due ∙ h in cc;
+    sends_none = λ no. refl;
+    does = read_served p q _ is_full may_send before after _ _ _ due (one_here at);
     in_time = (refl, tt);
     quiet = refl;
   }
-  took_turn p q at time is_full before after t e (inr (inr (inr (inl (a, due))))) = record {
+  took_turn p q at time is_full may_send before after t e (inr (inr (inr (inl (a, due))))) = record {
     deeds = Replies at before.connection time.moment a.now a.answers.sent ∷ [];
     steps = goes_on begins (answers t a);
     once = one_at_most (at == at);
@@ -427,11 +457,13 @@ module _ {A R K S : Type 0} (condition : A → Condition) (unread : R → Option
     unread_others = λ place ne. refl;
     sends_once = omega arith;
     unsent_others = λ place ne. refl;
-    does = answer_served p q _ is_full before after _ _ _ due (one_here at);
+    sends_on = λ h now. let bad : to.Answer ≡ to.Send = sym due ∙ h in cc;
+    sends_none = λ no. refl;
+    does = answer_served p q _ is_full may_send before after _ _ _ due (one_here at);
     in_time = (refl, tt);
     quiet = refl;
   }
-  took_turn p q at time is_full before after t e (inr (inr (inr (inr (inl (d, due)))))) =
+  took_turn p q at time is_full may_send before after t e (inr (inr (inr (inr (inl (d, due)))))) =
       let s = goes_on begins (delays t d) in
       record {
         deeds = [];
@@ -442,7 +474,9 @@ module _ {A R K S : Type 0} (condition : A → Condition) (unread : R → Option
         unread_others = λ place ne. refl;
         sends_once = omega arith;
         unsent_others = λ place ne. refl;
-        does = subst (λ (x : Duty). IsServed condition unread taken held size causes p q [] is_full before after 0 0 [] x) (sym due) (inr (inr (record {
+        sends_on = λ h now. let bad : to.Answer ≡ to.Send = sym due ∙ h in cc;
+        sends_none = λ no. refl;
+        does = subst (λ (x : Duty). IsServed condition unread taken held size causes p q [] is_full may_send before after 0 0 [] x) (sym due) (inr (inr (record {
           keeps = record { earlier = []; later = []; all = refl; mid = p; next = q; came = begins; is = d.keeps; goes = begins };
           stays = d.stays;
           stirs = d.stirs;
@@ -452,7 +486,7 @@ module _ {A R K S : Type 0} (condition : A → Condition) (unread : R → Option
         in_time = tt;
         quiet = refl;
       }
-  took_turn p q at time is_full before after t e (inr (inr (inr (inr (inr (s, due)))))) = record {
+  took_turn p q at time is_full may_send before after t e (inr (inr (inr (inr (inr (s, due, may)))))) = record {
     deeds = Sends at before.connection s.sends.sent s.answer ∷ [];
     steps = goes_on begins (sends t s);
     once = omega arith;
@@ -461,8 +495,10 @@ module _ {A R K S : Type 0} (condition : A → Condition) (unread : R → Option
     unread_others = λ place ne. refl;
     sends_once = let e = ap (λ (l : List SentOn). length l) (one_sent at s.answer) in let one : length (s.answer ∷ []) ≡ 1 = refl in omega (arith, e, one);
     unsent_others = λ place ne. none_sent at place s.answer ne;
-    does = subst (λ (x : Duty). IsServed condition unread taken held size causes p q (Sends at before.connection s.sends.sent s.answer ∷ []) is_full before after 0 0 (sendings_at at (Sends at before.connection s.sends.sent s.answer ∷ [])) x) (sym due)
-        (s.answer, one_sent at s.answer, s.goes ∙ ap (λ (h : Phase). phase_sent h s.answer) e);
+    sends_on = λ h now. refl;
+    sends_none = λ no. absurd (no due may);
+    does = subst (λ (x : Duty). IsServed condition unread taken held size causes p q (Sends at before.connection s.sends.sent s.answer ∷ []) is_full may_send before after 0 0 (sendings_at at (Sends at before.connection s.sends.sent s.answer ∷ [])) x) (sym due)
+        (inl (may, (s.answer, one_sent at s.answer, s.goes ∙ ap (λ (h : Phase). phase_sent h s.answer) e)));
     in_time = (tt, tt);
     quiet = refl;
   }
@@ -489,18 +525,28 @@ module _ {A R K S : Type 0} (condition : A → Condition) (unread : R → Option
       subst (λ (n : ℕ). (is_some p.shut || (is_full && nat_lt 0 n)) ≡ true) count
       (subst (λ (o : Option Shut). (is_some o || (is_full && nat_lt 0 mid.course.unfinished)) ≡ true) shut back)
 
+  off_begun : (before mid after : Seat R K S) → mid.wire ≡ before.wire → mid.course.is_writable ≡ before.course.is_writable → IsPutOff size mid after → IsPutOff size before after
+  off_begun before mid after wire writable off = record {
+    sends = λ may owes. elim (off.sends (writable ∙ may) (subst (λ (w : Wire K S). 0 < owed_count size w) (sym wire) owes)) [
+      | inl fewer ↦ inl (subst (λ (w : Wire K S). owed_count size after.wire < owed_count size w) wire fewer)
+      | inr none ↦ inr none
+    ];
+    stirs = λ none. off.stirs (ap (λ (w : Wire K S). owed_count size w) wire ∙ none);
+    counts_not = λ none. off.counts_not (ap (λ (w : Wire K S). owed_count size w) wire ∙ none);
+  }
+
   -- who was served once its turn had begun was served
-  served_begun : (p m q : Position A R K S) (deeds : List Deed) (is_full : Bool) (before mid after : Seat R K S) (answered read : ℕ) (sent : List SentOn) (d : Duty) → Steps condition unread taken held p [] m → m.shut ≡ p.shut
-      → mid.connection ≡ before.connection → mid.wire ≡ before.wire → mid.course.unfinished ≡ before.course.unfinished
+  served_begun : (p m q : Position A R K S) (deeds : List Deed) (is_full may_send : Bool) (before mid after : Seat R K S) (answered read : ℕ) (sent : List SentOn) (d : Duty) → Steps condition unread taken held p [] m → m.shut ≡ p.shut
+      → mid.connection ≡ before.connection → mid.wire ≡ before.wire → mid.course.unfinished ≡ before.course.unfinished → mid.course.is_writable ≡ before.course.is_writable
       → phase_begun mid.course.phase (is_some m.shut) ≡ phase_begun before.course.phase (is_some p.shut)
-      → IsServed condition unread taken held size causes m q deeds is_full mid after answered read sent d → IsServed condition unread taken held size causes p q deeds is_full before after answered read sent d
-  served_begun p m q deeds is_full before mid after answered read sent to.Flush s shut number wire count phase (inl fewer, h) =
+      → IsServed condition unread taken held size causes m q deeds is_full may_send mid after answered read sent d → IsServed condition unread taken held size causes p q deeds is_full may_send before after answered read sent d
+  served_begun p m q deeds is_full may_send before mid after answered read sent to.Flush s shut number wire count writable phase (inl fewer, h) =
       (inl (subst (λ (w : Wire K S). owed_count size after.wire < owed_count size w) wire fewer), subst (λ (x : Phase). StaysOrIsOver x after.course.phase) phase h)
-  served_begun p m q deeds is_full before mid after answered read sent to.Flush s shut number wire count phase (inr none, h) = (inr none, subst (λ (x : Phase). StaysOrIsOver x after.course.phase) phase h)
-  served_begun p m q deeds is_full before mid after answered read sent to.Answer s shut number wire count phase (inl one) = inl one
-  served_begun p m q deeds is_full before mid after answered read sent to.Answer s shut number wire count phase (inr (inl lost)) =
+  served_begun p m q deeds is_full may_send before mid after answered read sent to.Flush s shut number wire count writable phase (inr none, h) = (inr none, subst (λ (x : Phase). StaysOrIsOver x after.course.phase) phase h)
+  served_begun p m q deeds is_full may_send before mid after answered read sent to.Answer s shut number wire count writable phase (inl one) = inl one
+  served_begun p m q deeds is_full may_send before mid after answered read sent to.Answer s shut number wire count writable phase (inr (inl lost)) =
       inr (inl (subst (λ (n : ℕ). IsLost condition unread taken held size causes p q deeds n) number (lost_before p m q mid.connection [] deeds s lost)))
-  served_begun p m q deeds is_full before mid after answered read sent to.Answer s shut number wire count phase (inr (inr k)) =
+  served_begun p m q deeds is_full may_send before mid after answered read sent to.Answer s shut number wire count writable phase (inr (inr k)) =
       let b = kept_back_before p m q [] deeds mid after s k in
       inr (inr (record {
         keeps = subst (λ (n : ℕ). IsOnce condition unread taken held size causes (λ old new. KeepsBack condition (told taken held before.wire) (told taken held after.wire) before.wire.failures after.wire.failures old new n) p q deeds) number
@@ -510,15 +556,18 @@ module _ {A R K S : Type 0} (condition : A → Condition) (unread : R → Option
         counts_not = b.counts_not;
         leaves = b.leaves ∙ count;
       }))
-  served_begun p m q deeds is_full before mid after answered read sent to.Send s shut number wire count phase h = (h.0, h.1, h.2 ∙ ap (λ (x : Phase). phase_sent x h.0) phase)
-  served_begun p m q deeds is_full before mid after answered read sent to.Read s shut number wire count phase (inl one) = inl one
-  served_begun p m q deeds is_full before mid after answered read sent to.Read s shut number wire count phase (inr (inl back)) =
+  served_begun p m q deeds is_full may_send before mid after answered read sent to.Send s shut number wire count writable phase (inl (may, h)) =
+      inl (may, (h.0, h.1, h.2 ∙ ap (λ (x : Phase). phase_sent x h.0) phase))
+  served_begun p m q deeds is_full may_send before mid after answered read sent to.Send s shut number wire count writable phase (inr (none, unsent, off, h)) =
+      inr (none, unsent, off_begun before mid after wire writable off, subst (λ (x : Phase). StaysOrIsOver x after.course.phase) phase h)
+  served_begun p m q deeds is_full may_send before mid after answered read sent to.Read s shut number wire count writable phase (inl one) = inl one
+  served_begun p m q deeds is_full may_send before mid after answered read sent to.Read s shut number wire count writable phase (inr (inl back)) =
       inr (inl (held_back p m is_full before mid shut count back.0, back.1 ∙ phase))
-  served_begun p m q deeds is_full before mid after answered read sent to.Read s shut number wire count phase (inr (inr (inl none))) = inr (inr (inl (none.0, none.1 ∙ phase)))
-  served_begun p m q deeds is_full before mid after answered read sent to.Read s shut number wire count phase (inr (inr (inr over))) = inr (inr (inr over))
-  served_begun p m q deeds is_full before mid after answered read sent to.Finish s shut number wire count phase h = h
-  served_begun p m q deeds is_full before mid after answered read sent to.Drain s shut number wire count phase h = subst (λ (x : Phase). StaysOrIsOver x after.course.phase) phase h
-  served_begun p m q deeds is_full before mid after answered read sent to.Wait s shut number wire count phase h = h ∙ phase
+  served_begun p m q deeds is_full may_send before mid after answered read sent to.Read s shut number wire count writable phase (inr (inr (inl none))) = inr (inr (inl (none.0, none.1 ∙ phase)))
+  served_begun p m q deeds is_full may_send before mid after answered read sent to.Read s shut number wire count writable phase (inr (inr (inr over))) = inr (inr (inr over))
+  served_begun p m q deeds is_full may_send before mid after answered read sent to.Finish s shut number wire count writable phase h = h
+  served_begun p m q deeds is_full may_send before mid after answered read sent to.Drain s shut number wire count writable phase h = subst (λ (x : Phase). StaysOrIsOver x after.course.phase) phase h
+  served_begun p m q deeds is_full may_send before mid after answered read sent to.Wait s shut number wire count writable phase h = h ∙ phase
 
   -- and had its causes since before
   caused_begun : (lost more : Type 0) (before mid after : Seat R K S) → mid.source ≡ before.source → mid.wire ≡ before.wire → mid.course.is_readable ≡ before.course.is_readable
@@ -543,14 +592,15 @@ module _ {A R K S : Type 0} (condition : A → Condition) (unread : R → Option
   }
 
   -- a connection had its turn, once that had begun
-  pub served : (p q : Position A R K S) (at : ℕ) (time : Time) (is_full is_shut is_awaited : Bool) (told_old told_new : Option (List Note)) (before mid after : Seat R K S) → told_new ≡ told_old → at < length p.seats → slot at p.seats ≡ Some before
+  pub served : (p q : Position A R K S) (at : ℕ) (time : Time) (is_full is_shut may_send has_sent is_awaited : Bool) (told_old told_new : Option (List Note)) (before mid after : Seat R K S) → told_new ≡ told_old → at < length p.seats → slot at p.seats ≡ Some before
       → q.seats ≡ set p.seats at (Some after) → q.limits ≡ p.limits → q.shut ≡ p.shut → mid ≡ record before { course = mid.course }
       → (mid.course.phase ≡ Open → before.course.phase ≡ Open) → (is_ended before.course.phase ≡ true → is_ended mid.course.phase ≡ true)
       → mid.course.unfinished ≡ before.course.unfinished → mid.course.phase ≡ phase_begun before.course.phase is_shut → mid.course.is_readable ≡ before.course.is_readable
       → mid.course.is_writable ≡ before.course.is_writable → is_shut ≡ is_some p.shut
       → mid.course.is_awaited ≡ is_sending before.course.phase && is_awaited → is_awaited_at p.hub.connections.items before.connection ≡ is_awaited
-      → TakesTurn condition unread taken held size causes p.hub q.hub mid after time.moment is_full is_shut → Serves condition unread taken held size causes p q at time is_full told_old told_new
-  served p q at time is_full is_shut is_awaited told_old told_new before mid after quiet there sat sits limits shut same opens ended count phase readable writable told awaited asked t =
+      → (has_sent ≡ true → (may_send ≡ true) × (next_duty size mid ≡ to.Send)) → (has_sent ≡ false → may_send ≡ true → next_duty size mid ≡ to.Send → ⊥)
+      → TakesTurn condition unread taken held size causes p.hub q.hub mid after time.moment is_full is_shut may_send → Serves condition unread taken held size causes p q at time is_full may_send has_sent told_old told_new
+  served p q at time is_full is_shut may_send has_sent is_awaited told_old told_new before mid after quiet there sat sits limits shut same opens ended count phase readable writable told awaited asked sends_so sends_not t =
       let m : Position A R K S = record p { seats = set p.seats at (Some mid) } in
       let begun : slot at m.seats ≡ Some mid = get_or-set_same p.seats at (Some mid) None there in
       let unfinished : unfinished_of (slot at m.seats) ≡ unfinished_of (slot at p.seats) =
@@ -565,7 +615,7 @@ module _ {A R K S : Type 0} (condition : A → Condition) (unread : R → Option
       let begun_so : mid.course.phase ≡ phase_begun before.course.phase (is_some p.shut) = phase ∙ ap (λ (b : Bool). phase_begun before.course.phase b) told in
       let twice : phase_begun mid.course.phase (is_some p.shut) ≡ phase_begun before.course.phase (is_some p.shut) =
       ap (λ (h : Phase). phase_begun h (is_some p.shut)) begun_so ∙ begun_once before.course.phase (is_some p.shut) in
-      let s = took_turn m q at time is_full mid after (record {
+      let s = took_turn m q at time is_full may_send mid after (record {
         there = omega (arith, there, length-set p.seats at (Some mid));
         sat = begun;
         sits = sits ∙ sym (set_again p.seats at (Some mid) (Some after));
@@ -574,7 +624,7 @@ module _ {A R K S : Type 0} (condition : A → Condition) (unread : R → Option
         ended = t.ended;
         same_limits = limits;
         same_shut = shut;
-      }) (begun_so ∙ sym twice) (subst (λ (b : Bool). ActsOnce condition unread taken held size p.hub q.hub mid after time.moment is_full b) told t.acts) in
+      }) (begun_so ∙ sym twice) (subst (λ (b : Bool). ActsOnce condition unread taken held size p.hub q.hub mid after time.moment is_full b may_send) told t.acts) in
       record {
         deeds = s.deeds;
         steps = steps_join condition unread taken held began s.steps;
@@ -584,7 +634,9 @@ module _ {A R K S : Type 0} (condition : A → Condition) (unread : R → Option
         unread_others = s.unread_others;
         sends_once = s.sends_once;
         unsent_others = s.unsent_others;
-        served = subst (λ (x : Option (Seat R K S)). IsServedAt condition unread taken held size causes p q is_full s.deeds at x) (sym sat) (record {
+        counted = counted_by (sendings_in s.deeds) has_sent (λ h. s.sends_on (sends_so h).1 (sends_so h).0) (λ h. s.sends_none (λ due may. sends_not h may due));
+        allowed = λ h. (sends_so h).0;
+        served = subst (λ (x : Option (Seat R K S)). IsServedAt condition unread taken held size causes p q is_full may_send s.deeds at x) (sym sat) (record {
           after = after;
           left = inl (sym stands);
           caused = caused_begun (IsUnknown p.hub mid.connection) (IsLost condition unread taken held size causes p q s.deeds before.connection) before mid after source wire readable writable
@@ -601,18 +653,18 @@ module _ {A R K S : Type 0} (condition : A → Condition) (unread : R → Option
               }) t.caused;
           is_awaited = is_awaited;
           asked = record { earlier = []; later = s.deeds; all = refl; mid = p; next = p; came = begins; is = asked; goes = steps_join condition unread taken held began s.steps };
-          served = subst (λ (d : Duty). IsServed condition unread taken held size causes p q s.deeds is_full before after (answers_at at s.deeds) (pieces_at at s.deeds) (sendings_at at s.deeds) d)
+          served = subst (λ (d : Duty). IsServed condition unread taken held size causes p q s.deeds is_full may_send before after (answers_at at s.deeds) (pieces_at at s.deeds) (sendings_at at s.deeds) d)
               (duty_begun p.shut is_shut is_awaited before mid told phase wire readable writable awaited)
-              (served_begun p m q s.deeds is_full before mid after (answers_at at s.deeds) (pieces_at at s.deeds) (sendings_at at s.deeds) (next_duty size mid) began refl number wire count twice s.does);
+              (served_begun p m q s.deeds is_full may_send before mid after (answers_at at s.deeds) (pieces_at at s.deeds) (sendings_at at s.deeds) (next_duty size mid) began refl number wire count writable twice s.does);
         });
         in_time = s.in_time;
         noted = subst (λ (l : List Note). Grows told_old told_new l) (sym s.quiet) (grows_same told_old told_new quiet);
       }
 
   -- and was closed after it
-  pub then_closed : (p q r : Position A R K S) (at : ℕ) (time : Time) (is_full : Bool) (told so_far tells : Option (List Note)) (reason : Closing) (seat : Seat R K S) → Serves condition unread taken held size causes p q at time is_full told so_far → Goes condition unread taken held q r at time.second reason seat
-      → Grows so_far tells (LetGo seat.connection reason ∷ []) → Serves condition unread taken held size causes p r at time is_full told tells
-  then_closed p q r at time is_full told so_far tells reason seat s g noted =
+  pub then_closed : (p q r : Position A R K S) (at : ℕ) (time : Time) (is_full may_send has_sent : Bool) (told so_far tells : Option (List Note)) (reason : Closing) (seat : Seat R K S) → Serves condition unread taken held size causes p q at time is_full may_send has_sent told so_far → Goes condition unread taken held q r at time.second reason seat
+      → Grows so_far tells (LetGo seat.connection reason ∷ []) → Serves condition unread taken held size causes p r at time is_full may_send has_sent told tells
+  then_closed p q r at time is_full may_send has_sent told so_far tells reason seat s g noted =
       let more : List Deed = Closes at seat.connection time.second reason ∷ [] in
       record {
         deeds = s.deeds ++ more;
@@ -623,19 +675,21 @@ module _ {A R K S : Type 0} (condition : A → Condition) (unread : R → Option
         unread_others = λ place ne. let e = pieces_append place s.deeds more in let f : pieces_at place more ≡ 0 = refl in let o = s.unread_others place ne in omega (arith, e, f, o);
         sends_once = let e = ap (λ (l : List SentOn). length l) (sendings_after at s.deeds more refl) in let o = s.sends_once in omega (arith, e, o);
         unsent_others = λ place ne. sendings_after place s.deeds more refl ∙ s.unsent_others place ne;
-        served = at_after p q r is_full s.deeds more at (slot at p.seats) s.steps (goes_on begins (leaves g))
+        counted = let e = sendings_in_append s.deeds more in let f : sendings_in more ≡ 0 = refl in let none : sendings_in (s.deeds ++ more) ≡ sendings_in s.deeds = omega (arith, e, f) in none ∙ s.counted;
+        allowed = s.allowed;
+        served = at_after p q r is_full may_send s.deeds more at (slot at p.seats) s.steps (goes_on begins (leaves g))
             (λ other sits. inr (closed_there q r at time.second reason seat other g sits)) refl refl refl s.served;
         in_time = in_time_append time s.deeds more s.in_time (refl, tt);
         noted = noted_on told so_far tells s.deeds more s.noted noted;
       }
 
-  pub closes_served : (p q r : Position A R K S) (at : ℕ) (time : Time) (is_full : Bool) (told so_far tells : Option (List Note)) (reason : Closing) (x : Option (Seat R K S)) → IfSome x (Goes condition unread taken held q r at time.second reason) → MayGo q time.second reason x
-      → Serves condition unread taken held size causes p q at time is_full told so_far → Grows so_far tells (farewell reason x) → Serves condition unread taken held size causes p r at time is_full told tells
-  closes_served p q r at time is_full told so_far tells reason None g d s noted = absurd d
-  closes_served p q r at time is_full told so_far tells reason (Some seat) g d s noted = then_closed p q r at time is_full told so_far tells reason seat s g noted
+  pub closes_served : (p q r : Position A R K S) (at : ℕ) (time : Time) (is_full may_send has_sent : Bool) (told so_far tells : Option (List Note)) (reason : Closing) (x : Option (Seat R K S)) → IfSome x (Goes condition unread taken held q r at time.second reason) → MayGo q time.second reason x
+      → Serves condition unread taken held size causes p q at time is_full may_send has_sent told so_far → Grows so_far tells (farewell reason x) → Serves condition unread taken held size causes p r at time is_full may_send has_sent told tells
+  closes_served p q r at time is_full may_send has_sent told so_far tells reason None g d s noted = absurd d
+  closes_served p q r at time is_full may_send has_sent told so_far tells reason (Some seat) g d s noted = then_closed p q r at time is_full may_send has_sent told so_far tells reason seat s g noted
 
   -- the places so far had their turns
-  pub record RoundSoFar (p q : Position A R K S) (at : ℕ) (time : Time) (is_full : Bool) (told tells : Option (List Note)) : Type 0 where
+  pub record RoundSoFar (p q : Position A R K S) (at : ℕ) (time : Time) (is_full : Bool) (share : Share) (told tells : Option (List Note)) : Type 0 where
     deeds : List Deed
     steps : Steps condition unread taken held p deeds q
     once : (place : ℕ) → answers_at place deeds ≤ 1
@@ -644,13 +698,14 @@ module _ {A R K S : Type 0} (condition : A → Condition) (unread : R → Option
     unread_later : (place : ℕ) → at ≤ place → pieces_at place deeds ≡ 0
     sends_once : (place : ℕ) → length (sendings_at place deeds) ≤ 1
     unsent_later : (place : ℕ) → at ≤ place → sendings_at place deeds ≡ []
+    shares : SharesSo share at (sendings_in deeds)
     pub stays : (place : ℕ) → at ≤ place → slot place q.seats ≡ slot place p.seats
-    served : (place : ℕ) → place < at → IsServedAt condition unread taken held size causes p q is_full deeds place (slot place p.seats)
+    served : (place : ℕ) → place < at → IsServedAt condition unread taken held size causes p q is_full (is_turn share.first share.next place) deeds place (slot place p.seats)
     in_time : AreDoneAt time deeds
     noted : Grows told tells (closings_of deeds)
 
-  pub round_begins : (p : Position A R K S) (time : Time) (is_full : Bool) (told : Option (List Note)) → RoundSoFar p p 0 time is_full told told
-  round_begins p time is_full told = record {
+  pub round_begins : (p : Position A R K S) (time : Time) (is_full : Bool) (share : Share) (told : Option (List Note)) → share.next ≡ 0 → share.left ≡ most_sent → RoundSoFar p p 0 time is_full share told told
+  round_begins p time is_full share told next left = record {
     deeds = [];
     steps = begins;
     once = λ place. omega arith;
@@ -659,76 +714,99 @@ module _ {A R K S : Type 0} (condition : A → Condition) (unread : R → Option
     unread_later = λ place h. refl;
     sends_once = λ place. omega arith;
     unsent_later = λ place h. refl;
+    shares = shares_begin share next left;
     stays = λ place h. refl;
     served = λ place h. absurd (let none : ⊥ = omega (arith, h) in none);
     in_time = tt;
     noted = grows_none told;
   }
 
-  pub round_goes_on : (p q r : Position A R K S) (at next : ℕ) (time : Time) (is_full : Bool) (told so_far tells : Option (List Note)) → RoundSoFar p q at time is_full told so_far → Serves condition unread taken held size causes q r at time is_full so_far tells
-      → ((place : ℕ) → (place ≡ at → ⊥) → slot place r.seats ≡ slot place q.seats) → next ≡ at + 1 → q.shut ≡ p.shut → RoundSoFar p r next time is_full told tells
-  round_goes_on p q r at next time is_full told so_far tells s t same e shut = record {
-    deeds = s.deeds ++ t.deeds;
-    steps = steps_join condition unread taken held s.steps t.steps;
-    once = λ place. elim (cases_eq place at) [
-      | inl h ↦ let a = answers_append place s.deeds t.deeds in let b = s.later place (omega (arith, h)) in
-          let c : answers_at place t.deeds ≤ 1 = subst (λ (n : ℕ). answers_at n t.deeds ≤ 1) (sym h) t.once in omega (arith, a, b, c)
-      | inr ne ↦ let a = answers_append place s.deeds t.deeds in let b = t.others place ne in let c = s.once place in omega (arith, a, b, c)
-    ];
-    later = λ place h.
-        let a = answers_append place s.deeds t.deeds in let b = s.later place (omega (arith, h, e)) in
-        let c = t.others place (λ is. omega (arith, is, h, e)) in omega (arith, a, b, c);
-    waits = λ full place some. elim (cases_eq place at) [
-      | inl h ↦ let a = pieces_append place s.deeds t.deeds in let b = s.unread_later place (omega (arith, h)) in
-          let stands = ap (λ (x : Option (Seat R K S)). unfinished_of x) (s.stays place (omega (arith, h))) in
-          let kept : 0 < unfinished_of (slot place q.seats) = omega (arith, stands, some) in
-          let c : pieces_at place t.deeds ≡ 0 = subst (λ (n : ℕ). pieces_at n t.deeds ≡ 0) (sym h) (t.waits full (subst (λ (n : ℕ). 0 < unfinished_of (slot n q.seats)) h kept)) in omega (arith, a, b, c)
-      | inr ne ↦ let a = pieces_append place s.deeds t.deeds in let b = t.unread_others place ne in let c = s.waits full place some in omega (arith, a, b, c)
-    ];
-    unread_later = λ place h.
-        let a = pieces_append place s.deeds t.deeds in let b = s.unread_later place (omega (arith, h, e)) in
-        let c = t.unread_others place (λ is. omega (arith, is, h, e)) in omega (arith, a, b, c);
-    sends_once = λ place. elim (cases_eq place at) [
-      | inl h ↦ let a = ap (λ (l : List SentOn). length l) (sendings_before place s.deeds t.deeds (s.unsent_later place (omega (arith, h)))) in
-          let c : length (sendings_at place t.deeds) ≤ 1 = subst (λ (n : ℕ). length (sendings_at n t.deeds) ≤ 1) (sym h) t.sends_once in omega (arith, a, c)
-      | inr ne ↦ let a = ap (λ (l : List SentOn). length l) (sendings_after place s.deeds t.deeds (t.unsent_others place ne)) in let c = s.sends_once place in omega (arith, a, c)
-    ];
-    unsent_later = λ place h. sendings_after place s.deeds t.deeds (t.unsent_others place (λ is. omega (arith, is, h, e))) ∙ s.unsent_later place (omega (arith, h, e));
-    stays = λ place h. same place (λ is. omega (arith, is, h, e)) ∙ s.stays place (omega (arith, h, e));
-    served = λ place h. elim (cases_eq place at) [
-      | inl is ↦ subst (λ (n : ℕ). IsServedAt condition unread taken held size causes p r is_full (s.deeds ++ t.deeds) n (slot n p.seats)) (sym is)
-          (subst (λ (x : Option (Seat R K S)). IsServedAt condition unread taken held size causes p r is_full (s.deeds ++ t.deeds) at x) (s.stays at (omega arith))
-          (at_before p q r is_full s.deeds t.deeds at (slot at q.seats) s.steps shut (s.later at (omega arith)) (s.unread_later at (omega arith)) (s.unsent_later at (omega arith)) t.served))
-      | inr ne ↦ at_after p q r is_full s.deeds t.deeds place (slot place p.seats) s.steps t.steps (λ other sits. inl (same place ne ∙ sits)) (t.others place ne) (t.unread_others place ne) (t.unsent_others place ne) (s.served place (omega (arith, h, e, ne)))
-    ];
-    in_time = in_time_append time s.deeds t.deeds s.in_time t.in_time;
-    noted = noted_on told so_far tells s.deeds t.deeds s.noted t.noted;
-  }
+  -- whose turn it was stays so once one place more was served
+  turned_on : (p r : Position A R K S) (is_full : Bool) (deeds : List Deed) (share after : Share) (place : ℕ) → after.first ≡ share.first → is_turn share.first after.next place ≡ is_turn share.first share.next place
+      → IsServedAt condition unread taken held size causes p r is_full (is_turn share.first share.next place) deeds place (slot place p.seats)
+      → IsServedAt condition unread taken held size causes p r is_full (is_turn after.first after.next place) deeds place (slot place p.seats)
+  turned_on p r is_full deeds share after place first turn h =
+      subst (λ (b : Bool). IsServedAt condition unread taken held size causes p r is_full b deeds place (slot place p.seats)) (sym (ap (λ (n : ℕ). is_turn n after.next place) first ∙ turn)) h
+
+  pub round_goes_on : (p q r : Position A R K S) (at next : ℕ) (time : Time) (is_full has_sent : Bool) (share after : Share) (told so_far tells : Option (List Note)) → RoundSoFar p q at time is_full share told so_far
+      → Serves condition unread taken held size causes q r at time is_full (is_turn share.first share.next at) has_sent so_far tells → after ≡ counted share at has_sent
+      → ((place : ℕ) → (place ≡ at → ⊥) → slot place r.seats ≡ slot place q.seats) → next ≡ at + 1 → q.shut ≡ p.shut → RoundSoFar p r next time is_full after told tells
+  round_goes_on p q r at next time is_full has_sent share after told so_far tells s t is same e shut =
+      let on = shares_on share at (sendings_in s.deeds) (sendings_in t.deeds) has_sent s.shares t.allowed t.counted in
+      let first : after.first ≡ share.first = ap (λ (x : Share). x.first) is ∙ on.1 in
+      let turns : (place : ℕ) → place < at + 1 → is_turn share.first after.next place ≡ is_turn share.first share.next place =
+      λ place lt. ap (λ (x : Share). is_turn share.first x.next place) is ∙ on.2 place lt in
+      record {
+        deeds = s.deeds ++ t.deeds;
+        steps = steps_join condition unread taken held s.steps t.steps;
+        once = λ place. elim (cases_eq place at) [
+          | inl h ↦ let a = answers_append place s.deeds t.deeds in let b = s.later place (omega (arith, h)) in
+              let c : answers_at place t.deeds ≤ 1 = subst (λ (n : ℕ). answers_at n t.deeds ≤ 1) (sym h) t.once in omega (arith, a, b, c)
+          | inr ne ↦ let a = answers_append place s.deeds t.deeds in let b = t.others place ne in let c = s.once place in omega (arith, a, b, c)
+        ];
+        later = λ place h.
+            let a = answers_append place s.deeds t.deeds in let b = s.later place (omega (arith, h, e)) in
+            let c = t.others place (λ is. omega (arith, is, h, e)) in omega (arith, a, b, c);
+        waits = λ full place some. elim (cases_eq place at) [
+          | inl h ↦ let a = pieces_append place s.deeds t.deeds in let b = s.unread_later place (omega (arith, h)) in
+              let stands = ap (λ (x : Option (Seat R K S)). unfinished_of x) (s.stays place (omega (arith, h))) in
+              let kept : 0 < unfinished_of (slot place q.seats) = omega (arith, stands, some) in
+              let c : pieces_at place t.deeds ≡ 0 = subst (λ (n : ℕ). pieces_at n t.deeds ≡ 0) (sym h) (t.waits full (subst (λ (n : ℕ). 0 < unfinished_of (slot n q.seats)) h kept)) in omega (arith, a, b, c)
+          | inr ne ↦ let a = pieces_append place s.deeds t.deeds in let b = t.unread_others place ne in let c = s.waits full place some in omega (arith, a, b, c)
+        ];
+        unread_later = λ place h.
+            let a = pieces_append place s.deeds t.deeds in let b = s.unread_later place (omega (arith, h, e)) in
+            let c = t.unread_others place (λ is. omega (arith, is, h, e)) in omega (arith, a, b, c);
+        sends_once = λ place. elim (cases_eq place at) [
+          | inl h ↦ let a = ap (λ (l : List SentOn). length l) (sendings_before place s.deeds t.deeds (s.unsent_later place (omega (arith, h)))) in
+              let c : length (sendings_at place t.deeds) ≤ 1 = subst (λ (n : ℕ). length (sendings_at n t.deeds) ≤ 1) (sym h) t.sends_once in omega (arith, a, c)
+          | inr ne ↦ let a = ap (λ (l : List SentOn). length l) (sendings_after place s.deeds t.deeds (t.unsent_others place ne)) in let c = s.sends_once place in omega (arith, a, c)
+        ];
+        unsent_later = λ place h. sendings_after place s.deeds t.deeds (t.unsent_others place (λ is. omega (arith, is, h, e))) ∙ s.unsent_later place (omega (arith, h, e));
+        shares = subst (λ (n : ℕ). SharesSo after next n) (sym (sendings_in_append s.deeds t.deeds)) (subst (λ (n : ℕ). SharesSo after n (sendings_in s.deeds + sendings_in t.deeds)) (sym e)
+            (subst (λ (x : Share). SharesSo x (at + 1) (sendings_in s.deeds + sendings_in t.deeds)) (sym is) on.0));
+        stays = λ place h. same place (λ is. omega (arith, is, h, e)) ∙ s.stays place (omega (arith, h, e));
+        served = λ place h. turned_on p r is_full (s.deeds ++ t.deeds) share after place first (turns place (omega (arith, h, e))) (elim (cases_eq place at) [
+          | inl here ↦ subst (λ (n : ℕ). IsServedAt condition unread taken held size causes p r is_full (is_turn share.first share.next n) (s.deeds ++ t.deeds) n (slot n p.seats)) (sym here)
+              (subst (λ (x : Option (Seat R K S)). IsServedAt condition unread taken held size causes p r is_full (is_turn share.first share.next at) (s.deeds ++ t.deeds) at x) (s.stays at (omega arith))
+              (at_before p q r is_full (is_turn share.first share.next at) s.deeds t.deeds at (slot at q.seats) s.steps shut (s.later at (omega arith)) (s.unread_later at (omega arith)) (s.unsent_later at (omega arith)) t.served))
+          | inr ne ↦ at_after p q r is_full (is_turn share.first share.next place) s.deeds t.deeds place (slot place p.seats) s.steps t.steps (λ other sits. inl (same place ne ∙ sits)) (t.others place ne) (t.unread_others place ne) (t.unsent_others place ne) (s.served place (omega (arith, h, e, ne)))
+        ]);
+        in_time = in_time_append time s.deeds t.deeds s.in_time t.in_time;
+        noted = noted_on told so_far tells s.deeds t.deeds s.noted t.noted;
+      }
+
+  -- some may be sent on still where it is the turn of a place
+  pub room_for : (p q : Position A R K S) (at : ℕ) (time : Time) (is_full : Bool) (share : Share) (told tells : Option (List Note)) → RoundSoFar p q at time is_full share told tells → is_turn share.first share.next at ≡ true → 0 < share.left
+  room_for p q at time is_full share told tells s turn = room_left share at (sendings_in s.deeds) s.shares turn
 
   -- so all had, as nobody sits behind these
-  all_served : (p q : Position A R K S) (at : ℕ) (time : Time) (is_full : Bool) (told tells : Option (List Note)) → (s : RoundSoFar p q at time is_full told tells) → ((place : ℕ) → at ≤ place → slot place p.seats ≡ None)
-      → (place : ℕ) → IsServedAt condition unread taken held size causes p q is_full s.deeds place (slot place p.seats)
-  all_served p q at time is_full told tells s all place = elim (cases_lt place at) [
+  all_served : (p q : Position A R K S) (at : ℕ) (time : Time) (is_full : Bool) (share : Share) (told tells : Option (List Note)) → (s : RoundSoFar p q at time is_full share told tells) → ((place : ℕ) → at ≤ place → slot place p.seats ≡ None)
+      → (place : ℕ) → IsServedAt condition unread taken held size causes p q is_full (is_turn share.first share.next place) s.deeds place (slot place p.seats)
+  all_served p q at time is_full share told tells s all place = elim (cases_lt place at) [
     | inl lt ↦ s.served place lt
-    | inr ge ↦ subst (λ (x : Option (Seat R K S)). IsServedAt condition unread taken held size causes p q is_full s.deeds place x) (sym (all place (omega (arith, ge)))) tt
+    | inr ge ↦ subst (λ (x : Option (Seat R K S)). IsServedAt condition unread taken held size causes p q is_full (is_turn share.first share.next place) s.deeds place x) (sym (all place (omega (arith, ge)))) tt
   ]
 
   -- and the largest was closed, where it had to be
-  pub round_ends : (p q r : Position A R K S) (at : ℕ) (time : Time) (is_full : Bool) (last : List Deed) (told so_far tells : Option (List Note)) → RoundSoFar p q at time is_full told so_far → is_full ≡ nat_lt p.limits.unfinished_bytes (unfinished_in p.seats) → ((place : ℕ) → at ≤ place → slot place p.seats ≡ None)
-      → Sheds condition unread taken held q r time.second last so_far tells → GoesRound condition unread taken held size causes p r time told tells
-  round_ends p q r at time is_full last told so_far tells s e all (inl (same, keep, none, quiet)) = subst (λ (x : Position A R K S). GoesRound condition unread taken held size causes p x time told tells) (sym same) (record {
+  pub round_ends : (p q r : Position A R K S) (at : ℕ) (time : Time) (is_full : Bool) (share : Share) (last : List Deed) (told so_far tells : Option (List Note)) → RoundSoFar p q at time is_full share told so_far → at ≤ length p.seats → is_full ≡ nat_lt p.limits.unfinished_bytes (unfinished_in p.seats) → ((place : ℕ) → at ≤ place → slot place p.seats ≡ None)
+      → Sheds condition unread taken held q r time.second last so_far tells → GoesRound condition unread taken held size causes p r share.first share.next time told tells
+  round_ends p q r at time is_full share last told so_far tells s within e all (inl (same, keep, none, quiet)) = subst (λ (x : Position A R K S). GoesRound condition unread taken held size causes p x share.first share.next time told tells) (sym same) (record {
     deeds = s.deeds;
     steps = s.steps;
     once = s.once;
     waits = λ more place some. s.waits (e ∙ lt-ltb p.limits.unfinished_bytes (unfinished_in p.seats) more) place some;
     sends_once = s.sends_once;
-    served = λ place. subst (λ (b : Bool). IsServedAt condition unread taken held size causes p q b s.deeds place (slot place p.seats)) e (all_served p q at time is_full told so_far s all place);
+    sends_few = sent_few share at (sendings_in s.deeds) s.shares;
+    goes_by = shares_end share (length p.seats) at (sendings_in s.deeds) s.shares within;
+    served = λ place. subst (λ (b : Bool). IsServedAt condition unread taken held size causes p q b (is_turn share.first share.next place) s.deeds place (slot place p.seats)) e (all_served p q at time is_full share told so_far s all place);
     in_time = s.in_time;
     noted = subst (λ (o : Option (List Note)). Grows told o (closings_of s.deeds)) (sym quiet) s.noted;
     sheds = (q, s.deeds, [], so_far, sym (append-nil s.deeds), s.steps, s.noted, inl (refl, keep, refl, quiet));
   })
-  round_ends p q r at time is_full last told so_far tells s e all (inr (place, seat, g, one, noted)) =
+  round_ends p q r at time is_full share last told so_far tells s within e all (inr (place, seat, g, one, noted)) =
       let more : List Deed = Closes place seat.connection time.second Large ∷ [] in
+      let none : sendings_in s.deeds ≡ sendings_in (s.deeds ++ more) = let a = sendings_in_append s.deeds more in let f : sendings_in more ≡ 0 = refl in omega (arith, a, f) in
       record {
         deeds = s.deeds ++ more;
         steps = goes_on s.steps (leaves g);
@@ -737,12 +815,14 @@ module _ {A R K S : Type 0} (condition : A → Condition) (unread : R → Option
             let a = pieces_append other s.deeds more in let f : pieces_at other more ≡ 0 = refl in
             let o = s.waits (e ∙ lt-ltb p.limits.unfinished_bytes (unfinished_in p.seats) full) other some in omega (arith, a, f, o);
         sends_once = λ other. let a = ap (λ (l : List SentOn). length l) (sendings_after other s.deeds more refl) in let o = s.sends_once other in omega (arith, a, o);
-        served = λ other. subst (λ (b : Bool). IsServedAt condition unread taken held size causes p r b (s.deeds ++ more) other (slot other p.seats)) e
-            (at_after p q r is_full s.deeds more other (slot other p.seats) s.steps (goes_on begins (leaves g)) (λ who sits. elim (cases_eq other place) [
+        sends_few = subst (λ (n : ℕ). n ≤ most_sent) none (sent_few share at (sendings_in s.deeds) s.shares);
+        goes_by = subst (λ (n : ℕ). IsNext (length p.seats) share.first share.next n) none (shares_end share (length p.seats) at (sendings_in s.deeds) s.shares within);
+        served = λ other. subst (λ (b : Bool). IsServedAt condition unread taken held size causes p r b (is_turn share.first share.next other) (s.deeds ++ more) other (slot other p.seats)) e
+            (at_after p q r is_full (is_turn share.first share.next other) s.deeds more other (slot other p.seats) s.steps (goes_on begins (leaves g)) (λ who sits. elim (cases_eq other place) [
               | inl is ↦ inr (subst (λ (n : ℕ). IsClosed condition unread taken held q r more n who) (sym is)
                   (closed_there q r place time.second Large seat who g (subst (λ (n : ℕ). slot n q.seats ≡ Some who) is sits)))
               | inr ne ↦ inl (ap (λ (l : List (Option (Seat R K S))). slot other l) g.gone ∙ get_or-set_other q.seats place other None None ne ∙ sits)
-            ]) refl refl refl (all_served p q at time is_full told so_far s all other));
+            ]) refl refl refl (all_served p q at time is_full share told so_far s all other));
         in_time = in_time_append time s.deeds more s.in_time (refl, tt);
         noted = noted_on told so_far tells s.deeds more s.noted noted;
         sheds = (q, s.deeds, more, so_far, refl, s.steps, s.noted, inr (place, seat, g, refl, noted));

@@ -25,7 +25,8 @@ use Rattle.dep_host.specs.declared.log.Closing.TheVariants as ends
 use Rattle.dep_host.specs.Courses.{StaysOrIsOver, closing, duty, is_ended, is_held_back, phase_begun}
 use Rattle.dep_host.specs.Causes.{Causes, HasCauses}
 use Rattle.dep_host.specs.Notes.{Note, LetGo, Grows}
-use Rattle.dep_host.specs.Seats.{HubStays, SameBehind, SameClient, SendsOn, next_duty, phase_sent, IsUnknown, Rests, Offers, Refuses, Answers, Delays, Sends as SendsContent}
+use Rattle.dep_host.specs.Seats.{HubStays, IsPutOff, SameBehind, SameClient, SendsOn, next_duty, phase_sent, IsUnknown, Rests, Offers, Refuses, Answers, Delays, Sends as SendsContent}
+use Rattle.dep_host.specs.Sharing.{IsNext, is_turn, most_sent}
 
 -- the hub, who sits where, what bounds them, and since when it is shut
 pub record Position (A R K S : Type 0) : Type 0 where
@@ -121,6 +122,19 @@ sending_at place (Closes at n second reason) = []
 
 abbrev pub sendings_at : ℕ → List Deed → List SentOn
 sendings_at place deeds = flat_map (λ d. sending_at place d) deeds
+
+-- how many steps of contents are sent, to whomever
+abbrev pub sending_by : Deed → ℕ
+sending_by (Opens at n given) = 0
+sending_by (Takes at n piece) = 0
+sending_by (Replies at n moment sent reply) = 0
+sending_by (Sends at n sent answer) = 1
+sending_by (Declines at n piece moment sent) = 0
+sending_by (Closes at n second reason) = 0
+
+abbrev pub sendings_in : List Deed → ℕ
+sendings_in [] = 0
+sendings_in (d ∷ deeds) = sending_by d + sendings_in deeds
 
 -- how many bytes of unfinished requests are kept for who sits at a place, and for all
 abbrev pub unfinished_of : {R K S : Type 0} → Option (Seat R K S) → ℕ
@@ -384,52 +398,56 @@ module _ {A R K S : Type 0} (condition : A → Condition) (unread : R → Option
     pub leaves : after.course.unfinished ≡ before.course.unfinished
 
   -- What was to be done for a connection was done, after which it is this: its next item was answered, or
-  -- kept back for what is sent to others; one step of a content was sent, and it goes on as that came to;
-  -- what is owed was sent, as far as its socket takes it; a piece was read, where one may be and the
-  -- socket had one; or its client was told that nothing more is sent. But for that it is as far as it
+  -- kept back for what is sent to others; one step of a content was sent, where it is its turn, and it goes on as
+  -- that came to; what is owed was sent, as far as its socket takes it; a piece was read, where one may be and
+  -- the socket had one; or its client was told that nothing more is sent. But for that it is as far as it
   -- was once its turn began, or over.
-  abbrev pub IsServed : (p q : Position A R K S) → (deeds : List Deed) → (is_full : Bool)
+  abbrev pub IsServed : (p q : Position A R K S) → (deeds : List Deed) → (is_full may_send : Bool)
       → (before after : Seat R K S) → (answered read : ℕ) → (sent : List SentOn) → Duty → Type 0
-  IsServed p q deeds is_full before after answered read sent to.Flush = SendsOn size before after
+  IsServed p q deeds is_full may_send before after answered read sent to.Flush = SendsOn size before after
       × StaysOrIsOver (phase_begun before.course.phase (is_some p.shut)) after.course.phase
-  IsServed p q deeds is_full before after answered read sent to.Answer = (answered ≡ 1)
+  IsServed p q deeds is_full may_send before after answered read sent to.Answer = (answered ≡ 1)
       ⊎ (IsLost p q deeds before.connection ⊎ IsKeptBack p q deeds before after)
-  IsServed p q deeds is_full before after answered read sent to.Send = (answer : SentOn)
-      × (sent ≡ answer ∷ []) × (after.course.phase
-      ≡ phase_sent (phase_begun before.course.phase (is_some p.shut)) answer)
-  IsServed p q deeds is_full before after answered read sent to.Read = (read ≡ 1)
+  IsServed p q deeds is_full may_send before after answered read sent to.Send =
+      ((may_send ≡ true) × ((answer : SentOn) × (sent ≡ answer ∷ []) × (after.course.phase
+      ≡ phase_sent (phase_begun before.course.phase (is_some p.shut)) answer)))
+      ⊎ ((may_send ≡ false) × (sent ≡ []) × IsPutOff size before after
+      × StaysOrIsOver (phase_begun before.course.phase (is_some p.shut)) after.course.phase)
+  IsServed p q deeds is_full may_send before after answered read sent to.Read = (read ≡ 1)
       ⊎ (((is_held_back before.course is_full (is_some p.shut) ≡ true)
       × (after.course.phase ≡ phase_begun before.course.phase (is_some p.shut)))
       ⊎ (((after.course.is_readable ≡ false)
       × (after.course.phase ≡ phase_begun before.course.phase (is_some p.shut)))
       ⊎ (after.course.phase ≡ Over)))
-  IsServed p q deeds is_full before after answered read sent to.Finish =
+  IsServed p q deeds is_full may_send before after answered read sent to.Finish =
       after.course.phase ≡ Draining
-  IsServed p q deeds is_full before after answered read sent to.Drain =
+  IsServed p q deeds is_full may_send before after answered read sent to.Drain =
       StaysOrIsOver (phase_begun before.course.phase (is_some p.shut)) after.course.phase
-  IsServed p q deeds is_full before after answered read sent to.Wait =
+  IsServed p q deeds is_full may_send before after answered read sent to.Wait =
       after.course.phase ≡ phase_begun before.course.phase (is_some p.shut)
 
   -- A connection had its turn, in which it was served, and after which it is or was this. Where it
   -- waits for its socket since, or is over, its socket or its spool said so in that turn.
-  pub record IsTurned (p q : Position A R K S) (is_full : Bool) (deeds : List Deed) (place : ℕ)
-      (before : Seat R K S) : Type 0 where
+  pub record IsTurned (p q : Position A R K S) (is_full may_send : Bool) (deeds : List Deed)
+      (place : ℕ) (before : Seat R K S) : Type 0 where
     pub after : Seat R K S
     pub left : IsLeftAs condition unread taken held p q deeds place after
     pub caused : HasCauses causes (IsLost p q deeds before.connection) before after
     pub is_awaited : Bool
     pub asked : WasAwaited p q deeds before.connection is_awaited
-    pub served : IsServed p q deeds is_full before after (answers_at place deeds)
+    pub served : IsServed p q deeds is_full may_send before after (answers_at place deeds)
         (pieces_at place deeds) (sendings_at place deeds) (turn_duty size p.shut before is_awaited)
 
   -- so had who sat at a place, where somebody did
-  abbrev pub IsServedAt : (p q : Position A R K S) → (is_full : Bool) → (deeds : List Deed)
+  abbrev pub IsServedAt : (p q : Position A R K S) → (is_full may_send : Bool) → (deeds : List Deed)
       → (place : ℕ) → Option (Seat R K S) → Type 0
-  IsServedAt p q is_full deeds place None = Unit {0}
-  IsServedAt p q is_full deeds place (Some seat) = IsTurned p q is_full deeds place seat
+  IsServedAt p q is_full may_send deeds place None = Unit {0}
+  IsServedAt p q is_full may_send deeds place (Some seat) =
+      IsTurned p q is_full may_send deeds place seat
 
-  -- one place has its turn, where too many bytes of unfinished requests are kept or not
-  pub record Serves (p q : Position A R K S) (at : ℕ) (time : Time) (is_full : Bool)
+  -- one place has its turn, where too many bytes of unfinished requests are kept or not; a content was sent on,
+  -- which may be, or not
+  pub record Serves (p q : Position A R K S) (at : ℕ) (time : Time) (is_full may_send has_sent : Bool)
       (told tells : Option (List Note)) : Type 0 where
     pub deeds : List Deed
     pub steps : Steps condition unread taken held p deeds q
@@ -439,24 +457,30 @@ module _ {A R K S : Type 0} (condition : A → Condition) (unread : R → Option
     pub unread_others : (place : ℕ) → (place ≡ at → ⊥) → pieces_at place deeds ≡ 0
     pub sends_once : length (sendings_at at deeds) ≤ 1
     pub unsent_others : (place : ℕ) → (place ≡ at → ⊥) → sendings_at place deeds ≡ []
-    pub served : IsServedAt p q is_full deeds at (slot at p.seats)
+    pub counted : sendings_in deeds ≡ (if has_sent then 1 else 0)
+    pub allowed : has_sent ≡ true → may_send ≡ true
+    pub served : IsServedAt p q is_full may_send deeds at (slot at p.seats)
     pub in_time : AreDoneAt time deeds
     -- what the log was told before, and what it was told then
     pub noted : Grows told tells (closings_of deeds)
 
-  -- each place has its turn, in which it is served: of no connection more than one item is
-  -- answered, to none more than one step of a content sent, and where too many bytes of unfinished requests are kept, nothing more is read of
-  -- these
-  pub record GoesRound (p q : Position A R K S) (time : Time) (told tells : Option (List Note))
-      : Type 0 where
+  -- Each place has its turn, in which it is served: of no connection more than one item is
+  -- answered, to none more than one step of a content sent, and where too many bytes of unfinished requests are
+  -- kept, nothing more is read of these. No more than so many contents are sent on, of those whose turn it is: of
+  -- each at the first place and behind it, until they are so many. The next round goes on behind these.
+  pub record GoesRound (p q : Position A R K S) (first next : ℕ) (time : Time)
+      (told tells : Option (List Note)) : Type 0 where
     pub deeds : List Deed
     pub steps : Steps condition unread taken held p deeds q
     pub once : (place : ℕ) → answers_at place deeds ≤ 1
     pub waits : p.limits.unfinished_bytes < unfinished_in p.seats → (place : ℕ)
         → 0 < unfinished_of (slot place p.seats) → pieces_at place deeds ≡ 0
     pub sends_once : (place : ℕ) → length (sendings_at place deeds) ≤ 1
+    pub sends_few : sendings_in deeds ≤ most_sent
+    pub goes_by : IsNext (length p.seats) first next (sendings_in deeds)
     pub served : (place : ℕ) → IsServedAt p q
-        (nat_lt p.limits.unfinished_bytes (unfinished_in p.seats)) deeds place (slot place p.seats)
+        (nat_lt p.limits.unfinished_bytes (unfinished_in p.seats)) (is_turn first next place) deeds
+        place (slot place p.seats)
     pub in_time : AreDoneAt time deeds
     pub noted : Grows told tells (closings_of deeds)
     -- once each had its turn, the largest is closed where it has to be, by the last of the deeds
@@ -480,12 +504,14 @@ abbrev pub IsVacant : {A R K S : Type 0} → Host A R K S → ℕ → Type 0
 IsVacant host at = (at < length host.seats.items) × (slot at host.seats.items ≡ None)
     × IsNone host.shut
 
--- what bounds a host, since when it is shut and how many places it has is as it was
+-- what bounds a host, since when it is shut, how many places it has and from which contents are sent on next is as
+-- it was
 pub record Stays {A R K S : Type 0} (old new : Host A R K S) : Type 0 where
   pub places : length new.seats.items ≡ length old.seats.items
   pub limits : new.limits ≡ old.limits
   pub shut : new.shut ≡ old.shut
   pub unanswered : new.unanswered ≡ old.unanswered
+  pub first : new.first ≡ old.first
 
 -- what a log is told of who sits at a place and is closed for a reason
 abbrev pub farewell : {R K S : Type 0} → Closing → Option (Seat R K S) → List Note

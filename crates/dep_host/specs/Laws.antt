@@ -1,5 +1,5 @@
 -- What follows from how a host goes on.
-use Rattle.std.specs.Prelude.{◌≡◌, ◌⊎◌, ◌++◌, ℕ, List, [], Option, Some}
+use Rattle.std.specs.Prelude.{◌≡◌, ◌⊎◌, ◌≤◌, ◌+◌, length, ◌++◌, ℕ, List, [], Option, Some}
 use Rattle.dep_types.specs.State.{State}
 use Rattle.dep_types.specs.Conditions.{Condition}
 use Rattle.dep_hub.specs.Records.{Record}
@@ -13,7 +13,7 @@ use Rattle.dep_host.specs.declared.course.Phase.TheVariants.{Over}
 use Rattle.dep_host.specs.declared.ending.Shut.{Shut}
 use Rattle.dep_host.specs.declared.seat.Seat.{Seat}
 use Rattle.dep_host.specs.Hosting.{Position, Deed, Steps, Tells, AreOutgoing, IsEmpty, slot, replies_to}
-use Rattle.dep_host.specs.Runs.{StandsBehind, KeepsPromise, OwesNone, Follows, StaysOpen, read_of, arrived_of}
+use Rattle.dep_host.specs.Runs.{StandsBehind, KeepsPromise, OwesNone, Follows, StaysOpen, read_of, arrived_of, parts_of, replies_of}
 
 -- what was read of a connection that stays open has arrived, but for what is held
 abbrev pub ReadsArrive : Type 0
@@ -66,6 +66,19 @@ module _ {A R K S : Type 0} (condition : A → Condition) (unread : R → Option
       → IsEmpty p → OwesNone p.hub → StandsHoldingAfter condition p.hub first before (λ n. [])
       → Steps condition unread taken held p deeds q → IsClean condition q.hub
       → KeepsPromise condition unread taken held q first before deeds
+
+  -- A host keeps its promise, and goes on, and keeps it still. Meanwhile no more steps send a part of a content to a
+  -- connection of which no item is answered than bytes were owed to it: each makes what is owed shorter.
+  abbrev pub SendingEnds : Type 0
+  SendingEnds = (p m q : Position A R K S) (early late : List Deed) (first : State)
+      (before : List Record) → IsEmpty p → OwesNone p.hub
+      → StandsHoldingAfter condition p.hub first before (λ n. [])
+      → Steps condition unread taken held p early m → Steps condition unread taken held m late q
+      → IsClean condition q.hub
+      → (was : KeepsPromise condition unread taken held m first before early)
+      × (now : KeepsPromise condition unread taken held q first before (early ++ late))
+      × ((number : ℕ) → replies_of number late ≡ 0
+      → parts_of number late + length (now.owed number) ≤ length (was.owed number))
 
   -- a host that is shut lets nobody in, reads nothing, and stays so
   abbrev pub TakesNothing : Type 0

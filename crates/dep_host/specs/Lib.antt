@@ -1,6 +1,7 @@
 pub mod Courses
 pub mod Causes
 pub mod Seats
+pub mod Sharing
 pub mod Notes
 pub mod Hosting
 pub mod Runs

@@ -37,10 +37,10 @@ abbrev pub IsOffer : {A R K S : Type 0} → Host A R K S → Option ℕ → Type
 IsOffer host None = (at : ℕ) → IsVacant host at → ⊥
 IsOffer host (Some at) = IsVacant host at
 
--- nothing can go on before a socket is ready or a time is up, and an open store has no work left
+-- nothing can go on before a socket is ready or a time is up, and the store has no work left
 pub record IsIdle {A R K S : Type 0} (size : S → ℕ) (host : Host A R K S) : Type 0 where
   pub waits : (at : ℕ) → IsWaiting size (slot at host.seats.items)
-  pub works : IsNone host.shut → host.is_left ≡ false
+  pub works : host.is_left ≡ false
 
 -- it may be asked so what comes: a free place is offered, if there is one, and it is told as idle only
 -- where it is
@@ -79,6 +79,7 @@ pub record Stops {A R K S : Type 0} (p q : Host A R K S) (second : ℕ) : Type 0
   pub same_seats : q.seats.items ≡ p.seats.items
   pub limits : q.limits ≡ p.limits
   pub unanswered : q.unanswered ≡ p.unanswered
+  pub first : q.first ≡ p.first
   pub shut : q.shut ≡ shut_by p.shut second
 
 -- what came, of which these were met: an end is the last
@@ -132,28 +133,29 @@ module _ {A R K S : Type 0} (condition : A → Condition) (account : A → Accou
     pub steps : Steps condition unread taken held (position p) [] (position q)
     pub told : IsTold p.shut q.shut (second ∷ [])
     pub limits : q.limits ≡ p.limits
+    pub first : q.first ≡ p.first
     pub known : (IsSome p.shut × (q ≡ p)) ⊎ ((answer : Result Bool StoreFault)
         × Runs (Asked answer) (account p.hub.store) (account q.hub.store)
         × GoesBy p q second answer)
 
-  -- it asked whether its store is open, and then had it work ahead, unless it is shut
+  -- it asked whether its store is open, and then had it work ahead
   pub record AsksOn (p q : Host A R K S) (second : ℕ) : Type 0 where
     pub mid : Host A R K S
     pub asks : IsAsked p mid second
     pub works : Steps condition unread taken held (position mid) [] (position q)
     pub stays : Stays mid q
     pub seats : q.seats ≡ p.seats
-    pub ahead : IsNone mid.shut
-        → Runs (WorkedAhead q.is_left) (account mid.hub.store) (account q.hub.store)
+    pub ahead : Runs (WorkedAhead q.is_left) (account mid.hub.store) (account q.hub.store)
 
-  -- each place had its turn at that time, and then it was asked whether the store is open
+  -- each place had its turn at that time, and then it was asked whether the store is open; only which contents are
+  -- sent on next changes of what bounds it
   pub record MakesRound (size : S → ℕ) (causes : Causes R K S) (p q : Host A R K S) (time : Time)
       (told tells : Option (List Note)) : Type 0 where
     pub mid : Host A R K S
-    pub goes : GoesRound condition unread taken held size causes (position p) (position mid) time
-        told tells
+    pub goes : GoesRound condition unread taken held size causes (position p) (position mid) p.first
+        mid.first time told tells
     pub left : (at : ℕ) → HasTime time.second mid.limits (slot at mid.seats.items)
-    pub stays : Stays p mid
+    pub stays : Stays (record p { first = mid.first }) mid
     pub asks : AsksOn mid q time.second
 
 module _ {A R K S L : Type 0} (condition : A → Condition) (unread : R → Option (List ℕ))

@@ -1,5 +1,5 @@
 -- Which records the hub's machine makes of what a host does.
-use Rattle.std.specs.Prelude.{◌≡◌, ◌==◌, ℕ, List, [], ◌∷◌, ◌++◌, if◌then◌else◌, Option, Some, false}
+use Rattle.std.specs.Prelude.{◌≡◌, ◌==◌, ◌+◌, ℕ, List, [], ◌∷◌, ◌++◌, if◌then◌else◌, Option, Some, false}
 use Rattle.std.specs.List.{flat_map}
 use Rattle.std.specs.Io.KnownBytes.{append_known}
 use Rattle.dep_types.specs.State.{State}
@@ -8,7 +8,7 @@ use Rattle.dep_hub.specs.Records.{Event, Record, Connect, Arrive, Close, Stop}
 use Rattle.dep_hub.specs.Standing.{IsClean}
 use Rattle.dep_hub.specs.Holding.{StandsHoldingAfter, with_held}
 use Rattle.dep_hub.specs.Owing.{IsOwed}
-use Rattle.dep_hub.specs.StandsOwing.{behind_at}
+use Rattle.dep_hub.specs.StandsOwing.{behind_at, is_part}
 use Rattle.dep_hub.specs.declared.rest.Behind.TheVariants.{Nothing}
 use Rattle.dep_hub.specs.declared.sent_on.SentOn.{SentOn}
 use Rattle.dep_hub.specs.declared.hub.Hub.{Hub}
@@ -112,6 +112,33 @@ IsKept number (Closes at n second reason) = number ≡ n → ⊥
 abbrev pub StaysOpen : ℕ → List Deed → Type 0
 StaysOpen number [] = Unit {0}
 StaysOpen number (d ∷ deeds) = IsKept number d × StaysOpen number deeds
+
+-- how many of its items were answered
+abbrev pub replies_by : ℕ → Deed → ℕ
+replies_by number (Opens at n given) = 0
+replies_by number (Takes at n piece) = 0
+replies_by number (Replies at n moment sent reply) = if n == number then 1 else 0
+replies_by number (Sends at n sent answer) = 0
+replies_by number (Declines at n piece moment sent) = 0
+replies_by number (Closes at n second reason) = 0
+
+abbrev pub replies_of : ℕ → List Deed → ℕ
+replies_of number [] = 0
+replies_of number (d ∷ deeds) = replies_by number d + replies_of number deeds
+
+-- how many steps sent a part of a content to it, behind which more is left
+abbrev pub parts_by : ℕ → Deed → ℕ
+parts_by number (Opens at n given) = 0
+parts_by number (Takes at n piece) = 0
+parts_by number (Replies at n moment sent reply) = 0
+parts_by number (Sends at n sent answer) =
+    if n == number then if is_part answer then 1 else 0 else 0
+parts_by number (Declines at n piece moment sent) = 0
+parts_by number (Closes at n second reason) = 0
+
+abbrev pub parts_of : ℕ → List Deed → ℕ
+parts_of number [] = 0
+parts_of number (d ∷ deeds) = parts_by number d + parts_of number deeds
 
 -- what the records say was sent to a connection
 abbrev pub sent_for : ℕ → Event → List ℕ → List ℕ

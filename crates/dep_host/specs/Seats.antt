@@ -101,6 +101,25 @@ pub record Flushes {R K S : Type 0} (taken : K → Option (List ℕ)) (held : S 
   pub sends : 0 < owed_count size before.wire → SendsOn size before after
   pub caused : HasCauses causes ⊥ before after
 
+-- Its content was put off, as it wasn't its turn: what is owed was sent, as far as the socket takes it, and where
+-- nothing is, it isn't closed for that.
+pub record IsPutOff {R K S : Type 0} (size : S → ℕ) (before after : Seat R K S) : Type 0 where
+  pub sends : before.course.is_writable ≡ true → 0 < owed_count size before.wire
+      → SendsOn size before after
+  pub stirs : owed_count size before.wire ≡ 0 → after.course.has_moved ≡ true
+  pub counts_not : owed_count size before.wire ≡ 0 → after.course.is_kept_back ≡ true
+
+-- so it was, and nothing else changes, but that it may be over
+pub record PutsOff {R K S : Type 0} (taken : K → Option (List ℕ)) (held : S → Option (List ℕ))
+    (size : S → ℕ) (causes : Causes R K S) (before after : Seat R K S) : Type 0 where
+  pub keeps : Keeps (told taken held before.wire) (told taken held after.wire)
+  pub same : after ≡ record before { wire = after.wire; course = after.course }
+  pub phase : StaysOrIsOver before.course.phase after.course.phase
+  pub moved : after.course.moved ≡ before.course.moved
+  pub unfinished : after.course.unfinished ≡ before.course.unfinished
+  pub put_off : IsPutOff size before after
+  pub caused : HasCauses causes ⊥ before after
+
 -- its client was told that nothing more is sent, and from here on what it sends is thrown away
 pub record Finishes {R K S : Type 0} (taken : K → Option (List ℕ)) (held : S → Option (List ℕ))
     (before after : Seat R K S) : Type 0 where
@@ -251,66 +270,68 @@ module _ {A R K S : Type 0} (condition : A → Condition) (unread : R → Option
 
   -- Why nothing comes to the hub in a turn, by what comes next. Where an item is to be answered, no
   -- connection is there; where a piece is to be read, it isn't to be read now, or the socket gave
-  -- none, or the connection is over, and no piece was thrown away. How far it is stays so, but where
-  -- it is over.
-  abbrev pub MayRest : (S → ℕ) → Hub A → (before after : Seat R K S) → (is_full is_shut : Bool)
-      → Duty → Type 0
-  MayRest size hub before after is_full is_shut to.Flush =
+  -- none, or the connection is over, and no piece was thrown away; where a content is to be sent on, it isn't
+  -- its turn. How far it is stays so, but where it is over.
+  abbrev pub MayRest : (S → ℕ) → Hub A → (before after : Seat R K S)
+      → (is_full is_shut may_send : Bool) → Duty → Type 0
+  MayRest size hub before after is_full is_shut may_send to.Flush =
       SendsOn size before after × StaysOrIsOver before.course.phase after.course.phase
-  MayRest size hub before after is_full is_shut to.Answer = IsUnknown hub before.connection
-  MayRest size hub before after is_full is_shut to.Send = ⊥
-  MayRest size hub before after is_full is_shut to.Read =
+  MayRest size hub before after is_full is_shut may_send to.Answer = IsUnknown hub before.connection
+  MayRest size hub before after is_full is_shut may_send to.Send = (may_send ≡ false)
+      × IsPutOff size before after × StaysOrIsOver before.course.phase after.course.phase
+  MayRest size hub before after is_full is_shut may_send to.Read =
       ((is_held_back before.course is_full is_shut ≡ true)
       × (after.course.phase ≡ before.course.phase))
       ⊎ (((after.course.is_readable ≡ false) × (after.course.phase ≡ before.course.phase))
       ⊎ ((after.course.phase ≡ Over)
       × (Keeps (unread before.source) (unread after.source) ⊎ IsUnknown hub before.connection)))
-  MayRest size hub before after is_full is_shut to.Finish = after.course.phase ≡ Draining
-  MayRest size hub before after is_full is_shut to.Drain =
+  MayRest size hub before after is_full is_shut may_send to.Finish = after.course.phase ≡ Draining
+  MayRest size hub before after is_full is_shut may_send to.Drain =
       StaysOrIsOver before.course.phase after.course.phase
-  MayRest size hub before after is_full is_shut to.Wait =
+  MayRest size hub before after is_full is_shut may_send to.Wait =
       after.course.phase ≡ before.course.phase
 
   -- a turn is one of these, by what comes next: at most one piece is read, at most one item answered, and
   -- at most one step of a content sent
   abbrev pub ActsOnce : (S → ℕ) → (old new : Hub A) → (before after : Seat R K S) → (moment : ℕ)
-      → (is_full is_shut : Bool) → Type 0
-  ActsOnce size old new before after moment is_full is_shut =
+      → (is_full is_shut may_send : Bool) → Type 0
+  ActsOnce size old new before after moment is_full is_shut may_send =
       (Rests old new before after
-      × MayRest size old before after is_full is_shut (next_duty size before))
+      × MayRest size old before after is_full is_shut may_send (next_duty size before))
       ⊎ ((Offers old new before after is_full is_shut × (next_duty size before ≡ to.Read))
       ⊎ ((Refuses old new before after moment is_full is_shut × (next_duty size before ≡ to.Read))
       ⊎ ((Answers old new before after moment × (next_duty size before ≡ to.Answer))
       ⊎ ((Delays old new before after × (next_duty size before ≡ to.Answer))
-      ⊎ (Sends old new before after × (next_duty size before ≡ to.Send))))))
+      ⊎ (Sends old new before after × (next_duty size before ≡ to.Send)
+      × (may_send ≡ true))))))
 
   -- a turn of a connection, which stays the one that it was, and waits for its socket, or is over, only
   -- for a cause
   pub record TakesTurn (size : S → ℕ) (causes : Causes R K S) (old new : Hub A)
-      (before after : Seat R K S) (moment : ℕ) (is_full is_shut : Bool) : Type 0 where
+      (before after : Seat R K S) (moment : ℕ) (is_full is_shut may_send : Bool) : Type 0 where
     pub client : SameClient before after
     pub hub : HubStays condition old new
     pub ended : is_ended before.course.phase ≡ true → is_ended after.course.phase ≡ true
-    pub acts : ActsOnce size old new before after moment is_full is_shut
+    pub acts : ActsOnce size old new before after moment is_full is_shut may_send
     pub caused : HasCauses causes (IsUnknown old before.connection) before after
 
   -- a turn in which a piece may be read, where it may be
   abbrev pub MayRead : (S → ℕ) → Causes R K S → (old new : Hub A) → (before after : Seat R K S)
       → Type 0
-  MayRead size causes old new before after = (moment : ℕ) (is_full is_shut : Bool)
+  MayRead size causes old new before after = (moment : ℕ) (is_full is_shut may_send : Bool)
       → (is_full ≡ true → before.course.unfinished ≡ 0) → is_shut ≡ false
-      → TakesTurn size causes old new before after moment is_full is_shut
+      → TakesTurn size causes old new before after moment is_full is_shut may_send
 
   -- a turn in which an item may be answered, also where no piece may be read
   abbrev pub MayAnswer : (S → ℕ) → Causes R K S → (old new : Hub A) → (before after : Seat R K S)
       → (moment : ℕ) → Type 0
-  MayAnswer size causes old new before after moment = (is_full is_shut : Bool)
-      → TakesTurn size causes old new before after moment is_full is_shut
+  MayAnswer size causes old new before after moment = (is_full is_shut may_send : Bool)
+      → TakesTurn size causes old new before after moment is_full is_shut may_send
 
   -- a turn in which a content may be sent on
   abbrev pub MaySend : (S → ℕ) → Causes R K S → (old new : Hub A) → (before after : Seat R K S) → Type 0
   MaySend size causes old new before after = (moment : ℕ) (is_full is_shut : Bool)
-      → TakesTurn size causes old new before after moment is_full is_shut
+      → TakesTurn size causes old new before after moment is_full is_shut true
 
   -- what becomes of a piece that was offered
   abbrev pub IsOffered : (old new : Hub A) → (before after : Seat R K S) → (piece : List ℕ) → Type 0

@@ -63,9 +63,10 @@ pub struct Course {
     /// Whether the socket may take something.
     pub is_writable: bool,
     /// Whether a request of another connection waited for the content that is sent to this one, as its last
-    /// turn began. Then the content is sent on whatever the socket takes.
+    /// turn began. Then the content is sent on in its turn, whatever the socket takes.
     pub is_awaited: bool,
-    /// Whether its next request was kept back in its last turn, for what is sent to others.
+    /// Whether its next request was kept back in its last turn, for what is sent to others, or its content put
+    /// off, as it was the turn of others.
     pub is_kept_back: bool,
     /// Whether something was read, answered or taken, or a request kept back, since its last turn began.
     pub has_moved: bool,
@@ -175,7 +176,7 @@ impl Course {
         }
     }
 
-    /// Takes note that its next request was kept back, so that it isn't closed for that.
+    /// Takes note that its next request was kept back, or its content put off, so that it isn't closed for that.
     pub fn keep_back(&mut self)
         ensures { self.new ≡ record self.old { has_moved = true; is_kept_back = true } }
     {

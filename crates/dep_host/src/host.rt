@@ -8,6 +8,7 @@ use crate::limits::Limits;
 use crate::log::{Closing, HostLog, Refusal};
 use crate::read_buffer::ReadBuffer;
 use crate::seat::{Seat, Time, Turn, is_read, unfinished};
+use crate::share::Share;
 use dep_hub::{Archive, ConnectFault, Hub};
 use dep_outbox::{Sink, Source, Spool};
 use std::alloc::{AllocError, Global};
@@ -26,6 +27,8 @@ pub struct Host<A, R, K, S> {
     limits: Limits,
     /// Since when it is shut, and why, if it is.
     shut: Option<Shut>,
+    /// The place from which contents are sent on in the next round.
+    first: usize,
     /// Whether its store had work left when it worked ahead last. Clauses alone read it.
     is_left: bool,
     /// How often it could not be known whether the store is open, up to 2^64 - 1. Clauses alone read it.
@@ -63,6 +66,7 @@ impl<A: Archive, R: Source + Drop, K: Sink + Drop, S: Spool + Drop> Host<A, R, K
             end: 0,
             limits,
             shut: None,
+            first: 0,
             is_left: false,
             unanswered: 0,
         })
@@ -78,6 +82,7 @@ impl<A: Archive, R: Source + Drop, K: Sink + Drop, S: Spool + Drop> Host<A, R, K
             end: _,
             limits: _,
             shut: _,
+            first: _,
             is_left: _,
             unanswered: _,
         } = self;
@@ -249,67 +254,81 @@ impl<A: Archive, R: Source + Drop, K: Sink + Drop, S: Spool + Drop> Host<A, R, K
 
     /// Gives each connection its turn, and then closes it where it is over, was silent for too long or is too
     /// slow. Where more bytes of unfinished requests are kept than may be, it reads no more of these, and
-    /// closes the one that has most. It returns whether one of them can go on at once.
+    /// closes the one that has most. No more than `MOST_SENT` contents are sent on, and each within any 17 rounds.
+    /// It returns whether one of them can go on at once.
     pub fn round<L: HostLog>(&mut self, buffer: &mut ReadBuffer, time: &Time, log: &mut L) -> bool
         ensures goes { GoesRound A.condition R.unread K.taken S.held S.size
             (causes_of R.halts K.halts S.failures) (position self.old) (position self.new)
-            time.now (L.notes log.old) (L.notes log.new) }
+            self.old.first self.new.first time.now (L.notes log.old) (L.notes log.new) }
         ensures left { (at : ℕ)
             → HasTime time.now.second self.new.limits (slot at self.new.seats.items) }
         ensures waits { result ≡ false
             → (at : ℕ) → IsWaiting S.size (slot at self.new.seats.items) }
-        ensures stays { Stays self.old self.new }
+        ensures stays { Stays (record self.old { first = self.new.first }) self.new }
     {
-        let turn = Turn {
-            time: *time,
-            is_full: self.is_full(),
-            is_shut: self.shut.is_some(),
-        };
+        let is_full = self.is_full();
+        let is_shut = self.shut.is_some();
+        let mut share = Share::new(self.first);
         let mut is_busy = false;
         for at in 0..self.end {
-            if self.serve_at(at, buffer, &turn, log) {
-                is_busy = true;
-            }
+            let turn = Turn {
+                time: *time,
+                is_full,
+                is_shut,
+                may_send: share.is_turn(at),
+            };
+            let served = self.serve_at(at, buffer, &turn, log);
+            share.count(at, served.has_sent);
+            is_busy = is_busy | served.is_busy;
         }
+        self.first = share.next;
         self.shed(time.second, log);
         self.draw_in();
         is_busy
     }
 
-    /// Gives the connection there its turn, and then closes it where it is done. It returns whether it can go
-    /// on at once.
+    /// Gives the connection there its turn, and then closes it where it is done.
     fn serve_at<L: HostLog>(
         &mut self,
         at: usize,
         buffer: &mut ReadBuffer,
         turn: &Turn,
         log: &mut L,
-    ) -> bool
+    ) -> Served
         requires there { at < length self.old.seats.items }
         requires shut { turn.now.is_shut ≡ is_some self.old.shut }
         ensures goes { Serves A.condition R.unread K.taken S.held S.size
             (causes_of R.halts K.halts S.failures) (position self.old) (position self.new) at
-            turn.now.time turn.now.is_full (L.notes log.old) (L.notes log.new) }
+            turn.now.time turn.now.is_full turn.now.may_send result.has_sent (L.notes log.old)
+            (L.notes log.new) }
         ensures here { HasTime turn.now.time.second self.new.limits
             (slot at self.new.seats.items) }
-        ensures waits { result ≡ false → IsWaiting S.size (slot at self.new.seats.items) }
+        ensures waits { result.is_busy ≡ false
+            → IsWaiting S.size (slot at self.new.seats.items) }
         ensures others { (place : ℕ) → (place ≡ at → ⊥)
             → slot place self.new.seats.items ≡ slot place self.old.seats.items }
         ensures stays { Stays self.old self.new }
     {
         let Some(seat) = &mut self.seats[at] else {
-            return false;
+            return Served {
+                has_sent: false,
+                is_busy: false,
+            };
         };
         let is_awaited = seat.is_awaited(&self.hub);
         seat.begin_turn(turn.time.second, &self.limits, turn.is_shut, is_awaited);
+        let has_sent = seat.sends_on(turn);
         seat.take_turn(&mut self.hub, buffer, turn, log);
         let is_busy = seat.is_busy();
         let closing = seat.course.closing(turn.time.second, &self.limits);
         if let Some(closing) = closing {
             self.close(at, turn.time.second, closing, log);
-            return false;
+            return Served {
+                has_sent,
+                is_busy: false,
+            };
         }
-        is_busy
+        Served { has_sent, is_busy }
     }
 
     /// Closes the connection there, for a reason.
@@ -391,6 +410,15 @@ impl<A: Archive, R: Source + Drop, K: Sink + Drop, S: Spool + Drop> Host<A, R, K
         }
         kept > self.limits.unfinished_bytes as u128
     }
+}
+
+/// What a turn came to.
+#[derive(Clone, Copy)]
+struct Served {
+    /// Whether a content was sent on.
+    has_sent: bool,
+    /// Whether the connection can go on at once.
+    is_busy: bool,
 }
 
 /// Room for all connections.

@@ -1,5 +1,6 @@
 //! What follows from how a host goes on, apart from any code.
-ghost use Rattle.dep_host.specs.Laws.{MakesRuns, TakesWhatIsSent, ReadsArrive, SitsApart, SitsOpen, KeepsPromises, TakesNothing, SendsContents};
+ghost use Rattle.dep_host.specs.Sharing.{TurnsCome};
+ghost use Rattle.dep_host.specs.Laws.{SendingEnds, MakesRuns, TakesWhatIsSent, ReadsArrive, SitsApart, SitsOpen, KeepsPromises, TakesNothing, SendsContents};
 
 use dep_hub::Archive;
 use dep_hub::laws::{answers_make_a_run, connections_make_a_run, replies_make_a_run};
@@ -38,6 +39,11 @@ pub fn contents_are_sent<A: Archive, R: Source, K: Sink, S: Spool>()
     ensures { SendsContents A.condition R.unread K.taken S.held }
 {}
 
+/// The turn of each place comes, also while contents are sent on to all others: within any 17 rounds of 1,024 places.
+pub fn turns_come()
+    ensures { TurnsCome }
+{}
+
 /// The archive promise, for all connections at once. From a host without connections over a store that
 /// stands for a state, whatever peers, moments and events come: what was done is a run of the machine,
 /// each connection was sent a front of its replies to the requests that its bytes spell, behind which the rest
@@ -45,6 +51,16 @@ pub fn contents_are_sent<A: Archive, R: Source, K: Sink, S: Spool>()
 /// it is open.
 pub fn hosts_keep_the_archive_promise<A: Archive, R: Source, K: Sink, S: Spool>()
     ensures { KeepsPromises A.condition R.unread K.taken S.held }
+{
+    answers_make_a_run::<A>();
+    connections_make_a_run::<A>();
+    replies_make_a_run::<A>();
+}
+
+/// A content that is sent in steps ends: each step of it sends some bytes of what is owed, or ends it, so that there
+/// are no more of them than bytes are owed.
+pub fn sending_ends<A: Archive, R: Source, K: Sink, S: Spool>()
+    ensures { SendingEnds A.condition R.unread K.taken S.held }
 {
     answers_make_a_run::<A>();
     connections_make_a_run::<A>();

@@ -11,6 +11,7 @@ mod log;
 mod read_buffer;
 mod seat;
 mod serving;
+mod share;
 
 pub use course::{Course, Duty, Phase};
 pub use ending::{Cause, Shut};
@@ -21,3 +22,4 @@ pub use log::{Bytes, Closing, HostLog, Refusal};
 pub use read_buffer::{MOST_READ, ReadBuffer};
 pub use seat::{Seat, Time};
 pub use serving::{Ended, serve};
+pub use share::MOST_SENT;

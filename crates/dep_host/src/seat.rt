@@ -7,7 +7,7 @@ ghost use Rattle.dep_host.specs.Courses.{StaysOrEnds, is_ended, is_held_back, is
 ghost use Rattle.dep_host.specs.Causes.{HasCauses, causes_of};
 ghost use Rattle.dep_host.specs.Hosting.{unfinished_of};
 ghost use Rattle.dep_host.specs.declared.course.Phase.TheVariants.{Open};
-ghost use Rattle.dep_host.specs.Seats.{Finishes, Flushes, HubStays, IsDue, SameBehind, TakesTurn, MayRead, MayAnswer, MaySend, IsOffered, IsReplied, next_duty, phase_answered, phase_sent, woken_seat};
+ghost use Rattle.dep_host.specs.Seats.{Finishes, Flushes, PutsOff, HubStays, IsDue, SameBehind, TakesTurn, MayRead, MayAnswer, MaySend, IsOffered, IsReplied, next_duty, phase_answered, phase_sent, woken_seat};
 
 use crate::course::{Course, Duty, Phase};
 use crate::events::Client;
@@ -28,7 +28,7 @@ pub struct Time {
     pub second: u64,
 }
 
-/// How the turns of a round go.
+/// How a turn of a round goes.
 #[derive(Clone, Copy)]
 pub(crate) struct Turn {
     pub time: Time,
@@ -37,6 +37,8 @@ pub(crate) struct Turn {
     pub is_full: bool,
     /// Whether the host is shut, so that nothing more is read.
     pub is_shut: bool,
+    /// Whether its content may be sent on. In a round that is so of a few.
+    pub may_send: bool,
 }
 
 /// A connection of the hub, the two ways to its client, and how far it is.
@@ -154,6 +156,16 @@ impl<R: Source, K: Sink, S: Spool> Seat<R, K, S> {
         self.course.duty(self.wire.owes()) != Duty::Wait
     }
 
+    /// Whether its content is sent on in a turn.
+    pub(crate) fn sends_on(&self, turn: &Turn) -> bool
+        ensures yes { result ≡ true
+            → (turn.now.may_send ≡ true) × (next_duty S.size self.now ≡ Duty.Send) }
+        ensures no { result ≡ false → turn.now.may_send ≡ true
+            → next_duty S.size self.now ≡ Duty.Send → ⊥ }
+    {
+        turn.may_send && self.course.duty(self.wire.owes()) == Duty::Send
+    }
+
     /// Does what it does next: at most one piece is read, one item answered, or one step of a content sent.
     /// What its socket takes and what is read counts as moved.
     pub(crate) fn take_turn<A: Archive, L: HostLog>(
@@ -165,7 +177,7 @@ impl<R: Source, K: Sink, S: Spool> Seat<R, K, S> {
     )
         ensures turn { TakesTurn A.condition R.unread K.taken S.held S.size
             (causes_of R.halts K.halts S.failures) hub.old hub.new self.old self.new
-            turn.now.time.moment turn.now.is_full turn.now.is_shut }
+            turn.now.time.moment turn.now.is_full turn.now.is_shut turn.now.may_send }
         // What its socket took counts.
         ensures stirs { self.old.wire.delivered < self.new.wire.delivered
             → self.new.course.has_moved ≡ true }
@@ -202,14 +214,18 @@ impl<R: Source, K: Sink, S: Spool> Seat<R, K, S> {
     )
         ensures turn { TakesTurn A.condition R.unread K.taken S.held S.size
             (causes_of R.halts K.halts S.failures) hub.old hub.new self.old self.new
-            turn.now.time.moment turn.now.is_full turn.now.is_shut }
+            turn.now.time.moment turn.now.is_full turn.now.is_shut turn.now.may_send }
         ensures moved { min self.old.course.moved (2 ^ 64 - 1) ≤ self.new.course.moved }
         ensures noted { L.notes log.new ≡ L.notes log.old }
     {
         match self.course.duty(self.wire.owes()) {
             Duty::Flush => self.flush(),
             Duty::Answer => self.answer(hub, turn.time.moment, log),
-            Duty::Send => self.send_on(hub, log),
+            Duty::Send => if turn.may_send {
+                self.send_on(hub, log);
+            } else {
+                self.put_off();
+            },
             Duty::Read => if self.may_read(turn) {
                 self.read(hub, buffer);
             },
@@ -305,6 +321,19 @@ impl<R: Source, K: Sink, S: Spool> Seat<R, K, S> {
         }
         // As behind an answer.
         let _left = self.wire.flush();
+    }
+
+    /// Lets its content wait for its turn, and sends meanwhile what is owed. Where that is nothing it isn't closed
+    /// for that.
+    fn put_off(&mut self)
+        ensures { PutsOff K.taken S.held S.size (causes_of R.halts K.halts S.failures) self.old
+            self.new }
+    {
+        if !self.wire.owes() {
+            self.course.keep_back();
+        } else if self.course.is_writable {
+            self.flush();
+        }
     }
 
     /// Tells the log that no more is sent of the content behind its last reply, where more of it was to be.

@@ -126,7 +126,7 @@ fn meet<A: Archive, R: Source + Drop, K: Sink + Drop, S: Spool + Drop, L: HostLo
     }
 }
 
-/// Goes on after a round, behind which an open store works ahead.
+/// Goes on after a round, behind which the store works ahead, also for requests that wait once it is shut.
 fn go_on<A: Archive, R: Source + Drop, K: Sink + Drop, S: Spool + Drop>(
     host: &mut Host<A, R, K, S>,
     is_busy: bool,
@@ -143,14 +143,9 @@ fn go_on<A: Archive, R: Source + Drop, K: Sink + Drop, S: Spool + Drop>(
         → MayEnd host.new cause (second ∷ []) }
     ensures time { IfOk result (λ _. is_overdue host.new.shut second host.new.limits ≡ false) }
 {
-    if host.is_open(second) {
-        let is_left = host.work_ahead();
-        return Ok(Now {
-            vacancy: host.vacancy(),
-            is_busy: is_busy | is_left,
-        });
-    }
-    wind_up(host, is_busy, second)
+    let _is_open = host.is_open(second);
+    let is_left = host.work_ahead();
+    wind_up(host, is_busy | is_left, second)
 }
 
 /// Goes on, unless it is shut and ends: until all connections are closed, or an idle time has passed.

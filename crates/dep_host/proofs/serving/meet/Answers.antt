@@ -25,7 +25,7 @@ returns-in-Round-clause-met g c = round_met g.A.Archive.condition g.R.Source.unr
       _,
       makes_round (record {
         mid = c.round-is_busy.new.self;
-        goes = subst (λ (o : Option _). GoesRound g.A.Archive.condition g.R.Source.unread g.K.Sink.taken g.S.Spool.held g.S.Spool.size (causes_of g.R.Source.halts g.K.Sink.halts g.S.Spool.failures) (position c.args.host.now) (position c.round-is_busy.new.self) c.in-Round.time (g.L.HostLog.notes c.args.log.now) o) (sym c.let_rest.ensures) c.round-is_busy.ensures.goes;
+        goes = subst (λ (o : Option _). GoesRound g.A.Archive.condition g.R.Source.unread g.K.Sink.taken g.S.Spool.held g.S.Spool.size (causes_of g.R.Source.halts g.K.Sink.halts g.S.Spool.failures) (position c.args.host.now) (position c.round-is_busy.new.self) c.args.host.now.first c.round-is_busy.new.self.first c.in-Round.time (g.L.HostLog.notes c.args.log.now) o) (sym c.let_rest.ensures) c.round-is_busy.ensures.goes;
         left = c.round-is_busy.ensures.left;
         stays = c.round-is_busy.ensures.stays;
         asks = c.go_on-next.ensures.asks;

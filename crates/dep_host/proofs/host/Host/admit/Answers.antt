@@ -24,7 +24,7 @@ returns-in-Err-Full g c =
     turned g.A.Archive.condition g.R.Source.unread g.K.Sink.taken g.S.Spool.held g.L.HostLog.notes _ _ _ _ c.args.at c.args.client Full _ c.turn_away-in-Err-Full.ensures.same (record {
       keeps = unopened g.A.Archive.condition g.R.Source.unread g.K.Sink.taken g.S.Spool.held _ _ refl c.in-Err-Full.ensures.kept c.connect.ensures.behind c.in-Err-Full.ensures.holding c.connect.ensures.store c.connect.ensures.config refl refl;
       may = (c.requires.vacant.2, inr (c.in-Err-Full.ensures.full (search rules)));
-      stays = record { places = refl; limits = refl; shut = refl; unanswered = refl };
+      stays = record { places = refl; limits = refl; shut = refl; unanswered = refl; first = refl };
       noted = c.turn_away-in-Err-Full.ensures.noted;
     })
 
@@ -33,7 +33,7 @@ returns-in-Err-Memory g c =
     turned g.A.Archive.condition g.R.Source.unread g.K.Sink.taken g.S.Spool.held g.L.HostLog.notes _ _ _ _ c.args.at c.args.client Memory _ c.turn_away-in-Err-Memory.ensures.same (record {
       keeps = unopened g.A.Archive.condition g.R.Source.unread g.K.Sink.taken g.S.Spool.held _ _ refl c.in-Err-Memory.ensures.kept c.connect.ensures.behind c.in-Err-Memory.ensures.holding c.connect.ensures.store c.connect.ensures.config refl refl;
       may = c.requires.vacant.2;
-      stays = record { places = refl; limits = refl; shut = refl; unanswered = refl };
+      stays = record { places = refl; limits = refl; shut = refl; unanswered = refl; first = refl };
       noted = c.turn_away-in-Err-Memory.ensures.noted;
     })
 
@@ -65,6 +65,6 @@ returns g c = record {
   readable = c.new.ensures.readable;
   writable = c.new.ensures.writable;
   room = omega (arith, c.seated_from.ensures, c.if-seated_from-self.false);
-  stays = stays_set _ _ c.args.at _ refl refl refl refl;
+  stays = stays_set _ _ c.args.at _ refl refl refl refl refl;
   noted = subst (λ n. Grows (g.L.HostLog.notes c.args.log.now) (g.L.HostLog.notes c.opened.new.self) (LetIn n c.args.client.address ∷ [])) (sym c.new.ensures.number) c.opened.ensures.noted;
 }

@@ -17,7 +17,7 @@ returns-in-Some g c = let there : c.args.at < length c.args.self.now.seats.items
   same_hub = refl;
   seats = changes_one (λ s. woken_seat s c.args.is_readable c.args.is_writable) _ c.args.at c.in-Some.seat c.awake.new.self
       (slot_read _ _ _ there c.index_mut.ensures.value ∙ c.in-Some.is) c.awake.ensures;
-  stays = stays_set _ _ c.args.at _ refl refl refl refl;
+  stays = stays_set _ _ c.args.at _ refl refl refl refl refl;
 }
 
 pub returns-in_default : goal.returns-in_default
@@ -25,7 +25,7 @@ returns-in_default g c = let there : c.args.at < length c.args.self.now.seats.it
   same_hub = refl;
   seats = changes_nobody (λ s. woken_seat s c.args.is_readable c.args.is_writable) _ c.args.at c.index_mut.result.now
       (slot_read _ _ _ there c.index_mut.ensures.value) c.in_default.is;
-  stays = stays_set _ _ c.args.at _ refl refl refl refl;
+  stays = stays_set _ _ c.args.at _ refl refl refl refl refl;
 }
 
 pub invariant_of-self : goal.invariant_of-self

@@ -23,7 +23,7 @@ returns-in-Some-clause-goes g c = record {
       });
   gone = get_or-set_same _ c.args.at _ None c.requires.there ∙ c.take.ensures.after;
   others = λ place ne. get_or-set_other _ c.args.at place _ None ne;
-  stays = stays_set _ _ c.args.at _ refl refl refl refl;
+  stays = stays_set _ _ c.args.at _ refl refl refl refl refl;
 }
 
 pub returns-in_default-clause-goes : goal.returns-in_default-clause-goes
@@ -32,7 +32,7 @@ returns-in_default-clause-goes g c = record {
       (slot_read _ _ _ c.requires.there c.index_mut.ensures.value ∙ (sym c.take.ensures.value ∙ c.in_default.is));
   gone = get_or-set_same _ c.args.at _ None c.requires.there ∙ c.take.ensures.after;
   others = λ place ne. get_or-set_other _ c.args.at place _ None ne;
-  stays = stays_set _ _ c.args.at _ refl refl refl refl;
+  stays = stays_set _ _ c.args.at _ refl refl refl refl refl;
 }
 
 pub invariant_of-self : goal.invariant_of-self

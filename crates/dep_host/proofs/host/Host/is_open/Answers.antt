@@ -9,6 +9,7 @@ returns-then-is_some-clause-asks g c = record {
   steps = stands_still g.A.Archive.condition g.R.Source.unread g.K.Sink.taken g.S.Spool.held _;
   told = inl refl;
   limits = refl;
+  first = refl;
   known = inl (sym c.is_some.ensures ∙ c.if-is_some.true, refl);
 }
 
@@ -17,6 +18,7 @@ returns-in-Ok-false-clause-asks g c = record {
   steps = asked_alone g.A.Archive.condition g.R.Source.unread g.K.Sink.taken g.S.Spool.held _ _ KeepsAll c.is_open.ensures.rests c.is_open.ensures.rests.store.kept c.is_open.ensures.rests.store.was_open c.is_open.ensures.rests.store.honest refl refl (inr (sym c.is_some.ensures ∙ c.if-is_some.false, λ is. told_shut (g.A.Archive.condition c.is_open.new.self.store) c.in-Ok-false.field-0 (search rules) c.in-Ok-false.ensures.told));
   told = inr (sym c.is_some.ensures ∙ c.if-is_some.false, Contains-push [] c.args.second);
   limits = refl;
+  first = refl;
   known = inr (
     Ok false,
     told_as (g.A.Archive.account c.args.self.now.hub.store) (g.A.Archive.account c.is_open.new.self.store) c.in-Ok-false.field-0 false (search rules) c.in-Ok-false.ensures.asked,
@@ -29,6 +31,7 @@ returns-in-Ok-true-clause-asks g c = record {
   steps = asked_alone g.A.Archive.condition g.R.Source.unread g.K.Sink.taken g.S.Spool.held _ _ KeepsAll c.is_open.ensures.rests c.is_open.ensures.rests.store.kept c.is_open.ensures.rests.store.was_open c.is_open.ensures.rests.store.honest refl refl (inl refl);
   told = inl refl;
   limits = refl;
+  first = refl;
   known = inr (
     Ok true,
     told_as (g.A.Archive.account c.args.self.now.hub.store) (g.A.Archive.account c.is_open.new.self.store) c.in-Ok-true.field-0 true (search rules) c.in-Ok-true.ensures.asked,
@@ -41,5 +44,6 @@ returns-in-Err-clause-asks g c = record {
   steps = asked_alone g.A.Archive.condition g.R.Source.unread g.K.Sink.taken g.S.Spool.held _ _ KeepsAll c.is_open.ensures.rests c.is_open.ensures.rests.store.kept c.is_open.ensures.rests.store.was_open c.is_open.ensures.rests.store.honest refl refl (inl refl);
   told = inl refl;
   limits = refl;
+  first = refl;
   known = inr (Err c.in-Err._fault, c.in-Err.ensures.asked, (sym c.is_some.ensures ∙ c.if-is_some.false, c.saturating_add-self.ensures, c.in-Err.ensures.cause));
 }

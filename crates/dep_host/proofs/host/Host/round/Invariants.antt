@@ -6,8 +6,9 @@ use Rattle.dep_host.proofs.host.Host.round.Given as goal
 
 abbrev pub invariant-loop-at : goal.invariant-loop-at
 invariant-loop-at g l = record {
-  goes : RoundSoFar g.A.Archive.condition g.R.Source.unread g.K.Sink.taken g.S.Spool.held g.S.Spool.size (causes_of g.R.Source.halts g.K.Sink.halts g.S.Spool.failures) (position l.fn.self) (position l.self) l.at l.turn.time l.turn.is_full (g.L.HostLog.notes l.fn.log) (g.L.HostLog.notes l.log);
-  left : (place : ℕ) → place < l.at → HasTime l.turn.time.second l.fn.self.limits (slot place l.self.seats.items);
+  goes : RoundSoFar g.A.Archive.condition g.R.Source.unread g.K.Sink.taken g.S.Spool.held g.S.Spool.size (causes_of g.R.Source.halts g.K.Sink.halts g.S.Spool.failures) (position l.fn.self) (position l.self) l.at l.time l.is_full l.share (g.L.HostLog.notes l.fn.log) (g.L.HostLog.notes l.log);
+  left : (place : ℕ) → place < l.at → HasTime l.time.second l.fn.self.limits (slot place l.self.seats.items);
   waits : l.is_busy ≡ false → (place : ℕ) → place < l.at → IsWaiting g.S.Spool.size (slot place l.self.seats.items);
   stays : Stays l.fn.self l.self;
+  first : l.share.first ≡ l.fn.self.first;
 }

@@ -10,13 +10,13 @@ use Rattle.dep_host.proofs.host.Host.serve_at.Goals as goal
 
 pub returns-in_default-clause-goes : goal.returns-in_default-clause-goes
 returns-in_default-clause-goes g c =
-    served_none g.A.Archive.condition g.R.Source.unread g.K.Sink.taken g.S.Spool.held g.S.Spool.size (causes_of g.R.Source.halts g.K.Sink.halts g.S.Spool.failures) _ _ c.args.at c.args.turn.now.time c.args.turn.now.is_full _ _ c.index_mut.result.now refl refl refl refl refl c.requires.there c.index_mut.ensures.value c.in_default.is
+    served_none g.A.Archive.condition g.R.Source.unread g.K.Sink.taken g.S.Spool.held g.S.Spool.size (causes_of g.R.Source.halts g.K.Sink.halts g.S.Spool.failures) _ _ c.args.at c.args.turn.now.time c.args.turn.now.is_full c.args.turn.now.may_send _ _ c.index_mut.result.now refl refl refl refl refl c.requires.there c.index_mut.ensures.value c.in_default.is
 
 pub returns-clause-goes : goal.returns-clause-goes
 returns-clause-goes g c =
     let begins = c.begin_turn.ensures in
-    served g.A.Archive.condition g.R.Source.unread g.K.Sink.taken g.S.Spool.held g.S.Spool.size (causes_of g.R.Source.halts g.K.Sink.halts g.S.Spool.failures) _ _ c.args.at c.args.turn.now.time c.args.turn.now.is_full c.args.turn.now.is_shut _ _ _ c.in-Some.seat c.begin_turn.new.self c.take_turn.new.self
-    c.take_turn.ensures.noted c.requires.there (slot_read _ _ _ c.requires.there c.index_mut.ensures.value ∙ c.in-Some.is) refl refl refl begins.same begins.opens begins.ended begins.unfinished begins.phase begins.readable begins.writable c.requires.shut (begins.awaited ∙ c.is_awaited-is_awaited.ensures) refl c.take_turn.ensures.turn
+    served g.A.Archive.condition g.R.Source.unread g.K.Sink.taken g.S.Spool.held g.S.Spool.size (causes_of g.R.Source.halts g.K.Sink.halts g.S.Spool.failures) _ _ c.args.at c.args.turn.now.time c.args.turn.now.is_full c.args.turn.now.is_shut c.args.turn.now.may_send c.sends_on-has_sent.result _ _ _ c.in-Some.seat c.begin_turn.new.self c.take_turn.new.self
+    c.take_turn.ensures.noted c.requires.there (slot_read _ _ _ c.requires.there c.index_mut.ensures.value ∙ c.in-Some.is) refl refl refl begins.same begins.opens begins.ended begins.unfinished begins.phase begins.readable begins.writable c.requires.shut (begins.awaited ∙ c.is_awaited-is_awaited.ensures) refl c.sends_on-has_sent.ensures.yes c.sends_on-has_sent.ensures.no c.take_turn.ensures.turn
 
 pub returns-clause-here : goal.returns-clause-here
 returns-clause-here g c =
@@ -26,7 +26,7 @@ pub returns-clause-others : goal.returns-clause-others
 returns-clause-others g c = λ place ne. get_or-set_other _ c.args.at place _ None ne
 
 pub returns-clause-stays : goal.returns-clause-stays
-returns-clause-stays g c = stays_set _ _ c.args.at _ refl refl refl refl
+returns-clause-stays g c = stays_set _ _ c.args.at _ refl refl refl refl refl
 
 pub close-requires-clause-there : goal.close-requires-clause-there
 close-requires-clause-there g c = let there = c.requires.there in omega (arith, there, length-set c.args.self.now.seats.items c.args.at (Some c.take_turn.new.self))
@@ -38,17 +38,17 @@ close-requires-clause-done g c =
 pub returns-in-Some-closing-clause-goes : goal.returns-in-Some-closing-clause-goes
 returns-in-Some-closing-clause-goes g c =
     let begins = c.begin_turn.ensures in
-    closes_served g.A.Archive.condition g.R.Source.unread g.K.Sink.taken g.S.Spool.held g.S.Spool.size (causes_of g.R.Source.halts g.K.Sink.halts g.S.Spool.failures) _ _ _ c.args.at c.args.turn.now.time c.args.turn.now.is_full _ _ _ c.in-Some-closing.closing _ c.close.ensures.goes.goes
+    closes_served g.A.Archive.condition g.R.Source.unread g.K.Sink.taken g.S.Spool.held g.S.Spool.size (causes_of g.R.Source.halts g.K.Sink.halts g.S.Spool.failures) _ _ _ c.args.at c.args.turn.now.time c.args.turn.now.is_full c.args.turn.now.may_send c.sends_on-has_sent.result _ _ _ c.in-Some-closing.closing _ c.close.ensures.goes.goes
     (closes_there _ c.args.at c.args.turn.now.time.second c.take_turn.new.self c.closing-closing.result c.in-Some-closing.closing (get_or-set_same _ c.args.at _ None c.requires.there) c.closing-closing.ensures c.in-Some-closing.is)
-    (served g.A.Archive.condition g.R.Source.unread g.K.Sink.taken g.S.Spool.held g.S.Spool.size (causes_of g.R.Source.halts g.K.Sink.halts g.S.Spool.failures) _ _ c.args.at c.args.turn.now.time c.args.turn.now.is_full c.args.turn.now.is_shut _ _ _ c.in-Some.seat c.begin_turn.new.self c.take_turn.new.self
-    c.take_turn.ensures.noted c.requires.there (slot_read _ _ _ c.requires.there c.index_mut.ensures.value ∙ c.in-Some.is) refl refl refl begins.same begins.opens begins.ended begins.unfinished begins.phase begins.readable begins.writable c.requires.shut (begins.awaited ∙ c.is_awaited-is_awaited.ensures) refl c.take_turn.ensures.turn)
+    (served g.A.Archive.condition g.R.Source.unread g.K.Sink.taken g.S.Spool.held g.S.Spool.size (causes_of g.R.Source.halts g.K.Sink.halts g.S.Spool.failures) _ _ c.args.at c.args.turn.now.time c.args.turn.now.is_full c.args.turn.now.is_shut c.args.turn.now.may_send c.sends_on-has_sent.result _ _ _ c.in-Some.seat c.begin_turn.new.self c.take_turn.new.self
+    c.take_turn.ensures.noted c.requires.there (slot_read _ _ _ c.requires.there c.index_mut.ensures.value ∙ c.in-Some.is) refl refl refl begins.same begins.opens begins.ended begins.unfinished begins.phase begins.readable begins.writable c.requires.shut (begins.awaited ∙ c.is_awaited-is_awaited.ensures) refl c.sends_on-has_sent.ensures.yes c.sends_on-has_sent.ensures.no c.take_turn.ensures.turn)
     c.close.ensures.noted
 
 pub returns-in-Some-closing-clause-others : goal.returns-in-Some-closing-clause-others
 returns-in-Some-closing-clause-others g c = λ place ne. c.close.ensures.goes.others place ne ∙ get_or-set_other _ c.args.at place _ None ne
 
 pub returns-in-Some-closing-clause-stays : goal.returns-in-Some-closing-clause-stays
-returns-in-Some-closing-clause-stays g c = stays_on _ _ _ (stays_set _ _ c.args.at _ refl refl refl refl) c.close.ensures.goes.stays
+returns-in-Some-closing-clause-stays g c = stays_on _ _ _ (stays_set _ _ c.args.at _ refl refl refl refl refl) c.close.ensures.goes.stays
 
 pub returns-in_default-clause-here : goal.returns-in_default-clause-here
 returns-in_default-clause-here g c = subst (λ (o : Option (Seat _ _ _)). HasTime c.args.turn.now.time.second c.args.self.now.limits o) (sym (get_or-set_same _ c.args.at _ None c.requires.there ∙ c.in_default.is)) tt
@@ -60,7 +60,7 @@ pub returns-in_default-clause-others : goal.returns-in_default-clause-others
 returns-in_default-clause-others g c = λ place ne. get_or-set_other _ c.args.at place _ None ne
 
 pub returns-in_default-clause-stays : goal.returns-in_default-clause-stays
-returns-in_default-clause-stays g c = stays_set _ _ c.args.at _ refl refl refl refl
+returns-in_default-clause-stays g c = stays_set _ _ c.args.at _ refl refl refl refl refl
 
 pub returns-in-Some-closing-clause-here : goal.returns-in-Some-closing-clause-here
 returns-in-Some-closing-clause-here g c = subst (λ (o : Option (Seat _ _ _)). HasTime c.args.turn.now.time.second c.close.new.self.limits o) (sym c.close.ensures.goes.gone) tt
