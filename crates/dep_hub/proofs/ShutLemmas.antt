@@ -1,5 +1,5 @@
 -- What is sent over an archive that a fault shut, and what it leaves.
-use Rattle.std.proofs.Common.{◌≡◌, ◌≢◌, inl, inr, ℕ, suc, List, [], ◌∷◌, ◌++◌, refl, sym, ap, subst}
+use Rattle.std.proofs.Common.{◌≡◌, ◌≢◌, inl, inr, ℕ, suc, List, [], ◌++◌, refl, sym, ap, subst}
 use Rattle.std.proofs.lemmas.List.{append-nil}
 use Rattle.dep_types.specs.Conditions.{Condition}
 use Rattle.dep_types.specs.declared.store_fault.StoreFault.{StoreFault}
