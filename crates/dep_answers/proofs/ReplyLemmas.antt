@@ -8,7 +8,7 @@ use Rattle.dep_types.specs.declared.rows.FileRow.{FileRow}
 use Rattle.dep_reply.specs.Head.{ReplyHead, head_text}
 use Rattle.dep_answers.specs.Answers.{Answer, PlainText, ReplyContent, StoredContent, bytes_of, document_of, media_of, stored_of, answer, head_of, is_silent}
 use Rattle.dep_answers.specs.Replies.{unless_bare, front_text, stored_text}
-use Rattle.dep_answers.specs.Performing.{HasEnd, HasStatus, IsReply, stored_in, stored_behind, stored_file}
+use Rattle.dep_answers.specs.Performing.{HasEnd, HasStatus, IsReply, measured_head, stored_in, stored_behind, stored_file}
 use Rattle.dep_answers.specs.Telling.{SaysLength}
 use Rattle.dep_answers.specs.declared.performed.Delivery.{Delivery}
 use Rattle.dep_answers.specs.declared.performed.Performed.{Performed}
@@ -58,16 +58,7 @@ ends_by a delivery p e front status = record {
 
 -- the head by the row
 abbrev head_by : FileRow → (tag : Option ℕ) → Delivery → ReplyHead
-head_by row tag delivery = record {
-  status = 200;
-  date = delivery.clock;
-  content_type = Some row.media;
-  content_length = Some row.size;
-  tag = tag;
-  location = None;
-  allow = None;
-  closes = delivery.closes;
-}
+head_by row tag delivery = measured_head row.media row.size tag delivery
 
 content_behind : (s : State) (is_bare : Bool) (content : List ℕ) (it : StoredFile)
     → option_map_or (λ (x : File). x.content) (file_at s it.object it.file) [] ≡ content
@@ -124,17 +115,8 @@ stored_ends row tag delivery p front status = ends_alone (head_by row tag delive
 -- ---- the length of a text
 
 -- the head by the length
-abbrev pub length_head : (size : ℕ) → Delivery → ReplyHead
-length_head size delivery = record {
-  status = 200;
-  date = delivery.clock;
-  content_type = Some (media_of (PlainText []));
-  content_length = Some size;
-  tag = None;
-  location = None;
-  allow = None;
-  closes = delivery.closes;
-}
+abbrev length_head : (size : ℕ) → Delivery → ReplyHead
+length_head size delivery = measured_head (media_of (PlainText [])) size None delivery
 
 pub length_ready : (size : ℕ) (delivery : Delivery) (p : Performed) → p.front.items ≡ head_text (length_head size delivery) → p.stored ≡ None → SaysLength size delivery p
 length_ready size delivery p front nothing bare s text sized =

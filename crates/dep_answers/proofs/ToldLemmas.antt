@@ -64,23 +64,19 @@ metadata_is config s n sh e = ap (told_metadata config) e ∙ metadata_by config
 
 -- ---- tags
 
-metadata_tag_by : (n : ℕ) (o : Option Object)
-    → told_tag (resource.Metadata n) (option_map_or (λ (x : Object). shown.ObjectRow (object_row n x)) o shown.Nothing) ≡ option_map (λ (x : Object). x.metadata_tag) o
-metadata_tag_by n None = refl
-metadata_tag_by n (Some o) = refl
+-- by the row of an object, if it is there
+row_tag_by : (n : ℕ) (r : Resource) (tag : Object → ℕ) → ((x : Object) → told_tag r (shown.ObjectRow (object_row n x)) ≡ Some (tag x)) → told_tag r shown.Nothing ≡ None
+    → (o : Option Object) → told_tag r (option_map_or (λ (x : Object). shown.ObjectRow (object_row n x)) o shown.Nothing) ≡ option_map tag o
+row_tag_by n r tag some none None = none
+row_tag_by n r tag some none (Some o) = some o
 
 pub metadata_tag_is : (s : State) (n : ℕ) (sh : Shown) → sh ≡ shown_at s (subject.ObjectRow n)
     → told_tag (resource.Metadata n) sh ≡ tag_at s (resource.Metadata n)
-metadata_tag_is s n sh e = ap (told_tag (resource.Metadata n)) e ∙ metadata_tag_by n (finmap.get s.objects n)
-
-files_tag_by : (n : ℕ) (o : Option Object)
-    → told_tag (resource.FileSet n) (option_map_or (λ (x : Object). shown.ObjectRow (object_row n x)) o shown.Nothing) ≡ option_map (λ (x : Object). x.files_tag) o
-files_tag_by n None = refl
-files_tag_by n (Some o) = refl
+metadata_tag_is s n sh e = ap (told_tag (resource.Metadata n)) e ∙ row_tag_by n (resource.Metadata n) (λ (x : Object). x.metadata_tag) (λ x. refl) refl (finmap.get s.objects n)
 
 pub files_tag_is : (s : State) (n : ℕ) (sh : Shown) → sh ≡ shown_at s (subject.ObjectRow n)
     → told_tag (resource.FileSet n) sh ≡ tag_at s (resource.FileSet n)
-files_tag_is s n sh e = ap (told_tag (resource.FileSet n)) e ∙ files_tag_by n (finmap.get s.objects n)
+files_tag_is s n sh e = ap (told_tag (resource.FileSet n)) e ∙ row_tag_by n (resource.FileSet n) (λ (x : Object). x.files_tag) (λ x. refl) refl (finmap.get s.objects n)
 
 file_tag_by : (n f : ℕ) (o : Option File)
     → told_tag (resource.File n f) (option_map_or (λ (x : File). shown.File (file_row n f x)) o shown.Nothing) ≡ option_map (λ (x : File). x.tag) o

@@ -47,6 +47,19 @@ pub record HasEnd (p : Performed) : Type 0 where
   pub status : HasStatus head.status None p
   pub ends : IsTrue (is_some head.content_length || head.status == 204)
 
+-- the head of a reply 200 to what has this media type, so many bytes and perhaps a tag
+abbrev pub measured_head : (media : List ℕ) → (size : ℕ) → (tag : Option ℕ) → Delivery → ReplyHead
+measured_head media size tag delivery = record {
+  status = 200;
+  date = delivery.clock;
+  content_type = Some media;
+  content_length = Some size;
+  tag = tag;
+  location = None;
+  allow = None;
+  closes = delivery.closes;
+}
+
 -- the file whose content stands behind a head, unless the reply is bare or the file is empty
 abbrev pub stored_behind : (is_bare : Bool) → (content : List ℕ) → StoredFile → Option StoredFile
 stored_behind true content it = None

@@ -132,7 +132,8 @@ fn file_reply_at(
     }
 }
 
-// The tag file at a path where no payload file can stand.
+// The tag file at a path where no payload file can stand: by its length alone, or else written out of all that it is
+// made of.
 fn tag_file_reply(
     alloc: Global,
     view: &ObjectView,
@@ -143,12 +144,16 @@ fn tag_file_reply(
         (SaysTagFile path.now (IsTagView path.now view.now delivery.is_bare) delivery) }
     ensures ends { IfOk result (λ said. IfSome said HasEnd) }
 {
-    match measured(path, delivery.is_bare) {
-        Some(algorithm) => {
-            let files = view.files.as_slice();
-            Ok(Some(measured_manifest(alloc, files, algorithm, delivery)?))
+    if let Some(algorithm) = measured(path, delivery.is_bare) {
+        let files = view.files.as_slice();
+        return Ok(Some(measured_manifest(alloc, files, algorithm, delivery)?));
+    }
+    match bag_file(alloc, view, path)? {
+        Some(BagPart::Bytes(text)) => {
+            Answer::showing(Status::Ok, ReplyText::new(form_at(path), text)).say(alloc, delivery)
         }
-        None => written_reply(alloc, view, path, delivery),
+        Some(BagPart::Stored(_)) => Ok(None),
+        None => Ok(None),
     }
 }
 
@@ -176,26 +181,6 @@ fn measured_manifest(
     match payload_manifest_length(files, algorithm) {
         Some(size) => measured_reply(alloc, size, delivery),
         None => Err(AllocError),
-    }
-}
-
-// The same tag file, written out of all that it is made of.
-fn written_reply(
-    alloc: Global,
-    view: &ObjectView,
-    path: &[u8],
-    delivery: Delivery,
-) -> Result<Option<Performed>, AllocError>
-    ensures says { IfOk result
-        (SaysTagFile path.now (IsTagView path.now view.now false) delivery) }
-    ensures ends { IfOk result (λ said. IfSome said HasEnd) }
-{
-    match bag_file(alloc, view, path)? {
-        Some(BagPart::Bytes(text)) => {
-            Answer::showing(Status::Ok, ReplyText::new(form_at(path), text)).say(alloc, delivery)
-        }
-        Some(BagPart::Stored(_)) => Ok(None),
-        None => Ok(None),
     }
 }
 

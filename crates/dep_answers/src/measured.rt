@@ -1,6 +1,7 @@
-//! Bare replies that say how long a text is, of which nothing else is known.
-ghost use Rattle.std.specs.Prelude.{IfOk};
-ghost use Rattle.dep_answers.specs.Performing.{HasEnd};
+//! Replies that say how long a content is, of which nothing is read.
+ghost use Rattle.std.specs.Prelude.{◌≡◌, IfOk};
+ghost use Rattle.dep_reply.specs.Head.{head_text};
+ghost use Rattle.dep_answers.specs.Performing.{HasEnd, measured_head};
 ghost use Rattle.dep_answers.specs.Telling.{SaysLength};
 
 use crate::answer::Form;
@@ -17,20 +18,33 @@ pub(crate) fn measured_reply(
     ensures says { IfOk result (SaysLength size delivery) }
     ensures ends { IfOk result HasEnd }
 {
+    Ok(Performed {
+        status: Status::Ok,
+        refusal: None,
+        front: measured_front(alloc, Form::PlainText.media(), size, None, delivery)?,
+        stored: None,
+    })
+}
+
+/// Spells the head of a reply 200 whose content has this media type and so many bytes, and perhaps this entity tag.
+pub(crate) fn measured_front(
+    alloc: Global,
+    media: &str,
+    size: u64,
+    tag: Option<u64>,
+    delivery: Delivery,
+) -> Result<Vec<u8>, AllocError>
+    ensures { IfOk result (λ front. front.items ≡ head_text (measured_head media.now size tag delivery)) }
+{
     let head = Reply {
         status: Status::Ok,
         date: delivery.clock,
-        content_type: Some(Form::PlainText.media()),
+        content_type: Some(media),
         content_length: Some(size),
-        tag: None,
+        tag,
         location: None,
         allow: None,
         closes: delivery.closes,
     };
-    Ok(Performed {
-        status: Status::Ok,
-        refusal: None,
-        front: spell_head(alloc, &head)?,
-        stored: None,
-    })
+    spell_head(alloc, &head)
 }

@@ -8,9 +8,10 @@ ghost use Rattle.dep_answers.specs.Telling.{IsContentOf};
 ghost use Rattle.dep_answers.specs.declared.performed.FileId.{FileId as AFileId};
 ghost use Rattle.dep_answers.specs.declared.subject.Subject.TheVariants.{File};
 
+use crate::measured::measured_front;
 use crate::performed::{Delivery, Performed, StoredFile};
 use crate::subject::Shown;
-use dep_reply::{Reply, Status, spell_head};
+use dep_reply::Status;
 use dep_types::FileRow;
 use std::alloc::{AllocError, Global};
 
@@ -41,20 +42,10 @@ pub(crate) fn stored_reply(
     ensures says { IfOk result (IsContentOf row.now tag delivery) }
     ensures ends { IfOk result HasEnd }
 {
-    let head = Reply {
-        status: Status::Ok,
-        date: delivery.clock,
-        content_type: Some(row.media.as_str()),
-        content_length: Some(row.size),
-        tag,
-        location: None,
-        allow: None,
-        closes: delivery.closes,
-    };
     Ok(Performed {
         status: Status::Ok,
         refusal: None,
-        front: spell_head(alloc, &head)?,
+        front: measured_front(alloc, row.media.as_str(), row.size, tag, delivery)?,
         stored: content_behind(row, delivery.is_bare),
     })
 }

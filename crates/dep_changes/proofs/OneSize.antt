@@ -1,6 +1,8 @@
 -- A complete upload of a sound state is cut into segments of one size.
 use Rattle.std.proofs.Common.{◌≡◌, ◌∙◌, ℕ, zero, suc, ◌+◌, ◌-◌, ◌*◌, ◌<◌, ◌≤◌, ◌==◌, nat_lt, nat_le, Bool, true, false, List, [], ◌++◌, length, take, drop, append-nil, Option, Some, None, unwrap_or, refl, sym, ap, subst, arith, suc-mul, if◌then◌else◌}
 use Rattle.std.proofs.lemmas.Bool.Decides.{nat_tests}
+use Rattle.std.proofs.lemmas.List.Folds.{list_all_at}
+use Rattle.std.proofs.lemmas.List.FromFn.{get_or-range_with_len, length-range_with_len}
 use Rattle.std.proofs.lemmas.List.{take_all, drop_all, drop-drop, take_at, drop_at}
 use Rattle.std.specs.List.{flat_map, list_all, range_with_len}
 use Rattle.std.specs.FinMap as map
@@ -55,23 +57,19 @@ module _ (piece : ℕ → List ℕ) (size : ℕ) where
       ap (λ m. take size (drop m (piece a ++ whole (a + 1) n))) next ∙ ap (take size) (rest a n (k * size) are) ∙ cut (a + 1) n k (later a n are) ∙ ap piece there
 
 all_hold : (p : ℕ → Bool) (m a k : ℕ) → list_all p (range_with_len a m) ≡ true → a ≤ k → k < a + m → p k ≡ true
-all_hold p zero a k h low high = absurd (nothing a k low high) where
-  nothing : (a k : ℕ) → a ≤ k → k < a + 0 → ⊥
-  nothing a k low high = omega arith
-all_hold p (suc m) a k h low high =
-    let both = and_both (p a) (list_all p (range_with_len (a + 1) m)) h in
-    elim (a == k) as (λ b. (a == k) ≡ b → p k ≡ true) [
-      | true ↦ λ same. ap p (sym (is a k same)) ∙ both.0
-      | false ↦ λ apart. all_hold p m (a + 1) k both.1 (past a k low apart) (within a m k high)
-    ] refl where
-      is : (a k : ℕ) → (a == k) ≡ true → a ≡ k
-      is a k h = grind (arith, nat_tests)
+all_hold p m a k h low high = by_test (p k) refl where
+  within : k - a < m
+  within = omega (arith, low, high)
 
-      past : (a k : ℕ) → a ≤ k → (a == k) ≡ false → a + 1 ≤ k
-      past a k low h = grind (arith, nat_tests)
+  here : a + (k - a) ≡ k
+  here = omega (arith, low)
 
-      within : (a m k : ℕ) → k < a + suc m → k < a + 1 + m
-      within a m k h = omega arith
+  by_test : (b : Bool) → p k ≡ b → b ≡ true
+  by_test true e = refl
+  by_test false e =
+      let below = subst (λ n. k - a < n) (sym (length-range_with_len a m)) within in
+      let fails = list_all_at p (range_with_len a m) (k - a) 0 below (ap p (get_or-range_with_len a m (k - a) 0 within ∙ here) ∙ e) in
+      absurd (cc)
 
 -- the length of a segment that isn't the last, and of the last
 segment : (k count size each : ℕ) → ℕ

@@ -89,6 +89,11 @@ rewritten s n was it row is there metadata files = record {
   files = files;
 }
 
+-- so the object is written under its number
+pub row_written : (t : Tables) (s : State) (n : ℕ) (was it : Object) (row : ObjectRow) → row ≡ object_row n it → finmap.get s.objects n ≡ Some was → it.metadata ≡ was.metadata → it.files ≡ was.files
+    → (Rewrites s row it → TablesAre t (with_object s row.object it)) → TablesAre t (with_object s n it)
+row_written t s n was it row is there metadata files written = at_number t s row.object n it (its_number n it row is) (written (rewritten s n was it row is there metadata files))
+
 -- ---- an object goes
 
 pub emptied : (s : State) (n : ℕ) (o : Object) → files_at (finmap.insert s.objects n (record o { files = finmap.empty })) n ≡ finmap.empty

@@ -31,6 +31,14 @@ pub(crate) struct FileNumbers {
     pub(crate) file: u64,
 }
 
+/// A new file, with its numbers.
+#[derive(Clone, Copy)]
+struct NumberedFile<'a> {
+    change: &'a Change<'a>,
+    numbers: FileNumbers,
+    new: &'a NewFile,
+}
+
 /// How many bytes a content has, and their digests.
 #[derive(Clone, Copy)]
 pub(crate) struct Extent {
@@ -83,20 +91,19 @@ pub(crate) fn new_row(
 // A file of the content of the request.
 fn put_posted<T: Statements>(
     tx: &mut T,
-    change: &Change<'_>,
-    numbers: FileNumbers,
-    new: &NewFile,
+    file: &NumberedFile<'_>,
     digests: Digests,
 ) -> Result<(), StoreFault>
-    ensures map { (place : ℕ) → PutsFile T.lenders T.state tx.old tx.new result change.now
-        numbers new.now place (Posted digests) }
+    ensures map { (place : ℕ) → PutsFile T.lenders T.state tx.old tx.new result file.now.change.now
+        file.now.numbers file.now.new.now place (Posted digests) }
 {
+    let content = file.change.content;
     let extent = Extent {
-        size: change.content.as_slice().len() as u64,
+        size: content.as_slice().len() as u64,
         digests,
     };
-    let row = new_row(change, numbers, new, extent)?;
-    put_file(tx, &row, &digests.sha512, change.content)
+    let row = new_row(file.change, file.numbers, file.new, extent)?;
+    put_file(tx, &row, &digests.sha512, content)
 }
 
 /// An upload that is whole, with the digests of its bytes.
@@ -130,37 +137,33 @@ pub(crate) fn whole_upload(view: &View, index: usize) -> Result<WholeUpload, Sto
 // A file of the bytes of an upload, which goes.
 fn put_assembled<T: Statements>(
     tx: &mut T,
-    change: &Change<'_>,
-    numbers: FileNumbers,
-    new: &NewFile,
+    file: &NumberedFile<'_>,
     index: usize,
 ) -> Result<(), StoreFault>
-    ensures map { (u : ℕ) → PutsFile T.lenders T.state tx.old tx.new result change.now
-        numbers new.now index (Assembled u) }
+    ensures map { (u : ℕ) → PutsFile T.lenders T.state tx.old tx.new result file.now.change.now
+        file.now.numbers file.now.new.now index (Assembled u) }
 {
-    let upload = whole_upload(change.view, index)?;
+    let upload = whole_upload(file.change.view, index)?;
     let extent = Extent {
         size: upload.row.size,
         digests: upload.digests,
     };
-    let row = new_row(change, numbers, new, extent)?;
+    let row = new_row(file.change, file.numbers, file.new, extent)?;
     assemble(tx, &upload.row, &row, &upload.digests.sha512)
 }
 
 // One of the new files of an object, in their order.
 fn put_new_file<T: Statements>(
     tx: &mut T,
-    change: &Change<'_>,
-    numbers: FileNumbers,
-    new: &NewFile,
+    file: &NumberedFile<'_>,
     index: usize,
 ) -> Result<(), StoreFault>
-    ensures map { PutsFile T.lenders T.state tx.old tx.new result change.now
-        numbers new.now index new.now.source }
+    ensures map { PutsFile T.lenders T.state tx.old tx.new result file.now.change.now
+        file.now.numbers file.now.new.now index file.now.new.now.source }
 {
-    match new.source {
-        Source::Posted(digests) => put_posted(tx, change, numbers, new, digests),
-        Source::Assembled(_) => put_assembled(tx, change, numbers, new, index),
+    match file.new.source {
+        Source::Posted(digests) => put_posted(tx, file, digests),
+        Source::Assembled(_) => put_assembled(tx, file, index),
     }
 }
 
@@ -180,7 +183,12 @@ pub(crate) fn put_new_files<T: Statements>(
             object,
             file: change.view.next.file + index as u64,
         };
-        put_new_file(tx, change, numbers, new, index)?;
+        let file = NumberedFile {
+            change,
+            numbers,
+            new,
+        };
+        put_new_file(tx, &file, index)?;
     }
     Ok(())
 }
@@ -220,5 +228,10 @@ pub(crate) fn set_file<T: Statements>(
         object: row.object,
         file,
     };
-    put_posted(tx, change, numbers, new, digests)
+    let numbered = NumberedFile {
+        change,
+        numbers,
+        new,
+    };
+    put_posted(tx, &numbered, digests)
 }

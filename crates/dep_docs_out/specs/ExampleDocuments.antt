@@ -46,50 +46,37 @@ example_object = record {
 
 -- a file of text that was posted on behalf of ann
 abbrev pub example_posted : File
-example_posted = record {
-  name = codes "a.txt";
+example_posted = record example_file {
   media = codes "text/plain; charset=\"utf-8\"";
-  content = codes "abc";
   tag = 5;
   deposited = 951868799;
   behalf = Some (codes "ann");
-  by_reference = false;
 }
 
 -- and one that came by reference
 abbrev pub example_referred : File
-example_referred = record {
-  name = codes "a.txt";
+example_referred = record example_file {
   media = codes "application/octet-stream";
-  content = codes "abc";
   tag = 8;
-  deposited = 1523836800;
-  behalf = None;
   by_reference = true;
 }
 
 -- an object in progress that has these two
 abbrev pub example_unfinished : Object
-example_unfinished = record {
+example_unfinished = record example_object {
   ingested = false;
-  metadata = finmap.empty;
   files = finmap.from_sorted ((3, example_posted) ∷ (12, example_referred) ∷ []);
   tag = 9;
   metadata_tag = 4;
   files_tag = 8;
-  changed = 1523836800;
 }
 
 -- one without files
 abbrev pub example_empty : Object
-example_empty = record {
-  ingested = true;
-  metadata = finmap.empty;
+example_empty = record example_object {
   files = finmap.from_sorted [];
   tag = 2;
-  metadata_tag = 1;
   files_tag = 2;
-  changed = 1523836800;
 }
 
 -- three titles

@@ -1,5 +1,5 @@
 -- What a wire has sent, and what it still owes.
-use Rattle.std.specs.Prelude.{◌≡◌, ◌⊎◌, ℕ, ◌+◌, ◌-◌, List, length, drop, Option, None, Some}
+use Rattle.std.specs.Prelude.{◌≡◌, ◌⊎◌, ◌≤◌, ℕ, ◌+◌, ◌-◌, ◌^◌, min, List, length, drop, Option, None, Some}
 use Rattle.std.specs.Io.KnownBytes.{prepend_known}
 use Rattle.dep_types.specs.Writing.{HasRisen}
 use Rattle.dep_outbox.specs.Sockets.{after_send}
@@ -45,6 +45,12 @@ module _ {K S : Type 0} where
   -- the bytes that the wire took: those that the socket took, and those that are owed behind them
   abbrev pub told : (K → Option (List ℕ)) → (S → Option (List ℕ)) → Wire K S → Option (List ℕ)
   told taken held w = joined (taken w.sink) (owed held w)
+
+-- what is no longer owed was delivered, and is counted as far as 64 bits hold it
+abbrev pub CountsSent : (delivered owed after left : ℕ) → Type 0
+CountsSent delivered owed after left =
+    (min (delivered + (owed - left)) (2 ^ 64 - 1) ≤ after)
+    × (after + left ≤ delivered + owed) × (left ≤ owed)
 
 -- the socket didn't fail, nor did the spool
 abbrev pub IsUnharmed : (old new : Halts) → (failures after : ℕ) → Type 0

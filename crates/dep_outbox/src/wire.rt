@@ -37,7 +37,7 @@ pub struct Wire<K, S> {
 }
 
 impl<K: Sink, S: Spool> Wire<K, S> {
-    ghost use Rattle.dep_outbox.specs.Wires.{told, owed, owed_count, Blames, HasFailed, IsUnharmed};
+    ghost use Rattle.dep_outbox.specs.Wires.{told, owed, owed_count, Blames, CountsSent, HasFailed, IsUnharmed};
 
     /// A wire that owes what the spool holds.
     #[tactic(auto, using(crate::proofs::WireLemmas::nothing_told))]
@@ -92,12 +92,8 @@ impl<K: Sink, S: Spool> Wire<K, S> {
         ensures part { result ≢ Some Flushed.Part }
         ensures fewer { result ≡ None
             → owed_count S.size self.new < owed_count S.size self.old }
-        ensures delivers { min (self.old.delivered
-            + (owed_count S.size self.old - owed_count S.size self.new)) (2 ^ 64 - 1)
-            ≤ self.new.delivered }
-        ensures no_less { self.new.delivered + owed_count S.size self.new
-            ≤ self.old.delivered + owed_count S.size self.old }
-        ensures no_more { owed_count S.size self.new ≤ owed_count S.size self.old }
+        ensures counts { CountsSent self.old.delivered (owed_count S.size self.old)
+            self.new.delivered (owed_count S.size self.new) }
         ensures failures { self.new.failures ≡ self.old.failures }
         ensures blames { IfSome result (λ flushed. Blames (K.halts self.old.sink)
             (K.halts self.new.sink) (S.failures self.old.backlog.spool)

@@ -75,6 +75,15 @@ format_terms = lit (Int (pos 1)) ∷ lit Null ∷ lit (Int (pos 2)) ∷ []
 abbrev state_terms : List Term
 state_terms = lit (Int (pos 1)) ∷ lit Null ∷ lit (Int (pos 0)) ∷ lit (Int (pos 1)) ∷ lit (Int (pos 1)) ∷ lit (Int (pos 1)) ∷ lit (Int (pos 1)) ∷ []
 
+-- a text inserts them where its table of this name stands
+inserts_there : (schema : Schema) (name text : List ℕ) (terms : List Term) (width n : ℕ) (table : Table)
+    → understood schema text ≡ inserting_by schema (table_named schema name) (slice_get schema.tables) text
+    → Inserts n terms width (inserting_by schema (Some n) (λ _. Some table) text)
+    → table_named schema name ≡ Some n → slice_get schema.tables n ≡ Some table → Inserts n terms width (understood schema text)
+inserts_there schema name text terms width n table by is named at =
+    let there = subst (λ found. Inserts n terms width (inserting_by schema (Some n) (λ _. found) text)) (sym at) is in
+    subst (Inserts n terms width) (sym by) (subst (λ o. Inserts n terms width (inserting_by schema o (slice_get schema.tables) text)) (sym named) there)
+
 module _ (schema : Schema) (n k : ℕ) where
   format_by : understood schema add_format_text ≡ inserting_by schema (table_named schema (codes "format")) (slice_get schema.tables) add_format_text
   unfolding understood everything
@@ -84,12 +93,8 @@ module _ (schema : Schema) (n k : ℕ) where
   unfolding understood everything
   format_at = (refl, (refl, refl))
 
-  format_there : slice_get schema.tables n ≡ Some (record format_table { tree = k }) → Inserts n format_terms 3 (inserting_by schema (Some n) (slice_get schema.tables) add_format_text)
-  unfolding understood everything
-  format_there at = subst (λ found. Inserts n format_terms 3 (inserting_by schema (Some n) (λ _. found) add_format_text)) (sym at) format_at
-
   format_is : table_named schema (codes "format") ≡ Some n → slice_get schema.tables n ≡ Some (record format_table { tree = k }) → Inserts n format_terms 3 (understood schema add_format_text)
-  format_is named at = subst (Inserts n format_terms 3) (sym format_by) (subst (λ o. Inserts n format_terms 3 (inserting_by schema o (slice_get schema.tables) add_format_text)) (sym named) (format_there at))
+  format_is = inserts_there schema (codes "format") add_format_text format_terms 3 n _ format_by format_at
 
   state_by : understood schema add_state_text ≡ inserting_by schema (table_named schema (codes "state")) (slice_get schema.tables) add_state_text
   unfolding understood everything
@@ -99,12 +104,8 @@ module _ (schema : Schema) (n k : ℕ) where
   unfolding understood everything
   state_at = (refl, (refl, refl))
 
-  state_there : slice_get schema.tables n ≡ Some (record state_table { tree = k }) → Inserts n state_terms 7 (inserting_by schema (Some n) (slice_get schema.tables) add_state_text)
-  unfolding understood everything
-  state_there at = subst (λ found. Inserts n state_terms 7 (inserting_by schema (Some n) (λ _. found) add_state_text)) (sym at) state_at
-
   state_is : table_named schema (codes "state") ≡ Some n → slice_get schema.tables n ≡ Some (record state_table { tree = k }) → Inserts n state_terms 7 (understood schema add_state_text)
-  state_is named at = subst (Inserts n state_terms 7) (sym state_by) (subst (λ o. Inserts n state_terms 7 (inserting_by schema o (slice_get schema.tables) add_state_text)) (sym named) (state_there at))
+  state_is = inserts_there schema (codes "state") add_state_text state_terms 7 n _ state_by state_at
 
 module _ (schema : Schema) (free : AreFree schema) (old new : State) (count : ℕ) (here : old.now.schema ≡ with_ours schema) where
   pub puts_format : ExecutesInside 0 add_format_text [] old new (Ok count) → Puts (next_tree schema) (stored_format our_version) old.now new.now

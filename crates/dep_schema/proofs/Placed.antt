@@ -1,5 +1,5 @@
 -- Where our tables and their indexes stand beside the tables of others.
-use Rattle.std.proofs.Common.{◌≡◌, ◌+◌, List, [], ◌∷◌, ◌++◌, length, slice_get, Some, false, codes, sym, ap, subst, ◌∙◌, arith, append-nil, append_assoc}
+use Rattle.std.proofs.Common.{◌≡◌, ℕ, ◌+◌, List, [], ◌∷◌, ◌++◌, length, slice_get, Some, false, codes, sym, ap, subst, ◌∙◌, arith, append-nil, append_assoc}
 use Rattle.std.specs.List.{position_from}
 use Rattle.sqlite.specs.Schema.{Schema}
 use Rattle.sqlite.specs.Table.{Table}
@@ -89,29 +89,27 @@ module _ (schema : Schema) where
   sha512s_tree = omega (arith, next_created with_timed_out blocks_table, blocks_tree)
 
   module _ (free : AreFreeFor our_tables schema) where
+    -- a name that is none of before stands where it does among ours
+    named : (name : List ℕ) (at : ℕ) → is_used schema name ≡ false → position_from (λ t. same_name t.name name) (0 + length schema.tables) ours ≡ Some at
+        → table_named (with_tables schema) name ≡ Some at
+    named name at free is =
+        ap (position_from (λ t. same_name t.name name) 0) tables_are ∙ placed_after (λ t. same_name t.name name) 0 schema.tables ours (no_table schema name free) ∙ is
+
     pub format_named : table_named (with_tables schema) (codes "format") ≡ Some (length schema.tables + 0)
     unfolding same_name
-    format_named =
-        ap (position_from (λ t. same_name t.name (codes "format")) 0) tables_are ∙ placed_after (λ t. same_name t.name (codes "format")) 0 schema.tables ours (no_table schema (codes "format") free.0)
-        ∙ ap Some (omega arith)
+    format_named = named (codes "format") _ free.0 (ap Some (omega arith))
 
     pub state_named : table_named (with_tables schema) (codes "state") ≡ Some (length schema.tables + 1)
     unfolding same_name
-    state_named =
-        ap (position_from (λ t. same_name t.name (codes "state")) 0) tables_are ∙ placed_after (λ t. same_name t.name (codes "state")) 0 schema.tables ours (no_table schema (codes "state") free.1.0)
-        ∙ ap Some (omega arith)
+    state_named = named (codes "state") _ free.1.0 (ap Some (omega arith))
 
     pub files_named : table_named (with_tables schema) (codes "files") ≡ Some (length schema.tables + 4)
     unfolding same_name
-    files_named =
-        ap (position_from (λ t. same_name t.name (codes "files")) 0) tables_are ∙ placed_after (λ t. same_name t.name (codes "files")) 0 schema.tables ours (no_table schema (codes "files") free.1.1.1.1.0)
-        ∙ ap Some (omega arith)
+    files_named = named (codes "files") _ free.1.1.1.1.0 (ap Some (omega arith))
 
     pub uploads_named : table_named (with_tables schema) (codes "uploads") ≡ Some (length schema.tables + 5)
     unfolding same_name
-    uploads_named =
-        ap (position_from (λ t. same_name t.name (codes "uploads")) 0) tables_are ∙ placed_after (λ t. same_name t.name (codes "uploads")) 0 schema.tables ours (no_table schema (codes "uploads") free.1.1.1.1.1.0)
-        ∙ ap Some (omega arith)
+    uploads_named = named (codes "uploads") _ free.1.1.1.1.1.0 (ap Some (omega arith))
 
     pub format_listed : slice_get (with_tables schema).tables (length schema.tables + 0) ≡ Some (record format_table { tree = next_tree schema })
     format_listed = ap (λ xs. slice_get xs (length schema.tables + 0)) tables_are ∙ got_after schema.tables ours 0

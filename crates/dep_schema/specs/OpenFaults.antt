@@ -109,21 +109,21 @@ module _ {T : Type 0} (state : T → State) (old new : T) where
       × AddsAll (take made our_tables) (state old).now at.now
       × FailsToRun (slice_index_or create_texts made []) [] at now fault) old new
 
+  -- the first statement failed, or behind it the second
+  abbrev pub FailsAtEither : (first second : List ℕ) → StoreFault → Type 0
+  FailsAtEither first second fault =
+      FailsToRun first [] (state old) (state new) fault
+      ⊎ FailsSince state (λ at now fault.
+      ((count : ℕ) × ExecutesInside 0 first [] (state old) at (Ok count))
+      × FailsToRun second [] at now fault) old new fault
+
   -- the index of the files could not be made, or behind it that of the uploads
   abbrev pub FailsToIndex : StoreFault → Type 0
-  FailsToIndex fault =
-      FailsToRun index_files_text [] (state old) (state new) fault
-      ⊎ FailsSince state (λ at now fault.
-      ((count : ℕ) × ExecutesInside 0 index_files_text [] (state old) at (Ok count))
-      × FailsToRun index_uploads_text [] at now fault) old new fault
+  FailsToIndex = FailsAtEither index_files_text index_uploads_text
 
   -- the row of the version could not be added, or behind it that of the state
   abbrev pub FailsToAddRows : StoreFault → Type 0
-  FailsToAddRows fault =
-      FailsToRun add_format_text [] (state old) (state new) fault
-      ⊎ FailsSince state (λ at now fault.
-      ((count : ℕ) × ExecutesInside 0 add_format_text [] (state old) at (Ok count))
-      × FailsToRun add_state_text [] at now fault) old new fault
+  FailsToAddRows = FailsAtEither add_format_text add_state_text
 
 module _ {T : Type 0} (state : T → State) (old new : T) where
   -- why no tables are made: a statement failed, as where a name is taken; those that add the rows are run only where

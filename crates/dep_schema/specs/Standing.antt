@@ -1,10 +1,10 @@
 -- What an open, a transaction and a crash leave of the tables.
-use Rattle.std.specs.Prelude.{◌≡◌, ◌⊎◌, ℕ, true, false, IsTrue, Result, OnOk, IfErr, [], ◌∷◌}
+use Rattle.std.specs.Prelude.{◌≡◌, ◌⊎◌, ℕ, true, false, IsTrue, List, Result, Ok, OnOk, IfErr, [], ◌∷◌}
 use Rattle.std.specs.Borrow.{MutBor}
 use Rattle.sqlite.specs.Schema.{Schema}
 use Rattle.sqlite.specs.Tree.{Trees}
 use Rattle.sqlite.specs.Effect.{Database}
-use Rattle.sqlite.specs.State.{State, HasCleanDisk, Survives, Commits, IsRolledBack}
+use Rattle.sqlite.specs.State.{State, HasCleanDisk, ExecutesInside, Survives, Commits, IsRolledBack}
 use Rattle.sqlite.specs.Held.{Held, state}
 use Rattle.sqlite.specs.Steps.{FailsToCommit}
 use Rattle.sqlite.specs.declared.error.Error.{Error}
@@ -13,8 +13,9 @@ use Rattle.sqlite_catalog.specs.Listing.{IsSound}
 use Rattle.sqlite_catalog.specs.Change.{next_tree, KeepsRows}
 use Rattle.dep_statements.specs.Adding.{HasCounters}
 use Rattle.dep_types.specs.declared.store_fault.StoreFault.{StoreFault}
+use Rattle.dep_row_maps.specs.Laws as laws
 use Rattle.dep_tables.specs.declared.state.StateRow.{StateRow}
-use Rattle.dep_tables.specs.Rows.{stored_format, stored_state}
+use Rattle.dep_tables.specs.Rows.{stored_format}
 use Rattle.dep_tables.specs.Tables.{Tables, tables_from, tables_in, tables_of, AreOf, IsOf, IsKnownSchema, IsKnown}
 use Rattle.dep_tables.specs.Clauses.{StaysInside, StaysWithin}
 use Rattle.dep_tables.specs.Versions.{our_version, IsKnownVersion, HasVersion}
@@ -71,18 +72,7 @@ first_state = record { clock = 0; next = record { object = 1; file = 1; upload =
 
 -- the tables of a new store
 abbrev pub first_tables : Tables
-first_tables = record {
-  format = stored_format our_version ∷ [];
-  state = stored_state first_state ∷ [];
-  objects = [];
-  metadata = [];
-  files = [];
-  uploads = [];
-  segments = [];
-  timed_out = [];
-  blocks = [];
-  sha512s = [];
-}
+first_tables = laws.first_tables (stored_format our_version ∷ [])
 
 -- what a database becomes in which our first tables are made
 pub record IsBeside (old : Database) (trees : Trees) : Type 0 where
@@ -150,6 +140,11 @@ HasOtherVersion s = (s.now.schema ≡ no_schema → ⊥)
 abbrev pub Turns : {A E : Type 0} → State → State → Result A E → (Database → Database → Type 0) → Type 0
 Turns old new result does = HasCleanDisk new → IsTrue old.in_transaction
     → OnOk result (does old.now new.now)
+
+-- there an Ok has run this text
+abbrev pub HasRun : {A E : Type 0} → List ℕ → State → State → Result A E → Type 0
+HasRun text old new result = HasCleanDisk new → IsTrue old.in_transaction
+    → OnOk result ((count : ℕ) × ExecutesInside 0 text [] old new (Ok count))
 
 -- there an Err has a cause of these, and whatever is answered, what every call on a transaction keeps
 pub record WorksWithin {T L A : Type 0} (lenders : T → L) (state : T → State) (old new : T)

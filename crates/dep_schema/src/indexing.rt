@@ -1,12 +1,11 @@
 //! The indexes of the tables, which statements of their own make.
 
-ghost use Rattle.std.specs.Prelude.{ℕ, [], IsTrue, OnOk};
-ghost use Rattle.sqlite.specs.State.{HasCleanDisk, ExecutesInside};
+ghost use Rattle.std.specs.Prelude.{[]};
 ghost use Rattle.dep_tables.specs.Schema.{files_table, files_index, uploads_table, uploads_index};
 ghost use Rattle.dep_tables.specs.Clauses.{FailsToRun};
 ghost use Rattle.dep_schema.specs.Beside.{AddsIndex, AddsIndexes};
 ghost use Rattle.dep_schema.specs.OpenFaults.{FailsToIndex};
-ghost use Rattle.dep_schema.specs.Standing.{Turns, WorksWithin};
+ghost use Rattle.dep_schema.specs.Standing.{HasRun, Turns, WorksWithin};
 ghost use Rattle.dep_schema.specs.Texts.{index_files_text, index_uploads_text};
 
 use dep_tables::Statements;
@@ -15,9 +14,7 @@ use dep_types::StoreFault;
 /// The index by which the files of an object are found.
 fn index_files<T: Statements>(tx: &mut T) -> Result<(), StoreFault>
     ensures adds { Turns (T.state tx.old) (T.state tx.new) result (AddsIndex files_table files_index) }
-    ensures ran { HasCleanDisk (T.state tx.new) → IsTrue (T.state tx.old).in_transaction
-        → OnOk result ((count : ℕ) × ExecutesInside 0 index_files_text [] (T.state tx.old) (T.state tx.new)
-        (Ok count)) }
+    ensures ran { HasRun index_files_text (T.state tx.old) (T.state tx.new) result }
     ensures works { WorksWithin T.lenders T.state tx.old tx.new result
         (FailsToRun index_files_text [] (T.state tx.old) (T.state tx.new)) }
 {

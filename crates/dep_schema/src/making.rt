@@ -1,13 +1,12 @@
 //! The tables of a new store, and their first rows, beside what is there.
 
-ghost use Rattle.std.specs.Prelude.{ℕ, [], IsTrue, OnOk};
-ghost use Rattle.sqlite.specs.State.{HasCleanDisk, ExecutesInside};
+ghost use Rattle.std.specs.Prelude.{[]};
 ghost use Rattle.dep_statements.specs.Adding.{AddsAll};
 ghost use Rattle.dep_tables.specs.Schema.{our_tables};
 ghost use Rattle.dep_tables.specs.Clauses.{FailsToRun};
 ghost use Rattle.dep_schema.specs.OpenFaults.{FailsToCreate, FailsToAddRows, FailsToMake};
 ghost use Rattle.dep_schema.specs.Texts.{add_format_text, add_state_text};
-ghost use Rattle.dep_schema.specs.Standing.{Turns, WorksWithin, GainsOurs};
+ghost use Rattle.dep_schema.specs.Standing.{HasRun, Turns, WorksWithin, GainsOurs};
 ghost use Rattle.dep_schema.specs.Making.{FillsOurs, MakesFirst, PutsFormat, PutsState, PutsFirstRows};
 
 use crate::indexing::create_indexes;
@@ -45,9 +44,7 @@ const TABLES: [&str; 10] = [
 /// Version 2.
 fn add_format<T: Statements>(tx: &mut T) -> Result<(), StoreFault>
     ensures beside { FillsOurs (T.state tx.old) (T.state tx.new) result PutsFormat }
-    ensures ran { HasCleanDisk (T.state tx.new) → IsTrue (T.state tx.old).in_transaction
-        → OnOk result ((count : ℕ) × ExecutesInside 0 add_format_text [] (T.state tx.old) (T.state tx.new)
-        (Ok count)) }
+    ensures ran { HasRun add_format_text (T.state tx.old) (T.state tx.new) result }
     ensures works { WorksWithin T.lenders T.state tx.old tx.new result
         (FailsToRun add_format_text [] (T.state tx.old) (T.state tx.new)) }
 {

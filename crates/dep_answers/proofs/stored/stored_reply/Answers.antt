@@ -1,34 +1,16 @@
-use Rattle.std.proofs.Common.{refl, ◌∙◌, sym, ap, Some, None, ℕ, List}
+use Rattle.std.proofs.Common.{refl, ◌∙◌, sym, ap, ℕ, List}
 use Rattle.dep_types.specs.declared.rows.FileRow.{FileRow}
 use Rattle.dep_reply.specs.Head.{head_text}
+use Rattle.dep_answers.specs.Performing.{measured_head}
 use Rattle.dep_answers.proofs.ReplyLemmas.{stored_ends, stored_ready}
 use Rattle.dep_answers.proofs.stored.stored_reply.Goals as goal
 
-pub returns-clause-says : goal.returns-clause-says
-returns-clause-says c = λ s file there is.
-    stored_ready s file c.args.row.now c.args.tag c.args.delivery _ there is
-    (c.in_ok-spell_head.ensures ∙ ap (λ (media : List ℕ). head_text (record {
-      status = 200;
-      date = c.args.delivery.clock;
-      content_type = Some media;
-      content_length = Some c.args.row.now.size;
-      tag = c.args.tag;
-      location = None;
-      allow = None;
-      closes = c.args.delivery.closes;
-    })) c.as_str.ensures)
-    (c.content_behind.ensures file.content (sym (ap (λ (row : FileRow). row.size) is)))
-
-pub returns-clause-ends : goal.returns-clause-ends
-returns-clause-ends c =
-    stored_ends c.args.row.now c.args.tag c.args.delivery _
-    (c.in_ok-spell_head.ensures ∙ ap (λ (media : List ℕ). head_text (record {
-      status = 200;
-      date = c.args.delivery.clock;
-      content_type = Some media;
-      content_length = Some c.args.row.now.size;
-      tag = c.args.tag;
-      location = None;
-      allow = None;
-      closes = c.args.delivery.closes;
-    })) c.as_str.ensures) (refl, refl)
+pub returns : goal.returns
+returns c =
+    let row = c.args.row.now in
+    let front = c.in_ok-measured_front.ensures ∙ ap (λ (media : List ℕ). head_text (measured_head media row.size c.args.tag c.args.delivery)) c.as_str.ensures in
+    record {
+      says = λ s file there is. stored_ready s file row c.args.tag c.args.delivery _ there is front
+          (c.content_behind.ensures file.content (sym (ap (λ (row : FileRow). row.size) is)));
+      ends = stored_ends row c.args.tag c.args.delivery _ front (refl, refl);
+    }

@@ -7,7 +7,7 @@ use Rattle.dep_row_maps.specs.TablesAre.{with_object}
 use Rattle.dep_row_maps.proofs.Lens.{get_here}
 use Rattle.dep_decisions.specs.Effects.{with_files}
 use Rattle.dep_changes.proofs.Added.{new_files_again}
-use Rattle.dep_changes.proofs.Steps.{files_of_row, its_number, at_number, rewritten}
+use Rattle.dep_changes.proofs.Steps.{files_of_row, row_written}
 use Rattle.dep_row_maps.proofs.Changing.{changes_then, each_failed}
 use Rattle.dep_changes.proofs.deposits.append_files.Goals as goal
 
@@ -25,8 +25,7 @@ returns g c = record {
         let now = c.files_changed.result in
         let mark : Object = with_files s it.files it in
         let is = files_of_row s n it c.args.row row.is_row view.clock view.next numbers.0 numbers.1 now it.files c.files_changed.ensures in
-        let put = at_number (tables_of mid) s now.object n mark (its_number n mark now is)
-        (c.in_ok-write_row.ensures.map.done mark before inside ours s are (rewritten s n row.was mark now is row.there row.metadata row.files)) in
+        let put = row_written (tables_of mid) s n row.was mark now is row.there row.metadata row.files (c.in_ok-write_row.ensures.map.done mark before inside ours s are) in
         let one : State = with_object s n mark in
         ok_then c.put_new_files.result
         (c.put_new_files.ensures.map.done mark clean (c.in_ok-write_row.ensures.map.keeps.stays.inside before inside) (c.in_ok-write_row.ensures.map.keeps.ours before inside ours) one put ((numbers, told.0.1), get_here s.objects n mark))

@@ -7,7 +7,7 @@ use Rattle.dep_row_maps.specs.TablesAre.{with_object}
 use Rattle.dep_row_maps.proofs.Lens.{get_here}
 use Rattle.dep_types.specs.MetadataEntries.{joined}
 use Rattle.dep_decisions.specs.Effects.{with_texts}
-use Rattle.dep_changes.proofs.Steps.{texts_of_row, its_number, at_number, rewritten, written_again}
+use Rattle.dep_changes.proofs.Steps.{texts_of_row, written_again, row_written}
 use Rattle.dep_row_maps.proofs.Changing.{changes_then, each_failed}
 use Rattle.dep_changes.proofs.deposits.append_texts.Goals as goal
 
@@ -25,8 +25,7 @@ returns g c = record {
         let now = c.texts_changed.result in
         let mark : Object = with_texts s it.metadata it in
         let is = texts_of_row s n it c.args.row row.is_row view.clock view.next numbers.0 numbers.1 now it.metadata c.texts_changed.ensures in
-        let put = at_number (tables_of mid) s now.object n mark (its_number n mark now is)
-        (c.in_ok-write_row.ensures.map.done mark before inside ours s are (rewritten s n row.was mark now is row.there row.metadata row.files)) in
+        let put = row_written (tables_of mid) s n row.was mark now is row.there row.metadata row.files (c.in_ok-write_row.ensures.map.done mark before inside ours s are) in
         let one : State = with_object s n mark in
         let after : Object = with_texts s (joined (finmap.entries c.args.metadata.now) it.metadata) it in
         ok_then c.append_metadata.result

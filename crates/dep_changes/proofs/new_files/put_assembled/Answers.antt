@@ -38,15 +38,15 @@ returns g c = record {
   map = λ u.
       record {
         done = λ o clean inside ours s are told.
-            let numbers = c.args.numbers in
-            let new = c.args.new.now in
+            let numbers = c.args.file.now.numbers in
+            let new = c.args.file.now.new.now in
             let up = c.in_ok-upload.upload in
             let source = told.0.1 in
             let there = told.1 in
             let it = source.upload in
             let is = c.in_ok-upload.ensures.told u it source.seen_so in
             let file : File = made_file s new (assembled it) in
-            let row_is = made_row c.args.change.now s numbers new _ (assembled it) c.in_ok-row.row c.in_ok-row.ensures told.0.0 (ap (λ (w : UploadRow). w.size) is.0 ∙ sym source.whole.size, is.1) in
+            let row_is = made_row c.args.file.now.change.now s numbers new _ (assembled it) c.in_ok-row.row c.in_ok-row.ensures told.0.0 (ap (λ (w : UploadRow). w.size) is.0 ∙ sym source.whole.size, is.1) in
             subst (λ (found : Option Upload). OnOk c.assemble.result (SeesState (g.T.Statements.state c.assemble.new.tx) (deposited s numbers.object o numbers.file (made_file s new (option_map_or assembled found [])) u))) (sym source.there)
             (done_as (λ (n f w : ℕ). OnOk c.assemble.result (SeesState (g.T.Statements.state c.assemble.new.tx) (deposited s n o f file w))) s numbers.object numbers.file u o it file c.in_ok-row.row up.row row_is is.0 there source.there
             (λ at_object at_upload upload_is same. c.assemble.ensures.does.map clean inside ours s are o it file at_object at_upload source.whole.segments upload_is same (ap (λ (d : Digests). d.sha512) is.1) refl));

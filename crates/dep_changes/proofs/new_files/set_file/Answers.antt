@@ -11,7 +11,7 @@ use Rattle.dep_decisions.specs.Effects.{bytes_from, file_from, with_files}
 use Rattle.dep_decisions.specs.declared.decision.Source.{Source}
 use Rattle.dep_changes.proofs.Carried.{at_object}
 use Rattle.dep_changes.specs.Changed.{made_file}
-use Rattle.dep_changes.proofs.Steps.{files_row, number_is, its_number, at_number, rewritten, there_at, written_again, file_replaced}
+use Rattle.dep_changes.proofs.Steps.{files_row, number_is, at_number, there_at, written_again, file_replaced, row_written}
 use Rattle.dep_row_maps.proofs.Changing.{changes_then, does_failed}
 use Rattle.dep_changes.proofs.new_files.set_file.Goals as goal
 
@@ -41,7 +41,7 @@ returns g c = record {
             let now = c.files_changed.result in
             let mark : Object = with_files s o.files o in
             let is = files_row s n o view.object object.0 row c.in_ok-row.ensures.told view.clock view.next numbers.0 numbers.1 now o.files c.files_changed.ensures in
-            let put = at_number (tables_of one) s now.object n mark (its_number n mark now is) (c.in_ok-write_row.ensures.map.done mark clean_one inside ours s are (rewritten s n o mark now is object.1 refl refl)) in
+            let put = row_written (tables_of one) s n o mark now is object.1 refl refl (c.in_ok-write_row.ensures.map.done mark clean_one inside ours s are) in
             let first : State = with_object s n mark in
             let left : Object = with_files s (finmap.remove o.files f) o in
             let gone = written_again (tables_of two) s n mark left

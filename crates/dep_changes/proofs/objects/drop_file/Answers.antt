@@ -8,7 +8,7 @@ use Rattle.dep_row_maps.specs.TablesAre.{with_object}
 use Rattle.dep_row_maps.proofs.Lens.{get_here}
 use Rattle.dep_decisions.specs.Effects.{with_files}
 use Rattle.dep_changes.proofs.Carried.{at_object}
-use Rattle.dep_changes.proofs.Steps.{files_row, its_number, at_number, rewritten, written_again}
+use Rattle.dep_changes.proofs.Steps.{files_row, written_again, row_written}
 use Rattle.dep_row_maps.proofs.Changing.{changes_then, does_failed}
 use Rattle.dep_changes.proofs.objects.drop_file.Goals as goal
 
@@ -29,7 +29,7 @@ returns g c = record {
             let now = c.files_changed.result in
             let mark : Object = with_files s o.files o in
             let is = files_row s n o view.object object.0 row c.in_ok-row.ensures.told view.clock view.next numbers.0 numbers.1 now o.files c.files_changed.ensures in
-            let put = at_number (tables_of mid) s now.object n mark (its_number n mark now is) (c.in_ok-write_row.ensures.map.done mark before inside ours s are (rewritten s n o mark now is object.1 refl refl)) in
+            let put = row_written (tables_of mid) s n o mark now is object.1 refl refl (c.in_ok-write_row.ensures.map.done mark before inside ours s are) in
             let one : State = with_object s n mark in
             let it : Object = with_files s (finmap.remove o.files c.args.file) o in
             at_object s s.uploads new c.delete_file.result n o (λ (x : Object). with_files s (finmap.remove x.files c.args.file) x) object.1
