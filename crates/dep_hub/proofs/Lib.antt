@@ -17,3 +17,4 @@ mod OwingLemmas
 mod BehindLemmas
 mod PendingLemmas
 mod KeptLemmas
+pub mod PreparingLemmas

@@ -17,5 +17,7 @@ pub mod Shut
 pub mod Flushing
 pub mod Errands
 pub mod Claims
+pub mod Preparing
 pub mod Owing
 pub mod StandsOwing
+pub mod WorkingAhead

@@ -11,15 +11,18 @@ mod contents;
 mod faults;
 mod flush;
 mod hub;
+mod keeping;
 pub mod laws;
 mod next;
 mod pending;
+mod preparing;
 mod rest;
 mod sending;
 mod sent_on;
 mod serving;
 mod site;
 mod step;
+mod uploads;
 
 pub use access_log::{AccessLog, NoLog};
 pub use archive::{Archive, ROUNDS_TO_REPLY};
