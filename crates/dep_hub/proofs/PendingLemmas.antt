@@ -156,7 +156,11 @@ pub not_broken : (r : Option Rest) → later_than r ≡ Broken → ⊥
 not_broken None e = let bad : Nothing ≡ Broken = e in cc
 not_broken (Some r) e = let bad : Content r ≡ Broken = e in cc
 
-pub not_waiting : (r : Option Rest) → is_looked_at (later_than r) ≡ false
+pub not_looked : (r : Option Rest) → is_looked_at (later_than r) ≡ false
+not_looked None = refl
+not_looked (Some r) = refl
+
+pub not_waiting : (r : Option Rest) → is_waiting (later_than r) ≡ false
 not_waiting None = refl
 not_waiting (Some r) = refl
 

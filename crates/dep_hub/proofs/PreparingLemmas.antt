@@ -24,7 +24,7 @@ use Rattle.dep_hub.specs.Preparing.{BeginsToPrepare, MakesStepFor, goes_on, ends
 use Rattle.dep_hub.specs.Records.{Record, World, Run, stops, stopped, first_world}
 use Rattle.dep_hub.specs.Standing.{intake_of, store_of, IsClean}
 use Rattle.dep_hub.specs.StandsOwing.{KeepsBack, KeptBack, unsent, prepares_still, begins_to_prepare, waits_still, begins_to_wait, wants_memory, OthersStay, StandsOwing, IsReady, behind_at}
-use Rattle.dep_hub.specs.WorkingAhead.{AheadContents, AheadEnds, AheadOwes, AheadStands, MakesOneStep, for_none, for_one, PreparesOnce, WorksAhead, steps_below}
+use Rattle.dep_hub.specs.WorkingAhead.{AheadContents, AheadEnds, AheadStands, MakesOneStep, for_none, for_one, PreparesOnce, WorksAhead, steps_below}
 use Rattle.dep_hub.specs.declared.claim.Claim.{Claim}
 use Rattle.dep_hub.specs.declared.connections.Connection.{Connection}
 use Rattle.dep_hub.specs.declared.hub.Hub.{Hub}
@@ -69,15 +69,16 @@ first_at (c ∷ cs) l d = elim (cases_Bool (is_preparing c.behind)) [
   | inr fails ↦ let rest = rw fails at l in rw fails (first_at cs (omega (arith, rest)) d)
 ]
 
-pub found_preparing : (cs : List Connection) (i : ℕ) → position (λ (c : Connection). is_preparing c.behind) cs ≡ Some i → (c : Connection) → c ≡ get_or cs i c
-    → is_preparing c.behind ≡ true
-found_preparing cs i h c item =
+pub found_preparing : (cs : List Connection) (i : ℕ) → position (λ (c : Connection). is_preparing c.behind) cs ≡ Some i
+    → (i < length cs) × ((c : Connection) → c ≡ get_or cs i c → is_preparing c.behind ≡ true)
+found_preparing cs i h =
     let p : Connection → Bool = λ c. is_preparing c.behind in
     elim (cases_lt (position_or_len p cs) (length cs)) [
       | inl lt ↦
           let is = rw (lt-ltb _ _ lt) at h in
           let same : position_or_len p cs ≡ i = cc is in
-          ap (λ (x : Connection). is_preparing x.behind) item ∙ subst (λ (k : ℕ). is_preparing (get_or cs k c).behind ≡ true) same (first_at cs lt c)
+          (subst (λ (k : ℕ). k < length cs) same lt,
+          λ c item. ap (λ (x : Connection). is_preparing x.behind) item ∙ subst (λ (k : ℕ). is_preparing (get_or cs k c).behind ≡ true) same (first_at cs lt c))
       | inr ge ↦ let is = rw (le-ltb _ _ ge) at h in cc is
     ]
 
@@ -149,6 +150,14 @@ step_owes s owed was now (ends left w n) h = subst (λ (b : Behind). IsOwed s b 
 step_content : (was now : Behind) → MakesStepFor was now → is_content now ≡ is_content was
 step_content was now (goes_on left w n) = ap is_content n ∙ sym (ap is_content w)
 step_content was now (ends left w n) = ap is_content n ∙ sym (ap is_content w)
+
+pub step_idle : (was now : Behind) → MakesStepFor was now → is_pending now ≡ is_pending was
+step_idle was now (goes_on left w n) = ap is_pending n ∙ sym (ap is_pending w)
+step_idle was now (ends left w n) = ap is_pending n ∙ sym (ap is_pending w)
+
+pub step_still : (was now : Behind) → MakesStepFor was now → is_waiting now ≡ is_waiting was
+step_still was now (goes_on left w n) = ap is_waiting n ∙ sym (ap is_waiting w)
+step_still was now (ends left w n) = ap is_waiting n ∙ sym (ap is_waiting w)
 
 prepared_whole : Prepared ≡ Broken → ⊥
 prepared_whole e = cc e
@@ -245,7 +254,8 @@ module _ {A : Type 0} (condition : A → Condition) (old new : Hub A) where
         subst (λ (x : Behind). f (behind_at old.connections.items m) x) (sym (others m apart)) (same (behind_at old.connections.items m))
   ]
 
-  pub ahead_owes : AheadOwes condition old new
+  pub ahead_owes : WorksAhead condition old new → (m : ℕ) (s : State) (owed : List ℕ) → IsOwed s (behind_at old.connections.items m) owed
+      → IsOwed s (behind_at new.connections.items m) owed
   ahead_owes w m s owed = by_number (λ (was now : Behind). IsOwed s was owed → IsOwed s now owed) (λ b h. h) (λ was now step. step_owes s owed was now step) w.step m
 
   pub ahead_contents : AheadContents condition old new

@@ -1,13 +1,11 @@
 -- What working ahead does to a hub, and how the preparing of requests ends.
 use Rattle.std.specs.Prelude.{◌≡◌, ◌≢◌, ◌⊎◌, ◌<◌, ◌+◌, ℕ, zero, suc, true, false, List, Option, Some}
-use Rattle.dep_types.specs.State.{State}
 use Rattle.dep_types.specs.Conditions.{Condition}
 use Rattle.dep_message.specs.Places.{Reading}
 use Rattle.dep_hub.specs.Records.{World}
 use Rattle.dep_hub.specs.Archives.{KeepsEachState}
 use Rattle.dep_hub.specs.Standing.{store_of, intake_of, IsClean}
 use Rattle.dep_hub.specs.Holding.{StandsOn, StopsOn}
-use Rattle.dep_hub.specs.Owing.{IsOwed}
 use Rattle.dep_hub.specs.Claims.{is_content}
 use Rattle.dep_hub.specs.Preparing.{BeginsToPrepare as Begins, MakesStepFor, is_preparing, steps_of}
 use Rattle.dep_hub.specs.StandsOwing.{KeepsBack, OthersStay, StandsOwing, behind_at}
@@ -60,12 +58,6 @@ module _ {A : Type 0} (condition : A → Condition) where
   AheadStands old new = WorksAhead old new → IsClean condition new
       → (w : World) (held owed : ℕ → List ℕ) → StandsOwing condition old w held owed
       → StandsOwing condition new w held owed
-
-  -- so of each connection
-  abbrev pub AheadOwes : Hub A → Hub A → Type 0
-  AheadOwes old new = WorksAhead old new → (m : ℕ) (s : State) (owed : List ℕ)
-      → IsOwed s (behind_at old.connections.items m) owed
-      → IsOwed s (behind_at new.connections.items m) owed
 
   -- a content is being sent where one was, and broken off where it was
   abbrev pub AheadContents : Hub A → Hub A → Type 0
