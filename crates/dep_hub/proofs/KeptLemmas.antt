@@ -37,7 +37,7 @@ use Rattle.dep_hub.specs.declared.rest.Behind.{Behind}
 use Rattle.dep_hub.specs.declared.rest.Rest.{Rest}
 use Rattle.dep_hub.specs.declared.rest.Behind.TheVariants.{Nothing, Content, Broken, Waits, Prepares, Prepared}
 use Rattle.dep_hub.specs.declared.claim.Claim.{Claim}
-use Rattle.dep_hub.specs.declared.claim.Claim.TheVariants.{Takes, Reads, Neither}
+use Rattle.dep_hub.specs.declared.claim.Claim.TheVariants.{Takes, Reads as ReadsFile, Neither}
 use Rattle.dep_hub.specs.Claims.{claim_by, claim_of, claim_to, has_to_wait, is_in_the_way, taken_of}
 use Rattle.dep_head.specs.Head.{HeadParts}
 use Rattle.dep_types.specs.declared.target.Resource.{Resource}
@@ -194,7 +194,7 @@ module _ (limit : ℕ) (stream part rest : List ℕ) (bare : Place) (before : Li
 -- no file is taken whose content is being sent
 nothing_in_way : (claim : Claim) → is_in_the_way claim Nothing ≡ false
 nothing_in_way (Takes files) = refl
-nothing_in_way (Reads n f) = refl
+nothing_in_way (ReadsFile n f) = refl
 nothing_in_way Neither = refl
 
 one_in_way : (c : Connection) (b : Behind) (claim : Claim) (t : Bool) → is_in_the_way claim c.behind ≡ false → is_in_the_way claim b ≡ false

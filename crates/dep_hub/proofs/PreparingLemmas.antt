@@ -24,7 +24,7 @@ use Rattle.dep_hub.specs.Preparing.{BeginsToPrepare, MakesStepFor, goes_on, ends
 use Rattle.dep_hub.specs.Records.{Record, World, Run, stops, stopped, first_world}
 use Rattle.dep_hub.specs.Standing.{intake_of, store_of, IsClean}
 use Rattle.dep_hub.specs.StandsOwing.{KeepsBack, KeptBack, unsent, prepares_still, begins_to_prepare, waits_still, begins_to_wait, wants_memory, OthersStay, StandsOwing, IsReady, behind_at}
-use Rattle.dep_hub.specs.WorkingAhead.{AheadContents, AheadEnds, AheadStands, MakesOneStep, for_none, for_one, PreparesOnce, WorksAhead, steps_below}
+use Rattle.dep_hub.specs.WorkingAhead.{AheadContents, AheadEnds, AheadStands, MakesOneStep, for_none, for_one, PreparesOnce, RestsAhead, steps_below}
 use Rattle.dep_hub.specs.declared.claim.Claim.{Claim}
 use Rattle.dep_hub.specs.declared.connections.Connection.{Connection}
 use Rattle.dep_hub.specs.declared.hub.Hub.{Hub}
@@ -54,19 +54,25 @@ request_head limit Shut next m f = absurd f
 pub tells_named : (reading : Reading) (m : Message) (next : Place) (told : Result Bool AllocError) → FirstAt reading.limit reading.place (Request m) next
     → IfOk told (λ named. named ≡ names_uploads m.head) → MatchResult told (TellsUploads reading) (λ _. HasFirstHead reading.place)
 tells_named reading m next (Ok true) first named = (m, next, first, sym named)
-tells_named reading m next (Ok false) first named other after f =
+tells_named reading m next (Ok false) first named = λ other after f.
     let same = (one_at reading.limit reading.place (Request m) (Request other) next after first f).0 in
     ap head_named (sym same) ∙ sym named
 tells_named reading m next (Err fault) first named = request_head reading.limit reading.place next m first
 
 -- ---- the first connection whose next request is prepared
 
-first_at : (cs : List Connection) → prefix_len (λ c. not (is_preparing c.behind)) cs < length cs → (d : Connection)
-    → is_preparing (get_or cs (prefix_len (λ c. not (is_preparing c.behind)) cs) d).behind ≡ true
+one_more : (n : ℕ) → suc n ≡ 1 + n
+one_more n = omega arith
+
+first_at : (cs : List Connection) → prefix_len (λ (c : Connection). not (is_preparing c.behind)) cs < length cs → (d : Connection)
+    → is_preparing (get_or cs (prefix_len (λ (c : Connection). not (is_preparing c.behind)) cs) d).behind ≡ true
 first_at [] l d = absurd (omega (arith, l))
 first_at (c ∷ cs) l d = elim (cases_Bool (is_preparing c.behind)) [
   | inl passes ↦ rw passes passes
-  | inr fails ↦ let rest = rw fails at l in rw fails (first_at cs (omega (arith, rest)) d)
+  | inr fails ↦
+      let rest = rw fails at l in
+      rw fails (subst (λ (k : ℕ). is_preparing (get_or (c ∷ cs) k d).behind ≡ true) (one_more (prefix_len (λ (x : Connection). not (is_preparing x.behind)) cs))
+      (first_at cs (omega (arith, rest)) d))
 ]
 
 pub found_preparing : (cs : List Connection) (i : ℕ) → position (λ (c : Connection). is_preparing c.behind) cs ≡ Some i
@@ -76,20 +82,21 @@ found_preparing cs i h =
     elim (cases_lt (position_or_len p cs) (length cs)) [
       | inl lt ↦
           let is = rw (lt-ltb _ _ lt) at h in
-          let same : position_or_len p cs ≡ i = cc is in
-          (subst (λ (k : ℕ). k < length cs) same lt,
-          λ c item. ap (λ (x : Connection). is_preparing x.behind) item ∙ subst (λ (k : ℕ). is_preparing (get_or cs k c).behind ≡ true) same (first_at cs lt c))
+          let same : position_or_len p cs ≡ i = cc is in (
+            subst (λ (k : ℕ). k < length cs) same lt,
+            λ c item. ap (λ (x : Connection). is_preparing x.behind) item ∙ subst (λ (k : ℕ). is_preparing (get_or cs k c).behind ≡ true) same (first_at cs lt c),
+          )
       | inr ge ↦ let is = rw (le-ltb _ _ ge) at h in cc is
     ]
 
-none_at_all : (cs : List Connection) → length cs ≤ prefix_len (λ c. not (is_preparing c.behind)) cs → (m : ℕ) → is_preparing (behind_at cs m) ≡ false
+none_at_all : (cs : List Connection) → length cs ≤ prefix_len (λ (c : Connection). not (is_preparing c.behind)) cs → (m : ℕ) → is_preparing (behind_at cs m) ≡ false
 none_at_all [] l m = refl
 none_at_all (c ∷ cs) l m = elim (cases_Bool (is_preparing c.behind)) [
   | inl passes ↦ let bad = rw passes at l in absurd (omega (arith, bad))
   | inr fails ↦ let rest = rw fails at l in let later = none_at_all cs (omega (arith, rest)) m in elim (cases_Bool (c.number == m)) [
-      | inl here ↦ rw here fails
-      | inr other ↦ rw other later
-    ]
+    | inl here ↦ rw here fails
+    | inr other ↦ rw other later
+  ]
 ]
 
 pub none_preparing : (cs : List Connection) → position (λ (c : Connection). is_preparing c.behind) cs ≡ None → (m : ℕ) → is_preparing (behind_at cs m) ≡ false
@@ -207,7 +214,7 @@ steps_fewer xs ys (suc n) k l others fewer = elim (cases_lt k n) [
 
 module _ {A : Type 0} (condition : A → Condition) (old new : Hub A) where
   pub works_ahead : new.config ≡ old.config → new.next ≡ old.next → ((m : ℕ) → intake_of new.connections.items m ≡ intake_of old.connections.items m)
-      → MakesOneStep old.connections.items new.connections.items → KeepsEachState (store_of condition old) (store_of condition new) → WorksAhead condition old new
+      → MakesOneStep old.connections.items new.connections.items → KeepsEachState (store_of condition old) (store_of condition new) → RestsAhead condition old new
   works_ahead config next intakes step store = record {
     stands = λ clean first records held h. record {
       world = h.world;
@@ -238,8 +245,8 @@ module _ {A : Type 0} (condition : A → Condition) (old new : Hub A) where
       let behinds = behinds_are n i old.connections.items c b index item c.intake new.connections.items changed in
       let here = behinds n ∙ ap (λ (t : Bool). if t then b else behind_at old.connections.items n) (eq-eqb n n refl) in (
         for_one n (subst (λ (x : Behind). MakesStepFor (behind_at old.connections.items n) x) (sym here)
-        (subst (λ (x : Behind). MakesStepFor x b) (sym (behind_some n i old.connections.items c index item)) step))
-        (others_are n old.connections.items new.connections.items b behinds),
+            (subst (λ (x : Behind). MakesStepFor x b) (sym (behind_some n i old.connections.items c index item)) step))
+            (others_are n old.connections.items new.connections.items b behinds),
         intakes_stay n i old.connections.items c b index item new.connections.items changed,
       )
 
@@ -254,7 +261,7 @@ module _ {A : Type 0} (condition : A → Condition) (old new : Hub A) where
         subst (λ (x : Behind). f (behind_at old.connections.items m) x) (sym (others m apart)) (same (behind_at old.connections.items m))
   ]
 
-  pub ahead_owes : WorksAhead condition old new → (m : ℕ) (s : State) (owed : List ℕ) → IsOwed s (behind_at old.connections.items m) owed
+  pub ahead_owes : RestsAhead condition old new → (m : ℕ) (s : State) (owed : List ℕ) → IsOwed s (behind_at old.connections.items m) owed
       → IsOwed s (behind_at new.connections.items m) owed
   ahead_owes w m s owed = by_number (λ (was now : Behind). IsOwed s was owed → IsOwed s now owed) (λ b h. h) (λ was now step. step_owes s owed was now step) w.step m
 

@@ -43,7 +43,7 @@ steps_left hub = steps_below hub.connections.items hub.next
 module _ {A : Type 0} (condition : A → Condition) where
   -- Nothing is answered: the hub stands for the same records, holds the same bytes, and what a stop now leaves
   -- stands for them too. Nothing of a connection changes, but for the one for which a step is made.
-  pub record WorksAhead (old new : Hub A) : Type 0 where
+  pub record RestsAhead (old new : Hub A) : Type 0 where
     pub stands : StandsOn condition old new
     pub stops : StopsOn condition old new
     pub store : KeepsEachState (store_of condition old) (store_of condition new)
@@ -55,20 +55,20 @@ module _ {A : Type 0} (condition : A → Condition) where
 
   -- what is owed stays
   abbrev pub AheadStands : Hub A → Hub A → Type 0
-  AheadStands old new = WorksAhead old new → IsClean condition new
+  AheadStands old new = RestsAhead old new → IsClean condition new
       → (w : World) (held owed : ℕ → List ℕ) → StandsOwing condition old w held owed
       → StandsOwing condition new w held owed
 
   -- a content is being sent where one was, and broken off where it was
   abbrev pub AheadContents : Hub A → Hub A → Type 0
-  AheadContents old new = WorksAhead old new → (m : ℕ)
+  AheadContents old new = RestsAhead old new → (m : ℕ)
       → (is_content (behind_at new.connections.items m)
       ≡ is_content (behind_at old.connections.items m))
       × (behind_at new.connections.items m ≡ Broken → behind_at old.connections.items m ≡ Broken)
 
   -- while a request is prepared, working ahead leaves fewer steps
   abbrev pub AheadEnds : Hub A → Hub A → Type 0
-  AheadEnds old new = WorksAhead old new → (m : ℕ)
+  AheadEnds old new = RestsAhead old new → (m : ℕ)
       → is_preparing (behind_at old.connections.items m) ≡ true → steps_left new < steps_left old
 
   -- that begins where the request wasn't looked at before, and else goes on as it was

@@ -55,7 +55,7 @@ impl<A: Archive> Hub<A> {
     ghost use Rattle.dep_hub.specs.Holding.{HoldsOn, RestsOn, MovesLine, OffersTo, with_held};
     ghost use Rattle.dep_hub.specs.StandsOwing.{behind_at, is_awaited_at, KeepsBack, NextIsFree, NextIsPrepared, RepliesOver, SendsOn};
     ghost use Rattle.dep_hub.specs.Claims.{is_content};
-    ghost use Rattle.dep_hub.specs.WorkingAhead.{BeginsToPrepare, WorksAhead};
+    ghost use Rattle.dep_hub.specs.WorkingAhead.{BeginsToPrepare, RestsAhead};
     ghost use Rattle.dep_hub.specs.Numbers.{index_of};
     ghost use Rattle.std.specs.Prelude.{ℕ, Some, ◌==◌, ◌<◌, if◌then◌else◌, true, false};
     ghost use Rattle.dep_hub.specs.Archives.{KeepsAll, CommitsIfDue};
@@ -415,16 +415,12 @@ impl<A: Archive> Hub<A> {
         ensures commits { CommitsIfDue (A.may_commit self.old.store)
             (A.may_commit self.new.store)
             (store_of A.condition self.old) (store_of A.condition self.new) }
-        ensures rests { WorksAhead A.condition self.old self.new }
+        ensures rests { RestsAhead A.condition self.old self.new }
     {
         let Some(i) = first_preparing(self.connections.as_slice()) else {
             return self.store.work_ahead(self.config.service(), None);
         };
-        prepare(
-            &self.config,
-            &mut self.store,
-            &mut self.connections[i],
-        )
+        prepare(&self.config, &mut self.store, &mut self.connections[i])
     }
 
     /// Forgets a connection. What it holds is dropped, and one that isn't there changes nothing.

@@ -110,11 +110,7 @@ fn work_for_next<A: Archive>(site: &Site, store: &mut A, intake: &mut Intake) ->
 }
 
 /// Makes a step for the next request of a connection that is prepared, and returns whether the archive has more to do.
-pub(crate) fn prepare<A: Archive>(
-    site: &Site,
-    store: &mut A,
-    connection: &mut Connection,
-) -> bool
+pub(crate) fn prepare<A: Archive>(site: &Site, store: &mut A, connection: &mut Connection) -> bool
     requires { is_preparing connection.old.behind ≡ true }
     ensures works { Works A.account A.may_commit A.condition store.old store.new result }
     ensures number { connection.new.number ≡ connection.old.number }

@@ -19,7 +19,7 @@ returns-in_default-clause-looked g c e nothing reading there =
     let kept = c.index_mut-kept.result.now in
     let found = index_some c.args.connection c.args.i items kept c.requires.index c.index_mut-kept.ensures.value in
     subst (λ (r : Reading). NamesNone r) (some_reading kept.intake reading (sym found.1 ∙ there))
-    ((c.in_default.ensures tt).looked (sym (behind_some c.args.connection c.args.i items kept c.requires.index c.index_mut-kept.ensures.value) ∙ nothing))
+    (c.in_default.ensures.looked refl (sym (behind_some c.args.connection c.args.i items kept c.requires.index c.index_mut-kept.ensures.value) ∙ nothing))
 
 -- its next request is kept back
 pub invariant_of-self-2 : goal.invariant_of-self-2
@@ -28,7 +28,7 @@ invariant_of-self-2 g c =
     let kept = c.index_mut-kept.result.now in
     let item = c.index_mut-kept.ensures.value in
     let d : Connection = record { number = c.looked_at.new.connection.number; intake = c.looked_at.new.connection.intake; behind = c.in-Some.behind } in
-    let begins = (c.in-Some.ensures tt).begins in
+    let begins = c.in-Some.ensures.begins in
     record {
       ascends = ascends_set 0 c.args.self.now.next c.args.i items kept d item (ap (λ (x : Connection). x.number) c.looked_at.ensures.same) c.args.self.now.ascends;
       busy = c.args.self.now.busy ∙ sym (pending_set c.args.i items kept d item (begun_idle kept.intake kept.behind c.in-Some.behind begins));
@@ -55,5 +55,5 @@ returns-clause-begins g c e =
       reading = kept.intake;
       there = found.1;
       why = subst (λ (x : Behind). Begins kept.intake (behind_at items n) x) (sym here)
-          (subst (λ (x : Behind). Begins kept.intake x b) (sym (behind_some n c.args.i items kept c.requires.index item)) (c.in-Some.ensures tt).begins);
+          (subst (λ (x : Behind). Begins kept.intake x b) (sym (behind_some n c.args.i items kept c.requires.index item)) c.in-Some.ensures.begins);
     }

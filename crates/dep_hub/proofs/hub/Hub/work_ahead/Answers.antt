@@ -1,5 +1,5 @@
-use Rattle.std.proofs.Common.{refl, sym, ap, ◌∙◌}
-use Rattle.std.specs.List.{position, set}
+use Rattle.std.proofs.Common.{set, refl, sym, ap, ◌∙◌}
+use Rattle.std.specs.List.{position}
 use Rattle.dep_hub.specs.Preparing.{is_preparing}
 use Rattle.dep_hub.specs.WorkingAhead.{for_none}
 use Rattle.dep_hub.specs.declared.connections.Connection.{Connection}
