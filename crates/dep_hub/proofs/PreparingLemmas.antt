@@ -35,7 +35,7 @@ use Rattle.dep_hub.proofs.ConnectionLemmas.{ascends_le}
 use Rattle.dep_hub.proofs.Leaving.{leaves_wider}
 
 -- an item names uploads
-head_named : Item → Bool
+abbrev head_named : Item → Bool
 head_named (Request m) = names_uploads m.head
 head_named (Fault refusal bare) = false
 head_named Continue = false
@@ -210,6 +210,21 @@ steps_fewer xs ys (suc n) k l others fewer = elim (cases_lt k n) [
       omega (arith, front, last)
 ]
 
+-- a step was made where a connection stands
+pub one_step : (next : ℕ) (old new : List Connection) → Ascends 0 old next → (i : ℕ) (c : Connection) (b : Behind) → i < length old → c ≡ get_or old i c
+    → MakesStepFor c.behind b → new ≡ set old i (record { number = c.number; intake = c.intake; behind = b })
+    → MakesOneStep old new × ((m : ℕ) → intake_of new m ≡ intake_of old m)
+one_step next old new ascends i c b within item step changed =
+    let n = c.number in
+    let index = (index_at 0 next i old c ascends within item).0 in
+    let behinds = behinds_are n i old c b index item c.intake new changed in
+    let here = behinds n ∙ ap (λ (t : Bool). if t then b else behind_at old n) (eq-eqb n n refl) in (
+      for_one n (subst (λ (x : Behind). MakesStepFor (behind_at old n) x) (sym here)
+          (subst (λ (x : Behind). MakesStepFor x b) (sym (behind_some n i old c index item)) step))
+          (others_are n old new b behinds),
+      intakes_stay n i old c b index item new changed,
+    )
+
 -- ---- a hub that worked ahead
 
 module _ {A : Type 0} (condition : A → Condition) (old new : Hub A) where
@@ -234,21 +249,6 @@ module _ {A : Type 0} (condition : A → Condition) (old new : Hub A) where
     intakes = intakes;
     step = step;
   }
-
-  -- a step was made where a connection stands
-  pub one_step : (i : ℕ) (c : Connection) (b : Behind) → i < length old.connections.items → c ≡ get_or old.connections.items i c → MakesStepFor c.behind b
-      → new.connections.items ≡ set old.connections.items i (record { number = c.number; intake = c.intake; behind = b })
-      → MakesOneStep old.connections.items new.connections.items × ((m : ℕ) → intake_of new.connections.items m ≡ intake_of old.connections.items m)
-  one_step i c b within item step changed =
-      let n = c.number in
-      let index = (index_at 0 old.next i old.connections.items c old.ascends within item).0 in
-      let behinds = behinds_are n i old.connections.items c b index item c.intake new.connections.items changed in
-      let here = behinds n ∙ ap (λ (t : Bool). if t then b else behind_at old.connections.items n) (eq-eqb n n refl) in (
-        for_one n (subst (λ (x : Behind). MakesStepFor (behind_at old.connections.items n) x) (sym here)
-            (subst (λ (x : Behind). MakesStepFor x b) (sym (behind_some n i old.connections.items c index item)) step))
-            (others_are n old.connections.items new.connections.items b behinds),
-        intakes_stay n i old.connections.items c b index item new.connections.items changed,
-      )
 
   -- so what is owed, and what is being sent
   by_number : (f : Behind → Behind → Type 0) → ((b : Behind) → f b b) → ((was now : Behind) → MakesStepFor was now → f was now)

@@ -38,6 +38,6 @@ returns-clause-rests g c =
     let d = c.prepare.new.connection in
     let found = ap (position (λ (x : Connection). is_preparing x.behind)) (sym c.as_slice.ensures.value) ∙ (sym c.first_preparing.ensures ∙ c.in-Some.is) in
     let within = (found_preparing old.connections.items c.in-Some.i found).0 in
-    let o = one_step g.A.Archive.condition old _ c.in-Some.i kept d.behind within c.index_mut.ensures.value c.prepare.ensures.step
+    let o = one_step old.next old.connections.items (set old.connections.items c.in-Some.i d) old.ascends c.in-Some.i kept d.behind within c.index_mut.ensures.value c.prepare.ensures.step
     (λ j. set old.connections.items c.in-Some.i (record { number = c.prepare.ensures.number j; intake = c.prepare.ensures.intake j; behind = d.behind })) in
     works_ahead g.A.Archive.condition old _ refl refl o.1 o.0 c.prepare.ensures.works.rests
