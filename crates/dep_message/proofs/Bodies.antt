@@ -55,10 +55,6 @@ body_fault limit continued front text behind head frame fault b is_fault = (
   bad_body fault (headed limit continued front text head frame b) is_fault,
 )
 
--- a head has some bytes
-pub head_size : (limit : ℕ) (continued : Bool) (front : List ℕ) (head : HeadParts) (frame : Framing) → IsBegun limit continued front head frame → 0 < length front
-head_size limit continued front head frame b = let four = (end_within front (length front) b.is_head.ends).0 in omega arith
-
 -- a good head is one but for its target
 pub begins_with_head : (limit : ℕ) (continued : Bool) (front body : List ℕ) (head : HeadParts) (frame : Framing)
     → IsBegun limit continued front head frame → BeginsWithHead (front ++ body)

@@ -4,10 +4,10 @@ use Rattle.std.proofs.lemmas.List.{length-take-le, take-append-drop}
 use Rattle.std.proofs.Math.Seq.{take-add, drop-append_seam}
 use Rattle.dep_head.specs.Head.{HeadParts}
 use Rattle.dep_body.specs.declared.frame.Framing.{Framing}
-use Rattle.dep_message.specs.Giving.{Begins, BeginsWithHead}
+use Rattle.dep_message.specs.Giving.{BeginsWithHead}
 use Rattle.dep_message.specs.Places.{Reading, Open}
 use Rattle.dep_message.specs.Working.{IsFresh, IsItem, IsKnown, IsAtHead, IsBegun, IsReadTo, ReadsChunks, Keeps, bytes_with, first_of, kept_bytes, reading_of}
-use Rattle.dep_message.specs.Stream.{IsContinueText, IsFaultText, IsRequestText, Waits}
+use Rattle.dep_message.specs.Stream.{IsRequestText, Waits}
 use Rattle.dep_message.specs.declared.intake.Standing.{Standing}
 use Rattle.dep_message.specs.declared.intake.Standing.TheVariants.{Live}
 use Rattle.dep_message.specs.declared.message.Message.{Message}
@@ -27,9 +27,6 @@ use Rattle.dep_message.proofs.SearchOn.{searched_none}
 -- the same bytes are kept, and the item that stands first in them was found
 abbrev pub IsFoundIn : (work : Work) → List ℕ → Work → Type 0
 IsFoundIn work bytes new = Keeps work.limit work.continued bytes new × IsReadTo work.limit work.continued bytes new.progress
-
-begins_more : (IsText : List ℕ → Type 0) (bytes piece : List ℕ) → Begins IsText bytes → Begins IsText (bytes ++ piece)
-begins_more IsText bytes piece b = (b.0, b.1 ++ piece, ap (λ l. l ++ piece) b.2 ∙ append_assoc b.0 b.1 piece, b.3)
 
 -- with nothing known of the first request, the bytes are those of the buffer
 pub keeps_fresh : (limit : ℕ) (continued : Bool) (bytes : List ℕ) (work : Work) → IsFresh work
@@ -127,15 +124,6 @@ keeps_body work new behind all used n size m n_is all_is used_is within begun co
     ∙ (append_assoc work.buffer (take size behind) (drop size behind) ∙ ap (λ l. work.buffer ++ l) (take-append-drop size behind))))
     (subst (λ (l : List ℕ). IsRequestText work.limit work.continued l m) (sym used_is)
     (whole_request work.limit work.continued work.buffer (take size behind) m (Length size) begun (length-take-le size behind within, content)))
-
--- behind what was used and the buffer more bytes come
-pub item_more : (limit : ℕ) (continued : Bool) (used buffer piece : List ℕ) (item : Found) → IsItem limit continued used buffer item
-    → IsItem limit continued used (buffer ++ piece) item
-item_more limit continued used buffer piece (F.Message m) is = is
-item_more limit continued used buffer piece F.Continue is = (is.0, begins_more (IsContinueText limit continued) buffer piece is.1)
-item_more limit continued used buffer piece (F.Fault refusal bare) is =
-    subst (Begins (λ text. IsFaultText limit continued text refusal bare)) (append_assoc used buffer piece)
-    (begins_more (λ text. IsFaultText limit continued text refusal bare) (used ++ buffer) piece is)
 
 -- where memory is refused, the reading stands where it stood
 pub stands_still : (work new : Work) (standing : Standing) (reading : Reading) → standing ≡ Live → reading_of standing work ≡ reading

@@ -33,12 +33,12 @@ pub none_waits : (limit : ℕ) (at : Place) → Waits limit at → IsNoRequest l
 none_waits limit at waits m next f = waits_none limit at next (Request m) waits f
 
 -- a request that was found stands first
-pub found_first : (limit : ℕ) (continued : Bool) (used buffer : List ℕ) (m : Message) → IsItem limit continued used buffer (F.Message m)
+found_first : (limit : ℕ) (continued : Bool) (used buffer : List ℕ) (m : Message) → IsItem limit continued used buffer (F.Message m)
     → FirstAt limit (Open continued (used ++ buffer)) (Request m) (after_item (Request m) used buffer)
 found_first limit continued used buffer m is = record { text = used; behind = buffer; whole = refl; spelled = is; goes_on = refl }
 
 -- what is shown of what was found
-pub shows_found : {X : Type 0} (sees : X → X → Message → Type 0) (before after : X) (limit : ℕ) (continued : Bool) (used buffer : List ℕ) (item : Found)
+shows_found : {X : Type 0} (sees : X → X → Message → Type 0) (before after : X) (limit : ℕ) (continued : Bool) (used buffer : List ℕ) (item : Found)
     → IsItem limit continued used buffer item → (shown : Bool) → ShowsFound sees before after item shown
     → ShowsNext sees before after limit (Open continued (used ++ buffer)) shown
 shows_found sees before after limit continued used buffer (F.Message m) is shown s =

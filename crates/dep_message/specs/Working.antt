@@ -60,7 +60,7 @@ bytes_with (First first) buffer = first.used.items ++ buffer
 abbrev pub kept_bytes : Work → List ℕ
 kept_bytes work = bytes_with work.progress work.buffer
 
--- it stands first: a request is the bytes that were used, a `100 Continue` is due by the buffer's alone
+-- it stands first: a request is just the bytes that were used, and where a `100 Continue` is due, none were
 abbrev pub IsItem : ℕ → Bool → (used buffer : List ℕ) → Found → Type 0
 IsItem limit continued used buffer (F.Message m) = IsRequestText limit continued used m
 IsItem limit continued used buffer F.Continue =
@@ -123,8 +123,8 @@ FindsHead limit continued bytes (H.Fault refusal bare) =
 FindsHead limit continued bytes H.Nothing = (head_end bytes ≡ None) × (length bytes < head_limit)
 
 -- a request that was found was shown, and nothing else is
-abbrev pub ShowsFound : {X : Type 0} → (sees : X → X → Message → Type 0) → (before after : X) → Found
-    → (shown : Bool) → Type 0
+abbrev pub ShowsFound : {X : Type 0} → (sees : X → X → Message → Type 0) → (before after : X)
+    → Found → (shown : Bool) → Type 0
 ShowsFound sees before after (F.Message m) shown = (shown ≡ true) × sees before after m
 ShowsFound sees before after F.Continue shown = (shown ≡ false) × (after ≡ before)
 ShowsFound sees before after (F.Fault refusal bare) shown = (shown ≡ false) × (after ≡ before)
@@ -148,7 +148,8 @@ IsReadOn work = IsReadTo work.limit work.continued (kept_bytes work) work.progre
 abbrev pub ReadsOn : (old : Work) (bytes : List ℕ) (new : Work) → Result Unit AllocError → Type 0
 ReadsOn old bytes new result =
     Keeps old.limit old.continued bytes new
-    × MatchResult result (λ _. IsReadTo old.limit old.continued bytes new.progress) (λ _. BeginsWithHead bytes)
+    × MatchResult result (λ _. IsReadTo old.limit old.continued bytes new.progress)
+    (λ _. BeginsWithHead bytes)
 
 -- what stands first in the bytes, and what is kept then
 abbrev pub Finds : ℕ → Bool → List ℕ → Work → Option Found → Type 0

@@ -120,8 +120,9 @@ impl Intake {
         }
     }
 
-    /// Shows the next request, where it has come whole, before `next` takes it, and returns whether one was shown. `next`
-    /// gives then what it would have given, and reads no byte of that request again. An `Err` is want of memory.
+    /// Shows the next request, where it has come whole, before `next` takes it, and returns whether one was shown. Nothing
+    /// is taken: `next` gives a request, a fault or a `100 Continue` that stands first as before, and reads no byte of it
+    /// again. An `Err` is want of memory.
     pub fn preview<P: Preview>(&mut self, by: &mut P) -> Result<bool, AllocError>
         ensures stays { self.new ≡ self.old }
         ensures shows { MatchResult result

@@ -10,7 +10,7 @@ pub trait Preview {
     /// What is so once it was shown a message, by what it was before and after.
     ghost sees: { Self → Self → MessageValue → Type 0 };
 
-    /// Looks at a message, and returns it.
+    /// Looks at a message, and returns it. How far its content was hashed is no part of its value, and may be another.
     fn preview(&mut self, message: Message) -> Message
         ensures same { result ≡ message }
         ensures seen { sees self.old self.new message };

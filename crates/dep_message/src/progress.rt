@@ -47,7 +47,7 @@ pub(crate) enum Found {
 #[derive(Drop)]
 pub(crate) struct FirstItem {
     pub item: Found,
-    /// Those of a whole request are all of its bytes.
+    /// Those of its bytes that are in memory no more: of a whole request all.
     pub used: UsedBytes,
 }
 
@@ -79,7 +79,7 @@ impl SizedRequest {
 }
 
 impl FirstItem {
-    /// Shows a whole request, and returns whether it is one.
+    /// Shows it where it is a whole request, and returns whether it is.
     pub fn show<P: Preview>(&mut self, by: &mut P) -> bool
         ensures same { self.new ≡ self.old }
         ensures shows { ShowsFound P.sees by.old by.new self.old.item result }
