@@ -325,16 +325,3 @@ module _ {A : Type 0} (condition : A → Condition) (old new : Hub A) (config : 
     connections = connections;
     next = next;
   }
-
-  -- it worked ahead
-  pub rests_ahead : KeepsEachState (store_of condition old) (store_of condition new) → RestsOn condition KeepsEachState old new
-  rests_ahead store = record {
-    stands = stands_still store.kept;
-    stops = λ honest first records held h.
-        leaves_wider (store_of condition new) _ _ (λ found e. subst (λ s. Run old.config first (records ++ stopped ∷ []) (first_world s)) (sym e) (stops h.run))
-        (store.stop honest h.world.state h.at.state);
-    store = store;
-    config = config;
-    connections = connections;
-    next = next;
-  }
