@@ -4,10 +4,7 @@ mod ServingLemmas
 mod SendingLemmas
 mod ConnectionLemmas
 pub mod HubLemmas
-mod ExchangeLemmas
-pub mod TalkLemmas
-mod TurnLemmas
-mod ShutLemmas
+pub mod ShutLemmas
 mod Endings
 mod NextLemmas
 mod HeldLemmas

@@ -7,14 +7,11 @@ pub mod Serving
 pub mod Nexts
 pub mod Standing
 pub mod Holding
-pub mod Turns
-pub mod Conversation
 pub mod Numbers
 pub mod Performing
 pub mod Archives
 pub mod Faults
 pub mod Shut
-pub mod Flushing
 pub mod Errands
 pub mod Claims
 pub mod Owing

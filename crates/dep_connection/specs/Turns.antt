@@ -8,10 +8,11 @@ use Rattle.dep_types.specs.declared.inlet.LastRead.{LastRead}
 use Rattle.dep_types.specs.declared.inlet.LastRead.TheVariants as read
 use Rattle.dep_types.specs.declared.config.Config.{Config}
 use Rattle.dep_hub.specs.Records.{World, Line, Live, Absent, with_line, Connect, Arrive, Close, Record, Arrives, LeftByArrival}
+use Rattle.dep_hub.specs.Numbers.{most_read}
 use Rattle.dep_hub.specs.declared.arrived.Arrived.{Arrived}
 use Rattle.dep_hub.specs.declared.arrived.Arrived.TheVariants.{Open as StaysOpen, Closed as HasClosed, Cut, NoSuch}
-use Rattle.dep_hub.specs.declared.connection.Served.{Served}
-use Rattle.dep_hub.specs.declared.connection.Served.TheVariants.{Ended, Closed, Unserved, ReadFault, WriteFault, Bound}
+use Rattle.dep_connection.specs.declared.connection.Served.{Served}
+use Rattle.dep_connection.specs.declared.connection.Served.TheVariants.{Ended, Closed, Unserved, ReadFault, WriteFault, Bound}
 
 -- a piece that was read, when it came, what was sent for it, and what it came to
 pub record Turn : Type 0 where
@@ -36,13 +37,9 @@ records_of number turns =
     record { event = Connect number; sent = [] } ∷ map (record_of number) turns
     ++ record { event = Close number; sent = [] } ∷ []
 
--- the greatest number of reads, and of bytes of one read
+-- the greatest number of reads
 abbrev pub most_reads : ℕ
 most_reads = 1048576
-
--- so many bytes are read at once
-abbrev pub most_read : ℕ
-most_read = 65536
 
 abbrev pub IsPiece : Turn → Type 0
 IsPiece t = (0 < length t.piece) × (length t.piece ≤ most_read)

@@ -13,13 +13,13 @@ use Rattle.dep_hub.specs.declared.hub.Hub.{Hub}
 use Rattle.dep_hub.specs.declared.arrived.Arrived.{Arrived}
 use Rattle.dep_hub.specs.declared.arrived.Arrived.TheVariants.{Open as StaysOpen, Closed as HasClosed, Cut, NoSuch}
 use Rattle.dep_hub.proofs.Leaving.{Settles, leaves_wider}
-use Rattle.dep_hub.proofs.ExchangeLemmas.{last_more, arrives_there, exchanges_run, exchanged_along, talks_exchange, talks_stop}
-use Rattle.dep_hub.proofs.ShutLemmas.{conversation_shut}
-use Rattle.dep_hub.proofs.TurnLemmas.{goes_same, goes_then}
-use Rattle.dep_hub.specs.Turns.{Turn, pieces_of, replies_of, record_of, records_of, EndsAs, last_answer, HasGoneOut, IsPiece, ArePieces, most_reads, reads_made, reads_after, with_opened, with_closed, Exchanges, none_yet, one_more, LeftByExchanges, IsEndedBy}
-use Rattle.dep_hub.specs.Conversation.{Outflow, Wire, Session, session, Transfers, GivesNothing, Clocks, Converses, IsAnswered, IsUnserved, ConversesOver, next_after, AddsAll, StopsAll, Talk, OneTurn, OpenTurn, NoTurn, TurnsTo, TalksUntil, Talks, silent, turn, ahead}
-use Rattle.dep_hub.specs.declared.connection.Served.{Served}
-use Rattle.dep_hub.specs.declared.connection.Served.TheVariants.{Ended, Closed, Unserved, ReadFault, WriteFault, Bound}
+use Rattle.dep_connection.proofs.ExchangeLemmas.{last_more, arrives_there, exchanges_run, exchanged_along, talks_exchange, talks_stop}
+use Rattle.dep_connection.proofs.ShutTurns.{conversation_shut}
+use Rattle.dep_connection.proofs.TurnLemmas.{goes_same, goes_then}
+use Rattle.dep_connection.specs.Turns.{Turn, pieces_of, replies_of, record_of, records_of, EndsAs, last_answer, HasGoneOut, IsPiece, ArePieces, most_reads, reads_made, reads_after, with_opened, with_closed, Exchanges, none_yet, one_more, LeftByExchanges, IsEndedBy}
+use Rattle.dep_connection.specs.Conversation.{Outflow, Wire, Session, session, Transfers, GivesNothing, Clocks, Converses, IsAnswered, IsUnserved, ConversesOver, next_after, AddsAll, StopsAll, Talk, OneTurn, OpenTurn, NoTurn, TurnsTo, TalksUntil, Talks, silent, turn, ahead}
+use Rattle.dep_connection.specs.declared.connection.Served.{Served}
+use Rattle.dep_connection.specs.declared.connection.Served.TheVariants.{Ended, Closed, Unserved, ReadFault, WriteFault, Bound}
 use Rattle.std.specs.Io.KnownBytes.{Appends}
 use Rattle.std.proofs.KnownBytes.{Keeps-refl, Appends-nil, Appends-trans, Consumes-nil, Consumes-trans, Consumes-kept}
 use Rattle.std.proofs.lemmas.Grind.{flat_map-append}

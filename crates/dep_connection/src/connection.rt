@@ -1,15 +1,12 @@
 //! One connection over an inlet and an outlet.
 ghost use Rattle.std.specs.Prelude.{◌≡◌, ◌<◌, IsSome, length};
 ghost use Rattle.dep_hub.specs.Standing.{intake_of, ServesAs};
-ghost use Rattle.dep_hub.specs.Turns.{most_read};
-ghost use Rattle.dep_hub.specs.Conversation.{standing, MayShow, ConversesOver, CanGoOn, TalksUntil, TurnsTo, next_after};
-ghost use Rattle.dep_hub.specs.Flushing.{IsFlushed};
+ghost use Rattle.dep_hub.specs.Numbers.{most_read};
+ghost use Rattle.dep_connection.specs.Conversation.{standing, MayShow, ConversesOver, CanGoOn, TalksUntil, TurnsTo, next_after};
+ghost use Rattle.dep_connection.specs.Flushing.{IsFlushed};
 
-use crate::archive::Archive;
-use crate::arrived::Arrived;
-use crate::connections::ConnId;
 use crate::flush::{Flush, FlushFailed};
-use crate::hub::Hub;
+use dep_hub::{Archive, Arrived, ConnId, Hub};
 use dep_moment::Moment;
 use dep_types::{Inlet, ReadFailed};
 use std::alloc::Global;

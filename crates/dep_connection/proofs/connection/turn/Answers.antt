@@ -1,13 +1,13 @@
 use Rattle.std.proofs.Common.{inl, inr, IsSome, ℕ, List, Vec, Global, refl, sym, ap, subst, length, drop, ◌∙◌}
 use Rattle.std.proofs.lemmas.List.{with_items_is}
-use Rattle.dep_hub.specs.Conversation.{MayShow, standing}
+use Rattle.dep_connection.specs.Conversation.{MayShow, standing}
 use Rattle.dep_hub.specs.Standing.{intake_of}
 use Rattle.dep_hub.specs.declared.connections.Connection.{Connection}
 use Rattle.dep_hub.specs.declared.arrived.Arrived.TheVariants.{Open as StaysOpen, Closed as HasClosed, Cut}
-use Rattle.dep_hub.proofs.TurnLemmas.{has_room, some_room, read_whole, read_within, none_read, gives_bytes, gives_none, goes_then, goes_ahead, arrives_flushed, arrived_there, one_turn, no_turn}
+use Rattle.dep_connection.proofs.TurnLemmas.{has_room, some_room, read_whole, read_within, none_read, gives_bytes, gives_none, goes_then, goes_ahead, arrives_flushed, arrived_there, one_turn, no_turn}
 use Rattle.dep_hub.proofs.HubLemmas.{none_there}
-use Rattle.dep_hub.proofs.connection.turn.Goals as goal
-use Rattle.dep_hub.proofs.connection.turn.Given as given
+use Rattle.dep_connection.proofs.connection.turn.Goals as goal
+use Rattle.dep_connection.proofs.connection.turn.Given as given
 
 -- the connection goes on, and the store works ahead
 pub returns-in-Open-clause-there : goal.returns-in-Open-clause-there

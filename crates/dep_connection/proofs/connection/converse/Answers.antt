@@ -3,8 +3,8 @@ use denote.Param.Always.{mut_next}
 use Rattle.dep_types.specs.Writing.{next_count}
 use Rattle.std.specs.Prelude.{IsSome}
 use Rattle.dep_hub.specs.Standing.{intake_of}
-use Rattle.dep_hub.proofs.TalkLemmas.{talk_none, talk_open, talk_last, talk_bound, turn_at, reads_more}
-use Rattle.dep_hub.proofs.connection.converse.Goals as goal
+use Rattle.dep_connection.proofs.TalkLemmas.{talk_none, talk_open, talk_last, talk_bound, turn_at, reads_more}
+use Rattle.dep_connection.proofs.connection.converse.Goals as goal
 
 pub loop-count-init : goal.loop-count-init
 loop-count-init g c = record { call = c.requires.call; same = refl; there = c.requires.there; reads = refl; last = inl refl; flushed = λ h. h; out = inl refl; talk = talk_none g.A.Archive.condition _ _ _ _ _ }

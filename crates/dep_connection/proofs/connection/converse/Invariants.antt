@@ -2,10 +2,10 @@ use Rattle.std.specs.Prelude.{IsSome, ◌≡◌, ◌⊎◌, false}
 use Rattle.dep_types.specs.declared.inlet.LastRead.TheVariants.{Bytes}
 use Rattle.dep_hub.specs.Standing.{intake_of}
 use Rattle.dep_hub.specs.declared.arrived.Arrived.TheVariants.{Open as StaysOpen}
-use Rattle.dep_hub.specs.Turns.{reads_after}
-use Rattle.dep_hub.specs.Conversation.{Talk, MayShow, standing}
-use Rattle.dep_hub.specs.Flushing.{IsFlushed}
-use Rattle.dep_hub.proofs.connection.converse.Given as goal
+use Rattle.dep_connection.specs.Turns.{reads_after}
+use Rattle.dep_connection.specs.Conversation.{Talk, MayShow, standing}
+use Rattle.dep_connection.specs.Flushing.{IsFlushed}
+use Rattle.dep_connection.proofs.connection.converse.Given as goal
 
 abbrev pub invariant-loop-count : goal.invariant-loop-count
 invariant-loop-count g l = record {

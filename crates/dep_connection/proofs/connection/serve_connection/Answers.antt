@@ -1,13 +1,13 @@
 use Rattle.std.proofs.Common.{sym, ◌∙◌, refl, subst, IsTrue}
 use denote.Param.Always.{mut_next}
 use Rattle.dep_types.specs.Conditions.{HasCleanDisk}
-use Rattle.dep_hub.specs.Conversation.{MayShow, outflow, wire, standing}
+use Rattle.dep_connection.specs.Conversation.{MayShow, outflow, wire, standing}
 use Rattle.dep_hub.specs.Standing.{store_of}
 use Rattle.dep_hub.proofs.HubLemmas.{same_stands_for}
 use Rattle.dep_hub.proofs.Leaving.{stays_as}
-use Rattle.dep_hub.proofs.TalkLemmas.{serves_whole, unserved, next_served, clocks_keep}
-use Rattle.dep_hub.proofs.connection.serve_connection.Goals as goal
-use Rattle.dep_hub.proofs.connection.serve_connection.Given as given
+use Rattle.dep_connection.proofs.TalkLemmas.{serves_whole, unserved, next_served, clocks_keep}
+use Rattle.dep_connection.proofs.connection.serve_connection.Goals as goal
+use Rattle.dep_connection.proofs.connection.serve_connection.Given as given
 
 pub returns : goal.returns
 returns g c =

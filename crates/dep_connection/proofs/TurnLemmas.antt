@@ -7,15 +7,15 @@ use Rattle.dep_types.specs.Writing.{next_count}
 use Rattle.dep_types.specs.Reading.{end_of_read}
 use Rattle.dep_types.specs.declared.inlet.ReadFailed.{ReadFailed}
 use Rattle.dep_types.specs.declared.inlet.LastRead.TheVariants.{Bytes, Nothing}
-use Rattle.dep_hub.specs.Turns.{most_read}
+use Rattle.dep_hub.specs.Numbers.{most_read}
 use Rattle.std.specs.Prelude.{IsSome}
 use Rattle.dep_hub.specs.Standing.{ArrivesOver, ComesTo, IsArrival, GoesOnAs, intake_of}
 use Rattle.dep_hub.proofs.HubLemmas.{none_there}
 use Rattle.dep_hub.specs.declared.arrived.Arrived.TheVariants.{Open as StaysOpen, Closed as HasClosed, Cut, NoSuch}
 use Rattle.dep_hub.specs.Archives.{KeepsEachState}
 use Rattle.dep_hub.specs.Holding.{RestsOn}
-use Rattle.dep_hub.specs.Conversation.{Outflow, Session, OneTurn, NoTurn}
-use Rattle.dep_hub.specs.Flushing.{IsFlushed}
+use Rattle.dep_connection.specs.Conversation.{Outflow, Session, OneTurn, NoTurn}
+use Rattle.dep_connection.specs.Flushing.{IsFlushed}
 use Rattle.dep_hub.specs.declared.hub.Hub.{Hub}
 use Rattle.dep_hub.specs.declared.arrived.Arrived.{Arrived}
 

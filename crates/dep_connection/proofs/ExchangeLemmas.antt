@@ -11,8 +11,8 @@ use Rattle.dep_hub.specs.Machine.{answer_at_place, Fails, given_up, cut_short, S
 use Rattle.dep_hub.specs.Stops.{LeftByFailure, LeftByServing}
 use Rattle.dep_hub.specs.Records.{World, Line, with_line, Record, stopped, first_world, Run, goes_on, stops, Arrives, at_live, at_shut_line, LeftByArrival, arrives}
 use Rattle.dep_hub.specs.Standing.{IsKeptAs, IsArrival, KeepsLines, StandsAt, IsClean, IsHonest, intake_of, store_of}
-use Rattle.dep_hub.specs.Turns.{Turn, record_of, last_answer, Exchanges, none_yet, one_more, LeftByExchanges}
-use Rattle.dep_hub.specs.Conversation.{Outflow, Talks, WorksAhead, silent, turn, ahead}
+use Rattle.dep_connection.specs.Turns.{Turn, record_of, last_answer, Exchanges, none_yet, one_more, LeftByExchanges}
+use Rattle.dep_connection.specs.Conversation.{Outflow, Talks, WorksAhead, silent, turn, ahead}
 use Rattle.dep_hub.specs.declared.hub.Hub.{Hub}
 use Rattle.dep_hub.specs.declared.connections.Connection.{Connection}
 use Rattle.dep_hub.specs.declared.arrived.Arrived.{Arrived}
