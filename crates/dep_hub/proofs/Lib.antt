@@ -14,3 +14,4 @@ mod OwingLemmas
 mod BehindLemmas
 mod PendingLemmas
 mod KeptLemmas
+pub mod PreparingLemmas

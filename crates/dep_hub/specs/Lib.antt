@@ -14,5 +14,7 @@ pub mod Faults
 pub mod Shut
 pub mod Errands
 pub mod Claims
+pub mod Preparing
 pub mod Owing
 pub mod StandsOwing
+pub mod WorkingAhead

@@ -9,15 +9,18 @@ mod connections;
 mod contents;
 mod faults;
 mod hub;
+mod keeping;
 pub mod laws;
 mod next;
 mod pending;
+mod preparing;
 mod rest;
 mod sending;
 mod sent_on;
 mod serving;
 mod site;
 mod step;
+mod uploads;
 
 pub use access_log::{AccessLog, NoLog};
 pub use archive::{Archive, ROUNDS_TO_REPLY};
