@@ -11,7 +11,7 @@ use Rattle.dep_hub.specs.Sending.{Outside, outside}
 use Rattle.dep_hub.specs.Serving.{IsDeadIfShut}
 use Rattle.dep_hub.specs.Nexts.{RunsOut, AnswersNext}
 use Rattle.dep_hub.specs.Standing.{intake_of, IsKeptAs, StandsAt, store_of, IsClean}
-use Rattle.dep_hub.specs.Archives.{KeepsAll, KeepsEachState}
+use Rattle.dep_hub.specs.Archives.{KeepsAll}
 use Rattle.dep_hub.specs.Holding.{RestsOn, StandsOn, with_held, fed, IsHeldAs, Outcome, arrived_by, IsNext, IsRefused, KeepsHolding, StandsHolding, StandsHoldingAfter, MovesLine, PartArrives, AnswersOver, ComesToNext, OffersTo}
 use Rattle.dep_hub.specs.Numbers.{index_of, Ascends}
 use Rattle.dep_hub.specs.declared.arrived.Arrived.{Arrived}

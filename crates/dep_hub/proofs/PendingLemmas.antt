@@ -93,7 +93,7 @@ none_awaited cs Prepared e = refl
 
 -- ---- what holds of some connection holds of one that is found by its number, and the other way round
 
-true_false : true ≡ false → ⊥
+pub true_false : true ≡ false → ⊥
 true_false e = cc e
 
 or_true : (b : Bool) → (b || true) ≡ true

@@ -6,7 +6,7 @@ use Rattle.std.specs.List.{position, position_or_len, prefix_len}
 use Rattle.std.specs.Option.{option_map}
 use Rattle.std.specs.declared.alloc.AllocError.{AllocError}
 use Rattle.dep_types.specs.State.{State}
-use Rattle.dep_types.specs.Conditions.{Condition, StandsFor, Leaves}
+use Rattle.dep_types.specs.Conditions.{Condition}
 use Rattle.dep_types.specs.declared.config.Config.{Config}
 use Rattle.dep_message.specs.Giving.{HasFirstHead}
 use Rattle.dep_message.specs.Places.{Place, Open, Shut, Reading}
@@ -17,22 +17,23 @@ use Rattle.dep_message.proofs.Bodies.{begins_with_head}
 use Rattle.dep_message.proofs.OneReading.{one_at}
 use Rattle.dep_hub.specs.Archives.{KeepsEachState}
 use Rattle.dep_hub.specs.Claims.{is_content, is_pending, is_waiting}
-use Rattle.dep_hub.specs.Holding.{IsHeldAs, StandsHolding, StandsOn}
+use Rattle.dep_hub.specs.Holding.{IsHeldAs}
 use Rattle.dep_hub.specs.Numbers.{index_of, Ascends}
 use Rattle.dep_hub.specs.Owing.{IsOwed}
 use Rattle.dep_hub.specs.Preparing.{BeginsToPrepare, MakesStepFor, goes_on, ends, is_preparing, names_uploads, steps_of, TellsUploads}
-use Rattle.dep_hub.specs.Records.{Record, World, Run, stops, stopped, first_world}
-use Rattle.dep_hub.specs.Standing.{intake_of, store_of, IsClean}
-use Rattle.dep_hub.specs.StandsOwing.{KeepsBack, KeptBack, unsent, prepares_still, begins_to_prepare, waits_still, begins_to_wait, wants_memory, OthersStay, StandsOwing, IsReady, behind_at}
+use Rattle.dep_hub.specs.Records.{Run, stops, stopped, first_world}
+use Rattle.dep_hub.specs.Standing.{intake_of, store_of}
+use Rattle.dep_hub.specs.StandsOwing.{KeptBack, unsent, prepares_still, begins_to_prepare, waits_still, begins_to_wait, wants_memory, behind_at}
 use Rattle.dep_hub.specs.WorkingAhead.{AheadContents, AheadEnds, AheadStands, MakesOneStep, for_none, for_one, PreparesOnce, RestsAhead, steps_below}
 use Rattle.dep_hub.specs.declared.claim.Claim.{Claim}
 use Rattle.dep_hub.specs.declared.connections.Connection.{Connection}
 use Rattle.dep_hub.specs.declared.hub.Hub.{Hub}
 use Rattle.dep_hub.specs.declared.rest.Behind.{Behind}
 use Rattle.dep_hub.specs.declared.rest.Behind.TheVariants.{Nothing, Content, Broken, Waits, Prepares, Prepared}
-use Rattle.dep_hub.proofs.BehindLemmas.{behind_some, behinds_are, intakes_stay, others_are, set_here}
+use Rattle.dep_hub.proofs.BehindLemmas.{behind_some, behinds_are, intakes_stay, others_are}
 use Rattle.dep_hub.proofs.ConnectionLemmas.{ascends_le}
 use Rattle.dep_hub.proofs.Leaving.{leaves_wider}
+use Rattle.dep_hub.proofs.PendingLemmas.{true_false}
 
 -- an item names uploads
 abbrev head_named : Item → Bool
@@ -131,13 +132,10 @@ behind_beyond low high n (c ∷ cs) a l =
     let below : c.number + 1 ≤ high = ascends_le (c.number + 1) high cs a.1 in
     let h = behind_beyond (c.number + 1) high n cs a.1 l in grind (arith, nat_tests, h)
 
-true_not_false : true ≡ false → ⊥
-true_not_false e = cc e
-
 preparing_below : (n high : ℕ) (cs : List Connection) → Ascends 0 cs high → is_preparing (behind_at cs n) ≡ true → n < high
 preparing_below n high cs a e = elim (cases_lt n high) [
   | inl lt ↦ lt
-  | inr ge ↦ absurd (true_not_false (sym e ∙ ap is_preparing (behind_beyond 0 high n cs a ge)))
+  | inr ge ↦ absurd (true_false (sym e ∙ ap is_preparing (behind_beyond 0 high n cs a ge)))
 ]
 
 -- ---- a step
@@ -283,7 +281,7 @@ module _ {A : Type 0} (condition : A → Condition) (old new : Hub A) where
 
   pub ahead_ends : AheadEnds condition old new
   ahead_ends w m is = elim w.step [
-    | for_none none e ↦ absurd (true_not_false (sym is ∙ none m))
+    | for_none none e ↦ absurd (true_false (sym is ∙ none m))
     | for_one n step others ↦
         let was = was_preparing (behind_at old.connections.items n) (behind_at new.connections.items n) step in
         let below = preparing_below n old.next old.connections.items old.ascends was in
@@ -293,10 +291,10 @@ module _ {A : Type 0} (condition : A → Condition) (old new : Hub A) where
   ]
 
 waits_as : (b : Behind) (claim : Claim) → b ≡ Waits claim → is_preparing b ≡ true → ⊥
-waits_as b claim e p = true_not_false (sym p ∙ ap is_preparing e)
+waits_as b claim e p = true_false (sym p ∙ ap is_preparing e)
 
 prepared_as : (b : Behind) → b ≡ Prepared → is_preparing b ≡ true → ⊥
-prepared_as b e p = true_not_false (sym p ∙ ap is_preparing e)
+prepared_as b e p = true_false (sym p ∙ ap is_preparing e)
 
 once : (cs : List Connection) (reading : Reading) (was now : Behind) → KeptBack cs reading was now → is_preparing now ≡ true → (was ≡ Nothing) ⊎ (now ≡ was)
 once cs reading was now (unsent u e) p = inr e
@@ -310,12 +308,7 @@ pub prepares_once : {A : Type 0} (condition : A → Condition) (old new : Hub A)
 prepares_once condition old new taken takes failures failures_after n k p =
     once old.connections.items k.reading (behind_at old.connections.items n) (behind_at new.connections.items n) k.why p
 
--- ---- a connection that is kept back from now on
-
-pub kept_from : (cs : List Connection) (reading : Reading) (was now : Behind) → BeginsToPrepare reading was now → KeptBack cs reading was now
-kept_from cs reading was now (first, inl named) = begins_to_prepare first named.1 named.0
-kept_from cs reading was now (first, inr short) =
-    wants_memory (subst (λ (b : Behind). IsReady b) (sym first) (refl, refl)) (inl first) short.1 short.0
+-- ---- a connection whose next request is kept back from now on
 
 -- nothing is pending there before and then
 pub begun_idle : (reading : Reading) (was now : Behind) → BeginsToPrepare reading was now → is_pending now ≡ is_pending was

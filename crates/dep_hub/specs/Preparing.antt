@@ -1,5 +1,5 @@
 -- Requests whose uploads are hashed before they are answered.
-use Rattle.std.specs.Prelude.{◌≡◌, ◌≢◌, ◌⊎◌, ℕ, zero, suc, ◌+◌, ◌&&◌, ◌||◌, Bool, true, false, Option, Some, None, codes, bytes_eq}
+use Rattle.std.specs.Prelude.{◌≡◌, ◌⊎◌, ℕ, ◌+◌, ◌&&◌, ◌||◌, Bool, true, false, Option, Some, None, codes, bytes_eq}
 use Rattle.dep_head.specs.Head.{HeadParts}
 use Rattle.dep_fields.specs.Told.{fields_of}
 use Rattle.dep_fields.specs.declared.field.Field.{Field}

@@ -3,7 +3,6 @@ use Rattle.std.specs.Prelude.{◌≤◌, Bool, true, false, ◌≡◌, ◌≢◌
 use Rattle.std.specs.Io.KnownBytes.{Appends, Keeps}
 use Rattle.dep_types.specs.State.{State}
 use Rattle.dep_types.specs.Conditions.{Condition, StandsFor, Leaves}
-use Rattle.dep_types.specs.declared.config.Config.{Config}
 use Rattle.dep_head.specs.Head.{HeadParts}
 use Rattle.dep_message.specs.Asking.{IsNoNext, HasNextHead}
 use Rattle.dep_message.specs.Giving.{HasFirstHead}

@@ -1,4 +1,4 @@
-use Rattle.std.proofs.Common.{List, inr, refl, sym, ap, ◌∙◌}
+use Rattle.std.proofs.Common.{inr, refl, sym, ap, ◌∙◌}
 use Rattle.dep_head.specs.Head.{HeadParts}
 use Rattle.dep_message.proofs.Asked.{no_next}
 use Rattle.dep_hub.specs.Claims.{claim_of, has_to_wait}

@@ -1,7 +1,6 @@
 use Rattle.std.proofs.Common.{refl, sym, ap, subst, ◌∙◌, if◌then◌else◌, Bool}
 use Rattle.std.proofs.lemmas.Bool.{eq-eqb}
 use Rattle.dep_message.specs.Places.{Reading}
-use Rattle.dep_hub.specs.Claims.{is_pending, is_waiting}
 use Rattle.dep_hub.specs.Preparing.{NamesNone, BeginsToPrepare as Begins}
 use Rattle.dep_hub.specs.StandsOwing.{behind_at}
 use Rattle.dep_hub.specs.declared.connections.Connection.{Connection}

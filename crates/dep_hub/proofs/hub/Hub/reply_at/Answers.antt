@@ -1,8 +1,7 @@
-use Rattle.std.proofs.Common.{None, [], Bool, List, if◌then◌else◌, refl, sym, ap, subst, ◌∙◌}
-use Rattle.std.proofs.KnownBytes.{Appends-nil, Keeps-refl}
+use Rattle.std.proofs.Common.{Bool, List, if◌then◌else◌, refl, sym, ap, subst, ◌∙◌}
+use Rattle.std.proofs.KnownBytes.{Keeps-refl}
 use Rattle.std.proofs.lemmas.Bool.{eq-eqb}
 use Rattle.dep_message.specs.Places.{Reading}
-use Rattle.dep_hub.specs.Numbers.{index_of}
 use Rattle.dep_hub.specs.Owing.{IsOwed, with_more, bytes_later}
 use Rattle.dep_hub.specs.Claims.{is_any_pending, is_any_waiting, is_waiting}
 use Rattle.dep_hub.specs.StandsOwing.{IsFree, KeptBack, behind_at, is_looked_at, is_unsent}
@@ -10,11 +9,11 @@ use Rattle.dep_hub.specs.Preparing.{is_preparing}
 use Rattle.dep_hub.specs.declared.connections.Connection.{Connection}
 use Rattle.dep_hub.specs.declared.rest.Behind.{Behind}
 use Rattle.dep_hub.specs.Sending.{outside}
-use Rattle.dep_hub.proofs.ConnectionLemmas.{index_none, index_some, ascends_set}
-use Rattle.dep_hub.proofs.HubLemmas.{same_hub, stays_there, none_there, not_absent}
+use Rattle.dep_hub.proofs.ConnectionLemmas.{index_some, ascends_set}
+use Rattle.dep_hub.proofs.HubLemmas.{stays_there}
 use Rattle.dep_hub.proofs.HoldingLemmas.{comes_next}
 use Rattle.dep_hub.proofs.NextLemmas.{next_there, next_passes}
-use Rattle.dep_hub.proofs.BehindLemmas.{some_such, behind_none, behind_some, behinds_are, intakes_stay, others_are, not_there, owed_at, owed_later, some_reading}
+use Rattle.dep_hub.proofs.BehindLemmas.{some_such, behind_some, behinds_are, intakes_stay, others_are, owed_at, owed_later, some_reading}
 use Rattle.dep_hub.proofs.PendingLemmas.{kept_back_as, not_broken, not_looked, not_waiting, pending_unset, waiting_unset}
 use Rattle.dep_hub.proofs.hub.Hub.reply_at.Goals as goal
 
