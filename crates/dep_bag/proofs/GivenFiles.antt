@@ -1,12 +1,13 @@
 -- Files that are given one after another, of which the bytes are known.
-use Rattle.std.proofs.Common.{◌≡◌, ℕ, List, [], ◌∷◌, ◌++◌, Ok, Err, codes, sym, ap, ◌∙◌, append_assoc, append-nil, subst}
+use Rattle.std.proofs.Common.{◌≡◌, ℕ, List, [], ◌∷◌, ◌++◌, Ok, Err, codes, sym, ap, ◌∙◌, append_assoc, append-nil, subst, drop}
 use Rattle.std.specs.Prelude.{Result, flat_map}
 use Rattle.std.specs.Io.KnownBytes.{Appends}
 use Rattle.std.specs.Result.{IsErrAnd}
 use Rattle.std.proofs.lemmas.Grind.{flat_map-append}
 use Rattle.dep_types.specs.Sinks.{Entry, folder_made, file_given}
 use Rattle.dep_types.specs.declared.rows.ObjectView.{ObjectView}
-use Rattle.dep_manifest.specs.Told.{told_listed}
+use Rattle.dep_manifest.specs.TagFiles.{bagit_text}
+use Rattle.dep_manifest.specs.Told.{told_info, told_listed}
 use Rattle.dep_bag.specs.Parts.{told_tag_manifests}
 use Rattle.dep_bag.specs.Giving.{SinkState, IsGivenTo, listed_transcript, manifests_transcript, tag_transcript}
 use Rattle.dep_bag.specs.declared.export_fault.ExportFault.{ExportFault}
@@ -28,6 +29,12 @@ behind_folder a b view adds steady = record {
 pub next_given : {X : Type 0} {x : X} {a b : SinkState} {whole : List ℕ} {f : Entry} {fs : List Entry} (c : SinkState) → LeavesFiles a b whole (f ∷ fs)
     → IsGivenTo b c (file_given f) (Ok x) → LeavesFiles a c whole fs
 next_given {X} {x} {a} {b} {whole} {f} {fs} c l g = record { leaves = part_given a b c whole (file_given f) (flat_map file_given fs) x l.leaves g }
+
+-- so behind the folder, the declaration and what is told of the bag
+pub behind_info : {X Y : Type 0} {x : X} {y : Y} (a b c d : SinkState) (view : ObjectView) → Appends a.taken b.taken (folder_made (codes "data")) → b.failures ≡ a.failures
+    → IsGivenTo b c (file_given (codes "bagit.txt", bagit_text)) (Ok x) → IsGivenTo c d (file_given (codes "bag-info.txt", told_info view)) (Ok y)
+    → LeavesFiles a d (listed_transcript view) (drop 2 (told_listed view))
+behind_info a b c d view adds steady one two = next_given d (next_given c (behind_folder a b view adds steady) one) two
 
 pub next_fails : {X Y : Type 0} {a b : SinkState} {whole : List ℕ} {f : Entry} {fs : List Entry} (c : SinkState) (r : Result X ExportFault) (e : ExportFault)
     → LeavesFiles a b whole (f ∷ fs) → IsGivenTo {X = Y} b c (file_given f) (Err e) → IsErrAnd r (λ x. x ≡ e) → IsGivenTo a c whole r

@@ -17,6 +17,7 @@ const ARRIVED: [&str; 4] = ["open", "closed", "cut", "gone"];
 /// A hub and its connections, which have the numbers 1, 2 and so on.
 #[derive(Drop)]
 pub struct Server<A> {
+    alloc: Global,
     hub: Hub<A>,
     connections: Vec<ConnId>,
     /// The number of the one at which it goes on.
@@ -27,6 +28,7 @@ impl<A: Archive + Drop> Server<A> {
     /// Over this hub, which has no connection yet.
     pub fn new(alloc: Global, hub: Hub<A>) -> Server<A> {
         Server {
+            alloc,
             hub,
             connections: Vec::new(alloc),
             current: 0,
@@ -93,13 +95,12 @@ impl<A: Archive + Drop> Server<A> {
     /// Plays an exchange: a connection of its own is served where the answer is a word for that.
     pub fn plays(
         &mut self,
-        alloc: Global,
         exchange: &Exchange,
         answer: &str,
         page: &mut Page,
     ) -> Result<&'static str, Trouble> {
         if !ARRIVED.contains(&answer) {
-            return self.serves(alloc, exchange, answer, page);
+            return self.serves(exchange, answer, page);
         }
         let (connection, pieces) = (self.numbered(self.current)?, exchange.pieces());
         let came = arrives(&mut self.hub, connection, pieces, exchange.moment, page);
@@ -109,15 +110,20 @@ impl<A: Archive + Drop> Server<A> {
     // A connection of its own is served. Its replies are gathered, so a writer that fails does so at a flush.
     fn serves(
         &mut self,
-        alloc: Global,
         exchange: &Exchange,
         answer: &str,
         page: &mut Page,
     ) -> Result<&'static str, Trouble> {
         let mut source = ReaderInlet::new(Source::of(exchange));
-        let mut out = Gathered::new(alloc, page)?;
+        let mut out = Gathered::new(self.alloc, page)?;
         let moment = Moment::new(exchange.moment);
-        let served = serve_connection(alloc, &mut source, &mut out, &mut self.hub, &mut || moment);
+        let served = serve_connection(
+            self.alloc,
+            &mut source,
+            &mut out,
+            &mut self.hub,
+            &mut || moment,
+        );
         let reads = source.into_inner().reads();
         let came = served_word(served);
         if came == answer {

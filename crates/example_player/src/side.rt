@@ -37,7 +37,7 @@ impl<T: ExampleTables> Side<T> {
         match (self, exchange.call) {
             (Side::Archive(store), Some(call)) => T::answers(store, alloc, call, page),
             (Side::Intake(intake), None) => takes(intake, exchange, page),
-            (Side::Server(server), None) => server.plays(alloc, exchange, answer, page),
+            (Side::Server(server), None) => server.plays(exchange, answer, page),
             _ => Err(Trouble::Line("no hub is there")),
         }
     }

@@ -5,7 +5,7 @@ use Rattle.dep_manifest.specs.Told.{told_info, told_manifest}
 use Rattle.dep_bag.specs.Giving.{state_of, listed_transcript}
 use Rattle.dep_bag.specs.declared.export_fault.ExportFault.TheVariants.{Sink}
 use Rattle.dep_bag.proofs.GivenParts.{none_given}
-use Rattle.dep_bag.proofs.GivenFiles.{behind_folder, next_given, next_fails, last_given}
+use Rattle.dep_bag.proofs.GivenFiles.{behind_folder, behind_info, next_given, next_fails, last_given}
 use Rattle.dep_bag.proofs.giving.give_listed.Goals as goal
 
 pub returns-in_err-folder : goal.returns-in_err-folder
@@ -33,18 +33,16 @@ pub returns-in_err-give_text-3 : goal.returns-in_err-give_text-3
 returns-in_err-give_text-3 g c =
     let told = state_of g.K.Outlet.taken g.K.Outlet.failures in
     let view = c.args.view.now in
-    let l0 = behind_folder (told c.args.sink.now) (told c.folder.new.self) view c.in_ok-folder.ensures.ok c.in_ok-folder.ensures.count in
-    let l1 = next_given (told c.give_text.new.sink) l0 (c.in_ok-give_text.ensures bagit_text c.declaration.ensures) in
-    let l2 = next_given (told c.give_text-2.new.sink) l1 (c.in_ok-give_text-2.ensures (told_info view) c.information.ensures) in
+    let l2 = behind_info (told c.args.sink.now) (told c.folder.new.self) (told c.give_text.new.sink) (told c.give_text-2.new.sink) view c.in_ok-folder.ensures.ok c.in_ok-folder.ensures.count
+    (c.in_ok-give_text.ensures bagit_text c.declaration.ensures) (c.in_ok-give_text-2.ensures (told_info view) c.information.ensures) in
     next_fails (told c.give_text-3.new.sink) c.from_residual-in_err-give_text-3.result c.in_err-give_text-3.field-0.0 l2 (c.in_err-give_text-3.ensures (told_manifest Sha256 view) c.payload_manifest.ensures) c.from_residual-in_err-give_text-3.ensures.1
 
 pub returns-in_err-give_text-4 : goal.returns-in_err-give_text-4
 returns-in_err-give_text-4 g c =
     let told = state_of g.K.Outlet.taken g.K.Outlet.failures in
     let view = c.args.view.now in
-    let l0 = behind_folder (told c.args.sink.now) (told c.folder.new.self) view c.in_ok-folder.ensures.ok c.in_ok-folder.ensures.count in
-    let l1 = next_given (told c.give_text.new.sink) l0 (c.in_ok-give_text.ensures bagit_text c.declaration.ensures) in
-    let l2 = next_given (told c.give_text-2.new.sink) l1 (c.in_ok-give_text-2.ensures (told_info view) c.information.ensures) in
+    let l2 = behind_info (told c.args.sink.now) (told c.folder.new.self) (told c.give_text.new.sink) (told c.give_text-2.new.sink) view c.in_ok-folder.ensures.ok c.in_ok-folder.ensures.count
+    (c.in_ok-give_text.ensures bagit_text c.declaration.ensures) (c.in_ok-give_text-2.ensures (told_info view) c.information.ensures) in
     let l3 = next_given (told c.give_text-3.new.sink) l2 (c.in_ok-give_text-3.ensures (told_manifest Sha256 view) c.payload_manifest.ensures) in
     next_fails (told c.give_text-4.new.sink) c.from_residual-in_err-give_text-4.result c.in_err-give_text-4.field-0.0 l3 (c.in_err-give_text-4.ensures (told_manifest Sha512 view) c.payload_manifest-2.ensures) c.from_residual-in_err-give_text-4.ensures.1
 
@@ -52,9 +50,8 @@ pub returns : goal.returns
 returns g c =
     let told = state_of g.K.Outlet.taken g.K.Outlet.failures in
     let view = c.args.view.now in
-    let l0 = behind_folder (told c.args.sink.now) (told c.folder.new.self) view c.in_ok-folder.ensures.ok c.in_ok-folder.ensures.count in
-    let l1 = next_given (told c.give_text.new.sink) l0 (c.in_ok-give_text.ensures bagit_text c.declaration.ensures) in
-    let l2 = next_given (told c.give_text-2.new.sink) l1 (c.in_ok-give_text-2.ensures (told_info view) c.information.ensures) in
+    let l2 = behind_info (told c.args.sink.now) (told c.folder.new.self) (told c.give_text.new.sink) (told c.give_text-2.new.sink) view c.in_ok-folder.ensures.ok c.in_ok-folder.ensures.count
+    (c.in_ok-give_text.ensures bagit_text c.declaration.ensures) (c.in_ok-give_text-2.ensures (told_info view) c.information.ensures) in
     let l3 = next_given (told c.give_text-3.new.sink) l2 (c.in_ok-give_text-3.ensures (told_manifest Sha256 view) c.payload_manifest.ensures) in
     let l4 = next_given (told c.give_text-4.new.sink) l3 (c.in_ok-give_text-4.ensures (told_manifest Sha512 view) c.payload_manifest-2.ensures) in
     last_given (told c.give_text-5.new.sink) c.give_text-5.result l4 (c.give_text-5.ensures (bag_metadata_document view.metadata) c.bag_metadata_doc.ensures)

@@ -1,4 +1,4 @@
-use Rattle.std.proofs.Common.{◌≡◌, ◌<◌, ◌+◌, ◌++◌, ◌∷◌, [], List, length, slice_get, take, is_err, Some, refl, sym, ap, ◌∙◌, arith}
+use Rattle.std.proofs.Common.{◌≡◌, ◌+◌, ◌++◌, ◌∷◌, [], List, length, slice_get, take, is_err, Some, refl, sym, ap, ◌∙◌, arith}
 use Rattle.std.proofs.lemmas.Option.{slice_get_read}
 use Rattle.std.proofs.lemmas.List.{take_all}
 use Rattle.dep_types.specs.Rows.{file_row}
@@ -19,8 +19,7 @@ files-preserved c s numbers sources =
     let i = c.files.index in
     let x = c.index-files-index.result in
     let n = c.args.object in
-    let within : i < length files = omega arith in
-    let at : slice_get files i ≡ Some x = slice_get_read files (length files) i x refl within c.index-files-index.is in
+    let at : slice_get files i ≡ Some x = slice_get_read files (length files) i x refl (omega arith) c.index-files-index.is in
     let row : c.in_ok-row.row ≡ file_row n (s.next.file + i) (file_from s content x) =
     c.in_ok-row.ensures.told s (numbers, sources.0 i x at) ∙ ap (λ (k : Counters). file_row n (k.file + i) (file_from s content x)) numbers.1 in
     let before = c.files.rows.items in

@@ -1,4 +1,4 @@
-use Rattle.std.proofs.Common.{◌≡◌, ◌+◌, ◌<◌, List, length, slice_get, Some, Ok, refl, ap, subst, arith}
+use Rattle.std.proofs.Common.{◌≡◌, ◌+◌, List, length, slice_get, Some, Ok, refl, ap, subst, arith}
 use Rattle.dep_types.specs.declared.counters.Counters.{Counters}
 use Rattle.dep_row_maps.proofs.Lens.{get_here}
 use Rattle.dep_tables.proofs.Chains.{clean_before, stays_ok, stays_put, stays_then}
@@ -25,8 +25,7 @@ files-preserved g c =
           let i = c.files.index in
           let x = c.index-files-index.result in
           let n = c.args.object in
-          let within : i < length files = omega arith in
-          let at : slice_get files i ≡ Some x = slice_get_read files (length files) i x refl within c.index-files-index.is in
+          let at : slice_get files i ≡ Some x = slice_get_read files (length files) i x refl (omega arith) c.index-files-index.is in
           let so_far = inv.2 (clean_mid clean) inside ours s are o numbers there sources in
           one_more s content seen n o files i x at sources (tables_of new) (c.args.numbered.now.change.now.view.now.next.file + i) (ap (λ (k : Counters). k.file + i) numbers.1)
           (c.in_ok-put_new_file.ensures.map.done (object_before s content seen n o files i x at sources) clean (inv.0.inside (clean_mid clean) inside) (inv.1 (clean_mid clean) inside ours)
