@@ -34,7 +34,8 @@ pub(crate) fn measured_front(
     tag: Option<u64>,
     delivery: Delivery,
 ) -> Result<Vec<u8>, AllocError>
-    ensures { IfOk result (λ front. front.items ≡ head_text (measured_head media.now size tag delivery)) }
+    ensures { IfOk result (λ front. front.items
+        ≡ head_text (measured_head media.now size tag delivery)) }
 {
     let head = Reply {
         status: Status::Ok,
