@@ -1,11 +1,11 @@
 -- How the machine answers the turns of a connection, as the hub answered them.
-use Rattle.std.proofs.Common.{Bool, Vec, Global, inl, inr, ◌≡◌, ℕ, List, [], ◌∷◌, ◌++◌, map, refl, sym, ap, subst, ◌∙◌, append_assoc}
+use Rattle.std.proofs.Common.{Bool, Option, inl, inr, ◌≡◌, ℕ, List, [], ◌∷◌, ◌++◌, map, refl, sym, ap, subst, ◌∙◌, append_assoc}
 use Rattle.std.proofs.lemmas.List.{append-nil}
 use Rattle.std.proofs.lemmas.Bool.{both_ways, cases_Bool}
 use Rattle.dep_types.specs.State.{State}
 use Rattle.dep_types.specs.declared.config.Config.{Config}
 use Rattle.dep_types.specs.Conditions.{Condition, Leaves}
-use Rattle.dep_message.specs.Places.{Place, Open, Shut}
+use Rattle.dep_message.specs.Places.{Place, Open, Shut, Reading}
 use Rattle.dep_message.specs.Stream.{Item}
 use Rattle.dep_hub.specs.Machine.{answer_at_place, Fails, given_up, cut_short, Serves, serves_all, step_fails, gives_up}
 use Rattle.dep_hub.specs.Stops.{LeftByFailure, LeftByServing}
@@ -14,7 +14,6 @@ use Rattle.dep_hub.specs.Standing.{IsKeptAs, IsArrival, KeepsLines, StandsAt, Is
 use Rattle.dep_connection.specs.Turns.{Turn, record_of, last_answer, Exchanges, none_yet, one_more, LeftByExchanges}
 use Rattle.dep_connection.specs.Conversation.{Outflow, Talks, WorksAhead, silent, turn, ahead}
 use Rattle.dep_hub.specs.declared.hub.Hub.{Hub}
-use Rattle.dep_hub.specs.declared.connections.Connection.{Connection}
 use Rattle.dep_hub.specs.declared.arrived.Arrived.{Arrived}
 use Rattle.dep_hub.specs.declared.arrived.Arrived.TheVariants.{Open as StaysOpen, NoSuch}
 use Rattle.dep_hub.proofs.Leaving.{Settles, stays_as, leaves_wider, leaves_before}
@@ -115,7 +114,7 @@ module _ {A : Type 0} (condition : A → Condition) where
   keeps_ahead : (may_commit : A → Bool) (old new : Hub A) (lines : ℕ → Line) → WorksAhead condition may_commit old new → KeepsLines condition old lines → KeepsLines condition new lines
   keeps_ahead may_commit old new lines a kept number =
       subst (λ (x : Config). IsKeptAs x.max_upload (lines number) (intake_of new.connections.items number)) (sym a.same_config)
-      (subst (λ (cs : Vec Connection Global). IsKeptAs old.config.max_upload (lines number) (intake_of cs.items number)) (sym a.same_connections) (kept number))
+      (subst (λ (o : Option Reading). IsKeptAs old.config.max_upload (lines number) o) (sym (a.same_intakes number)) (kept number))
 
   -- What the machine comes to by the turns. While the store is open the hub stands at it; where the connection is left open, the
   -- hub keeps its lines, and a crash leaves its state, also where the store was shut since.

@@ -12,8 +12,7 @@ use Rattle.std.specs.Prelude.{IsSome}
 use Rattle.dep_hub.specs.Standing.{ArrivesOver, ComesTo, IsArrival, GoesOnAs, intake_of}
 use Rattle.dep_hub.proofs.HubLemmas.{none_there}
 use Rattle.dep_hub.specs.declared.arrived.Arrived.TheVariants.{Open as StaysOpen, Closed as HasClosed, Cut, NoSuch}
-use Rattle.dep_hub.specs.Archives.{KeepsEachState}
-use Rattle.dep_hub.specs.Holding.{RestsOn}
+use Rattle.dep_hub.specs.WorkingAhead.{RestsAhead}
 use Rattle.dep_connection.specs.Conversation.{Outflow, Session, OneTurn, NoTurn}
 use Rattle.dep_connection.specs.Flushing.{IsFlushed}
 use Rattle.dep_hub.specs.declared.hub.Hub.{Hub}
@@ -73,7 +72,7 @@ module _ {A : Type 0} (condition : A → Condition) where
   }
 
   -- the store worked ahead
-  pub goes_ahead : {old new : Hub A} → RestsOn condition KeepsEachState old new → GoesOnAs condition old new
+  pub goes_ahead : {old new : Hub A} → RestsAhead condition old new → GoesOnAs condition old new
   goes_ahead r = record { config = r.config; next = r.next; clean = r.store.was_open; honest = r.store.honest }
 
   -- an arrival, and then the outlet was flushed

@@ -15,6 +15,7 @@ use Rattle.dep_hub.specs.Standing.{StandsAt, StandsAfter, IsClean, IsHonest, Mov
 use Rattle.dep_connection.specs.Turns.{Turn, pieces_of, replies_of, record_of, records_of, most_reads, reads_made, reads_after, HasLastRead, ArePieces, last_answer, HasGoneOut, with_opened, with_closed, Exchanges, LeftByExchanges, EndsAs}
 use Rattle.dep_hub.specs.Archives.{KeepsEachState, CommitsIfDue}
 use Rattle.dep_hub.specs.Shut.{LeavesNoMore, IfShut, SendsFixed}
+use Rattle.dep_hub.specs.WorkingAhead.{MakesOneStep}
 use Rattle.dep_connection.specs.Flushing.{IsFlushed}
 use Rattle.dep_hub.specs.declared.hub.Hub.{Hub}
 use Rattle.dep_hub.specs.declared.arrived.Arrived.{Arrived}
@@ -133,11 +134,14 @@ module _ {A : Type 0} (condition : A → Condition) where
       → Leaves (store_of condition new)
       (λ found. Run old.config first ((records ++ more) ++ stopped ∷ []) (first_world found))
 
-  -- between two calls the store did a part of its later work: the hub stands for what it stood for,
-  -- and a crash leaves just that; only what was due was committed
+  -- between two calls the store did a part of its later work, once: the hub stands for what it stood
+  -- for, and a crash leaves just that; only what was due was committed, and nothing of a connection
+  -- changes but for one whose next request is prepared
   pub record WorksAhead (may_commit : A → Bool) (old new : Hub A) : Type 0 where
     pub same_config : new.config ≡ old.config
-    pub same_connections : new.connections ≡ old.connections
+    pub same_intakes : (m : ℕ)
+        → intake_of new.connections.items m ≡ intake_of old.connections.items m
+    pub step : MakesOneStep old.connections.items new.connections.items
     pub store : KeepsEachState (store_of condition old) (store_of condition new)
     pub commits : CommitsIfDue (may_commit old.store) (may_commit new.store)
         (store_of condition old) (store_of condition new)

@@ -1,8 +1,7 @@
-use Rattle.std.proofs.Common.{inl, inr, IsSome, ℕ, List, Vec, Global, refl, sym, ap, subst, length, drop, ◌∙◌}
+use Rattle.std.proofs.Common.{inl, inr, IsSome, ℕ, List, Option, refl, sym, ap, subst, length, drop, ◌∙◌}
 use Rattle.std.proofs.lemmas.List.{with_items_is}
+use Rattle.dep_message.specs.Places.{Reading}
 use Rattle.dep_connection.specs.Conversation.{MayShow, standing}
-use Rattle.dep_hub.specs.Standing.{intake_of}
-use Rattle.dep_hub.specs.declared.connections.Connection.{Connection}
 use Rattle.dep_hub.specs.declared.arrived.Arrived.TheVariants.{Open as StaysOpen, Closed as HasClosed, Cut}
 use Rattle.dep_connection.proofs.TurnLemmas.{has_room, some_room, read_whole, read_within, none_read, gives_bytes, gives_none, goes_then, goes_ahead, arrives_flushed, arrived_there, one_turn, no_turn}
 use Rattle.dep_hub.proofs.HubLemmas.{none_there}
@@ -11,7 +10,7 @@ use Rattle.dep_connection.proofs.connection.turn.Given as given
 
 -- the connection goes on, and the store works ahead
 pub returns-in-Open-clause-there : goal.returns-in-Open-clause-there
-returns-in-Open-clause-there g c = subst (λ (cs : Vec Connection Global). IsSome (intake_of cs.items c.args.incoming.now.connection)) (sym c.work_ahead-left.ensures.rests.connections)
+returns-in-Open-clause-there g c = subst (λ (o : Option Reading). IsSome o) (sym (c.work_ahead-left.ensures.rests.intakes c.args.incoming.now.connection))
     c.in-Open.ensures.arrival.is_there
 
 pub returns-in-Open-clause-turn : goal.returns-in-Open-clause-turn
@@ -27,7 +26,8 @@ returns-in-Open-clause-turn g c = record {
   gone_out = c.in_default.ensures.ok;
   ahead = record {
     same_config = c.work_ahead-left.ensures.rests.config;
-    same_connections = c.work_ahead-left.ensures.rests.connections;
+    same_intakes = c.work_ahead-left.ensures.rests.intakes;
+    step = c.work_ahead-left.ensures.rests.step;
     store = c.work_ahead-left.ensures.rests.store;
     commits = c.work_ahead-left.ensures.commits;
   };
