@@ -398,7 +398,7 @@ impl<A: Archive> Hub<A> {
             (store_of A.condition self.old) (store_of A.condition self.new) }
         ensures rests { RestsOn A.condition KeepsEachState self.old self.new }
     {
-        self.store.work_ahead()
+        self.store.work_ahead(self.config.service(), None)
     }
 
     /// Forgets a connection. What it holds is dropped, and one that isn't there changes nothing.
