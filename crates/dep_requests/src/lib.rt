@@ -6,6 +6,6 @@ mod performing;
 mod remembering;
 mod showing;
 
-pub use performing::{Done, accept, answer_operation, delivery_at};
+pub use performing::{Done, accept, answer_operation, delivery_at, hash_for};
 pub use remembering::{Remembered, clock_still, read_still, recalled, still_known};
 pub use showing::{file_shown, is_plain_read, show_service};

@@ -1,7 +1,7 @@
 -- How far uploads were hashed before a request needs their digests.
-use Rattle.std.proofs.Common.{◌≡◌, ◌≢◌, ◌⊎◌, inl, inr, ℕ, zero, suc, ◌+◌, ◌<◌, ◌≤◌, List, [], ◌++◌, unwrap_or, Option, Some, None, refl, sym, ap, subst, ◌∙◌, nat_cmp, append-nil, append_assoc, arith}
+use Rattle.std.proofs.Common.{◌≡◌, ◌≢◌, ◌⊎◌, inl, inr, ℕ, zero, suc, ◌+◌, ◌<◌, ◌≤◌, List, [], ◌++◌, unwrap_or, Option, Some, None, is_some, true, ◌&&◌, refl, sym, ap, subst, ◌∙◌, nat_cmp, append-nil, append_assoc, arith}
 use Rattle.std.specs.Prelude.{slice_get}
-use Rattle.std.specs.List.{flat_map, range_with_len}
+use Rattle.std.specs.List.{flat_map, list_all, range_with_len}
 use Rattle.std.specs.Option.{option_map_or}
 use Rattle.std.specs.FinMap as finmap
 use Rattle.std.proofs.lemmas.Bool.{cases_lt}
@@ -10,7 +10,7 @@ use Rattle.dep_fixity.specs.declared.hasher.Digests.{Digests}
 use Rattle.dep_types.specs.Maps.{Numbered}
 use Rattle.dep_types.specs.Sound.{IsSound}
 use Rattle.dep_types.specs.State.{State, Upload}
-use Rattle.dep_types.specs.Uploads.{assembled}
+use Rattle.dep_types.specs.Uploads.{assembled, has_segment, is_complete}
 use Rattle.dep_types.specs.declared.rows.UploadRow.{UploadRow}
 use Rattle.dep_files.proofs.Cuts.{one_block_more, all_blocks}
 use Rattle.dep_row_maps.specs.Laws.{HasSegmentsWithin}
@@ -173,6 +173,19 @@ whole_hashed it run within h all =
     behind : (o : Option (List ℕ)) → finmap.get it.segments (run.segments + 1) ≡ o → first_blocks run.blocks (unwrap_or o []) ≡ []
     behind None none = no_first_blocks run.blocks
     behind (Some bytes) there = absurd (let few = (within (run.segments + 1) bytes there).1 in omega (arith, few, all))
+
+all_received : (it : Upload) (first n : ℕ) → ((k : ℕ) → first ≤ k → k < first + n → WasReceived it.segments k) → list_all (has_segment it) (range_with_len first n) ≡ true
+all_received it first zero received = refl
+all_received it first (suc n) received =
+    let here : has_segment it first ≡ true = ap is_some (received first (omega arith) (omega arith)).1 in
+    let rest = all_received it (first + 1) n (λ k low high. received k (omega (arith, low)) (omega (arith, high))) in
+    ap (λ b. b && list_all (has_segment it) (range_with_len (first + 1) n)) here ∙ rest
+
+-- so it lacks none
+pub lacks_none : (s : State) (it : Upload) (run : RunningHash) → IsRunning s run → finmap.get s.uploads run.upload ≡ Some it → run.segments ≡ it.count → is_complete it ≡ true
+lacks_none s it run running there all =
+    let h = running_at s run it running there in
+    all_received it 1 it.count (λ k low high. h.whole k low (omega (arith, high, all)))
 
 pub digests_told : (s : State) (row : UploadRow) (run : RunningHash) (digests : Digests) → IsSound s → IsRunning s run → run.upload ≡ row.upload → run.segments ≡ row.count
     → ((message : List ℕ) → Holds run.hasher message → digests ≡ digests_of message) → AreDigestsOf s row digests

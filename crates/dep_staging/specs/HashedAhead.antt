@@ -1,11 +1,12 @@
 -- How far uploads were hashed before a request needs their digests.
-use Rattle.std.specs.Prelude.{◌≡◌, ◌≢◌, ◌⊎◌, ℕ, ◌+◌, ◌<◌, ◌≤◌, List, [], ◌++◌, take, Contains, Some, unwrap_or}
+use Rattle.std.specs.Prelude.{◌≡◌, ◌≢◌, ◌⊎◌, ℕ, ◌+◌, ◌<◌, ◌≤◌, List, [], ◌++◌, take, Contains, Some, unwrap_or, IsTrue}
 use Rattle.std.specs.List.{flat_map, range_with_len}
 use Rattle.std.specs.Option.{option_map_or}
 use Rattle.std.specs.FinMap as map
 use Rattle.dep_types.specs.Maps.{Numbered}
 use Rattle.dep_types.specs.Sound.{IsSound}
 use Rattle.dep_types.specs.State.{State, Upload}
+use Rattle.dep_types.specs.Uploads.{is_complete}
 use Rattle.dep_fixity.specs.Fixity.{Holds}
 use Rattle.dep_row_maps.specs.Stored.{blocks_of}
 use Rattle.dep_staging.specs.declared.running.RunningHash.{RunningHash}
@@ -64,3 +65,8 @@ AreRunning s runs = (kept : ℕ × RunningHash) → Contains (kept_of runs) kept
 -- so it stays, and this holds too
 abbrev pub Hashes : State → (before now : RunningHashes) → (told : Type 0) → Type 0
 Hashes s before now told = IsSound s → AreRunning s before → AreRunning s now × told
+
+-- where there is such an upload, which comes in so many segments, each of them was received
+abbrev pub LacksNone : State → (upload count : ℕ) → Type 0
+LacksNone s u count = (it : Upload) → map.get s.uploads u ≡ Some it → count ≡ it.count
+    → IsTrue (is_complete it)

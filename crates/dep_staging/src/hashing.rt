@@ -9,7 +9,7 @@ ghost use Rattle.dep_staging.specs.HashedAhead.{AreRunning, HasGoneOn, Hashes, I
 use crate::blocks::stored_block;
 use crate::running::{RunningHash, RunningHashes};
 use dep_fixity::Digests;
-use dep_tables::{Statements, next_upload};
+use dep_tables::{Statements, UploadColumns, find_upload, next_upload};
 use dep_types::{StoreFault, UploadRow};
 
 /// How many blocks are hashed ahead at once.
@@ -33,21 +33,38 @@ fn hash_block<T: Statements>(tx: &mut T, run: &mut RunningHash) -> Result<bool, 
     Ok(true)
 }
 
-// Hashes so many blocks of an upload, as far as no segment is missing, and returns whether more may be left.
+// Hashes so many blocks of an upload, as far as no segment is missing, and returns how many of them
+// weren't there: none where more may be left.
 fn hash_blocks<T: Statements>(
     tx: &mut T,
     run: &mut RunningHash,
     most: u64,
-) -> Result<bool, StoreFault>
+) -> Result<u64, StoreFault>
     ensures does { MayReadOver T.lenders T.state tx.old tx.new result
         (λ s. IsSound s → IsRunning s run.old → HasGoneOn s run.old run.new) }
 {
-    for _ in 0..most {
+    for hashed in 0..most {
         if !hash_block(tx, run)? {
-            return Ok(false);
+            return Ok(most - hashed);
         }
     }
-    Ok(true)
+    Ok(0)
+}
+
+// The same, and keeps how far it was hashed, whatever is returned.
+fn hash_on<T: Statements>(
+    tx: &mut T,
+    running: &mut RunningHashes,
+    upload: u64,
+    most: u64,
+) -> Result<u64, StoreFault>
+    ensures does { MayReadOver T.lenders T.state tx.old tx.new result
+        (λ s. IsSound s → AreRunning s running.old → AreRunning s running.new) }
+{
+    let mut run = running.take(upload);
+    let hashed = hash_blocks(tx, &mut run, most);
+    running.put(run);
+    hashed
 }
 
 /// Returns the SHA-256 and the SHA-512 (FIPS 180-4) of the assembled bytes of the upload of this row, none of whose
@@ -71,6 +88,41 @@ pub fn hash_upload<T: Statements>(
         return Err(StoreFault::Store);
     }
     Ok(digests)
+}
+
+/// Hashes at most so many blocks of an upload, and keeps how far it was hashed, whatever is returned:
+/// how many of these blocks weren't needed to hash all of it, none where more may be left. It is
+/// `None` where the upload can't be hashed whole: it isn't there, or lacks a segment, or there is no
+/// memory to keep how far it was hashed. No row of a segment is read, and of an upload that was
+/// hashed whole its own row alone. A number of 2^63 or more is a fault of the store.
+pub fn hash_some<T: Statements>(
+    tx: &mut T,
+    running: &mut RunningHashes,
+    upload: u64,
+    most: u64,
+) -> Result<Option<u64>, StoreFault>
+    ensures does { MayReadOver T.lenders T.state tx.old tx.new result
+        (λ s. IsSound s → AreRunning s running.old → AreRunning s running.new) }
+{
+    let Some(row) = find_upload(tx, upload)? else {
+        return Ok(None);
+    };
+    if running.is_hashed_whole(upload, row.count) {
+        return Ok(Some(most));
+    }
+    let left = hash_on(tx, running, upload, most)?;
+    Ok(left_of(running, &row, left))
+}
+
+// How many blocks weren't there, if all others of the upload were hashed, or more of them can be.
+fn left_of(running: &RunningHashes, row: &UploadColumns, left: u64) -> Option<u64> {
+    if running.is_hashed_whole(row.upload, row.count) {
+        return Some(left);
+    }
+    if left == 0 && running.is_kept(row.upload) {
+        return Some(0);
+    }
+    None
 }
 
 // Notes the next upload of the store since it was opened, and returns whether there is one.
@@ -100,7 +152,7 @@ pub fn hash_ahead<T: Statements>(
         return note_next(tx, running);
     };
     let hashed = hash_blocks(tx, &mut run, BLOCKS_AHEAD);
-    running.put_back(run, hashed.unwrap_or(true));
+    running.put_back(run, hashed.unwrap_or(0) == 0);
     hashed?;
     Ok(true)
 }

@@ -1,9 +1,9 @@
 //! How far uploads were hashed before a request needs their digests.
 
-ghost use Rattle.std.specs.Prelude.{◌≡◌, ◌<◌, ◌+◌, ◌^◌, ◌++◌, ℕ, List, IfSome};
+ghost use Rattle.std.specs.Prelude.{◌≡◌, ◌<◌, ◌+◌, ◌^◌, ◌++◌, ℕ, List, IfSome, IsTrue};
 ghost use Rattle.dep_types.specs.State.{State};
 ghost use Rattle.dep_fixity.specs.Fixity.{Holds};
-ghost use Rattle.dep_staging.specs.HashedAhead.{AreRunning, IsFresh, IsRunning};
+ghost use Rattle.dep_staging.specs.HashedAhead.{AreRunning, IsFresh, IsRunning, LacksNone};
 
 use dep_fixity::Hasher;
 use lru::LruCache;
@@ -102,6 +102,29 @@ impl RunningHashes {
     {
         if self.due.len() < MOST_RUNNING {
             let _ = self.due.insert(upload);
+        }
+    }
+
+    /// Whether it is kept how far the upload was hashed.
+    pub(crate) fn is_kept(&self, upload: u64) -> bool {
+        match &self.kept {
+            Some(kept) => kept.contains(&upload),
+            None => false,
+        }
+    }
+
+    /// Whether all of an upload was hashed that comes in so many segments, so that it lacks none.
+    /// Nothing is read. An upload of which this isn't known may be whole as well.
+    pub fn is_hashed_whole(&self, upload: u64, count: u64) -> bool
+        ensures { IsTrue result → (s : State) → AreRunning s self.now
+            → LacksNone s upload count }
+    {
+        let Some(kept) = &self.kept else {
+            return false;
+        };
+        match kept.peek(&upload) {
+            Some(run) => run.segments == count,
+            None => false,
         }
     }
 

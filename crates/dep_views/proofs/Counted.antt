@@ -1,5 +1,5 @@
 -- An upload misses no segment where it has as many as it comes in.
-use Rattle.std.proofs.Common.{◌≡◌, ◌⊎◌, inl, inr, ℕ, is_lt, zero, suc, ◌+◌, ◌<◌, ◌≤◌, Bool, true, false, T, ◌&&◌, cond, List, [], ◌∷◌, length, nat_eq, nat_cmp, is_eq, is_some, Some, refl, sym, ap, subst, ◌∙◌, arith}
+use Rattle.std.proofs.Common.{◌≡◌, ◌⊎◌, inl, inr, ℕ, is_lt, zero, suc, ◌+◌, ◌<◌, ◌≤◌, Bool, true, false, T, ◌&&◌, cond, List, [], ◌∷◌, length, map, nat_eq, nat_cmp, is_eq, is_some, Some, refl, sym, ap, subst, ◌∙◌, arith}
 use Rattle.std.specs.List.{AllByRecursion, list_all, range_with_len}
 use Rattle.std.specs.FinMap as finmap
 use Rattle.std.specs.FinMap.Entries as entries
@@ -7,12 +7,18 @@ use Rattle.std.proofs.lemmas.List.{length-map}
 use Rattle.std.proofs.lemmas.Cmp.{nat_cmp_total, tied_itself}
 use Rattle.std.proofs.lemmas.Bool.{cases_lt}
 use Rattle.std.proofs.lemmas.Bool.Decides.{nat_tests}
-use Rattle.dep_types.specs.State.{Upload}
+use Rattle.dep_types.specs.State.{State, Upload}
 use Rattle.dep_types.specs.Uploads.{has_segment, is_complete}
 use Rattle.dep_row_maps.specs.Laws.{HasSegmentsWithin}
 use Rattle.dep_row_maps.specs.Stored.{segment_row}
 use Rattle.dep_row_maps.proofs.Blocks.{number_order}
+use Rattle.dep_row_maps.specs.TablesAre.{TablesAre}
 use Rattle.dep_row_maps.proofs.Pieces.{all_found}
+use Rattle.dep_row_maps.proofs.Readings.{segments_read}
+use Rattle.dep_row_maps.proofs.Whole.{segments_there}
+use Rattle.dep_tables.specs.Edits.{AreSegmentRowsOf}
+use Rattle.dep_tables.specs.Tables.{Tables}
+use Rattle.dep_tables.specs.declared.segments.SegmentRow.{SegmentRow}
 use Rattle.dep_staging.specs.Found.{segment_rows_of}
 use Rattle.dep_staging.proofs.Entries.{both, passed, none_below}
 use Rattle.dep_row_maps.proofs.Spreads.{less}
@@ -92,3 +98,10 @@ complete_is it u within =
     looked : (ks : List ℕ) → list_all (has_segment it) ks ≡ list_all (is_there (finmap.entries it.segments)) ks
     looked [] = refl
     looked (k ∷ ks) = ap (λ x. is_some x && list_all (has_segment it) ks) (finmap.get-entries it.segments k) ∙ ap (λ b. is_there (finmap.entries it.segments) k && b) (looked ks)
+
+-- and so by its rows
+pub counted_whole : (t : Tables) (s : State) → TablesAre t s → (u count : ℕ) (it : Upload) → finmap.get s.uploads u ≡ Some it → count ≡ it.count → HasSegmentsWithin it
+    → (rows : List SegmentRow) → AreSegmentRowsOf u t rows → nat_eq (length rows) count ≡ is_complete it
+counted_whole t s are u count it there same within rows h =
+    let read = segments_read t s are u rows h ∙ ap (λ m. map (λ e. segment_row u e.0 (length e.1)) (finmap.entries m)) (segments_there s.uploads u it there) in
+    (λ i. nat_eq (length (read i)) (same i)) ∙ complete_is it u within

@@ -1,18 +1,26 @@
 //! The digests of the uploads that references name.
 
 ghost use Rattle.std.specs.Prelude.{◌≡◌, ℕ, true, All, IfOk, IsTrue};
+ghost use Rattle.dep_types.specs.Sound.{IsSound};
 ghost use Rattle.dep_operations.specs.Views.{upload_state};
-ghost use Rattle.dep_row_maps.specs.Clauses.{MayFind};
-ghost use Rattle.dep_staging.specs.HashedAhead.{Hashes};
+ghost use Rattle.dep_row_maps.specs.Clauses.{MayFind, MayReadOver};
+ghost use Rattle.dep_staging.specs.HashedAhead.{AreRunning, Hashes};
 ghost use Rattle.dep_views.specs.Seen.{GetsDigests, IsUndigested, TellsDigests, hashed_views, state_seen};
 
 use crate::view::LoadedView;
 use dep_fixity::Digests;
 use dep_operations::{LiveUpload, UploadState, UploadView, UploadViews};
-use dep_staging::{RunningHashes, hash_upload};
+use dep_staging::{RunningHashes, hash_some, hash_upload};
 use dep_tables::Statements;
 use dep_types::StoreFault;
 use std::alloc::Global;
+
+/// Of so many uploads that a document names all is hashed before it is answered: of half as many as
+/// it is kept how far they were hashed.
+const MOST_HASHED: usize = 1_024;
+
+/// How many blocks of them are hashed at once.
+const BLOCKS_AT_ONCE: u64 = 64;
 
 // The digests of an upload that is there, where no segment is missing.
 fn digests_if_whole<T: Statements>(
@@ -80,9 +88,32 @@ fn hash_uploads<T: Statements>(
     Ok(UploadViews::from_vec(hashed))
 }
 
-/// What was loaded with the uploads that references name, with the digests of each upload that references name, and none of whose segments is missing.
-/// Its bytes are read, one block at a time, but for those that were hashed before, which stay known whatever is
-/// returned. No row is read, and nothing without references.
+/// Hashes up to 64 blocks (4 MiB) of the uploads of these numbers, which references name, one after
+/// another, and returns whether more may be left: of the first 1,024, so that none of them gives way
+/// to another. Of each one row is read, and none of a segment. Where one isn't there, or lacks a
+/// segment, nothing behind it is hashed, since it refuses the deposit.
+pub fn hash_named<T: Statements>(
+    tx: &mut T,
+    running: &mut RunningHashes,
+    uploads: &[u64],
+) -> Result<bool, StoreFault>
+    ensures does { MayReadOver T.lenders T.state tx.old tx.new result
+        (λ s. IsSound s → AreRunning s running.old → AreRunning s running.new) }
+{
+    let mut left = BLOCKS_AT_ONCE;
+    for upload in &uploads[..uploads.len().min(MOST_HASHED)] {
+        match hash_some(tx, running, *upload, left)? {
+            None => return Ok(false),
+            Some(0) => return Ok(true),
+            Some(rest) => left = rest,
+        }
+    }
+    Ok(false)
+}
+
+/// Returns what was loaded, with the digests of each upload that references name and that lacks no
+/// segment. Its bytes are read, one block at a time, but for those that were hashed before; what is
+/// hashed stays known, whatever is returned. No row is read, and nothing without references.
 pub fn load_digests<T: Statements>(
     tx: &mut T,
     alloc: Global,

@@ -12,7 +12,7 @@ mod touched;
 mod uploads;
 mod view;
 
-pub use digests::load_digests;
+pub use digests::{hash_named, load_digests};
 pub use named::{Named, load_named};
 pub use objects::load_object_view;
 pub use shown::load_shown;

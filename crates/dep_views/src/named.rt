@@ -5,13 +5,14 @@ ghost use Rattle.dep_types.specs.Sound.{IsSound};
 ghost use Rattle.dep_decisions.specs.LookUps.{in_state};
 ghost use Rattle.dep_decisions.specs.Rules.{each, upload_refusal};
 ghost use Rattle.dep_row_maps.specs.Clauses.{Finds, MayFind};
+ghost use Rattle.dep_staging.specs.HashedAhead.{AreRunning};
 ghost use Rattle.dep_views.specs.Named.{AreNamed};
 ghost use Rattle.dep_views.specs.Seen.{state_seen};
 
-use crate::segments::is_complete;
+use crate::segments::is_whole;
 use crate::uploads::find_state;
 use dep_operations::{LiveUpload, UploadState, UploadView, UploadViews, segments_rule, state_rule};
-use dep_staging::{FoundUpload, load_upload};
+use dep_staging::{FoundRow, RunningHashes, find_staged};
 use dep_tables::Statements;
 use dep_types::{Refusal, StoreFault};
 use std::alloc::Global;
@@ -29,19 +30,24 @@ pub enum Named {
 fn load_state<T: Statements>(
     tx: &mut T,
     alloc: Global,
+    running: &RunningHashes,
     upload: u64,
 ) -> Result<UploadState, StoreFault>
     ensures map { Finds T.lenders T.state tx.old tx.new result
-        (λ s. IsSound s → IfOk result (λ state. state ≡ state_seen true s upload)) }
+        (λ s. IsSound s → AreRunning s running.now
+        → IfOk result (λ state. state ≡ state_seen true s upload)) }
 {
-    match load_upload(tx, alloc, upload)? {
-        FoundUpload::Live(staged) => Ok(UploadState::Live(LiveUpload {
-            row: staged.row,
-            is_whole: is_complete(&staged),
-            digests: None,
-        })),
-        FoundUpload::TimedOut => Ok(UploadState::TimedOut),
-        FoundUpload::Unknown => Ok(UploadState::Unknown),
+    match find_staged(tx, upload)? {
+        FoundRow::Live(row) => {
+            let is_whole = is_whole(tx, alloc, running, &row)?;
+            Ok(UploadState::Live(LiveUpload {
+                row,
+                is_whole,
+                digests: None,
+            }))
+        }
+        FoundRow::TimedOut => Ok(UploadState::TimedOut),
+        FoundRow::Unknown => Ok(UploadState::Unknown),
     }
 }
 
@@ -62,21 +68,23 @@ fn first_missing<T: Statements>(tx: &mut T, uploads: &[u64]) -> Result<Option<Re
     Ok(None)
 }
 
-/// Looks up the uploads of these numbers, which references name, in their order: up to the first that isn't there.
-/// Behind the first that lacks a segment the others' segments are not read any more. An upload that is named twice
-/// is read twice.
+/// Looks up the uploads of these numbers, which references name, in their order: up to the first that
+/// isn't there. Of an upload that was hashed whole no row of a segment is read, of another each, but
+/// none behind the first that lacks a segment. An upload that is named twice is read twice.
 pub fn load_named<T: Statements>(
     tx: &mut T,
     alloc: Global,
+    running: &RunningHashes,
     uploads: &[u64],
 ) -> Result<Named, StoreFault>
     ensures map { MayFind T.lenders T.state tx.old tx.new result
-        (λ s. IsTrue (T.state tx.old).is_open → IsSound s → IfOk result (AreNamed s uploads.now)) }
+        (λ s. IsTrue (T.state tx.old).is_open → IsSound s → AreRunning s running.now
+        → IfOk result (AreNamed s uploads.now)) }
 {
     let mut views = Vec::new(alloc);
     let mut rest = uploads;
     while let Some((upload, behind)) = rest.split_first() {
-        let state = load_state(tx, alloc, *upload)?;
+        let state = load_state(tx, alloc, running, *upload)?;
         if let Some(refusal) = state_rule(&state) {
             return Ok(Named::Refused(refusal));
         }

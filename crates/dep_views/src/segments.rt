@@ -1,14 +1,15 @@
 //! The segments of an upload, by their rows.
 
-ghost use Rattle.std.specs.Prelude.{◌≡◌, ◌<◌, ℕ, IfOk, map};
-ghost use Rattle.dep_types.specs.State.{State, Upload};
-ghost use Rattle.dep_types.specs.Uploads.{is_complete};
-ghost use Rattle.dep_row_maps.specs.Laws.{HasSegmentsWithin};
-ghost use Rattle.dep_staging.specs.Found.{IsLiveAs};
+ghost use Rattle.std.specs.Prelude.{◌≡◌, IfOk, map};
+ghost use Rattle.dep_types.specs.Sound.{IsSound};
+ghost use Rattle.dep_row_maps.specs.Clauses.{MayFind};
+ghost use Rattle.dep_staging.specs.HashedAhead.{AreRunning};
+ghost use Rattle.dep_views.specs.Seen.{IsWholeAs};
 
 use dep_operations::Numbers;
-use dep_staging::StagedUpload;
-use dep_tables::SegmentRow;
+use dep_staging::RunningHashes;
+use dep_tables::{SegmentRow, Statements, segments_of};
+use dep_types::{StoreFault, UploadRow};
 use std::alloc::{AllocError, Global};
 
 /// The numbers of these segments, in their order.
@@ -22,10 +23,20 @@ pub(crate) fn numbers_of(alloc: Global, segments: &[SegmentRow]) -> Result<Numbe
     Ok(Numbers::from_vec(numbers))
 }
 
-/// Whether none of the segments of an upload that was loaded is missing.
-pub(crate) fn is_complete(staged: &StagedUpload) -> bool
-    ensures whole { (s : State) (u : ℕ) (it : Upload) → IsLiveAs s u staged.now it
-        → HasSegmentsWithin it → result ≡ is_complete it }
+/// Whether the upload of this row lacks no segment. Of one that was hashed whole no row of a segment
+/// is read, of another each.
+pub(crate) fn is_whole<T: Statements>(
+    tx: &mut T,
+    alloc: Global,
+    running: &RunningHashes,
+    row: &UploadRow,
+) -> Result<bool, StoreFault>
+    ensures map { MayFind T.lenders T.state tx.old tx.new result
+        (λ s. IsSound s → AreRunning s running.now → IfOk result (IsWholeAs s row.now)) }
 {
-    staged.received.as_slice().len() as u64 == staged.row.count
+    if running.is_hashed_whole(row.upload, row.count) {
+        return Ok(true);
+    }
+    let received = segments_of(tx, alloc, row.upload)?;
+    Ok(received.as_slice().len() as u64 == row.count)
 }

@@ -12,7 +12,7 @@ use Rattle.dep_requests.proofs.performing.look_up.Goals as goal
 pub returns-then-is_none : goal.returns-then-is_none
 returns-then-is_none g c = record {
   map = record {
-    found = λ clean inside ours s are is_open sound loaded. looked_at_none c.args.config.now s c.args.operation.now c.args.loaded loaded (c.is_none.ensures ∙ ap not c.if-is_none.true);
+    found = λ clean inside ours s are is_open sound running loaded. looked_at_none c.args.asked.config.now s c.args.asked.operation.now c.args.loaded loaded (c.is_none.ensures ∙ ap not c.if-is_none.true);
     keeps = may_put g.T.Statements.lenders g.T.Statements.state c.args.tx.now _;
   };
 }
@@ -20,8 +20,8 @@ returns-then-is_none g c = record {
 pub returns-then-is_some : goal.returns-then-is_some
 returns-then-is_some g c = record {
   map = record {
-    found = λ clean inside ours s are is_open sound loaded.
-        looked_early c.args.config.now s c.args.operation.now c.args.loaded loaded (c.is_none.ensures ∙ ap not c.if-is_none.false) c.in_ok-early.early c.in_ok-early.ensures.unnamed
+    found = λ clean inside ours s are is_open sound running loaded.
+        looked_early c.args.asked.config.now s c.args.asked.operation.now c.args.loaded loaded (c.is_none.ensures ∙ ap not c.if-is_none.false) c.in_ok-early.early c.in_ok-early.ensures.unnamed
         (sym c.is_some.ensures ∙ c.if-is_some.true);
     keeps = may_put g.T.Statements.lenders g.T.Statements.state c.args.tx.now _;
   };
@@ -30,9 +30,9 @@ returns-then-is_some g c = record {
 pub returns-in-Refused : goal.returns-in-Refused
 returns-in-Refused g c = record {
   map = record {
-    found = λ clean inside ours s are is_open sound loaded.
-        let named = subst (AreNamed s _) c.in-Refused.is (c.in_ok-refusal.ensures.map.found clean inside ours s are is_open sound) in
-        looked_refused c.args.config.now s c.args.operation.now c.args.loaded loaded (c.is_none.ensures ∙ ap not c.if-is_none.false) c.in_ok-early.early c.in_ok-early.ensures.unnamed
+    found = λ clean inside ours s are is_open sound running loaded.
+        let named = subst (AreNamed s _) c.in-Refused.is (c.in_ok-refusal.ensures.map.found clean inside ours s are is_open sound running) in
+        looked_refused c.args.asked.config.now s c.args.asked.operation.now c.args.loaded loaded (c.is_none.ensures ∙ ap not c.if-is_none.false) c.in_ok-early.early c.in_ok-early.ensures.unnamed
         (sym c.is_some.ensures ∙ c.if-is_some.false) c.in-Refused.refusal (ap (uploads_refusal (in_state s)) (sym c.as_slice.ensures) ∙ named);
     keeps = may_ok c.in_ok-refusal.ensures.map.keeps;
   };
@@ -41,11 +41,11 @@ returns-in-Refused g c = record {
 pub returns-in_ok-refusal-in-Whole : goal.returns-in_ok-refusal-in-Whole
 returns-in_ok-refusal-in-Whole g c = record {
   map = record {
-    found = λ clean inside ours s are is_open sound loaded.
-        let op = c.args.operation.now in
-        let named = subst (AreNamed s _) c.in-Whole.is (c.in_ok-refusal.ensures.map.found clean inside ours s are is_open sound) in
-        looked_on c.args.config.now s op c.with_uploads-named.result c.in_ok-refusal-in-Whole.refusal
-        (seen_named s op.content (touched_by c.args.config.now op) c.args.loaded loaded c.in-Whole.uploads c.with_uploads-named.result (c.is_none.ensures ∙ ap not c.if-is_none.false)
+    found = λ clean inside ours s are is_open sound running loaded.
+        let op = c.args.asked.operation.now in
+        let named = subst (AreNamed s _) c.in-Whole.is (c.in_ok-refusal.ensures.map.found clean inside ours s are is_open sound running) in
+        looked_on c.args.asked.config.now s op c.with_uploads-named.result c.in_ok-refusal-in-Whole.refusal
+        (seen_named s op.content (touched_by c.args.asked.config.now op) c.args.loaded loaded c.in-Whole.uploads c.with_uploads-named.result (c.is_none.ensures ∙ ap not c.if-is_none.false)
         (named.1 ∙ ap (map (upload_undigested true s)) c.as_slice.ensures) c.with_uploads-named.ensures)
         c.in_ok-refusal-in-Whole.ensures.undigested;
     keeps = may_ok c.in_ok-refusal.ensures.map.keeps;
@@ -55,7 +55,7 @@ returns-in_ok-refusal-in-Whole g c = record {
 pub returns-in_err-early : goal.returns-in_err-early
 returns-in_err-early g c = record {
   map = record {
-    found = λ clean inside ours s are is_open sound loaded. IfOk-from_err c.from_residual.result _ c.from_residual.ensures.0;
+    found = λ clean inside ours s are is_open sound running loaded. IfOk-from_err c.from_residual.result _ c.from_residual.ensures.0;
     keeps = may_put g.T.Statements.lenders g.T.Statements.state c.args.tx.now _;
   };
 }
@@ -63,7 +63,7 @@ returns-in_err-early g c = record {
 pub returns-in_err-refusal-in-Whole : goal.returns-in_err-refusal-in-Whole
 returns-in_err-refusal-in-Whole g c = record {
   map = record {
-    found = λ clean inside ours s are is_open sound loaded. IfOk-from_err c.from_residual-in_err-refusal-in-Whole.result _ c.from_residual-in_err-refusal-in-Whole.ensures.0;
+    found = λ clean inside ours s are is_open sound running loaded. IfOk-from_err c.from_residual-in_err-refusal-in-Whole.result _ c.from_residual-in_err-refusal-in-Whole.ensures.0;
     keeps = may_ok c.in_ok-refusal.ensures.map.keeps;
   };
 }

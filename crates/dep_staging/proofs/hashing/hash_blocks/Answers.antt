@@ -10,25 +10,25 @@ returns-then-not-branch g c = record {
   does = record {
     map = λ is_open clean ours s are sound running.
         let old = g.T.Statements.state c.args.tx.now in
-        let mid = g.T.Statements.state c.loop.tx in
+        let mid = g.T.Statements.state c.loop-hashed.tx in
         let earlier = clean_before c.hash_block.ensures.does.keeps.stays clean in
-        let same = c.loop.invariant.0.same is_open earlier ours in
+        let same = c.loop-hashed.invariant.0.same is_open earlier ours in
         let are_mid = subst (λ (t : Tables). TablesAre t s) (sym (same_tables old mid same)) are in
-        let so_far = c.loop.invariant.1 is_open earlier ours s are sound running in
+        let so_far = c.loop-hashed.invariant.1 is_open earlier ours s are sound running in
         let more = c.hash_block.ensures.does.map clean (still_ours old mid same ours) s are_mid sound so_far.0 in
         (more.0, more.1 ∙ so_far.1);
-    keeps = may_ok (may_then c.loop.invariant.0 (may_read c.in_ok-hash_block.ensures.does.keeps));
+    keeps = may_ok (may_then c.loop-hashed.invariant.0 (may_read c.in_ok-hash_block.ensures.does.keeps));
   };
 }
 
-pub loop-init : goal.loop-init
-loop-init g c = (may_put g.T.Statements.lenders g.T.Statements.state c.args.tx.now _, λ is_open clean ours s are sound running. (running, refl))
+pub loop-hashed-init : goal.loop-hashed-init
+loop-hashed-init g c = (may_put g.T.Statements.lenders g.T.Statements.state c.args.tx.now _, λ is_open clean ours s are sound running. (running, refl))
 
-pub loop-preserved : goal.loop-preserved
-loop-preserved g c =
+pub loop-hashed-preserved : goal.loop-hashed-preserved
+loop-hashed-preserved g c =
     let old = g.T.Statements.state c.args.tx.now in
-    let mid = g.T.Statements.state c.loop.tx in
-    let inv = c.loop.invariant in
+    let mid = g.T.Statements.state c.loop-hashed.tx in
+    let inv = c.loop-hashed.invariant in
     let earlier = clean_before c.hash_block.ensures.does.keeps.stays in (
       may_ok (may_then inv.0 (may_read c.in_ok-hash_block.ensures.does.keeps)),
       λ is_open clean ours s are sound running.
@@ -42,8 +42,8 @@ loop-preserved g c =
 pub returns : goal.returns
 returns g c = record {
   does = record {
-    map = c.loop.invariant.1;
-    keeps = may_ok c.loop.invariant.0;
+    map = c.loop-hashed.invariant.1;
+    keeps = may_ok c.loop-hashed.invariant.0;
   };
 }
 
@@ -52,13 +52,13 @@ returns-in_err-hash_block g c = record {
   does = record {
     map = λ is_open clean ours s are sound running.
         let old = g.T.Statements.state c.args.tx.now in
-        let mid = g.T.Statements.state c.loop.tx in
+        let mid = g.T.Statements.state c.loop-hashed.tx in
         let earlier = clean_before c.hash_block.ensures.does.keeps.stays clean in
-        let same = c.loop.invariant.0.same is_open earlier ours in
+        let same = c.loop-hashed.invariant.0.same is_open earlier ours in
         let are_mid = subst (λ (t : Tables). TablesAre t s) (sym (same_tables old mid same)) are in
-        let so_far = c.loop.invariant.1 is_open earlier ours s are sound running in
+        let so_far = c.loop-hashed.invariant.1 is_open earlier ours s are sound running in
         let more = c.hash_block.ensures.does.map clean (still_ours old mid same ours) s are_mid sound so_far.0 in
         (more.0, more.1 ∙ so_far.1);
-    keeps = may_err c.from_residual.ensures.0 (may_then c.loop.invariant.0 (may_read c.hash_block.ensures.does.keeps));
+    keeps = may_err c.from_residual.ensures.0 (may_then c.loop-hashed.invariant.0 (may_read c.hash_block.ensures.does.keeps));
   };
 }

@@ -8,8 +8,8 @@ use Rattle.dep_row_maps.specs.TablesAre.{TablesAre}
 use Rattle.dep_staging.specs.HashedAhead.{HasGoneOn, IsRunning}
 use Rattle.dep_staging.proofs.hashing.hash_blocks.Given as goal
 
-abbrev pub invariant-loop : goal.invariant-loop
-invariant-loop g l =
+abbrev pub invariant-loop-hashed : goal.invariant-loop-hashed
+invariant-loop-hashed g l =
     let old = g.T.Statements.state l.fn.tx in
     let now = g.T.Statements.state l.tx in
     MayReads g.T.Statements.lenders g.T.Statements.state l.fn.tx l.tx

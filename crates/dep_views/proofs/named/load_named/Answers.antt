@@ -9,7 +9,7 @@ use Rattle.dep_views.proofs.Lacking.{IsLeft, left_at_first, left_lacking, left_m
 use Rattle.dep_views.proofs.named.load_named.Goals as goal
 
 pub loop-upload-init : goal.loop-upload-init
-loop-upload-init g c = (may_put g.T.Statements.lenders g.T.Statements.state c.args.tx.now _, λ is_open clean inside ours s are sound. left_at_first s c.args.uploads.now _ c.new-views.ensures.items)
+loop-upload-init g c = (may_put g.T.Statements.lenders g.T.Statements.state c.args.tx.now _, λ is_open clean inside ours s are sound running. left_at_first s c.args.uploads.now _ c.new-views.ensures.items)
 
 pub loop-upload-preserved : goal.loop-upload-preserved
 loop-upload-preserved g c =
@@ -17,11 +17,11 @@ loop-upload-preserved g c =
     let mid = g.T.Statements.state c.loop-upload.tx in
     let inv = c.loop-upload.invariant in (
       may_ok (may_then {r = Ok c.in_ok-state.state} inv.0 (may_read c.in_ok-state.ensures.map.keeps)),
-      λ is_open clean inside ours s are sound.
+      λ is_open clean inside ours s are sound running.
           let before = clean_before c.in_ok-state.ensures.map.keeps.stays clean in
           let same = inv.0.same is_open before ours in
-          let so_far = subst (IsLeft s c.args.uploads.now c.loop-upload.views.items) c.in-Some.ensures.cases.0 (inv.1 is_open before inside ours s are sound) in
-          let it = c.in_ok-state.ensures.map.found clean (inv.0.stays.inside before inside) (still_ours old mid same ours) s (still_seen old mid s same are) sound in
+          let so_far = subst (IsLeft s c.args.uploads.now c.loop-upload.views.items) c.in-Some.ensures.cases.0 (inv.1 is_open before inside ours s are sound running) in
+          let it = c.in_ok-state.ensures.map.found clean (inv.0.stays.inside before inside) (still_ours old mid same ours) s (still_seen old mid s same are) sound running in
           let u = c.in-Some.upload.now in
           let view : UploadView = record { upload = u; state = c.in_ok-state.state } in
           let grown = pushed c.push.result c.push.new.self.items (c.loop-upload.views.items ++ view ∷ []) c.loop-upload.views.items (ap is_err c.in_ok-push.was) c.push.ensures.items in
@@ -33,14 +33,14 @@ loop-upload-preserved g c =
 pub returns-in-Some-state_rule : goal.returns-in-Some-state_rule
 returns-in-Some-state_rule g c = record {
   map = record {
-    found = λ clean inside ours s are is_open sound.
+    found = λ clean inside ours s are is_open sound running.
         let old = g.T.Statements.state c.args.tx.now in
         let mid = g.T.Statements.state c.loop-upload.tx in
         let inv = c.loop-upload.invariant in
         let before = clean_before c.in_ok-state.ensures.map.keeps.stays clean in
         let same = inv.0.same is_open before ours in
-        let so_far = subst (IsLeft s c.args.uploads.now c.loop-upload.views.items) c.in-Some.ensures.cases.0 (inv.1 is_open before inside ours s are sound) in
-        let it = c.in_ok-state.ensures.map.found clean (inv.0.stays.inside before inside) (still_ours old mid same ours) s (still_seen old mid s same are) sound in
+        let so_far = subst (IsLeft s c.args.uploads.now c.loop-upload.views.items) c.in-Some.ensures.cases.0 (inv.1 is_open before inside ours s are sound running) in
+        let it = c.in_ok-state.ensures.map.found clean (inv.0.stays.inside before inside) (still_ours old mid same ours) s (still_seen old mid s same are) sound running in
         left_missing s c.args.uploads.now c.loop-upload.views.items c.in-Some.upload.now c.in-Some.behind.now so_far c.in-Some-state_rule.refusal
         (missing_told s c.in-Some.upload.now true c.in_ok-state.state _ c.state_rule.ensures it ∙ c.in-Some-state_rule.is);
     keeps = may_ok (may_then {r = Ok c.in_ok-state.state} c.loop-upload.invariant.0 (may_read c.in_ok-state.ensures.map.keeps));
@@ -50,7 +50,7 @@ returns-in-Some-state_rule g c = record {
 pub returns-in-Some-segments_rule : goal.returns-in-Some-segments_rule
 returns-in-Some-segments_rule g c = record {
   map = record {
-    found = λ clean inside ours s are is_open sound.
+    found = λ clean inside ours s are is_open sound running.
         let old = g.T.Statements.state c.args.tx.now in
         let mid = g.T.Statements.state c.loop-upload.tx in
         let inv = c.loop-upload.invariant in
@@ -60,8 +60,8 @@ returns-in-Some-segments_rule g c = record {
         let missing = found_behind reads c.in_ok-missing.ensures.map is_open clean inside ours s are (reads.same is_open clean_two ours).0.is_open in
         let before = clean_before c.in_ok-state.ensures.map.keeps.stays clean_two in
         let same = inv.0.same is_open before ours in
-        let so_far = subst (IsLeft s c.args.uploads.now c.loop-upload.views.items) c.in-Some.ensures.cases.0 (inv.1 is_open before inside ours s are sound) in
-        let it = c.in_ok-state.ensures.map.found clean_two (inv.0.stays.inside before inside) (still_ours old mid same ours) s (still_seen old mid s same are) sound in
+        let so_far = subst (IsLeft s c.args.uploads.now c.loop-upload.views.items) c.in-Some.ensures.cases.0 (inv.1 is_open before inside ours s are sound running) in
+        let it = c.in_ok-state.ensures.map.found clean_two (inv.0.stays.inside before inside) (still_ours old mid same ours) s (still_seen old mid s same are) sound running in
         left_lacking s c.args.uploads.now c.loop-upload.views.items u c.in-Some.behind.now so_far c.in_ok-missing.missing c.in-Some-segments_rule.refusal
         (missing_told s u true c.in_ok-state.state _ c.state_rule.ensures it ∙ c.in_default-state_rule.is)
         (segments_told s u c.in_ok-state.state _ c.segments_rule.ensures it ∙ c.in-Some-segments_rule.is) missing
@@ -73,7 +73,7 @@ returns-in-Some-segments_rule g c = record {
 pub returns-in_err-missing : goal.returns-in_err-missing
 returns-in_err-missing g c = record {
   map = record {
-    found = λ clean inside ours s are is_open sound. IfOk-from_err c.from_residual-in_err-missing.result _ c.from_residual-in_err-missing.ensures.0;
+    found = λ clean inside ours s are is_open sound running. IfOk-from_err c.from_residual-in_err-missing.result _ c.from_residual-in_err-missing.ensures.0;
     keeps = may_err c.from_residual-in_err-missing.ensures.0
         (may_then (may_then {r = Ok c.in_ok-state.state} c.loop-upload.invariant.0 (may_read c.in_ok-state.ensures.map.keeps)) c.first_missing.ensures.map.keeps);
   };
@@ -82,7 +82,7 @@ returns-in_err-missing g c = record {
 pub returns-in_err-push : goal.returns-in_err-push
 returns-in_err-push g c = record {
   map = record {
-    found = λ clean inside ours s are is_open sound. IfOk-from_err c.from_residual-in_err-push.result _ c.from_residual-in_err-push.ensures.0;
+    found = λ clean inside ours s are is_open sound running. IfOk-from_err c.from_residual-in_err-push.result _ c.from_residual-in_err-push.ensures.0;
     keeps = may_ok (may_then {r = Ok c.in_ok-state.state} c.loop-upload.invariant.0 (may_read c.in_ok-state.ensures.map.keeps));
   };
 }
@@ -90,8 +90,8 @@ returns-in_err-push g c = record {
 pub returns : goal.returns
 returns g c = record {
   map = record {
-    found = λ clean inside ours s are is_open sound.
-        let all = none_left s c.args.uploads.now c.loop-upload.views.items _ (nil_from_length _ c.in_default.ensures.cases) (c.loop-upload.invariant.1 is_open clean inside ours s are sound) in
+    found = λ clean inside ours s are is_open sound running.
+        let all = none_left s c.args.uploads.now c.loop-upload.views.items _ (nil_from_length _ c.in_default.ensures.cases) (c.loop-upload.invariant.1 is_open clean inside ours s are sound running) in
         (all.0, c.from_vec.ensures ∙ all.1);
     keeps = may_ok c.loop-upload.invariant.0;
   };
@@ -100,7 +100,7 @@ returns g c = record {
 pub returns-in_err-state : goal.returns-in_err-state
 returns-in_err-state g c = record {
   map = record {
-    found = λ clean inside ours s are is_open sound. IfOk-from_err c.from_residual.result _ c.from_residual.ensures.0;
+    found = λ clean inside ours s are is_open sound running. IfOk-from_err c.from_residual.result _ c.from_residual.ensures.0;
     keeps = may_err c.from_residual.ensures.0 (may_then c.loop-upload.invariant.0 (may_read c.load_state.ensures.map.keeps));
   };
 }
