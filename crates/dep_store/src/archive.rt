@@ -61,7 +61,7 @@ impl<S: Alter> HashingStore<S> {
         self.store
     }
 
-    /// Hashes a few blocks of what the next request needs, or, where none waits, of an upload that one may name later. Returns
+    /// Hashes a part of what the request that waits needs, or, where none does, of an upload that one may name later. Returns
     /// whether more may be left.
     fn hash(&mut self, service: &Service, next: Option<&Operation<'_>>) -> bool
         ensures hashes { HashesOn (state S.Store self.old.store) (state S.Store self.new.store)
@@ -146,7 +146,8 @@ impl<S: Alter> Archive for HashingStore<S> {
             (account_of S.Store self.old) (account_of S.Store self.new) }
         ensures commits { CommitsIfDue (may_commit self.old) (may_commit self.new)
             (condition_of S.Store self.old) (condition_of S.Store self.new) }
-        ensures rests { KeepsEachState (condition_of S.Store self.old) (condition_of S.Store self.new) }
+        ensures rests { KeepsEachState
+            (condition_of S.Store self.old) (condition_of S.Store self.new) }
         // Also while requests wait each call brings the copy of the log nearer.
         ensures counts { self.new.log_copy ≡ after_call self.old.log_copy }
     {

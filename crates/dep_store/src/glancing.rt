@@ -3,8 +3,6 @@
 ghost use Rattle.std.specs.Prelude.{◌≡◌, false, Result};
 ghost use Rattle.sqlite.specs.Held.{state};
 ghost use Rattle.dep_types.specs.State.{State};
-ghost use Rattle.dep_types.specs.Sound.{IsSound};
-ghost use Rattle.dep_row_maps.specs.Clauses.{MayReadOver};
 ghost use Rattle.dep_staging.specs.HashedAhead.{AreRunning};
 ghost use Rattle.dep_types.specs.declared.store_fault.StoreFault.{StoreFault};
 ghost use Rattle.dep_tables.specs.Clauses.{StaysWithin};
@@ -12,6 +10,7 @@ ghost use Rattle.dep_store.specs.Glancing.{GivesBack, TellsFrom, ReadsOpen};
 
 use dep_decisions::Operation;
 use dep_files::find_file;
+use dep_requests::hash_for;
 use dep_schema::{Lent, check_open};
 use dep_staging::{RunningHashes, hash_ahead, next_bytes};
 use dep_tables::Statements;
@@ -78,7 +77,7 @@ impl Glance for RunningHashes {
     }
 }
 
-/// A few blocks of the uploads that references of a request name are hashed. Returns whether more may be left.
+/// A part of the uploads that references in a request name is hashed. Returns whether more may be left.
 #[derive(Drop)]
 struct NamedHashes<'a> {
     alloc: Global,
@@ -105,7 +104,7 @@ impl Glance for NamedHashes<'_> {
     }
 }
 
-/// Hashes a few blocks of the uploads that references of a request name, and returns whether more may be left.
+/// Hashes a part of the uploads that references in a request name, and returns whether more may be left.
 pub(crate) fn hash_named_by<S: Alter>(
     connection: &mut Connection<S>,
     alloc: Global,
@@ -175,18 +174,4 @@ impl Glance for NextBytes {
     fn read<T: Statements>(&mut self, tx: &mut T) -> Result<Vec<u8>, StoreFault> {
         next_bytes(tx, self.alloc, self.file, self.start)
     }
-}
-
-// STUB
-fn hash_for<T: Statements>(
-    tx: &mut T,
-    _alloc: Global,
-    running: &mut RunningHashes,
-    _config: &Config,
-    _operation: &Operation<'_>,
-) -> Result<bool, StoreFault>
-    ensures does { MayReadOver T.lenders T.state tx.old tx.new result
-        (λ s. IsSound s → AreRunning s running.old → AreRunning s running.new) }
-{
-    hash_ahead(tx, running)
 }

@@ -208,7 +208,8 @@ impl<S: Alter> Store<S> {
     /// Hashes a few blocks of an upload to which a segment came, or looks for the next one that was there before, and
     /// returns whether more may be left. It changes nothing that is kept.
     pub fn hash_ahead(&mut self, running: &mut RunningHashes) -> Result<bool, StoreFault>
-        ensures { HashesOn (state S.Store self.old) (state S.Store self.new) running.old running.new }
+        ensures { HashesOn (state S.Store self.old) (state S.Store self.new)
+            running.old running.new }
     {
         if !self.connection.is_autocommit() {
             return Err(StoreFault::Store);
@@ -218,15 +219,17 @@ impl<S: Alter> Store<S> {
         glance_at(&mut self.connection, running)
     }
 
-    /// Hashes a few blocks of the uploads that references of a request name, before it is answered, and returns whether more may
-    /// be left. It changes nothing that is kept.
+    /// Hashes a part of the uploads that references in a request name, before it is answered, and returns whether more may be
+    /// left: up to 64 blocks (4 MiB). Nothing is hashed for a request that is refused whatever they are. It changes nothing
+    /// that is kept.
     pub fn hash_for(
         &mut self,
         running: &mut RunningHashes,
         config: &Config,
         operation: &Operation<'_>,
     ) -> Result<bool, StoreFault>
-        ensures { HashesOn (state S.Store self.old) (state S.Store self.new) running.old running.new }
+        ensures { HashesOn (state S.Store self.old) (state S.Store self.new)
+            running.old running.new }
     {
         if !self.connection.is_autocommit() {
             return Err(StoreFault::Store);
