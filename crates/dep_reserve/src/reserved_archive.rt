@@ -214,8 +214,8 @@ impl<A: Archive, R: Reserve + Drop> Archive for ReservedArchive<A, R> {
         self.archive.is_open()
     }
 
-    fn work_ahead(&mut self) -> bool {
-        self.archive.work_ahead()
+    fn work_ahead(&mut self, service: &Service, next: Option<&Operation<'_>>) -> bool {
+        self.archive.work_ahead(service, next)
     }
 
     ghost honest_if_open = { λ its is_open. A.honest_if_open its.archive is_open };

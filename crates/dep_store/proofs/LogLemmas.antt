@@ -1,5 +1,5 @@
 -- When a commit of work ahead is due.
-use Rattle.std.proofs.Common.{◌≡◌, ◌⊎◌, ◌∙◌, inl, inr, zero, suc, Bool, true, false, Option, None, Some, Result, Ok, if◌then◌else◌, refl, sym, ap}
+use Rattle.std.proofs.Common.{◌≡◌, ◌⊎◌, ◌∙◌, inl, inr, zero, suc, Bool, true, false, Option, None, Some, Ok, if◌then◌else◌, refl, sym, ap}
 use Rattle.std.specs.Prelude.{not, ◌&&◌, ◌||◌, is_some, nat_le, length}
 use Rattle.dep_types.specs.Conditions.{Condition}
 use Rattle.dep_types.specs.Methods.{is_safe}

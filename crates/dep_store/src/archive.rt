@@ -3,10 +3,15 @@
 
 ghost use Rattle.std.specs.Prelude.{◌≡◌, false};
 ghost use Rattle.sqlite.proofs.StateLemmas.{clean_if_open};
+ghost use Rattle.sqlite.specs.Held.{state};
 ghost use Rattle.dep_types.specs.State.{State};
 ghost use Rattle.dep_staging.specs.HashedAhead.{AreRunning};
 ghost use Rattle.dep_schema.proofs.Transacting.{leaves_as_was};
+ghost use Rattle.dep_hub.specs.Errands.{Runs, WorkedAhead};
+ghost use Rattle.dep_hub.specs.Archives.{CommitsIfDue, KeepsEachState};
 ghost use Rattle.dep_store.specs.HashingStores.{NotesUpload, account_of, condition_of, may_commit};
+ghost use Rattle.dep_store.specs.LogCopies.{after_call};
+ghost use Rattle.dep_store.specs.Staying.{HashesOn};
 
 use crate::log_copy::LogCopy;
 use crate::store::Store;
@@ -54,6 +59,26 @@ impl<S: Alter> HashingStore<S> {
         ensures { result ≡ self.store }
     {
         self.store
+    }
+
+    /// Hashes a part of what the request that waits needs, or, where none does, of an upload that one may name later. Returns
+    /// whether more may be left.
+    fn hash(&mut self, service: &Service, next: Option<&Operation<'_>>) -> bool
+        ensures hashes { HashesOn (state S.Store self.old.store) (state S.Store self.new.store)
+            self.old.running self.new.running }
+        ensures log_copy { self.new.log_copy ≡ self.old.log_copy }
+    {
+        if let Some(operation) = next {
+            let hashed = self
+                .store
+                .hash_for(&mut self.running, service.config(), operation);
+            return matches!(hashed, Ok(true));
+        }
+        if !self.is_due {
+            return false;
+        }
+        self.is_due = matches!(self.store.hash_ahead(&mut self.running), Ok(true));
+        self.is_due
     }
 
     /// Notes the upload to which the request sent a segment, if it sent one that was kept.
@@ -116,19 +141,26 @@ impl<S: Alter> Archive for HashingStore<S> {
         self.store.is_open()
     }
 
-    fn work_ahead(&mut self) -> bool {
+    fn work_ahead(&mut self, service: &Service, next: Option<&Operation<'_>>) -> bool
+        ensures asked { Runs (WorkedAhead result)
+            (account_of S.Store self.old) (account_of S.Store self.new) }
+        ensures commits { CommitsIfDue (may_commit self.old) (may_commit self.new)
+            (condition_of S.Store self.old) (condition_of S.Store self.new) }
+        ensures rests { KeepsEachState
+            (condition_of S.Store self.old) (condition_of S.Store self.new) }
+        // Also while requests wait each call brings the copy of the log nearer.
+        ensures counts { self.new.log_copy ≡ after_call self.old.log_copy }
+    {
         if self.log_copy.count() {
             // Where it fails, the next commit has the log copied.
             let _copied = self.store.copy_log();
-            return self.is_due;
+            return self.is_due | next.is_some();
         }
         // Who waited through the request is answered first.
-        let waits = self.log_copy.is_left();
-        if waits | !self.is_due {
-            return waits;
+        if self.log_copy.is_left() {
+            return true;
         }
-        self.is_due = matches!(self.store.hash_ahead(&mut self.running), Ok(true));
-        self.is_due
+        self.hash(service, next)
     }
 
     ghost honest_if_open = { λ archive is_open.

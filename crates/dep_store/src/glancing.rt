@@ -3,17 +3,21 @@
 ghost use Rattle.std.specs.Prelude.{◌≡◌, false, Result};
 ghost use Rattle.sqlite.specs.Held.{state};
 ghost use Rattle.dep_types.specs.State.{State};
+ghost use Rattle.dep_staging.specs.HashedAhead.{AreRunning};
 ghost use Rattle.dep_types.specs.declared.store_fault.StoreFault.{StoreFault};
 ghost use Rattle.dep_tables.specs.Clauses.{StaysWithin};
 ghost use Rattle.dep_store.specs.Glancing.{GivesBack, TellsFrom, ReadsOpen};
 
+use dep_decisions::Operation;
 use dep_files::find_file;
+use dep_requests::hash_for;
 use dep_schema::{Lent, check_open};
 use dep_staging::{RunningHashes, hash_ahead, next_bytes};
 use dep_tables::Statements;
-use dep_types::{FileRow, StoreFault};
+use dep_types::{Config, FileRow, StoreFault};
 use sqlite::{Alter, Connection};
 use std::alloc::Global;
+use std::mem;
 
 /// What is read in a transaction, whatever runs the statements.
 pub(crate) trait Glance {
@@ -71,6 +75,60 @@ impl Glance for RunningHashes {
     fn read<T: Statements>(&mut self, tx: &mut T) -> Result<bool, StoreFault> {
         hash_ahead(tx, self)
     }
+}
+
+/// A part of the uploads that references in a request name is hashed. Returns whether more may be left.
+#[derive(Drop)]
+struct NamedHashes<'a> {
+    alloc: Global,
+    running: RunningHashes,
+    config: &'a Config,
+    operation: &'a Operation<'a>,
+}
+
+impl Glance for NamedHashes<'_> {
+    ghost use Rattle.dep_staging.specs.HashedAhead.{AreRunning};
+
+    type Answer = bool;
+
+    ghost told = { λ before after more s. AreRunning s before.running → AreRunning s after.running };
+
+    fn read<T: Statements>(&mut self, tx: &mut T) -> Result<bool, StoreFault> {
+        hash_for(
+            tx,
+            self.alloc,
+            &mut self.running,
+            self.config,
+            self.operation,
+        )
+    }
+}
+
+/// Hashes a part of the uploads that references in a request name, and returns whether more may be left.
+pub(crate) fn hash_named_by<S: Alter>(
+    connection: &mut Connection<S>,
+    alloc: Global,
+    running: &mut RunningHashes,
+    config: &Config,
+    operation: &Operation<'_>,
+) -> Result<bool, StoreFault>
+    requires settled { (state S.Store connection.old).in_transaction ≡ false }
+    ensures { GivesBack (state S.Store connection.old) (state S.Store connection.new)
+        (λ s. AreRunning s running.old → AreRunning s running.new) }
+{
+    let mut asked = NamedHashes {
+        alloc,
+        running: mem::replace(running, RunningHashes::new(alloc)),
+        config,
+        operation,
+    };
+    let more = glance_at(connection, &mut asked);
+    let NamedHashes {
+        running: hashed,
+        ..
+    } = asked;
+    drop(mem::replace(running, hashed));
+    more
 }
 
 /// The row of a file, if there is one.

@@ -23,7 +23,7 @@ ghost use Rattle.dep_store.specs.SendingOn.{BeginsIfOpen, SendsOn};
 ghost use Rattle.dep_store.specs.Shut.{FailsIfShut, FailsToTell, SendsFile, TicksIfOpen};
 ghost use Rattle.dep_store.specs.Staying.{TablesStay, TellsTables, LeavesOnly, HashesOn};
 
-use crate::glancing::glance_at;
+use crate::glancing::{glance_at, hash_named_by};
 use crate::migrating::migrate;
 use crate::reading::{NextObject, ViewObject};
 use crate::remembering::{look, tell_open};
@@ -208,7 +208,8 @@ impl<S: Alter> Store<S> {
     /// Hashes a few blocks of an upload to which a segment came, or looks for the next one that was there before, and
     /// returns whether more may be left. It changes nothing that is kept.
     pub fn hash_ahead(&mut self, running: &mut RunningHashes) -> Result<bool, StoreFault>
-        ensures { HashesOn (state S.Store self.old) (state S.Store self.new) running.old running.new }
+        ensures { HashesOn (state S.Store self.old) (state S.Store self.new)
+            running.old running.new }
     {
         if !self.connection.is_autocommit() {
             return Err(StoreFault::Store);
@@ -216,6 +217,26 @@ impl<S: Alter> Store<S> {
         self.remembered = None;
         self.shown = None;
         glance_at(&mut self.connection, running)
+    }
+
+    /// Hashes a part of the uploads that references in a request name, before it is answered, and returns whether more may be
+    /// left: up to 64 blocks (4 MiB). Nothing is hashed for a request that is refused whatever they are. It changes nothing
+    /// that is kept.
+    pub fn hash_for(
+        &mut self,
+        running: &mut RunningHashes,
+        config: &Config,
+        operation: &Operation<'_>,
+    ) -> Result<bool, StoreFault>
+        ensures { HashesOn (state S.Store self.old) (state S.Store self.new)
+            running.old running.new }
+    {
+        if !self.connection.is_autocommit() {
+            return Err(StoreFault::Store);
+        }
+        self.remembered = None;
+        self.shown = None;
+        hash_named_by(&mut self.connection, self.alloc, running, config, operation)
     }
 
     /// Commits the clock as it is. Before a commit SQLite copies a log of 1,000 pages and more into the file, so behind

@@ -1,4 +1,4 @@
-use Rattle.std.proofs.Common.{sym, subst}
+use Rattle.std.proofs.Common.{sym, subst, ◌∙◌}
 use Rattle.sqlite.specs.Held.{state}
 use Rattle.sqlite.proofs.StateLemmas.{clean_if_open}
 use Rattle.dep_schema.proofs.Transacting.{leaves_as_was}
@@ -24,8 +24,8 @@ returns-then-count-clause-rests g c =
     (shut_hashed old new runs runs result c.copy_log-copied.ensures.shut)
 
 -- nothing is hashed in this call
-pub returns-then-waits-self-clause-rests : goal.returns-then-waits-self-clause-rests
-returns-then-waits-self-clause-rests g c =
+pub returns-then-is_left-clause-rests : goal.returns-then-is_left-clause-rests
+returns-then-is_left-clause-rests g c =
     let runs = c.args.self.now.running in
     let store = c.args.self.now.store in
     keeps_itself (shown_by (state g.S.Store store) runs)
@@ -36,11 +36,11 @@ returns-clause-rests g c =
     let runs = c.args.self.now.running in
     let store = c.args.self.now.store in
     let old = state g.S.Store store in
-    let new = state g.S.Store c.hash_ahead.new.self in
-    let later = c.hash_ahead.new.running in
+    let new = state g.S.Store c.hash.new.self.store in
+    let later = c.hash.new.self.running in
     keeps_each (shown_by old runs) (shown_by new later)
     (λ s keeps. leaves_as_was _ s (λ trees h. g.met.S.Store.settled store.store trees keeps.stands.stands.is_open h) keeps.stands)
-    (keeps_hashed old new runs later c.hash_ahead.ensures.running c.hash_ahead.ensures.rests)
+    (keeps_hashed old new runs later c.hash.ensures.hashes.running c.hash.ensures.hashes.rests)
 
 -- ---- what was due
 
@@ -53,8 +53,8 @@ returns-then-count-clause-commits g c =
     subst (λ (l : LogCopy). CommitsIfDue (has_call log) (has_call l) old new) (sym c.count.ensures.counted)
     (copy_commits log old new (c.count.ensures.due.0 c.if-count.true))
 
-pub returns-then-waits-self-clause-commits : goal.returns-then-waits-self-clause-commits
-returns-then-waits-self-clause-commits g c =
+pub returns-then-is_left-clause-commits : goal.returns-then-is_left-clause-commits
+returns-then-is_left-clause-commits g c =
     let log = c.args.self.now.log_copy in
     let at = shown_by (state g.S.Store c.args.self.now.store) c.args.self.now.running in
     subst (λ (l : LogCopy). CommitsIfDue (has_call log) (has_call l) at at) (sym c.count.ensures.counted)
@@ -64,8 +64,8 @@ pub returns-clause-commits : goal.returns-clause-commits
 returns-clause-commits g c =
     let log = c.args.self.now.log_copy in
     let runs = c.args.self.now.running in
-    let later = c.hash_ahead.new.running in
+    let later = c.hash.new.self.running in
     let old = state g.S.Store c.args.self.now.store in
-    let new = state g.S.Store c.hash_ahead.new.self in
-    subst (λ (l : LogCopy). CommitsIfDue (has_call log) (has_call l) (shown_by old runs) (shown_by new later)) (sym c.count.ensures.counted)
-    (call_commits log (shown_by old runs) (shown_by new later) (keeps_hashed old new runs later c.hash_ahead.ensures.running c.hash_ahead.ensures.rests))
+    let new = state g.S.Store c.hash.new.self.store in
+    subst (λ (l : LogCopy). CommitsIfDue (has_call log) (has_call l) (shown_by old runs) (shown_by new later)) (sym (c.hash.ensures.log_copy ∙ c.count.ensures.counted))
+    (call_commits log (shown_by old runs) (shown_by new later) (keeps_hashed old new runs later c.hash.ensures.hashes.running c.hash.ensures.hashes.rests))
