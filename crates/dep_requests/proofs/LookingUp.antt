@@ -10,7 +10,6 @@ use Rattle.dep_decisions.specs.Decisions.{references_in}
 use Rattle.dep_decisions.specs.Kinds.{kind_of}
 use Rattle.dep_decisions.specs.Laws.{refusal_before_room, uploads_refusal}
 use Rattle.dep_decisions.specs.LookUps.{in_state, without_entries}
-use Rattle.dep_decisions.specs.Rules.{refusal}
 use Rattle.dep_decisions.specs.declared.operation.Operation.{Operation}
 use Rattle.dep_decisions.proofs.BeforeDigests.{refused_before, refused_before_entries}
 use Rattle.dep_decisions.proofs.ByUploads.{refused_by_uploads}
