@@ -34,14 +34,17 @@ from example_play import listed_files
 
 BODIES = ROOT / "checks/bodies"
 # Which file of examples refuses which body.
-PLAYED = {"always_500": "one-file.txt", "always_503": "one-file.txt", "check_finds_no_memory": "one-file.txt",
-          "connects_never": "hubs.txt", "cuts_each_content": "one-file.txt", "ends_at_once": "conversations.txt",
-          "ends_by_a_bound": "conversations.txt", "ends_by_a_read_fault": "conversations.txt",
-          "ends_by_a_write_fault": "conversations.txt", "export_finds_no_memory": "exports.txt",
-          "forgets_the_timed_out": "stopped-disks.txt", "hub_finds_no_memory": "one-file.txt",
+PLAYED = {"always_500": "one-file.txt", "always_503": "one-file.txt", "asks_find_no_memory": "host-turns.txt",
+          "breaks_off_each_content": "host-turns.txt", "check_finds_no_memory": "one-file.txt", "connects_never": "hubs.txt",
+          "cuts_each_content": "one-file.txt", "ends_at_once": "conversations.txt", "ends_by_a_bound": "conversations.txt",
+          "ends_by_a_read_fault": "conversations.txt", "ends_by_a_write_fault": "conversations.txt",
+          "export_finds_no_memory": "exports.txt", "forgets_the_timed_out": "stopped-disks.txt",
+          "hashes_for_good": "host-references.txt", "hub_finds_no_memory": "one-file.txt",
           "repeat_leaves_the_moment": "repeated-segments.txt", "replies_before_it_commits": "stopped-disks.txt"}
 # Of these files one example alone is played, with stops of the log alone, since the program that `rt try` builds is slow.
 ONLY = {"conversations.txt": "a deposit and its file in one input",
+        "host-references.txt": "a deposit by reference is answered once its upload is hashed",
+        "host-turns.txt": "a file of more than memory holds is sent as its client takes it, and the others are answered meanwhile",
         "stopped-disks.txt": "an upload that timed out stays so, whatever the moment"}
 # These don't know the configuration: the example of their file at which each is in force, and another one.
 SWITCHED = {"export_finds_no_memory": ("an object without files has an empty folder data",
