@@ -52,6 +52,8 @@ ALL_WAYS, ONE_WAY = "stops log database\nfails log database\n", "stops log\n"
 WITHOUT = "no_wrong_body"
 # No wrong body: a database in memory gets a smaller cache, whose megabyte that program would write byte by byte at each open.
 FEW_PAGES = BODIES / "few_pages.edit"
+# Nor this: a hub tells its abstract to those that serve a connection by it.
+TOLD_ABSTRACT = BODIES / "told_abstract.edit"
 # The service document without its abstract.
 SERVICE_LENGTH = 639
 SECONDS = "1800"
@@ -65,6 +67,7 @@ def lay_out(room, edits):
     for name in names:
         copy_parts(ROOT / "crates" / name, room / "crates" / name)
     apply(FEW_PAGES, room / "crates/examples")
+    apply(TOLD_ABSTRACT, room / "crates/dep_hub")
     for edit in edits:
         folder = edit.parent if edit.parent.parent == BODIES else edit.parent.parent
         apply(edit, room / "crates" / folder.name)

@@ -12,7 +12,7 @@ use Rattle.dep_hub.specs.Claims.{is_content}
 use Rattle.dep_hub.specs.StandsOwing.{KeepsBack, SendsOn as HubSends, behind_at}
 use Rattle.dep_hub.specs.declared.sent_on.SentOn.{SentOn}
 use Rattle.dep_hub.specs.declared.sent_on.SentOn.TheVariants.{Part, All, Broken}
-use Rattle.dep_hub.specs.Turns.{most_read}
+use Rattle.dep_hub.specs.Numbers.{most_read}
 use Rattle.dep_hub.specs.declared.hub.Hub.{Hub}
 use Rattle.dep_hub.specs.declared.arrived.Arrived.{Arrived}
 use Rattle.dep_hub.specs.declared.arrived.Arrived.TheVariants as came

@@ -3,7 +3,7 @@ use Rattle.std.specs.Prelude.{◌≡◌, ◌≢◌, ◌⊎◌, ◌<◌, ◌≤�
 use Rattle.std.specs.Io.KnownBytes.{Appends, Keeps, Consumes, IsAtEnd}
 use Rattle.dep_types.specs.Conditions.{Condition}
 use Rattle.dep_hub.specs.Records.{Line}
-use Rattle.dep_hub.specs.Turns.{most_read}
+use Rattle.dep_hub.specs.Numbers.{most_read}
 use Rattle.dep_hub.specs.Standing.{IsClean, IsHonest, intake_of}
 use Rattle.dep_hub.specs.Holding.{KeepsHolding, AnswersOver, OffersTo, IsNext, IsRefused, arrived_by, with_held}
 use Rattle.dep_hub.specs.Owing.{bytes_later, with_more}

@@ -1,6 +1,6 @@
 //! What bytes are read into.
 ghost use Rattle.std.specs.Prelude.{◌≡◌, ◌<◌, ◌≤◌, IfOk, length, min, max};
-ghost use Rattle.dep_hub.specs.Turns.{most_read};
+ghost use Rattle.dep_hub.specs.Numbers.{most_read};
 ghost use Rattle.dep_outbox.specs.Sockets.{Receives, after_receive};
 
 use dep_outbox::{Received, Source};

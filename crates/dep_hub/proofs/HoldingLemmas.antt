@@ -11,7 +11,7 @@ use Rattle.dep_hub.specs.Sending.{Outside, outside}
 use Rattle.dep_hub.specs.Serving.{IsDeadIfShut}
 use Rattle.dep_hub.specs.Nexts.{RunsOut, AnswersNext}
 use Rattle.dep_hub.specs.Standing.{intake_of, IsKeptAs, StandsAt, store_of, IsClean}
-use Rattle.dep_hub.specs.Archives.{KeepsAll, KeepsEachState}
+use Rattle.dep_hub.specs.Archives.{KeepsAll}
 use Rattle.dep_hub.specs.Holding.{RestsOn, StandsOn, with_held, fed, IsHeldAs, Outcome, arrived_by, IsNext, IsRefused, KeepsHolding, StandsHolding, StandsHoldingAfter, MovesLine, PartArrives, AnswersOver, ComesToNext, OffersTo}
 use Rattle.dep_hub.specs.Numbers.{index_of, Ascends}
 use Rattle.dep_hub.specs.declared.arrived.Arrived.{Arrived}
@@ -320,19 +320,6 @@ module _ {A : Type 0} (condition : A → Condition) (old new : Hub A) (config : 
     stands = stands_still store.kept;
     stops = λ honest first records held h. leaves_before (store_of condition old) (store_of condition new) _ (store.left honest)
         (rests_holding condition old settles first records held h);
-    store = store;
-    config = config;
-    connections = connections;
-    next = next;
-  }
-
-  -- it worked ahead
-  pub rests_ahead : KeepsEachState (store_of condition old) (store_of condition new) → RestsOn condition KeepsEachState old new
-  rests_ahead store = record {
-    stands = stands_still store.kept;
-    stops = λ honest first records held h.
-        leaves_wider (store_of condition new) _ _ (λ found e. subst (λ s. Run old.config first (records ++ stopped ∷ []) (first_world s)) (sym e) (stops h.run))
-        (store.stop honest h.world.state h.at.state);
     store = store;
     config = config;
     connections = connections;

@@ -28,14 +28,16 @@ use Rattle.dep_hub.specs.Records.{Line, Arrives, ReadsBeyond, at_live, at_shut_l
 use Rattle.dep_hub.specs.Standing.{intake_of, store_of}
 use Rattle.dep_hub.specs.Holding.{IsHeldAs, items_served, items_answered}
 use Rattle.dep_hub.specs.Owing.{IsOwed}
-use Rattle.dep_hub.specs.StandsOwing.{ArrivalSpares, ServingSpares, Spares, AllSpare, RepliesKeep, behind_at, behind_takes, takes_by, RepliesAdd, SendingStands}
+use Rattle.dep_hub.specs.StandsOwing.{RepliesKeep, behind_at, RepliesAdd, SendingStands}
 use Rattle.dep_hub.specs.declared.connections.Connection.{Connection}
 use Rattle.dep_hub.proofs.BehindLemmas.{or_parts}
 use Rattle.dep_hub.proofs.Endings.{place_twice}
 use Rattle.dep_hub.specs.declared.arrived.Arrived.{Arrived}
 use Rattle.dep_hub.specs.declared.rest.Behind.{Behind}
 use Rattle.dep_hub.specs.declared.rest.Rest.{Rest}
-use Rattle.dep_hub.specs.declared.rest.Behind.TheVariants.{Nothing, Content, Broken, Waits}
+use Rattle.dep_hub.specs.declared.rest.Behind.TheVariants.{Nothing, Content, Broken, Waits, Prepares, Prepared}
+use Rattle.dep_hub.specs.declared.claim.Claim.{Claim}
+use Rattle.dep_hub.specs.declared.claim.Claim.TheVariants.{Takes, Reads as ReadsFile, Neither}
 use Rattle.dep_hub.specs.Claims.{claim_by, claim_of, claim_to, has_to_wait, is_in_the_way, taken_of}
 use Rattle.dep_head.specs.Head.{HeadParts}
 use Rattle.dep_types.specs.declared.target.Resource.{Resource}
@@ -43,6 +45,43 @@ use Rattle.dep_types.specs.declared.target.Resource.TheVariants.{Object, FileSet
 use Rattle.dep_types.specs.declared.target.Method.{Method}
 use Rattle.dep_types.specs.declared.target.Method.TheVariants.{Put, Delete}
 use Rattle.dep_hub.specs.declared.hub.Hub.{Hub}
+
+-- ---- requests that leave a content that is being sent as it is
+
+-- an item doesn't take the file
+abbrev Spares : Behind → Item → Type 0
+Spares b (Request m) = is_in_the_way (claim_of m.head) b ≡ false
+Spares b (Fault refusal bare) = Unit {0}
+Spares b Continue = Unit {0}
+
+abbrev AllSpare : Behind → List Item → Type 0
+AllSpare b [] = Unit {0}
+AllSpare b (item ∷ items) = Spares b item × AllSpare b items
+
+abbrev ServingSpares : (b : Behind) → {config : Config} {reads : List Item → Place → Type 0} {s : State}
+    {moment : ℕ} {sent : List ℕ} {left : State} {at : Place} {answer : Arrived} → Serves config reads s moment sent left at answer → Type 0
+ServingSpares b (serves_all items reads waits) = AllSpare b items
+ServingSpares b (step_fails items item at reads fails) = AllSpare b items × Spares b item
+ServingSpares b (gives_up items at reads some sends) = AllSpare b items
+
+-- so do all items that an arrival answers
+abbrev ArrivalSpares : (b : Behind) → {config : Config} {piece : List ℕ} {moment : ℕ} {line after : Line}
+    {s left : State} {sent : List ℕ} {answer : Arrived} → Arrives config piece moment line s sent left after answer → Type 0
+ArrivalSpares b (at_live serves) = ServingSpares b serves
+ArrivalSpares b at_shut_line = Unit {0}
+
+-- by what it has to do with files
+put_spares : (r : Rest) (resource : Resource) → is_in_the_way (taken_of resource) (Content r) ≡ false → has_file_in r.file.object r.file.file resource ≡ false
+put_spares r (Object m) e = e
+put_spares r (FileSet m) e = e
+put_spares r (AFile m f) e = e
+put_spares r resource e = refl
+
+target_spares : (r : Rest) (resource : Resource) (method : Method) → is_in_the_way (claim_to resource method) (Content r) ≡ false
+    → takes_file r.file.object r.file.file (record { resource = resource; method = method }) ≡ false
+target_spares r resource Put e = put_spares r resource e
+target_spares r resource Delete e = put_spares r resource e
+target_spares r resource method e = refl
 
 module _ (config : Config) (it : StoredFile) (file : File) where
   abbrev Stands : State → Type 0
@@ -57,16 +96,18 @@ module _ (config : Config) (it : StoredFile) (file : File) where
   unfolding operation_step
   by_operation s op spares sound h = by_refusal s op (refusal config s op) spares sound h
 
-  by_route : (s : State) (m : Message) (r : Routed) → takes_by it r ≡ false → IsSound s → Stands s → Stands (routed_step config s m r).state
-  by_route s m NotFound spares sound h = h
-  by_route s m (NotAllowed methods) spares sound h = h
-  by_route s m (To t) spares sound h = by_operation s (operation_of m t) spares sound h
+  by_route : (s : State) (m : Message) (r : Routed) (start : ℕ) → is_in_the_way (claim_by r) (Content (record { file = it; sent = start })) ≡ false → IsSound s → Stands s
+      → Stands (routed_step config s m r).state
+  by_route s m NotFound start spares sound h = h
+  by_route s m (NotAllowed methods) start spares sound h = h
+  by_route s m (To t) start spares sound h =
+      by_operation s (operation_of m t) (target_spares (record { file = it; sent = start }) t.resource t.method spares) sound h
 
   by_step : (s : State) (item : Item) (moment start : ℕ) → Spares (Content (record { file = it; sent = start })) item → IsSound s → Stands s → Stands (step config s item moment).state
   unfolding step
   by_step s (Fault r bare) moment start spares sound h = h
   by_step s Continue moment start spares sound h = h
-  by_step s (Request m) moment start spares sound h = by_route (tick config s moment) m (target m.head.method m.head.path) spares (keeps_sound config s moment sound) h
+  by_step s (Request m) moment start spares sound h = by_route (tick config s moment) m (target m.head.method m.head.path) start spares (keeps_sound config s moment sound) h
 
   by_start : (s : State) (item : Item) (moment : ℕ) → Stands s → Stands (starting_state config s item moment)
   by_start s (Fault r bare) moment h = h
@@ -79,6 +120,8 @@ owed_step : (config : Config) (s : State) (item : Item) (moment : ℕ) (b : Behi
 owed_step config s item moment Nothing owed spares sound h = h
 owed_step config s item moment Broken owed spares sound h = h
 owed_step config s item moment (Waits claim) owed spares sound h = h
+owed_step config s item moment (Prepares left) owed spares sound h = h
+owed_step config s item moment Prepared owed spares sound h = h
 owed_step config s item moment (Content r) owed spares sound h =
     record { file = h.file; held = by_step config r.file h.file s item moment r.sent spares sound h.held; is = h.is }
 
@@ -86,6 +129,8 @@ owed_start : (config : Config) (s : State) (item : Item) (moment : ℕ) (b : Beh
 owed_start config s item moment Nothing owed h = h
 owed_start config s item moment Broken owed h = h
 owed_start config s item moment (Waits claim) owed h = h
+owed_start config s item moment (Prepares left) owed h = h
+owed_start config s item moment Prepared owed h = h
 owed_start config s item moment (Content r) owed h = record { file = h.file; held = by_start config r.file h.file s item moment h.held; is = h.is }
 
 owed_failed : (config : Config) (s : State) (item : Item) (moment : ℕ) (b : Behind) (owed : List ℕ) {sent : List ℕ} {left : State} {answer : Arrived}
@@ -147,39 +192,21 @@ module _ (limit : ℕ) (stream part rest : List ℕ) (bare : Place) (before : Li
   serving_spares config s moment (step_fails (x ∷ items) item at reads fails) l = absurd (omega (arith, l))
 
 -- no file is taken whose content is being sent
-put_spares : (r : Rest) (resource : Resource) → is_in_the_way (taken_of resource) (Content r) ≡ false → has_file_in r.file.object r.file.file resource ≡ false
-put_spares r (Object m) e = e
-put_spares r (FileSet m) e = e
-put_spares r (AFile m f) e = e
-put_spares r resource e = refl
+nothing_in_way : (claim : Claim) → is_in_the_way claim Nothing ≡ false
+nothing_in_way (Takes files) = refl
+nothing_in_way (ReadsFile n f) = refl
+nothing_in_way Neither = refl
 
-target_spares : (r : Rest) (resource : Resource) (method : Method) → is_in_the_way (claim_to resource method) (Content r) ≡ false
-    → takes_by r.file (To (record { resource = resource; method = method })) ≡ false
-target_spares r resource Put e = put_spares r resource e
-target_spares r resource Delete e = put_spares r resource e
-target_spares r resource method e = refl
+one_in_way : (c : Connection) (b : Behind) (claim : Claim) (t : Bool) → is_in_the_way claim c.behind ≡ false → is_in_the_way claim b ≡ false
+    → is_in_the_way claim (if t then c.behind else b) ≡ false
+one_in_way c b claim true e f = e
+one_in_way c b claim false e f = f
 
-route_spares : (r : Rest) (routed : Routed) → is_in_the_way (claim_by routed) (Content r) ≡ false → takes_by r.file routed ≡ false
-route_spares r (To t) e = target_spares r t.resource t.method e
-route_spares r NotFound e = refl
-route_spares r (NotAllowed methods) e = refl
-
-one_spares : (b : Behind) (routed : Routed) → is_in_the_way (claim_by routed) b ≡ false → behind_takes b routed ≡ false
-one_spares (Content r) routed e = route_spares r routed e
-one_spares Nothing routed e = refl
-one_spares Broken routed e = refl
-one_spares (Waits claim) routed e = refl
-
-one_taken : (c : Connection) (cs : List Connection) (r : Routed) (m : ℕ) (t : Bool) → (behind_takes c.behind r ≡ false) → behind_takes (behind_at cs m) r ≡ false
-    → behind_takes (if t then c.behind else behind_at cs m) r ≡ false
-one_taken c cs r m true e f = e
-one_taken c cs r m false e f = f
-
-none_of : (cs : List Connection) (r : Routed) (m : ℕ) → has_to_wait cs (claim_by r) ≡ false → behind_takes (behind_at cs m) r ≡ false
-none_of [] r m e = refl
-none_of (c ∷ cs) r m e =
-    let p = or_parts (is_in_the_way (claim_by r) c.behind) (has_to_wait cs (claim_by r)) e in
-    one_taken c cs r m (c.number == m) (one_spares c.behind r p.0) (none_of cs r m p.1)
+none_of : (cs : List Connection) (claim : Claim) (m : ℕ) → has_to_wait cs claim ≡ false → is_in_the_way claim (behind_at cs m) ≡ false
+none_of [] claim m e = nothing_in_way claim
+none_of (c ∷ cs) claim m e =
+    let p = or_parts (is_in_the_way claim c.behind) (has_to_wait cs claim) e in
+    one_in_way c (behind_at cs m) claim (c.number == m) p.0 (none_of cs claim m p.1)
 
 -- a request of this head has to wait
 abbrev waits_for : List Connection → HeadParts → Bool
@@ -187,7 +214,7 @@ waits_for cs head = has_to_wait cs (claim_of head)
 
 item_spares : (cs : List Connection) (limit : ℕ) (at : Place) (m : ℕ) → IsNoNext (waits_for cs) limit at → (item : Item) (next : Place) → FirstAt limit at item next
     → Spares (behind_at cs m) item
-item_spares cs limit at m none (Request message) next f = none_of cs (target message.head.method message.head.path) m (none message next f)
+item_spares cs limit at m none (Request message) next f = none_of cs (claim_of message.head) m (none message next f)
 item_spares cs limit at m none (Fault r bare) next f = tt
 item_spares cs limit at m none Continue next f = tt
 

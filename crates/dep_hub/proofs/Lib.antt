@@ -4,10 +4,7 @@ mod ServingLemmas
 mod SendingLemmas
 mod ConnectionLemmas
 pub mod HubLemmas
-mod ExchangeLemmas
-pub mod TalkLemmas
-mod TurnLemmas
-mod ShutLemmas
+pub mod ShutLemmas
 mod Endings
 mod NextLemmas
 mod HeldLemmas
@@ -17,3 +14,4 @@ mod OwingLemmas
 mod BehindLemmas
 mod PendingLemmas
 mod KeptLemmas
+pub mod PreparingLemmas

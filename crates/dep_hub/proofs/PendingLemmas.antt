@@ -1,5 +1,5 @@
 -- Contents that are being sent, and requests that wait.
-use Rattle.std.proofs.Common.{◌≡◌, ◌≢◌, ℕ, suc, zero, ◌==◌, ◌+◌, ◌≤◌, ◌||◌, Bool, true, false, List, [], ◌∷◌, ◌++◌, get_or, set, Option, None, Some, if◌then◌else◌, refl, sym, ap, subst, ◌∙◌, arith}
+use Rattle.std.proofs.Common.{◌≡◌, ◌≢◌, ◌⊎◌, inl, inr, ℕ, suc, zero, ◌==◌, ◌+◌, ◌≤◌, ◌||◌, Bool, true, false, List, [], ◌∷◌, ◌++◌, get_or, set, Option, None, Some, if◌then◌else◌, refl, sym, ap, subst, ◌∙◌, arith}
 use Rattle.std.proofs.lemmas.Bool.{eq-eqb, eqb-true}
 use Rattle.std.proofs.lemmas.Bool.Decides.{nat_tests}
 use Rattle.std.specs.List.{list_any}
@@ -12,7 +12,8 @@ use Rattle.dep_hub.specs.Standing.{intake_of}
 use Rattle.dep_hub.specs.Holding.{IsHeldAs}
 use Rattle.dep_hub.specs.Owing.{IsOwed, later_than}
 use Rattle.dep_hub.specs.Claims.{any_waits_to_take, has_to_wait, is_any_pending, is_any_waiting, is_awaited_by, is_content, is_in_the_way, is_pending, is_waiting, sends_of, waits_to_take}
-use Rattle.dep_hub.specs.StandsOwing.{behind_at, is_unsent, KeptBack, unsent, waits_still, begins_to_wait, wants_memory, AnswersAtOnce, AwaitsContent, AwaitsTaker, ContentsStay, WaitingStands}
+use Rattle.dep_hub.specs.StandsOwing.{behind_at, is_looked_at, is_unsent, KeptBack, unsent, prepares_still, begins_to_prepare, waits_still, begins_to_wait, wants_memory, AnswersAtOnce, AwaitsContent, AwaitsTaker, ContentsStay, WaitingStands}
+use Rattle.dep_hub.specs.Preparing.{is_preparing, most_steps}
 use Rattle.dep_hub.specs.declared.claim.Claim.{Claim}
 use Rattle.dep_hub.specs.declared.claim.Claim.TheVariants.{Takes, Reads, Neither}
 use Rattle.dep_hub.specs.declared.claim.Files.{Files}
@@ -20,7 +21,7 @@ use Rattle.dep_hub.specs.declared.connections.Connection.{Connection}
 use Rattle.dep_hub.specs.declared.hub.Hub.{Hub}
 use Rattle.dep_hub.specs.declared.rest.Rest.{Rest}
 use Rattle.dep_hub.specs.declared.rest.Behind.{Behind}
-use Rattle.dep_hub.specs.declared.rest.Behind.TheVariants.{Nothing, Content, Broken, Waits}
+use Rattle.dep_hub.specs.declared.rest.Behind.TheVariants.{Nothing, Content, Broken, Waits, Prepares, Prepared}
 use Rattle.dep_hub.proofs.BehindLemmas.{either_false, or_parts}
 
 -- ---- whether something is pending, where one connection changes
@@ -73,6 +74,8 @@ takes_none object file (Waits claim) e = cc
 takes_none object file Nothing e = refl
 takes_none object file (Content r) e = refl
 takes_none object file Broken e = refl
+takes_none object file (Prepares left) e = refl
+takes_none object file Prepared e = refl
 
 none_takes : (object file : ℕ) (cs : List Connection) → is_any_waiting cs ≡ false → any_waits_to_take cs object file ≡ false
 none_takes object file [] e = refl
@@ -85,10 +88,12 @@ none_awaited cs (Content r) e = none_takes r.file.object r.file.file cs e
 none_awaited cs Nothing e = refl
 none_awaited cs Broken e = refl
 none_awaited cs (Waits claim) e = refl
+none_awaited cs (Prepares left) e = refl
+none_awaited cs Prepared e = refl
 
 -- ---- what holds of some connection holds of one that is found by its number, and the other way round
 
-true_false : true ≡ false → ⊥
+pub true_false : true ≡ false → ⊥
 true_false e = cc e
 
 or_true : (b : Bool) → (b || true) ≡ true
@@ -151,6 +156,10 @@ pub not_broken : (r : Option Rest) → later_than r ≡ Broken → ⊥
 not_broken None e = let bad : Nothing ≡ Broken = e in cc
 not_broken (Some r) e = let bad : Content r ≡ Broken = e in cc
 
+pub not_looked : (r : Option Rest) → is_looked_at (later_than r) ≡ false
+not_looked None = refl
+not_looked (Some r) = refl
+
 pub not_waiting : (r : Option Rest) → is_waiting (later_than r) ≡ false
 not_waiting None = refl
 not_waiting (Some r) = refl
@@ -169,26 +178,34 @@ owed_as s was now owed e h = subst (λ (b : Behind). IsOwed s b owed) (sym e) h
 sent_all : (s : State) (b : Behind) (owed : List ℕ) → is_unsent b ≡ false → IsOwed s b owed → owed ≡ []
 sent_all s Nothing owed e h = h
 sent_all s (Waits claim) owed e h = h
+sent_all s (Prepares left) owed e h = h
+sent_all s Prepared owed e h = h
 sent_all s (Content r) owed e h = cc
 sent_all s Broken owed e h = cc
 
 owed_waiting : (s : State) (cs : List Connection) (reading : Reading) (was now : Behind) (owed : List ℕ) → KeptBack cs reading was now → IsOwed s was owed → IsOwed s now owed
 owed_waiting s cs reading was now owed (unsent u e) h = owed_as s was now owed e h
 owed_waiting s cs reading was now owed (waits_still claim w e t) h = owed_as s was now owed (e ∙ sym w) h
-owed_waiting s cs reading was now owed (begins_to_wait claim u c e t) h = owed_as s (Waits claim) now owed e (sent_all s was owed u h)
-owed_waiting s cs reading was now owed (wants_memory u p f e) h = owed_as s Nothing now owed e (sent_all s was owed u h)
+owed_waiting s cs reading was now owed (begins_to_wait claim u c e t) h = owed_as s (Waits claim) now owed e (sent_all s was owed u.0 h)
+owed_waiting s cs reading was now owed (wants_memory u p f e) h = owed_as s Prepared now owed e (sent_all s was owed u.0 h)
+owed_waiting s cs reading was now owed (prepares_still p e) h = owed_as s was now owed e h
+owed_waiting s cs reading was now owed (begins_to_prepare w n e) h = owed_as s (Prepares most_steps) now owed e (owed_as s was Nothing owed (sym w) h)
 
 not_unsent : (b : Behind) → is_unsent b ≡ false → is_content b ≡ false
 not_unsent Nothing e = refl
 not_unsent (Waits claim) e = refl
+not_unsent (Prepares left) e = refl
+not_unsent Prepared e = refl
 not_unsent (Content r) e = cc
 not_unsent Broken e = cc
 
 content_as : (cs : List Connection) (reading : Reading) (was now : Behind) → KeptBack cs reading was now → is_content now ≡ is_content was
 content_as cs reading was now (unsent u e) = ap is_content e
 content_as cs reading was now (waits_still claim w e t) = ap is_content (e ∙ sym w)
-content_as cs reading was now (begins_to_wait claim u c e t) = ap is_content e ∙ sym (not_unsent was u)
-content_as cs reading was now (wants_memory u p f e) = ap is_content e ∙ sym (not_unsent was u)
+content_as cs reading was now (begins_to_wait claim u c e t) = ap is_content e ∙ sym (not_unsent was u.0)
+content_as cs reading was now (wants_memory u p f e) = ap is_content e ∙ sym (not_unsent was u.0)
+content_as cs reading was now (prepares_still p e) = ap is_content e
+content_as cs reading was now (begins_to_prepare w n e) = ap is_content e ∙ sym (ap is_content w)
 
 -- what waits has to, and all of its last reply was sent
 waits_unsent : (claim : Claim) (b : Behind) → is_unsent b ≡ true → b ≡ Waits claim → ⊥
@@ -196,6 +213,8 @@ waits_unsent claim (Waits other) u e = cc
 waits_unsent claim (Content r) u e = cc e
 waits_unsent claim Broken u e = cc e
 waits_unsent claim Nothing u e = cc e
+waits_unsent claim (Prepares left) u e = cc e
+waits_unsent claim Prepared u e = cc e
 
 one_claim : (b : Behind) (claim other : Claim) → b ≡ Waits claim → b ≡ Waits other → other ≡ claim
 one_claim b claim other e f = let same : Waits other ≡ Waits claim = sym f ∙ e in cc
@@ -203,14 +222,22 @@ one_claim b claim other e f = let same : Waits other ≡ Waits claim = sym f ∙
 waits_nothing : (claim : Claim) → Nothing ≡ Waits claim → ⊥
 waits_nothing claim e = cc e
 
+waits_prepared : (claim : Claim) → Prepared ≡ Waits claim → ⊥
+waits_prepared claim e = cc e
+
+waits_preparing : (claim : Claim) (b : Behind) → is_preparing b ≡ true → b ≡ Waits claim → ⊥
+waits_preparing claim b p e = true_false (sym p ∙ ap is_preparing e)
+
 has_waited : (cs : List Connection) (reading : Reading) (was now : Behind) (claim : Claim) → KeptBack cs reading was now → now ≡ Waits claim
     → (has_to_wait cs claim ≡ true) × (is_content was ≡ false)
 has_waited cs reading was now claim (unsent u e) is = absurd (waits_unsent claim was u (sym e ∙ is))
 has_waited cs reading was now claim (waits_still other w e t) is =
     (subst (λ (x : Claim). has_to_wait cs x ≡ true) (one_claim now claim other is e) t, ap is_content w)
 has_waited cs reading was now claim (begins_to_wait other u c e t) is =
-    (subst (λ (x : Claim). has_to_wait cs x ≡ true) (one_claim now claim other is e) t, not_unsent was u)
-has_waited cs reading was now claim (wants_memory u p f e) is = absurd (waits_nothing claim (sym e ∙ is))
+    (subst (λ (x : Claim). has_to_wait cs x ≡ true) (one_claim now claim other is e) t, not_unsent was u.0)
+has_waited cs reading was now claim (wants_memory u p f e) is = absurd (waits_prepared claim (sym e ∙ is))
+has_waited cs reading was now claim (prepares_still p e) is = absurd (waits_preparing claim was p (sym e ∙ is))
+has_waited cs reading was now claim (begins_to_prepare w n e) is = absurd (waits_preparing claim (Prepares most_steps) refl (sym e ∙ is))
 
 -- a content that is waited for is awaited
 awaited_by : (files : Files) (b : Behind) (cs : List Connection) (n : ℕ) → sends_of files b ≡ true → behind_at cs n ≡ Waits (Takes files) → is_awaited_by cs b ≡ true
@@ -219,25 +246,41 @@ awaited_by files (Content r) cs n e waits =
 awaited_by files Nothing cs n e waits = cc
 awaited_by files Broken cs n e waits = cc
 awaited_by files (Waits claim) cs n e waits = cc
+awaited_by files (Prepares left) cs n e waits = cc
+awaited_by files Prepared cs n e waits = cc
 
 sends_content : (files : Files) (b : Behind) → sends_of files b ≡ true → is_content b ≡ true
 sends_content files (Content r) e = refl
 sends_content files Nothing e = cc
 sends_content files Broken e = cc
 sends_content files (Waits claim) e = cc
+sends_content files (Prepares left) e = cc
+sends_content files Prepared e = cc
 
 stays : {P : Type 0} (t : Bool) → (t ≡ true → P) → (t ≡ false → P) → P
 stays true f g = f refl
 stays false f g = g refl
 
-only_broken : (cs : List Connection) (reading : Reading) (was now : Behind) → KeptBack cs reading was now → is_any_pending cs ≡ false → is_pending was ≡ false → was ≡ Broken
-only_broken cs reading Broken now k none e = refl
-only_broken cs reading (Content r) now k none e = cc
-only_broken cs reading (Waits claim) now k none e = cc
-only_broken cs reading Nothing now (unsent u f) none e = cc
-only_broken cs reading Nothing now (waits_still claim w f t) none e = absurd (waits_nothing claim w)
-only_broken cs reading Nothing now (begins_to_wait claim u c f t) none e = absurd (true_false (sym t ∙ idle_waits cs claim none))
-only_broken cs reading Nothing now (wants_memory u p f g) none e = absurd (true_false (sym p ∙ none))
+-- why one is kept back while nothing is pending
+abbrev KeptIdle : (was now : Behind) → Type 0
+KeptIdle was now = (was ≡ Broken) ⊎ ((is_preparing now ≡ true) ⊎ ((was ≡ Nothing) × (now ≡ Prepared)))
+
+unsent_idle : (b : Behind) → is_unsent b ≡ true → is_pending b ≡ false → b ≡ Broken
+unsent_idle Broken u e = refl
+unsent_idle (Content r) u e = cc
+unsent_idle (Waits claim) u e = cc
+unsent_idle Nothing u e = cc
+unsent_idle (Prepares left) u e = cc
+unsent_idle Prepared u e = cc
+
+kept_idle : (cs : List Connection) (reading : Reading) (was now : Behind) → KeptBack cs reading was now → is_any_pending cs ≡ false → is_pending was ≡ false → KeptIdle was now
+kept_idle cs reading was now (unsent u f) none e = inl (unsent_idle was u e)
+kept_idle cs reading was now (waits_still claim w f t) none e = absurd (true_false (sym t ∙ idle_waits cs claim none))
+kept_idle cs reading was now (begins_to_wait claim u c f t) none e = absurd (true_false (sym t ∙ idle_waits cs claim none))
+kept_idle cs reading was now (wants_memory u (inl first) f g) none e = inr (inr (first, g))
+kept_idle cs reading was now (wants_memory u (inr any) f g) none e = absurd (true_false (sym any ∙ none))
+kept_idle cs reading was now (prepares_still p f) none e = inr (inl (ap is_preparing f ∙ p))
+kept_idle cs reading was now (begins_to_prepare w n f) none e = inr (inl (ap is_preparing f))
 
 module _ {A : Type 0} (condition : A → Condition) (old new : Hub A) where
   pub contents_stay : ContentsStay condition old new
@@ -264,7 +307,7 @@ module _ {A : Type 0} (condition : A → Condition) (old new : Hub A) where
 
   pub answers_at_once : AnswersAtOnce condition old new
   answers_at_once taken takes failures failures_after n k none =
-      only_broken old.connections.items k.reading (behind_at old.connections.items n) (behind_at new.connections.items n) k.why none (pending_at old.connections.items n none)
+      kept_idle old.connections.items k.reading (behind_at old.connections.items n) (behind_at new.connections.items n) k.why none (pending_at old.connections.items n none)
 
   pub waiting_stands : WaitingStands condition old new
   waiting_stands taken takes failures failures_after n k w held owed at = record {

@@ -7,15 +7,14 @@ pub mod Serving
 pub mod Nexts
 pub mod Standing
 pub mod Holding
-pub mod Turns
-pub mod Conversation
 pub mod Numbers
 pub mod Performing
 pub mod Archives
 pub mod Faults
 pub mod Shut
-pub mod Flushing
 pub mod Errands
 pub mod Claims
+pub mod Preparing
 pub mod Owing
 pub mod StandsOwing
+pub mod WorkingAhead

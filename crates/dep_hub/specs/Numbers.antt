@@ -30,6 +30,10 @@ most_connections = 1024
 abbrev pub last_number : ℕ
 last_number = 4000000000000000000
 
+-- so many bytes of a connection are read at once
+abbrev pub most_read : ℕ
+most_read = 65536
+
 -- one more of so many may be there, and gets this number
 abbrev pub HasPlace : (count next : ℕ) → Type 0
 HasPlace count next = (count < most_connections) × (next < last_number)

@@ -10,7 +10,7 @@ use Rattle.dep_answers.specs.declared.performed.StoredFile.{StoredFile}
 use Rattle.dep_hub.specs.Sending.{Outside, outside}
 use Rattle.dep_hub.specs.declared.rest.Rest.{Rest}
 use Rattle.dep_hub.specs.declared.rest.Behind.{Behind}
-use Rattle.dep_hub.specs.declared.rest.Behind.TheVariants.{Nothing, Content, Broken, Waits}
+use Rattle.dep_hub.specs.declared.rest.Behind.TheVariants.{Nothing, Content, Broken, Waits, Prepares, Prepared}
 
 -- the file is there, and these are the bytes of its content behind so many
 pub record HasBehind (s : State) (it : StoredFile) (start : ℕ) (rest : List ℕ) : Type 0 where
@@ -101,10 +101,12 @@ abbrev pub bytes_later : Option (List ℕ) → List ℕ
 bytes_later None = []
 bytes_later (Some more) = more
 
--- These are still to be sent: none, also where the next request waits; what a file has behind those that were
--- sent; or, where a fault broke them off, bytes of which none is sent any more.
+-- These are still to be sent: none, also where the next request waits or is prepared; what a file has behind
+-- those that were sent; or, where a fault broke them off, bytes of which none is sent any more.
 abbrev pub IsOwed : State → Behind → (owed : List ℕ) → Type 0
 IsOwed s Nothing owed = owed ≡ []
 IsOwed s (Content r) owed = HasBehind s r.file r.sent owed
 IsOwed s Broken owed = Unit {0}
 IsOwed s (Waits claim) owed = owed ≡ []
+IsOwed s (Prepares left) owed = owed ≡ []
+IsOwed s Prepared owed = owed ≡ []

@@ -1,31 +1,24 @@
 -- A hub that owes its connections what is still to be sent of the replies that it made.
-use Rattle.std.specs.Prelude.{◌≤◌, Bool, true, false, ◌≡◌, ◌≢◌, ◌==◌, ℕ, List, [], ◌∷◌, ◌++◌, if◌then◌else◌, Option, Some}
+use Rattle.std.specs.Prelude.{◌≤◌, Bool, true, false, ◌≡◌, ◌≢◌, ◌⊎◌, ◌==◌, ℕ, List, [], ◌∷◌, ◌++◌, if◌then◌else◌, Option, Some}
 use Rattle.std.specs.Io.KnownBytes.{Appends, Keeps}
 use Rattle.dep_types.specs.State.{State}
 use Rattle.dep_types.specs.Conditions.{Condition, StandsFor, Leaves}
-use Rattle.dep_types.specs.declared.config.Config.{Config}
 use Rattle.dep_head.specs.Head.{HeadParts}
 use Rattle.dep_message.specs.Asking.{IsNoNext, HasNextHead}
 use Rattle.dep_message.specs.Giving.{HasFirstHead}
-use Rattle.dep_message.specs.Places.{Place, Reading}
-use Rattle.dep_message.specs.Stream.{Item, Fault, Continue, Request}
-use Rattle.dep_router.specs.Targets.{target}
-use Rattle.dep_router.specs.declared.routed.Routed.{Routed}
-use Rattle.dep_router.specs.declared.routed.Routed.TheVariants.{To, NotFound, NotAllowed}
-use Rattle.dep_decisions.specs.Laws.{takes_file}
-use Rattle.dep_answers.specs.declared.performed.StoredFile.{StoredFile}
-use Rattle.dep_hub.specs.Machine.{Serves, serves_all, step_fails, gives_up}
-use Rattle.dep_hub.specs.Records.{Arrive, Record, Run, World, Line, Arrives, at_live, at_shut_line, with_line}
+use Rattle.dep_message.specs.Places.{Reading}
+use Rattle.dep_hub.specs.Records.{Arrive, Record, Run, World, with_line}
 use Rattle.dep_hub.specs.Shut.{LeavesNoMore, IfShut}
 use Rattle.dep_hub.specs.Standing.{store_of, intake_of, IsClean, IsHonest}
 use Rattle.dep_hub.specs.Holding.{StandsHolding, ComesToNext, PartArrives, items_answered, with_held}
 use Rattle.dep_hub.specs.Owing.{IsOwed, TakesFew, with_more, bytes_later}
 use Rattle.dep_hub.specs.declared.rest.Behind.{Behind}
-use Rattle.dep_hub.specs.declared.rest.Behind.TheVariants.{Nothing, Content, Broken, Waits}
+use Rattle.dep_hub.specs.declared.rest.Behind.TheVariants.{Nothing, Content, Broken, Waits, Prepares, Prepared}
 use Rattle.dep_hub.specs.declared.claim.Claim.{Claim}
 use Rattle.dep_hub.specs.declared.claim.Claim.TheVariants.{Takes, Reads}
 use Rattle.dep_hub.specs.declared.claim.Files.{Files}
-use Rattle.dep_hub.specs.Claims.{claim_of, has_to_wait, is_any_pending, is_awaited_by, is_content, is_waiting, waits_to_take}
+use Rattle.dep_hub.specs.Claims.{claim_of, has_to_wait, is_any_pending, is_awaited_by, is_content, waits_to_take}
+use Rattle.dep_hub.specs.Preparing.{NamesNone, NamesUploads, is_preparing, most_steps}
 use Rattle.dep_hub.specs.declared.sent_on.SentOn.{SentOn}
 use Rattle.dep_hub.specs.declared.sent_on.SentOn.TheVariants.{Part, All, Broken as BrokenOff}
 use Rattle.dep_hub.specs.declared.arrived.Arrived.{Arrived}
@@ -44,43 +37,6 @@ abbrev pub OthersStay : {A : Type 0} → (old new : Hub A) → (number : ℕ) �
 OthersStay old new number = (m : ℕ) → m ≢ number
     → behind_at new.connections.items m ≡ behind_at old.connections.items m
 
--- ---- requests that leave a content that is being sent as it is
-
--- a request for this resource puts the file or deletes it
-abbrev pub takes_by : StoredFile → Routed → Bool
-takes_by it (To t) = takes_file it.object it.file t
-takes_by it NotFound = false
-takes_by it (NotAllowed methods) = false
-
--- the content of that file is being sent
-abbrev pub behind_takes : Behind → Routed → Bool
-behind_takes (Content r) routed = takes_by r.file routed
-behind_takes behind routed = false
-
--- an item leaves what is being sent as it is
-abbrev pub Spares : Behind → Item → Type 0
-Spares b (Request m) = behind_takes b (target m.head.method m.head.path) ≡ false
-Spares b (Fault refusal bare) = Unit {0}
-Spares b Continue = Unit {0}
-
-abbrev pub AllSpare : Behind → List Item → Type 0
-AllSpare b [] = Unit {0}
-AllSpare b (item ∷ items) = Spares b item × AllSpare b items
-
-abbrev pub ServingSpares : (b : Behind) → {config : Config} {reads : List Item → Place → Type 0} {s : State}
-    {moment : ℕ} {sent : List ℕ} {left : State} {at : Place} {answer : Arrived}
-    → Serves config reads s moment sent left at answer → Type 0
-ServingSpares b (serves_all items reads waits) = AllSpare b items
-ServingSpares b (step_fails items item at reads fails) = AllSpare b items × Spares b item
-ServingSpares b (gives_up items at reads some sends) = AllSpare b items
-
--- so do all items that an arrival answers
-abbrev pub ArrivalSpares : (b : Behind) → {config : Config} {piece : List ℕ} {moment : ℕ} {line after : Line}
-    {s left : State} {sent : List ℕ} {answer : Arrived}
-    → Arrives config piece moment line s sent left after answer → Type 0
-ArrivalSpares b (at_live serves) = ServingSpares b serves
-ArrivalSpares b at_shut_line = Unit {0}
-
 -- ---- requests that wait
 
 -- the content of the last reply isn't all sent, or was broken off
@@ -88,6 +44,17 @@ abbrev pub is_unsent : Behind → Bool
 is_unsent (Content r) = true
 is_unsent Broken = true
 is_unsent behind = false
+
+-- its next request may be looked at: the last reply was all sent, and it isn't being prepared
+abbrev pub IsReady : Behind → Type 0
+IsReady behind = (is_unsent behind ≡ false) × (is_preparing behind ≡ false)
+
+-- its next request was looked at
+abbrev pub is_looked_at : Behind → Bool
+is_looked_at (Waits claim) = true
+is_looked_at (Prepares left) = true
+is_looked_at Prepared = true
+is_looked_at behind = false
 
 -- a content is being sent to the connection that a waiting request takes
 abbrev pub is_awaited_at : List Connection → (number : ℕ) → Bool
@@ -103,6 +70,11 @@ abbrev pub NextIsFree : {A : Type 0} → Hub A → (number : ℕ) → Type 0
 NextIsFree hub number = (reading : Reading) → intake_of hub.connections.items number ≡ Some reading
     → IsFree hub.connections.items reading
 
+-- nor does it name uploads, if it wasn't looked at before
+abbrev pub NextIsPrepared : {A : Type 0} → Hub A → (number : ℕ) → Type 0
+NextIsPrepared hub number = behind_at hub.connections.items number ≡ Nothing → (reading : Reading)
+    → intake_of hub.connections.items number ≡ Some reading → NamesNone reading
+
 -- the head of the next request has come whole, and this is its claim
 abbrev pub HasClaim : Reading → Claim → Type 0
 HasClaim reading claim =
@@ -112,19 +84,24 @@ HasClaim reading claim =
 pub data KeptBack (connections : List Connection) (reading : Reading) (was now : Behind) : Type 0 where
   -- its own content isn't all sent, or was broken off
   unsent : is_unsent was ≡ true → now ≡ was → KeptBack connections reading was now
+  -- its next request is prepared still
+  prepares_still : is_preparing was ≡ true → now ≡ was → KeptBack connections reading was now
+  -- its next request names uploads, and is prepared from now on
+  begins_to_prepare : was ≡ Nothing → NamesUploads reading → now ≡ Prepares most_steps
+      → KeptBack connections reading was now
   -- its next request waits still
   waits_still : (claim : Claim) → was ≡ Waits claim → now ≡ Waits claim
       → has_to_wait connections claim ≡ true → KeptBack connections reading was now
   -- its next request has to wait from now on
-  begins_to_wait : (claim : Claim) → is_unsent was ≡ false → HasClaim reading claim → now ≡ Waits claim
+  begins_to_wait : (claim : Claim) → IsReady was → HasClaim reading claim → now ≡ Waits claim
       → has_to_wait connections claim ≡ true → KeptBack connections reading was now
-  -- memory ran out
-  wants_memory : is_unsent was ≡ false → is_any_pending connections ≡ true
-      → HasFirstHead reading.place → now ≡ Nothing → KeptBack connections reading was now
+  -- memory ran out as its next request was looked at, and it isn't prepared any more
+  wants_memory : IsReady was → (was ≡ Nothing) ⊎ (is_any_pending connections ≡ true)
+      → HasFirstHead reading.place → now ≡ Prepared → KeptBack connections reading was now
 
 -- the next item of this connection may be answered
 abbrev pub IsAnswerable : List Connection → Connection → Type 0
-IsAnswerable connections c = (is_unsent c.behind ≡ false) × IsFree connections c.intake
+IsAnswerable connections c = IsReady c.behind × IsFree connections c.intake
 
 -- ---- a hub
 
@@ -179,7 +156,8 @@ module _ {A : Type 0} (condition : A → Condition) where
         number moment next
     pub owes : Owes new number (bytes_later more)
     pub paid : is_unsent (behind_at old.connections.items number) ≡ false
-    pub let_go : is_waiting (behind_at new.connections.items number) ≡ false
+    pub prepared : is_preparing (behind_at old.connections.items number) ≡ false
+    pub let_go : is_looked_at (behind_at new.connections.items number) ≡ false
     pub others : OthersStay old new number
 
   -- some of the bytes that were owed are sent, and the rest is owed; nothing else changes
@@ -271,9 +249,13 @@ module _ {A : Type 0} (condition : A → Condition) where
       → behind_at new.connections.items n ≡ Waits (Reads object file)
       → (m : ℕ) × (waits_to_take object file (behind_at old.connections.items m) ≡ true)
 
-  -- while nothing is being sent and no request waits, the next item is answered, unless a content was broken off
+  -- While nothing is being sent and no request waits, the next item is answered, unless a content was broken off,
+  -- or the request is prepared, or memory ran out as it was looked at for the first time.
   abbrev pub AnswersAtOnce : Hub A → Hub A → Type 0
   AnswersAtOnce old new = (taken takes : Option (List ℕ)) (failures failures_after n : ℕ)
       → KeepsBack taken takes failures failures_after old new n
       → is_any_pending old.connections.items ≡ false
-      → behind_at old.connections.items n ≡ Broken
+      → (behind_at old.connections.items n ≡ Broken)
+      ⊎ ((is_preparing (behind_at new.connections.items n) ≡ true)
+      ⊎ ((behind_at old.connections.items n ≡ Nothing)
+      × (behind_at new.connections.items n ≡ Prepared)))

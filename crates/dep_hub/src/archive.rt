@@ -97,12 +97,12 @@ pub trait Archive {
         ensures commits { may_commit self.new ≡ may_commit self.old }
         ensures rests { KeepsAll (condition self.old) (condition self.new) };
 
-    /// Does a bounded part of the work that a later request would have to wait for, and returns whether
-    /// more is left. It changes nothing that is kept, but a fault may shut it, which `is_open` returns. It may commit
-    /// what is kept once more, as a long log is copied by the next commit: once behind an accepted change, and not
-    /// behind what only reads, is refused or fails. What it returns is about time alone, and noted among what it was
-    /// asked for.
-    fn work_ahead(&mut self) -> bool
+    /// Does a bounded part of the work that a later request would have to wait for, and returns whether more is left. With
+    /// a request that waits, it does a bounded part of what its answer needs, and returns whether more of that is left. It
+    /// changes nothing that is kept, but a fault may shut it, which `is_open` returns. It may commit what is kept once
+    /// more, as a long log is copied by the next commit: once behind an accepted change, and not behind what only reads,
+    /// is refused or fails. What it returns is about time alone, and noted among what it was asked for.
+    fn work_ahead(&mut self, service: &Service, next: Option<&Operation<'_>>) -> bool
         ensures asked { Runs (WorkedAhead result) (account self.old) (account self.new) }
         ensures commits { CommitsIfDue (may_commit self.old) (may_commit self.new)
             (condition self.old) (condition self.new) }

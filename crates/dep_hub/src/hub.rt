@@ -10,18 +10,20 @@ ghost use Rattle.dep_hub.specs.Numbers.{Ascends, Ascends-prop, HasPlace, most_co
 use crate::access_log::{AccessLog, NoLog};
 use crate::archive::Archive;
 use crate::arrived::Arrived;
-use crate::claim::AskClaim;
 use crate::connections::{ConnId, Connection, index_among};
 use crate::contents::InSteps;
 use crate::faults::{ConnectFault, HubFault};
+use crate::keeping::kept_back;
 use crate::next::Next;
 use crate::pending::{
-    has_to_wait, is_any_pending, is_any_waiting, is_awaited, still_pending, still_waiting,
+    first_preparing, is_any_pending, is_any_waiting, is_awaited, still_pending, still_waiting,
 };
+use crate::preparing::prepare;
 use crate::rest::{Behind, Rest, behind_of};
 use crate::sent_on::SentOn;
 use crate::serving::{Piece, give_up, serve, take_next};
 use crate::site::{Context, Site};
+use crate::uploads::looked_at;
 use dep_message::Intake;
 use dep_moment::Moment;
 use dep_types::{Config, ConfigFault, Outlet, StoreFault};
@@ -51,10 +53,12 @@ const LAST_NUMBER: u64 = 4_000_000_000_000_000_000;
 impl<A: Archive> Hub<A> {
     ghost use Rattle.dep_hub.specs.Standing.{StandsAfter, StandsAt, GoesOnFrom, GoesOnAs, IsHonest, KeepsStore, LeavesStore, LeavesItsState, store_of, Adds, Moves, ComesTo, intake_of};
     ghost use Rattle.dep_hub.specs.Holding.{HoldsOn, RestsOn, MovesLine, OffersTo, with_held};
-    ghost use Rattle.dep_hub.specs.StandsOwing.{behind_at, is_awaited_at, is_unsent, IsAnswerable, IsFree, KeptBack, KeepsBack, NextIsFree, RepliesOver, SendsOn};
+    ghost use Rattle.dep_hub.specs.StandsOwing.{behind_at, is_awaited_at, KeepsBack, NextIsFree, NextIsPrepared, RepliesOver, SendsOn};
     ghost use Rattle.dep_hub.specs.Claims.{is_content};
-    ghost use Rattle.std.specs.Prelude.{ℕ, Some, ◌==◌, if◌then◌else◌, false};
-    ghost use Rattle.dep_hub.specs.Archives.{KeepsAll, KeepsEachState, CommitsIfDue};
+    ghost use Rattle.dep_hub.specs.WorkingAhead.{BeginsToPrepare, RestsAhead};
+    ghost use Rattle.dep_hub.specs.Numbers.{index_of};
+    ghost use Rattle.std.specs.Prelude.{ℕ, Some, ◌==◌, ◌<◌, if◌then◌else◌, true, false};
+    ghost use Rattle.dep_hub.specs.Archives.{KeepsAll, CommitsIfDue};
     ghost use Rattle.dep_hub.specs.Shut.{TellsOpen};
     ghost use Rattle.dep_hub.specs.Errands.{Asked, WorkedAhead, Runs, FailsToTell};
 
@@ -209,6 +213,9 @@ impl<A: Archive> Hub<A> {
     /// that are being sent, and from then on no GET of these files is answered before it, so they end. It waits
     /// once it has come whole, or its head has where its body is in chunks. In that case no more of it need be
     /// read while it waits: then it goes on, and each such wait ends with contents that were being sent.
+    ///
+    /// And so it is, before that, where the next request has come whole and names uploads: these are hashed first, by
+    /// `work_ahead`, a part each time. Behind that it is answered, or waits as the others.
     pub fn reply<O: Outlet, L: AccessLog>(
         &mut self,
         connection: ConnId,
@@ -226,6 +233,8 @@ impl<A: Archive> Hub<A> {
             → KeepsBack A.condition (O.taken out.old) (O.taken out.new) (O.failures out.old) (O.failures out.new)
             self.old self.new connection }
         ensures free { IfSome result (λ _. NextIsFree self.old connection) }
+        // What names uploads is prepared first.
+        ensures prepared { IfSome result (λ _. NextIsPrepared self.old connection) }
         // What is behind an answer isn't broken off.
         ensures unbroken { IfSome result (λ _.
             behind_at self.new.connections.items connection ≢ Behind.Broken) }
@@ -235,7 +244,58 @@ impl<A: Archive> Hub<A> {
         let Some(i) = index_among(self.connections.as_slice(), connection) else {
             return Some(Next::NoSuch);
         };
-        if let Some(behind) = self.kept_back(&self.connections[i]) {
+        if self.begins_to_prepare(connection, i) {
+            return None;
+        }
+        self.reply_at(connection, i, moment, out, log)
+    }
+
+    // Whether the next request of a connection is kept back from now on, as it names uploads, or memory runs out as it is
+    // looked at.
+    fn begins_to_prepare(&mut self, connection: ConnId, i: usize) -> bool
+        requires index { index_of connection self.old.connections.items ≡ Some i }
+        requires within { i < length self.old.connections.items }
+        ensures begins { result ≡ true → BeginsToPrepare self.old self.new connection }
+        ensures same { result ≡ false → self.new ≡ self.old }
+        ensures looked { result ≡ false → NextIsPrepared self.old connection }
+    {
+        let kept = &mut self.connections[i];
+        let Some(behind) = looked_at(self.config.alloc(), kept) else {
+            return false;
+        };
+        kept.behind = behind;
+        true
+    }
+
+    // The same as `reply`, where the next request isn't to be prepared any more.
+    fn reply_at<O: Outlet, L: AccessLog>(
+        &mut self,
+        connection: ConnId,
+        i: usize,
+        moment: Moment,
+        out: &mut O,
+        log: &mut L,
+    ) -> Option<Next>
+        requires index { index_of connection self.old.connections.items ≡ Some i }
+        requires within { i < length self.old.connections.items }
+        ensures goes { GoesOnAs A.condition self.old self.new }
+        ensures there { (result ≢ Some Next.NoSuch)
+            × IsSome (intake_of self.new.connections.items connection) }
+        ensures later { result ≡ None
+            → KeepsBack A.condition (O.taken out.old) (O.taken out.new) (O.failures out.old) (O.failures out.new)
+            self.old self.new connection }
+        ensures free { IfSome result (λ _. NextIsFree self.old connection) }
+        ensures unbroken { IfSome result (λ _.
+            behind_at self.new.connections.items connection ≢ Behind.Broken) }
+        ensures replies { IfSome result (RepliesOver A.condition (O.taken out.old) (O.taken out.new)
+            (O.failures out.old) (O.failures out.new) self.old self.new connection moment) }
+    {
+        if let Some(behind) = kept_back(
+            &self.config,
+            self.connections.as_slice(),
+            self.is_busy,
+            &self.connections[i],
+        ) {
             self.connections[i].behind = behind;
             self.is_busy = is_any_pending(self.connections.as_slice());
             self.is_awaiting = is_any_waiting(self.connections.as_slice());
@@ -260,51 +320,6 @@ impl<A: Archive> Hub<A> {
         self.is_busy = still_pending(self.connections.as_slice(), self.is_busy, behind);
         self.is_awaiting = still_waiting(self.connections.as_slice(), self.is_awaiting);
         Some(next)
-    }
-
-    // What is behind the last reply of a connection, if no further item is answered now.
-    fn kept_back(&self, connection: &Connection) -> Option<Behind>
-        ensures free { result ≡ None
-            → IsAnswerable self.now.connections.items connection.now }
-        ensures kept { IfSome result (KeptBack self.now.connections.items
-            connection.now.intake connection.now.behind) }
-    {
-        match connection.behind {
-            Behind::Content(_) => Some(connection.behind),
-            Behind::Broken => Some(connection.behind),
-            Behind::Nothing => self.next_waits(connection),
-            Behind::Waits(claim) => {
-                if has_to_wait(self.connections.as_slice(), claim) {
-                    return Some(connection.behind);
-                }
-                self.next_waits(connection)
-            }
-        }
-    }
-
-    // The same where all of the last reply was sent, and the next request doesn't wait yet. While nothing is being
-    // sent and no request waits, it isn't looked at.
-    fn next_waits(&self, connection: &Connection) -> Option<Behind>
-        requires { is_unsent connection.now.behind ≡ false }
-        ensures free { result ≡ None
-            → IsFree self.now.connections.items connection.now.intake }
-        ensures kept { IfSome result (KeptBack self.now.connections.items
-            connection.now.intake connection.now.behind) }
-    {
-        if !self.is_busy {
-            return None;
-        }
-        let question = AskClaim { site: &self.config };
-        match connection.intake.ask_next(&question) {
-            Ok(Some(claim)) => {
-                if has_to_wait(self.connections.as_slice(), claim) {
-                    return Some(Behind::Waits(claim));
-                }
-                None
-            }
-            Ok(None) => None,
-            Err(AllocError) => Some(Behind::Nothing),
-        }
     }
 
     /// Whether a content is still to be sent to a connection.
@@ -351,6 +366,8 @@ impl<A: Archive> Hub<A> {
         match kept.behind {
             Behind::Nothing => SentOn::All,
             Behind::Waits(_) => SentOn::All,
+            Behind::Prepares(_) => SentOn::All,
+            Behind::Prepared => SentOn::All,
             Behind::Broken => SentOn::Broken,
             Behind::Content(rest) => match self.store.stream_on(rest.file, rest.sent, out) {
                 Ok(Some(sent)) => {
@@ -387,8 +404,10 @@ impl<A: Archive> Hub<A> {
         self.store.is_open()
     }
 
-    /// Does a part of the work that a later request would have to wait for, and returns whether more is
-    /// left (`Archive::work_ahead`). No connection has a part in it, so it is no event of a run.
+    /// Does a part of the work that a later request would have to wait for, and returns whether more is left
+    /// (`Archive::work_ahead`). Where a request is kept back until its uploads are hashed it is a part of that, for the
+    /// first such connection; it is answered by `reply` once no more of it is left, or so many steps were made as may be.
+    /// It is no event of a run.
     pub fn work_ahead(&mut self) -> bool
         ensures asked { Runs (WorkedAhead result) (A.account self.old.store)
             (A.account self.new.store) }
@@ -396,9 +415,12 @@ impl<A: Archive> Hub<A> {
         ensures commits { CommitsIfDue (A.may_commit self.old.store)
             (A.may_commit self.new.store)
             (store_of A.condition self.old) (store_of A.condition self.new) }
-        ensures rests { RestsOn A.condition KeepsEachState self.old self.new }
+        ensures rests { RestsAhead A.condition self.old self.new }
     {
-        self.store.work_ahead()
+        let Some(i) = first_preparing(self.connections.as_slice()) else {
+            return self.store.work_ahead(self.config.service(), None);
+        };
+        prepare(&self.config, &mut self.store, &mut self.connections[i])
     }
 
     /// Forgets a connection. What it holds is dropped, and one that isn't there changes nothing.

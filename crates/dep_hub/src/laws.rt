@@ -4,6 +4,7 @@ ghost use Rattle.dep_hub.specs.Records.{Connect, Close, Absent, Live, World};
 ghost use Rattle.dep_hub.specs.Standing.{StandsAt};
 ghost use Rattle.dep_hub.specs.Holding.{StandsHolding, AnswersAdd, AnswersStop, LineAdds, StopsAnswered, with_held};
 ghost use Rattle.dep_hub.specs.StandsOwing.{AnswersAtOnce, AwaitsContent, AwaitsTaker, ContentsStay, RepliesAdd, RepliesKeep, SendingStands, WaitingStands};
+ghost use Rattle.dep_hub.specs.WorkingAhead.{AheadContents, AheadEnds, AheadStands, PreparesOnce};
 ghost use Rattle.dep_hub.specs.declared.hub.Hub.{Hub as AnyHub};
 
 use crate::archive::Archive;
@@ -58,9 +59,23 @@ pub fn waiting_is_no_event<A: Archive>()
     ensures contents { (old new : AnyHub A) → ContentsStay A.condition old new }
 {}
 
+/// Working ahead is no event of a run: what is owed stays, and what is being sent.
+pub fn working_ahead_is_no_event<A: Archive>()
+    ensures stands { (old new : AnyHub A) → AheadStands A.condition old new }
+    ensures contents { (old new : AnyHub A) → AheadContents A.condition old new }
+{}
+
+/// While a request is kept back as it is prepared, each time of working ahead leaves fewer steps, of all that there are for
+/// the connections. A step more comes by a request alone that wasn't looked at before. So each is answered in the end.
+pub fn what_is_prepared_ends<A: Archive>()
+    ensures fewer { (old new : AnyHub A) → AheadEnds A.condition old new }
+    ensures once { (old new : AnyHub A) → PreparesOnce A.condition old new }
+{}
+
 /// A request that puts or deletes files is kept back while a content of these is being sent, which is awaited then; a
 /// GET while such a request waits. So what is waited for is in the end a content that is being sent, and each step
-/// makes that shorter. Where there is nothing of the kind the next item is answered, unless a content was broken off.
+/// makes that shorter. Where there is nothing of the kind the next item is answered, unless a content was broken off, its
+/// uploads are hashed first, or memory ran out as it was looked at for the first time.
 pub fn what_is_waited_for_ends<A: Archive>()
     ensures content { (old new : AnyHub A) → AwaitsContent A.condition old new }
     ensures taker { (old new : AnyHub A) → AwaitsTaker A.condition old new }

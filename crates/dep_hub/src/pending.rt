@@ -1,7 +1,8 @@
 //! Contents that are being sent, and requests that wait.
-ghost use Rattle.std.specs.Prelude.{◌≡◌, false};
+ghost use Rattle.std.specs.Prelude.{◌≡◌, false, position};
 ghost use Rattle.dep_hub.specs.Claims as spec;
 ghost use Rattle.dep_hub.specs.Claims.{is_awaited_by, sends_of};
+ghost use Rattle.dep_hub.specs.Preparing.{is_preparing as spec_preparing};
 
 use crate::claim::{Claim, Files};
 use crate::connections::Connection;
@@ -61,12 +62,30 @@ fn is_waiting(behind: Behind) -> bool
     }
 }
 
+/// Where the first of them stands whose next request is prepared.
+pub(crate) fn first_preparing(connections: &[Connection]) -> Option<usize>
+    ensures { result ≡ position (λ c. spec_preparing c.behind) connections.now }
+{
+    connections
+        .iter()
+        .position(|connection| is_preparing(connection.behind))
+}
+
+fn is_preparing(behind: Behind) -> bool
+    ensures { result ≡ spec_preparing behind }
+{
+    match behind {
+        Behind::Prepares(_) => true,
+        _ => false,
+    }
+}
+
 fn is_pending(behind: Behind) -> bool
     ensures { result ≡ spec.is_pending behind }
 {
     match behind {
         Behind::Content(_) | Behind::Waits(_) => true,
-        Behind::Nothing | Behind::Broken => false,
+        _ => false,
     }
 }
 

@@ -24,6 +24,10 @@ pub(crate) enum Behind {
     Broken,
     /// All of it was sent, and the next request waits, which has this claim.
     Waits(Claim),
+    /// All of it was sent, and the uploads that the next request names are being hashed, in so many steps more at most.
+    Prepares(u32),
+    /// All of it was sent, and the next request is prepared for no more.
+    Prepared,
 }
 
 /// What is behind a reply of which this is sent later.

@@ -10,11 +10,11 @@ use Rattle.dep_types.specs.declared.refusal.Refusal.{Refusal}
 use Rattle.dep_message.specs.Asking.{HasNextHead, IsNoNext, IsNoRequest, TellsNext}
 use Rattle.dep_message.specs.Giving.{Begins, BeginsWithHead}
 use Rattle.dep_message.specs.Places.{Place, Open, Shut}
-use Rattle.dep_message.specs.Stream.{Request, FirstAt, IsContinueText, IsFaultText}
+use Rattle.dep_message.specs.Stream.{Request, FirstAt, IsContinueText, IsFaultText, IsRequestText}
 use Rattle.dep_message.specs.Working.{IsBegun, ReadsChunks}
 use Rattle.dep_message.specs.declared.message.Message.{Message}
 use Rattle.dep_message.specs.declared.progress.ChunkedRequest.{ChunkedRequest}
-use Rattle.dep_message.proofs.Bodies.{headed, waits_for_body}
+use Rattle.dep_message.proofs.Bodies.{begins_with_head, headed, waits_for_body}
 use Rattle.dep_message.proofs.OneReading.{good_heads, fault_request, continue_request, waits_none}
 
 -- the request that stands first has this head
@@ -48,6 +48,17 @@ module _ (limit : ℕ) (continued : Bool) where
   first_head bytes n head frame b =
       subst (λ (l : List ℕ). HasNextHead limit (Open continued l) head) (take-append-drop n bytes)
       (begun_head (take n bytes) (drop n bytes) head frame b)
+
+  -- that of a whole request
+  pub request_head : (text behind : List ℕ) (m : Message) → IsRequestText limit continued text m
+      → HasNextHead limit (Open continued (text ++ behind)) m.head × BeginsWithHead (text ++ behind)
+  request_head text behind m t =
+      let h = t.has_head in
+      let begun : IsBegun limit continued h.front m.head t.frame = record { is_head = h.is_head; framed = h.framed; due_is = h.due_is } in
+      let whole : h.front ++ (t.body ++ behind) ≡ text ++ behind = sym (append_assoc h.front t.body behind) ∙ ap (λ l. l ++ behind) (sym h.whole) in (
+        subst (λ (l : List ℕ). HasNextHead limit (Open continued l) m.head) whole (begun_head h.front (t.body ++ behind) m.head t.frame begun),
+        subst BeginsWithHead whole (begins_with_head limit continued h.front (t.body ++ behind) m.head t.frame begun),
+      )
 
   -- a part of a body alone has come
   pub part_no : (front behind : List ℕ) (head : HeadParts) (frame : Framing) → IsBegun limit continued front head frame → IsPartOfBody limit frame behind

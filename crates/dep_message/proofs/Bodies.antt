@@ -55,10 +55,6 @@ body_fault limit continued front text behind head frame fault b is_fault = (
   bad_body fault (headed limit continued front text head frame b) is_fault,
 )
 
--- a head has some bytes
-pub head_size : (limit : ℕ) (continued : Bool) (front : List ℕ) (head : HeadParts) (frame : Framing) → IsBegun limit continued front head frame → 0 < length front
-head_size limit continued front head frame b = let four = (end_within front (length front) b.is_head.ends).0 in omega arith
-
 -- a good head is one but for its target
 pub begins_with_head : (limit : ℕ) (continued : Bool) (front body : List ℕ) (head : HeadParts) (frame : Framing)
     → IsBegun limit continued front head frame → BeginsWithHead (front ++ body)
@@ -75,3 +71,9 @@ pub whole_request : (limit : ℕ) (continued : Bool) (front body : List ℕ) (m 
     → IsBegun limit continued front m.head frame → IsBodyText limit frame body m.content → IsRequestText limit continued (front ++ body) m
 whole_request limit continued front body m frame b is_body =
     record { frame = frame; body = body; has_head = headed limit continued front body m.head frame b; is_body = is_body }
+
+-- and so has a request
+pub request_size : (limit : ℕ) (continued : Bool) (text : List ℕ) (m : Message) → IsRequestText limit continued text m → 0 < length text
+request_size limit continued text m t =
+    let h = t.has_head in
+    let four = (end_within h.front (length h.front) h.is_head.ends).0 in omega (arith, four, ap length h.whole, length-append h.front t.body)

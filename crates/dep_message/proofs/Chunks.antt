@@ -1,8 +1,8 @@
 -- Chunks behind a head, of which a reader was fed the first bytes.
-use Rattle.std.proofs.Common.{◌≡◌, ℕ, ◌+◌, ◌≤◌, ◌<◌, Bool, false, List, [], ◌++◌, length, take, drop, sym, ap, subst, ◌∙◌, append_assoc, append-nil, length-append, arith, refl, inl, inr}
+use Rattle.std.proofs.Common.{◌≡◌, ℕ, ◌+◌, ◌≤◌, ◌<◌, Bool, List, [], ◌++◌, length, take, drop, sym, ap, subst, ◌∙◌, append_assoc, append-nil, arith, refl, inl, inr}
 use Rattle.std.proofs.lemmas.Bool.{cases_lt}
-use Rattle.std.proofs.lemmas.List.{take-append-drop, drop-drop, take-append-le}
-use Rattle.std.proofs.Math.Seq.{take-append_seam, drop-append_seam}
+use Rattle.std.proofs.lemmas.List.{take-append-drop, take-append-le}
+use Rattle.std.proofs.Math.Seq.{take-add, take-append_seam, drop-append_seam}
 use Rattle.dep_body.specs.Body.{IsChunkedPart, IsPartOfBody, begun_line}
 use Rattle.dep_body.specs.Feeding.{EndsBody, ShowsFault, HasFed}
 use Rattle.dep_body.specs.ReaderValue.{ReaderValue}
@@ -14,13 +14,11 @@ use Rattle.dep_body.proofs.OneBody.{body_no_part}
 use Rattle.dep_message.specs.Giving.{Begins, BeginsWithHead}
 use Rattle.dep_message.specs.Heads.{is_bare}
 use Rattle.dep_message.specs.Places.{Open}
-use Rattle.dep_message.specs.Stream.{IsFaultText, Waits, refusal_of}
-use Rattle.dep_message.specs.Working.{IsBegun, Finds, Keeps, ReadsChunks}
+use Rattle.dep_message.specs.Stream.{IsFaultText, IsRequestText, Waits, refusal_of}
+use Rattle.dep_message.specs.Working.{IsBegun, ReadsChunks}
 use Rattle.dep_message.specs.declared.progress.ChunkedRequest.{ChunkedRequest}
 use Rattle.dep_message.specs.declared.used.UsedBytes.{UsedBytes}
-use Rattle.dep_message.specs.declared.work.Found.TheVariants as F
-use Rattle.dep_message.specs.declared.work.Work.{Work}
-use Rattle.dep_message.proofs.Bodies.{begins_with_head, body_fault, head_size, waits_for_body, whole_request}
+use Rattle.dep_message.proofs.Bodies.{begins_with_head, body_fault, waits_for_body, whole_request}
 
 -- nothing is a part of a body
 pub nothing_is_part : (limit : ℕ) → IsPartOfBody limit InChunks []
@@ -82,21 +80,25 @@ module _ (limit : ℕ) (continued : Bool) (request : ChunkedRequest) (piece buff
       (waits_for_body limit continued r.front (r.fed ++ piece) request.head InChunks r.begun (part_now part))
 
   -- the body ended, and has so many bytes of the piece
-  pub takes_chunks : (used : ℕ) (new : Work) → EndsBody l content r.fed piece used → Keeps limit false (drop used buffer) new
-      → Finds limit continued (request.used.items ++ buffer) new (F.Message (record { head = request.head; content = content }))
-  takes_chunks used new e keeps =
-      let some : 0 < length r.front = head_size limit continued r.front request.head InChunks r.begun in
-      let count : length e.text ≡ length r.fed + used = ends_behind l content r.fed piece used e (rw same_limit r.part) in
-      let behind : e.behind ≡ drop used buffer =
-      sym (drop-append_seam e.text e.behind) ∙ (ap (drop (length e.text)) (sym e.stream_is) ∙ (ap (λ n. drop n (r.fed ++ piece)) count
-      ∙ (sym (drop-drop used (length r.fed) (r.fed ++ piece)) ∙ (ap (drop used) (drop-append_seam r.fed piece) ∙ ap (drop used) same)))) in (
-        r.front ++ e.text,
-        e.behind,
-        whole_is limit continued request piece buffer r same ∙ (ap (λ t. r.front ++ t) e.stream_is ∙ sym (append_assoc r.front e.text e.behind)),
-        whole_request limit continued r.front e.text (record { head = request.head; content = content }) InChunks r.begun (rw (sym same_limit) e.body),
-        omega (arith, some, length-append r.front e.text),
-        subst (λ (b : List ℕ). Keeps limit false b new) (sym behind) keeps,
-      )
+  pub chunks_text : (count : ℕ) (used : UsedBytes) → EndsBody l content r.fed piece count → used.items ≡ request.used.items ++ take count piece
+      → IsRequestText limit continued used.items (record { head = request.head; content = content })
+  chunks_text count used e used_is =
+      let size : length e.text ≡ length r.fed + count = ends_behind l content r.fed piece count e (rw same_limit r.part) in
+      let text_is : e.text ≡ r.fed ++ take count piece =
+      sym (take-append_seam e.text e.behind) ∙ (ap (take (length e.text)) (sym e.stream_is) ∙ (ap (λ n. take n (r.fed ++ piece)) size
+      ∙ (take-add (length r.fed) count (r.fed ++ piece) ∙ (ap (λ t. t ++ take count (drop (length r.fed) (r.fed ++ piece))) (take-append_seam r.fed piece)
+      ∙ ap (λ t. r.fed ++ take count t) (drop-append_seam r.fed piece))))) in
+      let items_are : used.items ≡ r.front ++ e.text =
+      used_is ∙ (ap (λ t. t ++ take count piece) r.used_is ∙ (append_assoc r.front r.fed (take count piece) ∙ ap (λ t. r.front ++ t) (sym text_is))) in
+      subst (λ (t : List ℕ). IsRequestText limit continued t (record { head = request.head; content = content })) (sym items_are)
+      (whole_request limit continued r.front e.text (record { head = request.head; content = content }) InChunks r.begun (rw (sym same_limit) e.body))
+
+  -- and with the bytes behind it these are all
+  pub chunks_whole : (count : ℕ) (used : UsedBytes) → used.items ≡ request.used.items ++ take count piece
+      → used.items ++ drop count buffer ≡ request.used.items ++ buffer
+  chunks_whole count used used_is =
+      ap (λ t. t ++ drop count buffer) used_is ∙ (append_assoc request.used.items (take count piece) (drop count buffer)
+      ∙ ap (λ t. request.used.items ++ t) (ap (λ t. take count t ++ drop count buffer) same ∙ take-append-drop count buffer))
 
   -- the body shows a fault
   pub faulty_now : (fault : FrameFault) → ShowsFault l content r.fed piece fault

@@ -1,27 +1,32 @@
 -- What is kept of the bytes.
-use Rattle.std.proofs.Common.{◌≡◌, ℕ, ◌+◌, ◌-◌, ◌≤◌, ◌<◌, Bool, false, List, [], ◌++◌, length, take, drop, sym, ap, subst, ◌∙◌, append-nil, append_assoc, length-append, arith, refl}
+use Rattle.std.proofs.Common.{◌≡◌, ℕ, ◌+◌, ◌≤◌, Bool, false, List, [], ◌++◌, length, take, drop, sym, ap, subst, ◌∙◌, append-nil, append_assoc, refl}
 use Rattle.std.proofs.lemmas.List.{length-take-le, take-append-drop}
 use Rattle.std.proofs.Math.Seq.{take-add, drop-append_seam}
 use Rattle.dep_head.specs.Head.{HeadParts}
 use Rattle.dep_body.specs.declared.frame.Framing.{Framing}
 use Rattle.dep_message.specs.Giving.{BeginsWithHead}
 use Rattle.dep_message.specs.Places.{Reading, Open}
-use Rattle.dep_message.specs.Working.{IsFresh, IsKnown, IsAtHead, IsBegun, ReadsChunks, Keeps, Finds, bytes_with, kept_bytes, reading_of}
-use Rattle.dep_message.specs.Stream.{Waits}
+use Rattle.dep_message.specs.Working.{IsFresh, IsItem, IsKnown, IsAtHead, IsBegun, IsReadTo, ReadsChunks, Keeps, bytes_with, first_of, kept_bytes, reading_of}
+use Rattle.dep_message.specs.Stream.{IsRequestText, Waits}
 use Rattle.dep_message.specs.declared.intake.Standing.{Standing}
 use Rattle.dep_message.specs.declared.intake.Standing.TheVariants.{Live}
 use Rattle.dep_message.specs.declared.message.Message.{Message}
-use Rattle.dep_message.specs.declared.work.Found.TheVariants as F
+use Rattle.dep_message.specs.declared.progress.Found.{Found}
+use Rattle.dep_message.specs.declared.progress.Found.TheVariants as F
 use Rattle.dep_body.specs.Body.{IsBodyText, IsPartOfBody}
 use Rattle.dep_body.specs.declared.frame.Framing.TheVariants.{Length}
 use Rattle.dep_message.specs.declared.progress.Progress.{Progress}
 use Rattle.dep_message.specs.declared.progress.Progress.TheVariants.{Sized, Chunked}
 use Rattle.dep_message.specs.declared.progress.SizedRequest.{SizedRequest}
 use Rattle.dep_message.specs.declared.progress.ChunkedRequest.{ChunkedRequest}
+use Rattle.dep_message.specs.declared.used.UsedBytes.{UsedBytes}
 use Rattle.dep_message.specs.declared.work.Work.{Work}
-use Rattle.dep_message.proofs.Bodies.{begins_with_head, head_size, whole_request, waits_for_body}
-use Rattle.dep_message.proofs.Slices.{rest_is}
+use Rattle.dep_message.proofs.Bodies.{begins_with_head, whole_request, waits_for_body}
 use Rattle.dep_message.proofs.SearchOn.{searched_none}
+
+-- the same bytes are kept, and the item that stands first in them was found
+abbrev pub IsFoundIn : (work : Work) → List ℕ → Work → Type 0
+IsFoundIn work bytes new = Keeps work.limit work.continued bytes new × IsReadTo work.limit work.continued bytes new.progress
 
 -- with nothing known of the first request, the bytes are those of the buffer
 pub keeps_fresh : (limit : ℕ) (continued : Bool) (bytes : List ℕ) (work : Work) → IsFresh work
@@ -32,13 +37,6 @@ keeps_fresh limit continued bytes work fresh same_limit same_continued same_byte
   bytes_are = ap (λ (p : Progress). bytes_with p work.buffer) fresh ∙ same_bytes;
   known = subst (λ (p : Progress). IsKnown work.limit work.continued work.buffer p) (sym fresh) (searched_none work.buffer);
 }
-
--- the bytes of a request went
-pub left_behind : (work new : Work) (n : ℕ) → IsFresh work → new ≡ record work { buffer = drop n work.buffer; continued = false }
-    → Keeps work.limit false (drop n work.buffer) new
-left_behind work new n fresh is =
-    subst (λ (w : Work). Keeps work.limit false (drop n work.buffer) w) (sym is)
-    (keeps_fresh work.limit false (drop n work.buffer) (record work { buffer = drop n work.buffer; continued = false }) fresh refl refl refl)
 
 -- the head of a request with some bytes behind it, which stand apart
 pub keeps_sized : (work : Work) (request : SizedRequest) → IsBegun work.limit work.continued work.buffer request.head (Length request.length)
@@ -64,19 +62,36 @@ unchanged work n head frame at = (
   subst BeginsWithHead (take-append-drop n work.buffer) (begins_with_head work.limit work.continued (take n work.buffer) (drop n work.buffer) head frame at.begun),
 )
 
--- a whole request goes with its bytes
-pub takes_request : (limit : ℕ) (continued : Bool) (bytes : List ℕ) (n size : ℕ) (frame : Framing) (m : Message) (new : Work) → n ≤ length bytes
-    → IsBegun limit continued (take n bytes) m.head frame → IsBodyText limit frame (take size (drop n bytes)) m.content
-    → Keeps limit false (drop (n + size) bytes) new → Finds limit continued bytes new (F.Message m)
-takes_request limit continued bytes n size frame m new within begun is_body keeps =
-    let some : 0 < length (take n bytes) = head_size limit continued (take n bytes) m.head frame begun in (
-      take n bytes ++ take size (drop n bytes),
-      drop (n + size) bytes,
-      sym (take-append-drop (n + size) bytes) ∙ ap (λ l. l ++ drop (n + size) bytes) (take-add n size bytes),
-      whole_request limit continued (take n bytes) (take size (drop n bytes)) m frame begun is_body,
-      omega (arith, length-append (take n bytes) (take size (drop n bytes))),
-      keeps,
-    )
+-- the item that stands first was found
+pub keeps_found : (work new : Work) (bytes : List ℕ) (item : Found) (used : UsedBytes) → new ≡ record work { progress = first_of item used }
+    → used.items ++ work.buffer ≡ bytes → IsItem work.limit work.continued used.items work.buffer item → IsFoundIn work bytes new
+keeps_found work new bytes item used new_is whole is =
+    subst (IsFoundIn work bytes) (sym new_is) (record { limit_is = refl; continued_is = refl; bytes_are = whole; known = is }, tt)
+
+-- and none of its bytes were used
+pub keeps_first : (work new : Work) (item : Found) (used : UsedBytes) → new ≡ record work { progress = first_of item used }
+    → used.items ≡ [] → IsItem work.limit work.continued [] work.buffer item → IsFoundIn work work.buffer new
+keeps_first work new item used new_is none is =
+    keeps_found work new work.buffer item used new_is (ap (λ l. l ++ work.buffer) none)
+    (subst (λ (l : List ℕ). IsItem work.limit work.continued l work.buffer item) (sym none) is)
+
+-- a whole request was, whose last bytes were the first of the buffer
+pub keeps_request : (work new : Work) (bytes : List ℕ) (used : UsedBytes) (count : ℕ) (m : Message)
+    → new ≡ record work { buffer = drop count work.buffer; progress = first_of (F.Message m) used }
+    → used.items ++ drop count work.buffer ≡ bytes → IsRequestText work.limit work.continued used.items m → IsFoundIn work bytes new
+keeps_request work new bytes used count m new_is whole is =
+    keeps_found (record work { buffer = drop count work.buffer }) new bytes (F.Message m) used new_is whole is
+
+-- all its bytes were
+pub keeps_front : (work new : Work) (used : UsedBytes) (n size : ℕ) (frame : Framing) (m : Message)
+    → IsBegun work.limit work.continued (take n work.buffer) m.head frame → IsBodyText work.limit frame (take size (drop n work.buffer)) m.content
+    → used.items ≡ take (n + size) work.buffer
+    → new ≡ record work { buffer = drop (n + size) work.buffer; progress = first_of (F.Message m) used } → IsFoundIn work work.buffer new
+keeps_front work new used n size frame m begun is_body used_is new_is =
+    keeps_request work new work.buffer used (n + size) m new_is
+    (ap (λ l. l ++ drop (n + size) work.buffer) used_is ∙ take-append-drop (n + size) work.buffer)
+    (subst (λ (l : List ℕ). IsRequestText work.limit work.continued l m) (sym (used_is ∙ take-add n size work.buffer))
+    (whole_request work.limit work.continued (take n work.buffer) (take size (drop n work.buffer)) m frame begun is_body))
 
 -- a body that has not come whole is awaited
 pub waits_behind : (limit : ℕ) (continued : Bool) (bytes : List ℕ) (n : ℕ) (head : HeadParts) (frame : Framing)
@@ -96,25 +111,19 @@ keeps_apart old new n request begun behind same_limit same_continued front place
   known = subst (λ (p : Progress). IsKnown new.limit new.continued new.buffer p) (sym place) (rw (same_limit, same_continued, front) begun);
 }
 
--- a whole request goes, of which the bytes behind the head stood apart
-pub takes_apart : (limit : ℕ) (continued : Bool) (front behind : List ℕ) (size : ℕ) (m : Message) (new : Work)
-    → IsBegun limit continued front m.head (Length size) → size ≤ length behind → m.content ≡ take size behind
-    → Keeps limit false (drop size behind) new → Finds limit continued (front ++ behind) new (F.Message m)
-takes_apart limit continued front behind size m new begun within content keeps =
-    let some : 0 < length front = head_size limit continued front m.head (Length size) begun in (
-      front ++ take size behind,
-      drop size behind,
-      ap (λ l. front ++ l) (sym (take-append-drop size behind)) ∙ sym (append_assoc front (take size behind) (drop size behind)),
-      whole_request limit continued front (take size behind) m (Length size) begun (length-take-le size behind within, content),
-      omega (arith, length-append front (take size behind)),
-      keeps,
-    )
-
--- what the buffer has left once the front went
-pub left_of : (front behind all : List ℕ) (n size : ℕ) → n ≡ length front
-    → all ≡ front ++ take (length behind - size) (drop size behind) → drop n all ≡ drop size behind
-left_of front behind all n size whole all_is =
-    ap (λ k. drop k all) whole ∙ (ap (drop (length front)) (all_is ∙ ap (λ l. front ++ l) (rest_is size behind)) ∙ drop-append_seam front (drop size behind))
+-- a whole request was found, of which the bytes behind the head stood apart
+pub keeps_body : (work new : Work) (behind all : List ℕ) (used : UsedBytes) (n size : ℕ) (m : Message) → n ≡ length work.buffer
+    → all ≡ work.buffer ++ drop size behind → used.items ≡ work.buffer ++ take size behind → size ≤ length behind
+    → IsBegun work.limit work.continued work.buffer m.head (Length size) → m.content ≡ take size behind
+    → new ≡ record work { buffer = drop n all; progress = first_of (F.Message m) used } → IsFoundIn work (work.buffer ++ behind) new
+keeps_body work new behind all used n size m n_is all_is used_is within begun content new_is =
+    let rest : drop n all ≡ drop size behind =
+    ap (λ k. drop k all) n_is ∙ (ap (drop (length work.buffer)) all_is ∙ drop-append_seam work.buffer (drop size behind)) in
+    keeps_request (record work { buffer = all }) new (work.buffer ++ behind) used n m new_is
+    (ap (λ l. l ++ drop n all) used_is ∙ (ap (λ l. (work.buffer ++ take size behind) ++ l) rest
+    ∙ (append_assoc work.buffer (take size behind) (drop size behind) ∙ ap (λ l. work.buffer ++ l) (take-append-drop size behind))))
+    (subst (λ (l : List ℕ). IsRequestText work.limit work.continued l m) (sym used_is)
+    (whole_request work.limit work.continued work.buffer (take size behind) m (Length size) begun (length-take-le size behind within, content)))
 
 -- where memory is refused, the reading stands where it stood
 pub stands_still : (work new : Work) (standing : Standing) (reading : Reading) → standing ≡ Live → reading_of standing work ≡ reading

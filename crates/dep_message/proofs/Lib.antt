@@ -10,3 +10,4 @@ pub mod BodyCases
 pub mod EverySpelling
 pub mod Asked
 pub mod Taking
+pub mod Shown

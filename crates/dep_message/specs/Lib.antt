@@ -3,4 +3,5 @@ pub mod Heads
 pub mod Stream
 pub mod Giving
 pub mod Asking
+pub mod Showing
 pub mod Working

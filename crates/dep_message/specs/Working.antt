@@ -1,5 +1,5 @@
 -- Words of private functions: the bytes that are kept, and what is known of the first request of them.
-use Rattle.std.specs.Prelude.{◌≡◌, ℕ, ◌<◌, ◌≤◌, Bool, true, false, List, ◌++◌, length, take, None, Option, Result, Ok, MatchResult}
+use Rattle.std.specs.Prelude.{◌≡◌, ℕ, ◌<◌, ◌≤◌, Bool, true, false, List, [], ◌++◌, length, take, None, Some, Option, Result, Ok, MatchResult}
 use Rattle.std.specs.declared.alloc.AllocError.{AllocError}
 use Rattle.dep_head.specs.Head.{HeadParts, IsHeadText, head_end, head_limit}
 use Rattle.dep_body.specs.Framing.{framing}
@@ -16,11 +16,14 @@ use Rattle.dep_message.specs.declared.first.FirstHead.{FirstHead}
 use Rattle.dep_message.specs.declared.first.FirstHead.TheVariants as H
 use Rattle.dep_message.specs.declared.intake.Standing.{Standing}
 use Rattle.dep_message.specs.declared.intake.Standing.TheVariants.{Live, Closed, Dead}
+use Rattle.dep_message.specs.declared.message.Message.{Message}
 use Rattle.dep_message.specs.declared.progress.ChunkedRequest.{ChunkedRequest}
+use Rattle.dep_message.specs.declared.progress.FirstItem.{FirstItem}
+use Rattle.dep_message.specs.declared.progress.Found.{Found}
+use Rattle.dep_message.specs.declared.progress.Found.TheVariants as F
 use Rattle.dep_message.specs.declared.progress.Progress.{Progress}
-use Rattle.dep_message.specs.declared.progress.Progress.TheVariants.{Searched, Sized, Chunked}
-use Rattle.dep_message.specs.declared.work.Found.{Found}
-use Rattle.dep_message.specs.declared.work.Found.TheVariants as F
+use Rattle.dep_message.specs.declared.progress.Progress.TheVariants.{Searched, Sized, Chunked, First}
+use Rattle.dep_message.specs.declared.used.UsedBytes.{UsedBytes}
 use Rattle.dep_message.specs.declared.work.Work.{Work}
 
 -- no head ends in so many bytes
@@ -51,10 +54,22 @@ abbrev pub bytes_with : Progress → List ℕ → List ℕ
 bytes_with (Searched n) buffer = buffer
 bytes_with (Sized request) buffer = buffer ++ request.behind
 bytes_with (Chunked request) buffer = request.used.items ++ buffer
+bytes_with (First first) buffer = first.used.items ++ buffer
 
 -- all bytes that no item has used
 abbrev pub kept_bytes : Work → List ℕ
 kept_bytes work = bytes_with work.progress work.buffer
+
+-- it stands first: a request is just the bytes that were used, and where a `100 Continue` is due, none were
+abbrev pub IsItem : ℕ → Bool → (used buffer : List ℕ) → Found → Type 0
+IsItem limit continued used buffer (F.Message m) = IsRequestText limit continued used m
+IsItem limit continued used buffer F.Continue =
+    (used ≡ []) × Begins (IsContinueText limit continued) buffer
+IsItem limit continued used buffer (F.Fault refusal bare) =
+    Begins (λ text. IsFaultText limit continued text refusal bare) (used ++ buffer)
+
+abbrev pub IsFound : ℕ → Bool → (buffer : List ℕ) → FirstItem → Type 0
+IsFound limit continued buffer first = IsItem limit continued first.used.items buffer first.item
 
 -- what is known of the first request is so
 abbrev pub IsKnown : ℕ → Bool → List ℕ → Progress → Type 0
@@ -62,6 +77,7 @@ IsKnown limit continued buffer (Searched n) = IsSearched n buffer
 IsKnown limit continued buffer (Sized request) =
     IsBegun limit continued buffer request.head (Length request.length)
 IsKnown limit continued buffer (Chunked request) = ReadsChunks limit continued request
+IsKnown limit continued buffer (First first) = IsFound limit continued buffer first
 
 -- the request before is done with, and nothing is known of the next
 abbrev pub IsFresh : Work → Type 0
@@ -106,21 +122,51 @@ FindsHead limit continued bytes (H.Fault refusal bare) =
     Begins (λ text. IsFaultText limit continued text refusal bare) bytes
 FindsHead limit continued bytes H.Nothing = (head_end bytes ≡ None) × (length bytes < head_limit)
 
+-- a request that was found was shown, and nothing else is
+abbrev pub ShowsFound : {X : Type 0} → (sees : X → X → Message → Type 0) → (before after : X)
+    → Found → (shown : Bool) → Type 0
+ShowsFound sees before after (F.Message m) shown = (shown ≡ true) × sees before after m
+ShowsFound sees before after F.Continue shown = (shown ≡ false) × (after ≡ before)
+ShowsFound sees before after (F.Fault refusal bare) shown = (shown ≡ false) × (after ≡ before)
+
+-- the first item was found
+abbrev pub first_of : Found → UsedBytes → Progress
+first_of item used = First (record { item = item; used = used })
+
+-- the first item was found, or isn't complete
+abbrev pub IsReadTo : ℕ → Bool → List ℕ → Progress → Type 0
+IsReadTo limit continued bytes (Searched n) = Waits limit (Open continued bytes)
+IsReadTo limit continued bytes (Sized request) = Waits limit (Open continued bytes)
+IsReadTo limit continued bytes (Chunked request) = Waits limit (Open continued bytes)
+IsReadTo limit continued bytes (First first) = Unit {0}
+
+abbrev pub IsReadOn : Work → Type 0
+IsReadOn work = IsReadTo work.limit work.continued (kept_bytes work) work.progress
+
+-- the same bytes are kept, and the first item was read as far as they go: for want of memory it isn't,
+-- and a head is there to be copied
+abbrev pub ReadsOn : (old : Work) (bytes : List ℕ) (new : Work) → Result Unit AllocError → Type 0
+ReadsOn old bytes new result =
+    Keeps old.limit old.continued bytes new
+    × MatchResult result (λ _. IsReadTo old.limit old.continued bytes new.progress)
+    (λ _. BeginsWithHead bytes)
+
 -- what stands first in the bytes, and what is kept then
-abbrev pub Finds : ℕ → Bool → List ℕ → Work → Found → Type 0
-Finds limit continued bytes new (F.Message m) =
+abbrev pub Finds : ℕ → Bool → List ℕ → Work → Option Found → Type 0
+Finds limit continued bytes new (Some (F.Message m)) =
     (text : List ℕ) × (behind : List ℕ) × (bytes ≡ text ++ behind)
     × IsRequestText limit continued text m × (0 < length text) × Keeps limit false behind new
-Finds limit continued bytes new F.Continue =
+Finds limit continued bytes new (Some F.Continue) =
     Begins (IsContinueText limit continued) bytes × Keeps limit true bytes new
-Finds limit continued bytes new (F.Fault refusal bare) =
+Finds limit continued bytes new (Some (F.Fault refusal bare)) =
     Begins (λ text. IsFaultText limit continued text refusal bare) bytes × (new.limit ≡ limit)
     × IsWorking new
-Finds limit continued bytes new F.Nothing =
+Finds limit continued bytes new None =
     Waits limit (Open continued bytes) × Keeps limit continued bytes new
 
 -- what is found over these bytes: for want of memory nothing changes, and a head is there to be copied
-abbrev pub FindsNext : (old : Work) (bytes : List ℕ) (new : Work) → Result Found AllocError → Type 0
+abbrev pub FindsNext : (old : Work) (bytes : List ℕ) (new : Work)
+    → Result (Option Found) AllocError → Type 0
 FindsNext old bytes new result =
     MatchResult result (Finds old.limit old.continued bytes new)
     (λ _. Keeps old.limit old.continued bytes new × BeginsWithHead bytes)

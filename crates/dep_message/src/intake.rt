@@ -3,11 +3,14 @@ ghost use Rattle.std.specs.Prelude.{◌≡◌, ◌<◌, [], length, false, Match
 ghost use Rattle.dep_message.specs.Places.{Reading, Open, Shut, place_with, shut_reading, HasBytes};
 ghost use Rattle.dep_message.specs.Asking.{TellsNext};
 ghost use Rattle.dep_message.specs.Giving.{Gives, HasFirstHead};
+ghost use Rattle.dep_message.specs.Showing.{ShowsNext};
 
 use crate::heads::closes;
 use crate::message::Message;
+use crate::preview::Preview;
+use crate::progress::Found;
 use crate::question::Question;
-use crate::work::{Found, Work};
+use crate::work::Work;
 use dep_types::Refusal;
 use std::alloc::{AllocError, Global};
 use std::marker::Model;
@@ -117,6 +120,21 @@ impl Intake {
         }
     }
 
+    /// Shows the next request, where it has come whole, before `next` takes it, and returns whether one was shown. Nothing
+    /// is taken: `next` gives a request, a fault or a `100 Continue` that stands first as before, and reads no byte of it
+    /// again. An `Err` is want of memory.
+    pub fn preview<P: Preview>(&mut self, by: &mut P) -> Result<bool, AllocError>
+        ensures stays { self.new ≡ self.old }
+        ensures shows { MatchResult result
+            (ShowsNext P.sees by.old by.new self.old.limit self.old.place)
+            (λ _. HasFirstHead self.old.place × (by.new ≡ by.old)) }
+    {
+        match self.standing {
+            Standing::Live => self.work.preview(by),
+            Standing::Closed | Standing::Dead => Ok(false),
+        }
+    }
+
     /// Takes the first item, where one is complete. An `Err` is want of memory, and changes nothing. Behind a
     /// fault the intake is `Dead`. Behind a request that closes the connection (`closes`) no byte is read,
     /// and it returns `NeedMore`.
@@ -130,13 +148,13 @@ impl Intake {
             Standing::Dead => return Ok(Step::Dead),
         }
         match self.work.next()? {
-            Found::Nothing => Ok(Step::NeedMore),
-            Found::Continue => Ok(Step::Continue100),
-            Found::Fault(refusal, bare) => {
+            None => Ok(Step::NeedMore),
+            Some(Found::Continue) => Ok(Step::Continue100),
+            Some(Found::Fault(refusal, bare)) => {
                 self.shut();
                 Ok(Step::Refused(refusal, bare))
             }
-            Found::Message(message) => {
+            Some(Found::Message(message)) => {
                 let is_last = closes(&message.head);
                 if is_last {
                     self.end(false);

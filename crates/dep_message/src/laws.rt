@@ -1,7 +1,11 @@
 //! Laws of the definitions, apart from any code.
 ghost use Rattle.std.specs.Prelude.{◌≡◌, ℕ, Bool, List, ◌++◌};
-ghost use Rattle.dep_message.specs.Places.{Place, place_with};
-ghost use Rattle.dep_message.specs.Stream.{Item, Reads, IsRequestText, Spells};
+ghost use Rattle.dep_message.specs.Giving.{Gives};
+ghost use Rattle.dep_message.specs.Heads.{closes};
+ghost use Rattle.dep_message.specs.Places.{Place, Reading, place_with};
+ghost use Rattle.dep_message.specs.Stream.{Item, Request, FirstAt, Reads, IsRequestText, Spells};
+ghost use Rattle.dep_message.specs.declared.intake.Step.{Step};
+ghost use Rattle.dep_message.specs.declared.intake.Step.TheVariants as Step;
 ghost use Rattle.dep_message.specs.declared.message.Message.{Message};
 
 /// What was read is read still when more bytes come, and what was left goes on with them.
@@ -14,6 +18,13 @@ pub fn reading_carries_on()
 pub fn one_request()
     ensures { (limit : ℕ) (continued : Bool) (a b x y : List ℕ) (m k : Message) → a ++ x ≡ b ++ y
         → IsRequestText limit continued a m → IsRequestText limit continued b k → (m ≡ k) × (x ≡ y) }
+{}
+
+/// Where a request stands first, as behind a preview that showed it, the next step is that request.
+pub fn shown_is_next()
+    ensures { (old new : Reading) (m : Message) (next : Place) (step : Step)
+        → FirstAt old.limit old.place (Request m) next → Gives old new step
+        → (step ≡ Step.Message m (closes m.head)) × (new.place ≡ next) }
 {}
 
 /// A stream spells one list of items, and leaves one place.

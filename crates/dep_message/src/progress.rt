@@ -1,11 +1,16 @@
 //! How far the first request of a connection's bytes was read.
 ghost use Rattle.std.specs.Prelude.{◌≡◌, ◌++◌, OnOk, OnErr};
+ghost use Rattle.dep_message.specs.Working.{ShowsFound};
 
+use crate::message::Message;
+use crate::preview::Preview;
 use crate::used::UsedBytes;
 use dep_body::ChunkReader;
 use dep_fixity::HashedOctets;
 use dep_head::Head;
+use dep_types::Refusal;
 use std::alloc::AllocError;
+use std::mem;
 
 /// A request whose body has a known length, and had not come whole with its head.
 #[derive(Drop)]
@@ -28,6 +33,24 @@ pub(crate) struct ChunkedRequest {
     pub reader: ChunkReader,
 }
 
+/// What stands first in the bytes.
+#[derive(Drop)]
+pub(crate) enum Found {
+    /// A whole request.
+    Message(Message),
+    /// The head of a request whose client is to be sent `100 Continue`.
+    Continue,
+    Fault(Refusal, bool),
+}
+
+/// What was found first in the bytes, and was not taken yet.
+#[derive(Drop)]
+pub(crate) struct FirstItem {
+    pub item: Found,
+    /// Those of its bytes that are in memory no more: of a whole request all.
+    pub used: UsedBytes,
+}
+
 /// How far the first request was read.
 #[derive(Drop)]
 pub(crate) enum Progress {
@@ -35,6 +58,7 @@ pub(crate) enum Progress {
     Searched(usize),
     Sized(SizedRequest),
     Chunked(ChunkedRequest),
+    First(FirstItem),
 }
 
 impl SizedRequest {
@@ -51,5 +75,25 @@ impl SizedRequest {
             self.behind.hash_to(self.length);
         }
         Ok(())
+    }
+}
+
+impl FirstItem {
+    /// Shows it where it is a whole request, and returns whether it is.
+    pub fn show<P: Preview>(&mut self, by: &mut P) -> bool
+        ensures same { self.new ≡ self.old }
+        ensures shows { ShowsFound P.sees by.old by.new self.old.item result }
+    {
+        match mem::replace(&mut self.item, Found::Continue) {
+            Found::Message(message) => {
+                self.item = Found::Message(by.preview(message));
+                true
+            }
+            Found::Fault(refusal, bare) => {
+                self.item = Found::Fault(refusal, bare);
+                false
+            }
+            Found::Continue => false,
+        }
     }
 }

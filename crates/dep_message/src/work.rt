@@ -1,34 +1,26 @@
 //! The bytes of a connection that no item has used, and what is known of them.
-ghost use Rattle.std.specs.Prelude.{◌≡◌, ◌≤◌, [], ◌++◌, Some, false, length, drop, IfOk, OnOk, OnErr};
-ghost use Rattle.dep_message.specs.Stream.{refusal_of};
+ghost use Rattle.std.specs.Prelude.{◌≡◌, ◌≤◌, [], ◌++◌, Some, false, length, drop, IfOk, OnOk, OnErr, MatchResult};
+ghost use Rattle.dep_message.specs.Giving.{BeginsWithHead};
 ghost use Rattle.dep_message.specs.Heads.{is_bare};
-ghost use Rattle.dep_message.specs.Working.{HasLeft, FindsHead, IsAtHead, Keeps, FindsNext, IsSearched, IsWorking, TellsFirst, kept_bytes};
+ghost use Rattle.dep_message.specs.Places.{Open};
+ghost use Rattle.dep_message.specs.Showing.{ShowsNext};
+ghost use Rattle.dep_message.specs.Stream.{refusal_of};
+ghost use Rattle.dep_message.specs.Working.{HasLeft, FindsHead, IsAtHead, IsFound, IsReadOn, Keeps, Finds, FindsNext, ReadsOn, IsSearched, IsWorking, TellsFirst, first_of, kept_bytes};
 ghost use Rattle.dep_message.specs.declared.progress.Progress.TheVariants.{Searched, Sized, Chunked};
 
 use crate::buffer::Buffer;
 use crate::first::{FirstHead, FramedHead, SearchedBytes, first_head, refusal_for};
 use crate::heads::{is_hashed_early, is_without_body};
 use crate::message::Message;
-use crate::progress::{ChunkedRequest, Progress, SizedRequest};
+use crate::preview::Preview;
+use crate::progress::{ChunkedRequest, FirstItem, Found, Progress, SizedRequest};
 use crate::question::Question;
 use crate::used::UsedBytes;
 use dep_body::{ChunkReader, Fed, FrameFault, Framing};
 use dep_fixity::HashedOctets;
 use dep_head::Head;
-use dep_types::Refusal;
 use std::alloc::{AllocError, Global};
 use std::mem;
-
-/// What stands first in the bytes.
-#[derive(Drop)]
-pub(crate) enum Found {
-    /// A whole request, whose bytes are gone.
-    Message(Message),
-    /// The head of a request whose client is to be sent `100 Continue`.
-    Continue,
-    Fault(Refusal, bool),
-    Nothing,
-}
 
 /// The bytes of a connection that no item has used, and how far the first request of them was read.
 #[derive(Drop)]
@@ -70,14 +62,61 @@ impl Work {
     }
 
     /// Takes the first item, where one is complete. An `Err` changes nothing.
-    pub fn next(&mut self) -> Result<Found, AllocError>
+    pub fn next(&mut self) -> Result<Option<Found>, AllocError>
         requires { IsWorking self.old }
         ensures { FindsNext self.old (kept_bytes self.old) self.new result }
+    {
+        self.read_on()?;
+        Ok(self.take())
+    }
+
+    /// Shows the first request, where it has come whole, and takes nothing. It returns whether one was shown.
+    pub fn preview<P: Preview>(&mut self, by: &mut P) -> Result<bool, AllocError>
+        requires { IsWorking self.old }
+        ensures keeps { Keeps self.old.limit self.old.continued (kept_bytes self.old) self.new }
+        ensures shows { MatchResult result
+            (ShowsNext P.sees by.old by.new self.old.limit
+            (Open self.old.continued (kept_bytes self.old)))
+            (λ _. BeginsWithHead (kept_bytes self.old) × (by.new ≡ by.old)) }
+    {
+        self.read_on()?;
+        match &mut self.progress {
+            Progress::First(first) => Ok(first.show(by)),
+            _ => Ok(false),
+        }
+    }
+
+    // Takes the first item, where one was found.
+    fn take(&mut self) -> Option<Found>
+        requires known { IsWorking self.old }
+        requires read { IsReadOn self.old }
+        ensures { Finds self.old.limit self.old.continued (kept_bytes self.old) self.new result }
+    {
+        match mem::replace(&mut self.progress, Progress::Searched(0)) {
+            Progress::First(first) => {
+                self.continued = matches!(first.item, Found::Continue);
+                Some(first.item)
+            }
+            other => {
+                self.keep_place(other);
+                None
+            }
+        }
+    }
+
+    // Reads the first item as far as its bytes have come. An `Err` changes nothing.
+    fn read_on(&mut self) -> Result<(), AllocError>
+        requires { IsWorking self.old }
+        ensures { ReadsOn self.old (kept_bytes self.old) self.new result }
     {
         match mem::replace(&mut self.progress, Progress::Searched(0)) {
             Progress::Searched(searched) => self.search(searched),
             Progress::Sized(request) => self.read_sized(request),
             Progress::Chunked(request) => self.read_chunks(request),
+            Progress::First(first) => {
+                self.keep_place(Progress::First(first));
+                Ok(())
+            }
         }
     }
 
@@ -95,6 +134,24 @@ impl Work {
                 told_of(&request.head, question)
             }
             Progress::Chunked(request) => told_of(&request.head, question),
+            Progress::First(first) => self.ask_found(first, question),
+        }
+    }
+
+    // The same where this was found.
+    fn ask_found<Q: Question>(
+        &self,
+        first: &FirstItem,
+        question: &Q,
+    ) -> Result<Option<Q::Answer>, AllocError>
+        requires { IsFound self.now.limit self.now.continued self.now.buffer first.now }
+        ensures { TellsFirst (Q.answer question.now) self.now
+            (first.now.used.items ++ self.now.buffer) result }
+    {
+        match &first.item {
+            Found::Message(message) => told_of(&message.head, question),
+            Found::Continue => Ok(None),
+            Found::Fault(_, _) => Ok(None),
         }
     }
 
@@ -140,9 +197,9 @@ impl Work {
     }
 
     // Reads on where no head ends in so many bytes.
-    fn search(&mut self, searched: usize) -> Result<Found, AllocError>
+    fn search(&mut self, searched: usize) -> Result<(), AllocError>
         requires { HasLeft self.old (Searched searched) }
-        ensures { FindsNext self.old self.old.buffer self.new result }
+        ensures { ReadsOn self.old self.old.buffer self.new result }
     {
         let bytes = self.buffer.as_slice();
         let front = SearchedBytes { bytes, searched };
@@ -150,47 +207,49 @@ impl Work {
             FirstHead::Nothing => {
                 let searched = bytes.len();
                 self.keep_place(Progress::Searched(searched));
-                Ok(Found::Nothing)
+                Ok(())
             }
-            FirstHead::Fault(refusal, bare) => Ok(Found::Fault(refusal, bare)),
+            FirstHead::Fault(refusal, bare) => {
+                self.keep_found(Found::Fault(refusal, bare), UsedBytes::new());
+                Ok(())
+            }
             FirstHead::Continue => {
-                self.continued = true;
-                Ok(Found::Continue)
+                self.keep_found(Found::Continue, UsedBytes::new());
+                Ok(())
             }
             FirstHead::Head(first) => self.begin(first),
         }
     }
 
     // Reads the body behind the first head.
-    fn begin(&mut self, first: FramedHead) -> Result<Found, AllocError>
+    fn begin(&mut self, first: FramedHead) -> Result<(), AllocError>
         requires { IsAtHead self.old first.length first.head first.framing }
-        ensures { FindsNext self.old self.old.buffer self.new result }
+        ensures { ReadsOn self.old self.old.buffer self.new result }
     {
         match first.framing {
             Framing::Empty => {
+                let used = UsedBytes::new().and(&self.buffer.as_slice()[..first.length]);
                 let octets = HashedOctets::from_vec(Vec::new(self.alloc));
-                Ok(self.take(first.length, first.head, octets))
+                self.keep_whole(used, first.length, first.head, octets);
+                Ok(())
             }
             Framing::Length(length) => self.begin_sized(first.head, first.length, length as usize),
             Framing::Chunked => self.begin_chunks(first.head, first.length),
         }
     }
 
-    fn begin_sized(
-        &mut self,
-        head: Head,
-        head_length: usize,
-        size: usize,
-    ) -> Result<Found, AllocError>
+    fn begin_sized(&mut self, head: Head, head_length: usize, size: usize) -> Result<(), AllocError>
         requires { IsAtHead self.old head_length head (Framing.Length size) }
-        ensures { FindsNext self.old self.old.buffer self.new result }
+        ensures { ReadsOn self.old self.old.buffer self.new result }
     {
         let behind = &self.buffer.as_slice()[head_length..];
         let come = behind.len().min(size);
         let content = Vec::from_slice(self.alloc, &behind[..come])?;
         let octets = HashedOctets::from_vec(content);
         if come == size {
-            return Ok(self.take(head_length + size, head, octets));
+            let used = UsedBytes::new().and(&self.buffer.as_slice()[..head_length + size]);
+            self.keep_whole(used, head_length + size, head, octets);
+            return Ok(());
         }
         self.buffer.truncate(head_length);
         self.keep_place(Progress::Sized(SizedRequest {
@@ -199,12 +258,12 @@ impl Work {
             length: size,
             behind: octets,
         }));
-        Ok(Found::Nothing)
+        Ok(())
     }
 
-    fn begin_chunks(&mut self, head: Head, head_length: usize) -> Result<Found, AllocError>
+    fn begin_chunks(&mut self, head: Head, head_length: usize) -> Result<(), AllocError>
         requires { IsAtHead self.old head_length head Framing.Chunked }
-        ensures { FindsNext self.old self.old.buffer self.new result }
+        ensures { ReadsOn self.old self.old.buffer self.new result }
     {
         let used = UsedBytes::new().and(&self.buffer.as_slice()[..head_length]);
         self.buffer.drop_front(head_length);
@@ -217,34 +276,35 @@ impl Work {
     }
 
     // Reads on where the bytes are a head, and those behind it stand apart.
-    fn read_sized(&mut self, mut request: SizedRequest) -> Result<Found, AllocError>
+    fn read_sized(&mut self, mut request: SizedRequest) -> Result<(), AllocError>
         requires { HasLeft self.old (Sized request) }
-        ensures { FindsNext self.old (self.old.buffer ++ request.behind) self.new result }
+        ensures { ReadsOn self.old (self.old.buffer ++ request.behind) self.new result }
     {
         if request.behind.as_slice().len() < request.length {
             self.keep_place(Progress::Sized(request));
-            return Ok(Found::Nothing);
+            return Ok(());
         }
-        let head_length = self.buffer.as_slice().len();
-        match self
-            .buffer
-            .append(&request.behind.as_slice()[request.length..])
-        {
+        let head = self.buffer.as_slice();
+        let head_length = head.len();
+        let (body, rest) = request.behind.as_slice().split_at(request.length);
+        let used = UsedBytes::new().and(head).and(body);
+        match self.buffer.append(rest) {
             Err(error) => {
                 self.keep_place(Progress::Sized(request));
                 Err(error)
             }
             Ok(()) => {
                 request.behind.truncate(request.length);
-                Ok(self.take(head_length, request.head, request.behind))
+                self.keep_whole(used, head_length, request.head, request.behind);
+                Ok(())
             }
         }
     }
 
     // Reads on where the first request comes in chunks: the reader is fed the buffer, which is dropped then.
-    fn read_chunks(&mut self, mut request: ChunkedRequest) -> Result<Found, AllocError>
+    fn read_chunks(&mut self, mut request: ChunkedRequest) -> Result<(), AllocError>
         requires { HasLeft self.old (Chunked request) }
-        ensures { FindsNext self.old (request.used.items ++ self.old.buffer) self.new result }
+        ensures { ReadsOn self.old (request.used.items ++ self.old.buffer) self.new result }
     {
         let bytes = self.buffer.as_slice();
         match request.reader.feed(bytes) {
@@ -256,30 +316,46 @@ impl Work {
                 request.used = request.used.and(bytes);
                 self.buffer.clear();
                 self.keep_place(Progress::Chunked(request));
-                Ok(Found::Nothing)
+                Ok(())
             }
-            Ok(Fed::Done(used)) => Ok(self.take(used, request.head, request.reader.content())),
-            Ok(Fed::Bad) => Ok(fault_of(request, FrameFault::Bad)),
-            Ok(Fed::TooLarge) => Ok(fault_of(request, FrameFault::TooLarge)),
+            Ok(Fed::Done(count)) => {
+                let used = request.used.and(&bytes[..count]);
+                self.keep_whole(used, count, request.head, request.reader.content());
+                Ok(())
+            }
+            Ok(Fed::Bad) => {
+                self.keep_found(fault_of(&request.head, FrameFault::Bad), request.used);
+                Ok(())
+            }
+            Ok(Fed::TooLarge) => {
+                self.keep_found(fault_of(&request.head, FrameFault::TooLarge), request.used);
+                Ok(())
+            }
         }
+    }
+
+    // Keeps a whole request: its bytes, and of these so many are in the buffer, and leave it.
+    fn keep_whole(&mut self, used: UsedBytes, count: usize, head: Head, content: HashedOctets)
+        requires { count ≤ length self.old.buffer }
+        ensures { self.new ≡ record self.old {
+          buffer = drop count self.old.buffer;
+          progress = first_of (Found.Message (record { head = head; content = content })) used;
+        } }
+    {
+        self.buffer.drop_front(count);
+        self.keep_found(Found::Message(Message { head, content }), used);
+    }
+
+    fn keep_found(&mut self, item: Found, used: UsedBytes)
+        ensures { self.new ≡ record self.old { progress = first_of item used } }
+    {
+        self.keep_place(Progress::First(FirstItem { item, used }));
     }
 
     fn keep_place(&mut self, progress: Progress)
         ensures { self.new ≡ record self.old { progress = progress } }
     {
         drop(mem::replace(&mut self.progress, progress));
-    }
-
-    // Takes a whole request, which has so many bytes of the buffer.
-    fn take(&mut self, count: usize, head: Head, content: HashedOctets) -> Found
-        requires { count ≤ length self.old.buffer }
-        ensures whole { result ≡ Found.Message (record { head = head; content = content }) }
-        ensures left { self.new
-            ≡ record self.old { buffer = drop count self.old.buffer; continued = false } }
-    {
-        self.buffer.drop_front(count);
-        self.continued = false;
-        Found::Message(Message { head, content })
     }
 }
 
@@ -293,10 +369,8 @@ fn told_of<Q: Question>(head: &Head, question: &Q) -> Result<Option<Q::Answer>, 
     }
 }
 
-fn fault_of(request: ChunkedRequest, fault: FrameFault) -> Found
-    ensures { result ≡ Found.Fault (refusal_of fault) (is_bare request.head) }
+fn fault_of(head: &Head, fault: FrameFault) -> Found
+    ensures { result ≡ Found.Fault (refusal_of fault) (is_bare head.now) }
 {
-    let bare = is_without_body(&request.head);
-    drop(request);
-    Found::Fault(refusal_for(fault), bare)
+    Found::Fault(refusal_for(fault), is_without_body(head))
 }

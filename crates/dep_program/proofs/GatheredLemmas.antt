@@ -4,7 +4,7 @@ use Rattle.std.proofs.lemmas.List.{append-nil}
 use Rattle.std.proofs.KnownBytes.{Appends-nil}
 use Rattle.std.specs.Io.KnownBytes.{Keeps, append_known}
 use Rattle.dep_types.specs.Writing.{TakesPart}
-use Rattle.dep_hub.specs.Flushing.{IsFlushed}
+use Rattle.dep_connection.specs.Flushing.{IsFlushed}
 
 -- none of some bytes was taken
 pub none_taken : (a : Option (List ℕ)) (bytes : List ℕ) → bytes ≢ [] → TakesPart a a bytes

@@ -7,12 +7,12 @@ use Rattle.std.specs.List.{FoldsTo}
 use Rattle.dep_types.specs.Conditions.{Condition}
 use Rattle.dep_types.specs.declared.inlet.LastRead.TheVariants.{NoneYet}
 use Rattle.dep_hub.specs.Standing.{StandsAfter, ServesAs, IsClean}
-use Rattle.dep_hub.specs.Turns.{Turn, records_of, ArePieces}
-use Rattle.dep_hub.specs.Conversation.{Outflow, Wire, session, Clocks, Converses, ConversesOver}
-use Rattle.dep_hub.specs.declared.connection.Served.{Served}
-use Rattle.dep_hub.specs.declared.connection.Served.TheVariants.{Ended, Closed, Unserved, ReadFault, WriteFault, Bound}
+use Rattle.dep_connection.specs.Turns.{Turn, records_of, ArePieces}
+use Rattle.dep_connection.specs.Conversation.{Outflow, Wire, session, Clocks, Converses, ConversesOver}
+use Rattle.dep_connection.specs.declared.connection.Served.{Served}
+use Rattle.dep_connection.specs.declared.connection.Served.TheVariants.{Ended, Closed, Unserved, ReadFault, WriteFault, Bound}
 use Rattle.dep_hub.specs.declared.hub.Hub.{Hub}
-use Rattle.dep_hub.proofs.TalkLemmas.{unserved, converses_wider}
+use Rattle.dep_connection.proofs.TalkLemmas.{unserved, converses_wider}
 use Rattle.dep_hub.proofs.Leaving.{Settles, stays_as}
 use Rattle.dep_program.specs.Serves.{ServesOne, socket_out, socket_wire, AnyOut, Conversation, AreAmong, ServesThese, all_records_of, all_turns_of}
 

@@ -1,7 +1,7 @@
 -- How a run ends; the exit status of each outcome, and its line on standard error.
 use Rattle.std.specs.Prelude.{ℕ, List, Option, Some, None, Bool, true, codes}
-use Rattle.dep_hub.specs.declared.connection.Served.{Served}
-use Rattle.dep_hub.specs.declared.connection.Served.TheVariants.{Ended, Closed, Unserved, ReadFault, WriteFault, Bound}
+use Rattle.dep_connection.specs.declared.connection.Served.{Served}
+use Rattle.dep_connection.specs.declared.connection.Served.TheVariants.{Ended, Closed, Unserved, ReadFault, WriteFault, Bound}
 use Rattle.dep_program.specs.declared.outcome.Outcome.{Outcome}
 use Rattle.dep_program.specs.declared.outcome.Outcome.TheVariants.{Done, Usage, NoSuchObject, StoreFault, TransferFault, Damaged}
 

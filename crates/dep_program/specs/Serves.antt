@@ -2,12 +2,12 @@
 use Rattle.std.specs.Prelude.{◌≡◌, ◌⊎◌, ◌<◌, ◌+◌, ℕ, Bool, false, List, [], All, None, length}
 use Rattle.std.specs.List.{flat_map}
 use Rattle.dep_hub.specs.Records.{Record}
-use Rattle.dep_hub.specs.Turns.{Turn, records_of, ArePieces}
-use Rattle.dep_hub.specs.Conversation.{Outflow, Wire, session, AddsAll, Clocks, ConversesOver}
+use Rattle.dep_connection.specs.Turns.{Turn, records_of, ArePieces}
+use Rattle.dep_connection.specs.Conversation.{Outflow, Wire, session, AddsAll, Clocks, ConversesOver}
 use Rattle.dep_types.specs.Conditions.{Condition}
 use Rattle.dep_types.specs.declared.inlet.LastRead.TheVariants.{NoneYet}
 use Rattle.dep_hub.specs.declared.hub.Hub.{Hub}
-use Rattle.dep_hub.specs.declared.connection.Served.{Served}
+use Rattle.dep_connection.specs.declared.connection.Served.{Served}
 use Rattle.dep_program.specs.declared.outcome.Outcome.{Outcome}
 use Rattle.dep_program.specs.declared.outcome.Outcome.TheVariants.{Done, TransferFault}
 

@@ -3,10 +3,10 @@ ghost use Rattle.std.specs.Prelude.{◌≡◌, [], false, IfOk, OnErr, OnOk};
 ghost use Rattle.std.specs.Io.KnownBytes.{Appends, Keeps};
 ghost use Rattle.std.specs.Io.Buffered.{writer_inner};
 ghost use Rattle.dep_types.specs.Writing.{TakesPart};
-ghost use Rattle.dep_hub.specs.Flushing.{IsFlushed};
+ghost use Rattle.dep_connection.specs.Flushing.{IsFlushed};
 ghost use Rattle.dep_program.specs.Gathering.{told, held_in, given};
 
-use dep_hub::{Flush, FlushFailed};
+use dep_connection::{Flush, FlushFailed};
 use dep_types::{Outlet, WriteFailed};
 use std::alloc::{AllocError, Global};
 use std::io::{BufWriter, Write};

@@ -3,7 +3,7 @@ ghost use Rattle.std.specs.Prelude.{◌≡◌};
 ghost use Rattle.std.specs.Option.{option_copied};
 ghost use Rattle.dep_program.specs.Outcomes.{status_of, line_of, outcome_of, outcome_sent};
 
-use dep_hub::Served;
+use dep_connection::Served;
 
 /// How a run of the program ended.
 #[derive(Clone, Copy, Debug)]

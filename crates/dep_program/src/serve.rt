@@ -4,7 +4,8 @@ ghost use Rattle.dep_program.specs.Serves.{Serves, ServesOne};
 
 use crate::gathered::Gathered;
 use crate::outcome::Outcome;
-use dep_hub::{Archive, Hub, Served, serve_connection};
+use dep_connection::{Served, serve_connection};
+use dep_hub::{Archive, Hub};
 use dep_moment::Moment;
 use dep_types::ReaderInlet;
 use std::alloc::Global;

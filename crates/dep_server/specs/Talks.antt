@@ -2,8 +2,8 @@
 use Rattle.std.specs.Prelude.{ℕ, Bool, List, Option}
 use Rattle.dep_types.specs.declared.config.Config.{Config}
 use Rattle.dep_hub.specs.Records.{World}
-use Rattle.dep_hub.specs.Turns.{Turn, Exchanges, EndsAs}
-use Rattle.dep_hub.specs.declared.connection.Served.{Served}
+use Rattle.dep_connection.specs.Turns.{Turn, Exchanges, EndsAs}
+use Rattle.dep_connection.specs.declared.connection.Served.{Served}
 
 -- the turns of a connection, which the machine answered from the first world to the last, and why
 -- it was served no longer, where this was unread, and the outlet had given up or not

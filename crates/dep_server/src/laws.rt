@@ -10,7 +10,7 @@ ghost use Rattle.dep_message.specs.declared.message.Message.{Message};
 ghost use Rattle.dep_docs_in.specs.declared.reference.Reference.{Reference};
 ghost use Rattle.dep_hub.specs.Machine.{want_of_memory, store_fault};
 ghost use Rattle.dep_hub.specs.Records.{Record, World};
-ghost use Rattle.dep_hub.specs.Turns.{Turn, records_of, with_closed, IsEndedBy};
+ghost use Rattle.dep_connection.specs.Turns.{Turn, records_of, with_closed, IsEndedBy};
 ghost use Rattle.dep_hub.specs.Standing.{IsClean};
 ghost use Rattle.dep_hub.specs.declared.hub.Hub.{Hub};
 ghost use Rattle.dep_server.specs.Requests.{AnyStep, ticked, made, AnyRequest, left_by, reply_to, IsPostAccepted, IsPostedTo, IsAcceptedSegment};

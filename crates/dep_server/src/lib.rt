@@ -4,7 +4,5 @@
 
 pub mod laws;
 
-pub use dep_hub::{
-    AccessLog, Archive, Arrived, ConnId, ConnectFault, Hub, HubFault, Next, NoLog, Served,
-    serve_connection,
-};
+pub use dep_connection::{Served, serve_connection};
+pub use dep_hub::{AccessLog, Archive, Arrived, ConnId, ConnectFault, Hub, HubFault, Next, NoLog};

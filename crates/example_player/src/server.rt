@@ -2,7 +2,8 @@
 
 use crate::asked::Command;
 use crate::tables::ExampleTables;
-use dep_hub::{Archive, ConnId, ConnectFault, Hub, Served, serve_connection};
+use dep_connection::{Served, serve_connection};
+use dep_hub::{Archive, ConnId, ConnectFault, Hub};
 use dep_moment::Moment;
 use dep_program::Gathered;
 use dep_types::ReaderInlet;

@@ -13,12 +13,12 @@ use Rattle.dep_types.specs.Config.{IsChecked}
 use Rattle.dep_types.specs.declared.config.Config.{Config}
 use Rattle.dep_hub.specs.Records.{World, Record, Arrive, stopped, first_world, Run, begins, goes_on, stops, breaks}
 use Rattle.dep_hub.specs.Standing.{StandsAt, StandsAfter, IsHonest}
-use Rattle.dep_hub.specs.Turns.{Turn, with_opened, Exchanges}
-use Rattle.dep_hub.specs.Conversation.{Outflow, Wire, Session, Rests, Converses, ConversesOver}
+use Rattle.dep_connection.specs.Turns.{Turn, with_opened, Exchanges}
+use Rattle.dep_connection.specs.Conversation.{Outflow, Wire, Session, Rests, Converses, ConversesOver}
 use Rattle.std.proofs.KnownBytes.{Keeps-refl}
-use Rattle.dep_hub.proofs.TalkLemmas.{conversation_run}
-use Rattle.dep_hub.specs.declared.connection.Served.{Served}
-use Rattle.dep_hub.specs.declared.connection.Served.TheVariants.{Ended, Closed, Unserved, ReadFault, WriteFault, Bound}
+use Rattle.dep_connection.proofs.TalkLemmas.{conversation_run}
+use Rattle.dep_connection.specs.declared.connection.Served.{Served}
+use Rattle.dep_connection.specs.declared.connection.Served.TheVariants.{Ended, Closed, Unserved, ReadFault, WriteFault, Bound}
 use Rattle.dep_program.specs.Setup.{program_config}
 use Rattle.dep_program.specs.Outcomes.{outcome_of, outcome_sent}
 use Rattle.dep_hub.specs.declared.faults.HubFault.TheVariants as hub

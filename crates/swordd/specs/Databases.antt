@@ -10,7 +10,7 @@ use Rattle.dep_schema.specs.Standing.{HoldsNone}
 use Rattle.dep_schema.specs.States.{StandsFor, IsLeftAs, Leaves}
 use Rattle.dep_store.specs.Migrating.{Keeps, OpenLeaves}
 use Rattle.dep_hub.specs.Records.{World, Record, Run, first_world, stopped}
-use Rattle.dep_hub.specs.Turns.{ArePieces}
+use Rattle.dep_connection.specs.Turns.{ArePieces}
 use Rattle.dep_program.specs.Serves.{Conversation, all_records_of, AreServed}
 use Rattle.dep_program.specs.declared.outcome.Outcome.{Outcome}
 use Rattle.dep_program.specs.declared.outcome.Outcome.TheVariants.{Usage, StoreFault, TransferFault}

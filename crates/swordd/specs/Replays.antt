@@ -7,9 +7,9 @@ use Rattle.dep_types.specs.declared.inlet.Inlet as inlet
 use Rattle.dep_types.specs.declared.outlet.Outlet as outlet
 use Rattle.dep_schema.specs.Standing.{HoldsNone}
 use Rattle.dep_hub.specs.Records.{World, first_world, Run}
-use Rattle.dep_hub.specs.Turns.{Turn, pieces_of, replies_of, records_of, ArePieces, with_opened, with_closed, Exchanges, EndsAs, most_reads, reads_made, reads_after, HasLastRead}
-use Rattle.dep_hub.specs.Conversation.{Wire, Transfers, Rests, outflow, wire}
-use Rattle.dep_hub.specs.declared.connection.Served.{Served}
+use Rattle.dep_connection.specs.Turns.{Turn, pieces_of, replies_of, records_of, ArePieces, with_opened, with_closed, Exchanges, EndsAs, most_reads, reads_made, reads_after, HasLastRead}
+use Rattle.dep_connection.specs.Conversation.{Wire, Transfers, Rests, outflow, wire}
+use Rattle.dep_connection.specs.declared.connection.Served.{Served}
 use Rattle.dep_program.specs.Gathering.{told, held_in}
 use Rattle.dep_program.specs.Outcomes.{outcome_of, outcome_sent}
 use Rattle.dep_program.specs.Setup.{program_config}

@@ -2,11 +2,11 @@
 ghost use Rattle.std.specs.Prelude.{◌≡◌, false};
 ghost use Rattle.std.specs.Io.KnownBytes.{Keeps};
 ghost use Rattle.sqlite.specs.Held.{state};
-ghost use Rattle.dep_hub.specs.Flushing.{IsFlushed};
+ghost use Rattle.dep_connection.specs.Flushing.{IsFlushed};
 ghost use Rattle.dep_program.specs.Gathering.{told, held_in, given};
 ghost use Rattle.swordd.specs.Replays.{FromNothing, Replays, ReplaysIn, ReplaysSent, wire_gathered, wire_of};
 
-use dep_hub::{Flush, serve_connection};
+use dep_connection::{Flush, serve_connection};
 use dep_moment::Moment;
 use dep_program::{Gathered, Outcome, configuration, outcome_of, outcome_sent};
 use dep_store::{Unwatched, close_hub, open_hub};

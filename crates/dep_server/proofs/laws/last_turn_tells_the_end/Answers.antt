@@ -1,6 +1,6 @@
 use Rattle.std.proofs.Common.{List, subst}
-use Rattle.dep_hub.specs.Turns.{Turn, Exchanges, EndsAs}
-use Rattle.dep_hub.proofs.TalkLemmas.{last_tells}
+use Rattle.dep_connection.specs.Turns.{Turn, Exchanges, EndsAs}
+use Rattle.dep_connection.proofs.TalkLemmas.{last_tells}
 use Rattle.dep_server.proofs.laws.last_turn_tells_the_end.Goals as goal
 
 pub returns : goal.returns

@@ -1,4 +1,4 @@
-use Rattle.dep_hub.proofs.TalkLemmas.{conversation_run}
+use Rattle.dep_connection.proofs.TalkLemmas.{conversation_run}
 use Rattle.dep_server.proofs.laws.turns_make_a_run.Goals as goal
 
 pub returns : goal.returns

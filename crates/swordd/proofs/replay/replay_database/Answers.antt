@@ -4,7 +4,7 @@ use Rattle.sqlite.specs.State.{HasCleanDisk}
 use Rattle.dep_store.specs.HashingStores.{condition_of}
 use Rattle.dep_types.specs.Config.{IsChecked}
 use Rattle.dep_types.specs.declared.config.Config.{Config}
-use Rattle.dep_hub.specs.Conversation.{session}
+use Rattle.dep_connection.specs.Conversation.{session}
 use Rattle.dep_hub.specs.Standing.{IsHonest}
 use Rattle.swordd.specs.Replays.{Replays, not_begun, wire_of}
 use Rattle.dep_program.specs.declared.outcome.Outcome.{Outcome}

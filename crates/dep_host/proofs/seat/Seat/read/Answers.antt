@@ -1,6 +1,6 @@
 use Rattle.std.proofs.Common.{◌≤◌, ℕ, List, length, take, inl, inr, refl, sym, subst, arith}
 use Rattle.std.specs.Io.KnownBytes.{Consumes}
-use Rattle.dep_hub.specs.Turns.{most_read}
+use Rattle.dep_hub.specs.Numbers.{most_read}
 use Rattle.dep_host.specs.Causes.{causes_of}
 use Rattle.dep_host.proofs.SeatLemmas.{received, none_read, ends_read, ended_asked, offered_to}
 use Rattle.dep_host.proofs.seat.Seat.read.Goals as goal

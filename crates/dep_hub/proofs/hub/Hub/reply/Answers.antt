@@ -1,19 +1,15 @@
-use Rattle.std.proofs.Common.{None, [], Bool, if◌then◌else◌, refl, sym, ap, subst, ◌∙◌}
+use Rattle.std.proofs.Common.{None, [], refl, sym, ap, subst, ◌∙◌}
 use Rattle.std.proofs.KnownBytes.{Appends-nil, Keeps-refl}
-use Rattle.std.proofs.lemmas.Bool.{eq-eqb}
-use Rattle.dep_message.specs.Places.{Reading}
 use Rattle.dep_hub.specs.Numbers.{index_of}
-use Rattle.dep_hub.specs.Owing.{IsOwed, with_more, bytes_later}
-use Rattle.dep_hub.specs.Claims.{is_any_pending, is_any_waiting, is_waiting}
-use Rattle.dep_hub.specs.StandsOwing.{IsFree, behind_at, is_unsent}
+use Rattle.dep_hub.specs.Owing.{IsOwed}
+use Rattle.dep_hub.specs.Preparing.{is_preparing}
+use Rattle.dep_hub.specs.StandsOwing.{is_looked_at, is_unsent}
 use Rattle.dep_hub.specs.declared.rest.Behind.{Behind}
-use Rattle.dep_hub.specs.Sending.{outside}
-use Rattle.dep_hub.proofs.ConnectionLemmas.{index_none, index_some, ascends_set}
-use Rattle.dep_hub.proofs.HubLemmas.{same_hub, stays_there, none_there, not_absent}
-use Rattle.dep_hub.proofs.HoldingLemmas.{comes_next}
-use Rattle.dep_hub.proofs.NextLemmas.{next_there, next_passes}
-use Rattle.dep_hub.proofs.BehindLemmas.{some_such, behind_none, behind_some, behinds_are, intakes_stay, others_are, not_there, owed_at, owed_later, some_reading}
-use Rattle.dep_hub.proofs.PendingLemmas.{kept_back_as, not_broken, not_waiting, pending_unset, waiting_unset}
+use Rattle.dep_hub.proofs.ConnectionLemmas.{index_none}
+use Rattle.dep_hub.proofs.HubLemmas.{same_hub, none_there}
+use Rattle.dep_hub.proofs.BehindLemmas.{behind_none, not_there}
+use Rattle.dep_hub.proofs.PendingLemmas.{not_broken}
+use Rattle.dep_hub.proofs.PreparingLemmas.{there_none}
 use Rattle.dep_hub.proofs.hub.Hub.reply.Goals as goal
 
 -- there is no such connection
@@ -32,7 +28,8 @@ returns-in_default-clause-replies g c =
       };
       owes = λ honest s stands. subst (λ (b : Behind). IsOwed s b []) (sym empty) refl;
       paid = ap is_unsent empty;
-      let_go = ap is_waiting empty;
+      prepared = ap is_preparing empty;
+      let_go = ap is_looked_at empty;
       others = λ m other. refl;
     }
 
@@ -46,146 +43,18 @@ returns-in_default-clause-free g c reading there =
     let none = ap (index_of c.args.connection) (sym c.as_slice.ensures.value) ∙ (sym c.index_among.ensures.value ∙ c.in_default.is) in
     absurd (not_there _ reading (index_none c.args.connection c.args.self.now.connections.items none) there)
 
+pub returns-in_default-clause-prepared : goal.returns-in_default-clause-prepared
+returns-in_default-clause-prepared g c nothing reading there =
+    let none = ap (index_of c.args.connection) (sym c.as_slice.ensures.value) ∙ (sym c.index_among.ensures.value ∙ c.in_default.is) in
+    absurd (not_there _ reading (index_none c.args.connection c.args.self.now.connections.items none) there)
+
 pub returns-in_default-clause-unbroken : goal.returns-in_default-clause-unbroken
 returns-in_default-clause-unbroken g c broken =
     let none = ap (index_of c.args.connection) (sym c.as_slice.ensures.value) ∙ (sym c.index_among.ensures.value ∙ c.in_default.is) in
     not_broken None (sym (behind_none c.args.connection c.args.self.now.connections.items none) ∙ broken)
 
--- it is kept back
-pub invariant_of-self-in-Some-kept_back : goal.invariant_of-self-in-Some-kept_back
-invariant_of-self-in-Some-kept_back g c = record {
-  ascends = ascends_set 0 c.args.self.now.next c.in-Some.i c.args.self.now.connections.items c.index_mut.result.now
-      (record { number = c.index_mut.result.now.number; intake = c.index_mut.result.now.intake; behind = c.in-Some-kept_back.behind }) c.index_mut.ensures.value refl c.args.self.now.ascends;
-  busy = c.is_any_pending-self.ensures ∙ ap is_any_pending c.as_slice-in-Some-kept_back.ensures.value;
-  awaiting = c.is_any_waiting-self.ensures ∙ ap is_any_waiting c.as_slice-in-Some-kept_back-2.ensures.value;
-}
-
-pub returns-in-Some-kept_back-clause-absent : goal.returns-in-Some-kept_back-clause-absent
-returns-in-Some-kept_back-clause-absent g c none =
-    let index = ap (index_of c.args.connection) (sym c.as_slice.ensures.value) ∙ sym c.in-Some.ensures.value in
-    absurd (not_absent c.args.connection c.in-Some.i c.args.self.now.connections.items c.index_mut.result.now index c.index_mut.ensures.value none)
-
-pub returns-in-Some-kept_back-clause-there : goal.returns-in-Some-kept_back-clause-there
-returns-in-Some-kept_back-clause-there g c there =
-    let index = ap (index_of c.args.connection) (sym c.as_slice.ensures.value) ∙ sym c.in-Some.ensures.value in (
-      (λ e. cc e),
-      stays_there c.args.connection c.in-Some.i c.args.self.now.connections.items c.index_mut.result.now index c.index_mut.ensures.value c.index_mut.result.now.intake c.in-Some-kept_back.behind,
-    )
-
-pub returns-in-Some-kept_back-clause-later : goal.returns-in-Some-kept_back-clause-later
-returns-in-Some-kept_back-clause-later g c e =
-    let n = c.args.connection in
-    let i = c.in-Some.i in
-    let items = c.args.self.now.connections.items in
-    let index = ap (index_of n) (sym c.as_slice.ensures.value) ∙ sym c.in-Some.ensures.value in
-    let x = c.index.result.now in
-    let kept = c.index_mut.result.now in
-    let b = c.in-Some-kept_back.behind in
-    let behinds = behinds_are n i items kept b index c.index_mut.ensures.value kept.intake _ refl in
-    let here = behinds n ∙ ap (λ (t : Bool). if t then b else behind_at items n) (eq-eqb n n refl) in
-    record {
-      same_store = refl;
-      same_config = refl;
-      same_next = refl;
-      sends_nothing = Keeps-refl (g.O.Outlet.taken c.args.out.now);
-      same_failures = refl;
-      intakes = intakes_stay n i items kept b index c.index_mut.ensures.value _ refl;
-      others = others_are n items _ b behinds;
-      reading = x.intake;
-      there = (index_some n i items x index c.index.ensures).1;
-      why = kept_back_as items x.intake x.behind _ b _ (behind_some n i items x index c.index.ensures) here c.in-Some-kept_back.ensures.kept;
-    }
-
--- its next item was answered
-pub still_pending-self-requires : goal.still_pending-self-requires
-still_pending-self-requires g c before none =
-    let kept = c.index_mut-kept.result.now in
-    ap is_any_pending c.as_slice-2.ensures.value
-    ∙ pending_unset c.in-Some.i c.args.self.now.connections.items (record { number = kept.number; intake = c.take_next-next.new.intake; behind = c.behind_of-behind.result }) none
-    (sym c.args.self.now.busy ∙ before)
-
-pub still_waiting-self-requires : goal.still_waiting-self-requires
-still_waiting-self-requires g c before =
-    let kept = c.index_mut-kept.result.now in
-    ap is_any_waiting c.as_slice-3.ensures.value
-    ∙ waiting_unset c.in-Some.i c.args.self.now.connections.items (record { number = kept.number; intake = c.take_next-next.new.intake; behind = c.behind_of-behind.result })
-    (ap is_waiting c.behind_of-behind.ensures ∙ not_waiting c.take_next-next.new.contents.rest) (sym c.args.self.now.awaiting ∙ before)
-
-pub invariant_of-self-2 : goal.invariant_of-self-2
-invariant_of-self-2 g c = record {
-  ascends = ascends_set 0 c.args.self.now.next c.in-Some.i c.args.self.now.connections.items c.index_mut-kept.result.now
-      (record { number = c.index_mut-kept.result.now.number; intake = c.take_next-next.new.intake; behind = c.behind_of-behind.result }) c.index_mut-kept.ensures.value refl c.args.self.now.ascends;
-  busy = c.still_pending-self.ensures ∙ ap is_any_pending c.as_slice-2.ensures.value;
-  awaiting = c.still_waiting-self.ensures ∙ ap is_any_waiting c.as_slice-3.ensures.value;
-}
-
-pub returns-clause-free : goal.returns-clause-free
-returns-clause-free g c reading there =
-    let index = ap (index_of c.args.connection) (sym c.as_slice.ensures.value) ∙ sym c.in-Some.ensures.value in
-    let items = c.args.self.now.connections.items in
-    let x = c.index.result.now in
-    subst (λ (r : Reading). IsFree items r) (some_reading x.intake reading (sym (index_some c.args.connection c.in-Some.i items x index c.index.ensures).1 ∙ there))
-    (c.kept_back.ensures.free c.in_default-kept_back.is).1
-
-pub returns-clause-goes : goal.returns-clause-goes
-returns-clause-goes g c =
-    let y = c.take_next-next.ensures in
-    let old = outside (g.O.Outlet.taken c.args.out.now) (g.O.Outlet.failures c.args.out.now) (g.A.Archive.condition c.args.self.now.store) in
-    let new = outside (with_more (g.O.Outlet.taken c.take_next-next.new.out) y.0) (g.O.Outlet.failures c.take_next-next.new.out) (g.A.Archive.condition c.take_next-next.new.store) in
-    let passes = (next_passes c.args.self.now.config c.index_mut-kept.result.now.intake c.args.moment old new c.take_next-next.new.intake.place c.take_next-next.result y.3.answers).1 in
-    record { config = refl; next = refl; clean = passes.clean; honest = passes.honest }
-
+-- it is there
 pub returns-clause-absent : goal.returns-clause-absent
 returns-clause-absent g c none =
     let index = ap (index_of c.args.connection) (sym c.as_slice.ensures.value) ∙ sym c.in-Some.ensures.value in
-    absurd (not_absent c.args.connection c.in-Some.i c.args.self.now.connections.items c.index_mut-kept.result.now index c.index_mut-kept.ensures.value none)
-
-pub returns-clause-there : goal.returns-clause-there
-returns-clause-there g c there =
-    let index = ap (index_of c.args.connection) (sym c.as_slice.ensures.value) ∙ sym c.in-Some.ensures.value in
-    let y = c.take_next-next.ensures in
-    let old = outside (g.O.Outlet.taken c.args.out.now) (g.O.Outlet.failures c.args.out.now) (g.A.Archive.condition c.args.self.now.store) in
-    let new = outside (with_more (g.O.Outlet.taken c.take_next-next.new.out) y.0) (g.O.Outlet.failures c.take_next-next.new.out) (g.A.Archive.condition c.take_next-next.new.store) in (
-      some_such c.take_next-next.result (next_there c.args.self.now.config c.index_mut-kept.result.now.intake c.args.moment old new c.take_next-next.new.intake.place c.take_next-next.result y.3.answers),
-      stays_there c.args.connection c.in-Some.i c.args.self.now.connections.items c.index_mut-kept.result.now index c.index_mut-kept.ensures.value c.take_next-next.new.intake c.behind_of-behind.result,
-    )
-
-pub returns-clause-replies : goal.returns-clause-replies
-returns-clause-replies g c =
-    let n = c.args.connection in
-    let items = c.args.self.now.connections.items in
-    let index = ap (index_of n) (sym c.as_slice.ensures.value) ∙ sym c.in-Some.ensures.value in
-    let kept = c.index_mut-kept.result.now in
-    let x = c.index.result.now in
-    let b = c.behind_of-behind.result in
-    let store = g.A.Archive.condition c.take_next-next.new.store in
-    let y = c.take_next-next.ensures in
-    let behinds = behinds_are n c.in-Some.i items kept b index c.index_mut-kept.ensures.value c.take_next-next.new.intake _ refl in
-    let here = behinds n ∙ (ap (λ (t : Bool). if t then b else behind_at items n) (eq-eqb n n refl) ∙ c.behind_of-behind.ensures) in
-    record {
-      now = y.2.0;
-      appends = y.2.1;
-      more = y.0;
-      answers = comes_next g.A.Archive.condition c.args.self.now _ n c.in-Some.i kept c.take_next-next.new.intake b
-          index c.index_mut-kept.ensures.value refl refl (g.met.A.Archive.settled c.take_next-next.new.store)
-          (g.O.Outlet.taken c.args.out.now) (with_more (g.O.Outlet.taken c.take_next-next.new.out) y.0) (g.O.Outlet.failures c.args.out.now) (g.O.Outlet.failures c.take_next-next.new.out)
-          c.args.moment y.3.keeps.limit y.3.keeps.dead c.take_next-next.result y.3.answers;
-      owes = λ honest s stands.
-          owed_at s n items _ b behinds (bytes_later y.0)
-          (subst (λ (later : Behind). IsOwed s later (bytes_later y.0)) (sym c.behind_of-behind.ensures)
-          (owed_later store c.take_next-next.new.contents.rest y.0 y.1 honest s stands));
-      paid = ap is_unsent (behind_some n c.in-Some.i items x index c.index.ensures) ∙ (c.kept_back.ensures.free c.in_default-kept_back.is).0;
-      let_go = ap is_waiting here ∙ not_waiting c.take_next-next.new.contents.rest;
-      others = others_are n items _ b behinds;
-    }
-
-pub returns-clause-unbroken : goal.returns-clause-unbroken
-returns-clause-unbroken g c broken =
-    let n = c.args.connection in
-    let items = c.args.self.now.connections.items in
-    let index = ap (index_of n) (sym c.as_slice.ensures.value) ∙ sym c.in-Some.ensures.value in
-    let kept = c.index_mut-kept.result.now in
-    let b = c.behind_of-behind.result in
-    let behinds = behinds_are n c.in-Some.i items kept b index c.index_mut-kept.ensures.value c.take_next-next.new.intake _ refl in
-    let here = behinds n ∙ (ap (λ (t : Bool). if t then b else behind_at items n) (eq-eqb n n refl) ∙ c.behind_of-behind.ensures) in
-    not_broken c.take_next-next.new.contents.rest (sym here ∙ broken)
+    absurd (there_none c.args.connection c.in-Some.i c.args.self.now.connections.items index none)

@@ -95,6 +95,40 @@ returns-in-Waits-clause-sends g c =
     (λ disk none. leaves_same (g.A.Archive.condition old.store) (g.A.Archive.condition old.store))
     (λ _. refl) (ap is_content (behind_some c.args.connection c.in-Some.i old.connections.items kept index c.index_mut-kept.ensures.value ∙ c.in-Waits.is)) (few_none (g.O.Outlet.taken c.args.out.now))
 
+pub returns-in-Prepares-clause-sends : goal.returns-in-Prepares-clause-sends
+returns-in-Prepares-clause-sends g c =
+    let old = c.args.self.now in
+    let index = ap (index_of c.args.connection) (sym c.as_slice.ensures.value) ∙ sym c.in-Some.ensures.value in
+    let kept = c.index_mut-kept.result.now in
+    sends_on g.A.Archive.condition old _ c.args.connection (behind_at old.connections.items c.args.connection) refl
+    (intakes_back c.in-Some.i old.connections.items kept c.index_mut-kept.ensures.value)
+    (behinds_back c.args.connection c.in-Some.i old.connections.items kept c.index_mut-kept.ensures.value)
+    (behind_at old.connections.items c.args.connection) refl
+    All (g.O.Outlet.taken c.args.out.now) (g.O.Outlet.taken c.args.out.now) (g.O.Outlet.failures c.args.out.now) (g.O.Outlet.failures c.args.out.now)
+    [] (Appends-nil (g.O.Outlet.taken c.args.out.now))
+    (λ honest s at owed owes. paid_nothing s (behind_at old.connections.items c.args.connection) All owed (subst (λ (x : Behind). IsOwed s x owed) (behind_some c.args.connection c.in-Some.i old.connections.items kept index c.index_mut-kept.ensures.value ∙ c.in-Prepares.is) owes) owes)
+    (λ clean honest s at. at)
+    (λ honest s at. stays_as (g.A.Archive.condition old.store) s (g.met.A.Archive.settled old.store) at)
+    (λ disk none. leaves_same (g.A.Archive.condition old.store) (g.A.Archive.condition old.store))
+    (λ _. refl) (ap is_content (behind_some c.args.connection c.in-Some.i old.connections.items kept index c.index_mut-kept.ensures.value ∙ c.in-Prepares.is)) (few_none (g.O.Outlet.taken c.args.out.now))
+
+pub returns-in-Prepared-clause-sends : goal.returns-in-Prepared-clause-sends
+returns-in-Prepared-clause-sends g c =
+    let old = c.args.self.now in
+    let index = ap (index_of c.args.connection) (sym c.as_slice.ensures.value) ∙ sym c.in-Some.ensures.value in
+    let kept = c.index_mut-kept.result.now in
+    sends_on g.A.Archive.condition old _ c.args.connection (behind_at old.connections.items c.args.connection) refl
+    (intakes_back c.in-Some.i old.connections.items kept c.index_mut-kept.ensures.value)
+    (behinds_back c.args.connection c.in-Some.i old.connections.items kept c.index_mut-kept.ensures.value)
+    (behind_at old.connections.items c.args.connection) refl
+    All (g.O.Outlet.taken c.args.out.now) (g.O.Outlet.taken c.args.out.now) (g.O.Outlet.failures c.args.out.now) (g.O.Outlet.failures c.args.out.now)
+    [] (Appends-nil (g.O.Outlet.taken c.args.out.now))
+    (λ honest s at owed owes. paid_nothing s (behind_at old.connections.items c.args.connection) All owed (subst (λ (x : Behind). IsOwed s x owed) (behind_some c.args.connection c.in-Some.i old.connections.items kept index c.index_mut-kept.ensures.value ∙ c.in-Prepared.is) owes) owes)
+    (λ clean honest s at. at)
+    (λ honest s at. stays_as (g.A.Archive.condition old.store) s (g.met.A.Archive.settled old.store) at)
+    (λ disk none. leaves_same (g.A.Archive.condition old.store) (g.A.Archive.condition old.store))
+    (λ _. refl) (ap is_content (behind_some c.args.connection c.in-Some.i old.connections.items kept index c.index_mut-kept.ensures.value ∙ c.in-Prepared.is)) (few_none (g.O.Outlet.taken c.args.out.now))
+
 pub returns-in-Broken-clause-sends : goal.returns-in-Broken-clause-sends
 returns-in-Broken-clause-sends g c =
     let old = c.args.self.now in

@@ -34,3 +34,9 @@ returns-in-Chunked g c =
     subst (λ (p : Progress). TellsFirst (g.Q.Question.answer c.args.question.now) w (bytes_with p w.buffer) c.told_of-in-Chunked.result) (sym c.in-Chunked.is)
     (tells_head w.limit w.continued (g.Q.Question.answer c.args.question.now) (r.used.items ++ w.buffer) r.head (chunks_head w.limit w.continued r w.buffer known)
     (used_bytes w.limit w.continued r w.buffer known) c.told_of-in-Chunked.result c.told_of-in-Chunked.ensures)
+
+pub returns-in-First : goal.returns-in-First
+returns-in-First g c =
+    let w = c.args.self.now in
+    let first = c.in-First.first in
+    subst (λ (p : Progress). TellsFirst (g.Q.Question.answer c.args.question.now) w (bytes_with p w.buffer) c.ask_found.result) (sym c.in-First.is) c.ask_found.ensures

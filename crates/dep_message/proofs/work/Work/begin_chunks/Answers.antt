@@ -1,6 +1,6 @@
 use Rattle.std.proofs.Common.{List, ℕ, ◌≡◌, ◌∙◌, ◌++◌, take, ap, subst}
 use Rattle.std.proofs.lemmas.List.{take-append-drop}
-use Rattle.dep_message.specs.Working.{FindsNext}
+use Rattle.dep_message.specs.Working.{ReadsOn}
 use Rattle.dep_message.proofs.Chunks.{reads_none}
 use Rattle.dep_message.proofs.work.Work.begin_chunks.Goals as goal
 
@@ -19,4 +19,4 @@ returns c =
     c.and-used.ensures ∙ (ap (λ (l : List ℕ). l ++ take n c.as_slice.result.now) c.new.ensures ∙ ap (take n) c.as_slice.ensures) in
     let whole : c.and-used.result.items ++ c.drop_front.new.self ≡ w.buffer =
     ap (λ l. l ++ c.drop_front.new.self) front ∙ (ap (λ l. take n w.buffer ++ l) c.drop_front.ensures ∙ take-append-drop n w.buffer) in
-    subst (λ (l : List ℕ). FindsNext w l c.read_chunks.new.self c.read_chunks.result) whole c.read_chunks.ensures
+    subst (λ (l : List ℕ). ReadsOn w l c.read_chunks.new.self c.read_chunks.result) whole c.read_chunks.ensures

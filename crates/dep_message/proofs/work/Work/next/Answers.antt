@@ -1,10 +1,7 @@
-use Rattle.std.proofs.Common.{sym, ◌∙◌, subst}
-use Rattle.dep_message.specs.Working.{FindsNext, bytes_with}
-use Rattle.dep_message.specs.declared.progress.Progress.{Progress}
+use Rattle.std.proofs.lemmas.Result.{err_from_is_err_and}
 use Rattle.dep_message.proofs.work.Work.next.Goals as goal
 
-pub returns-in-Chunked : goal.returns-in-Chunked
-returns-in-Chunked c =
-    let w = c.args.self.now in
-    subst (λ (p : Progress). FindsNext w (bytes_with p w.buffer) c.read_chunks.new.self c.read_chunks.result)
-    (sym (sym c.replace.ensures.value ∙ c.in-Chunked.is)) c.read_chunks.ensures
+pub returns-in_err-read_on : goal.returns-in_err-read_on
+returns-in_err-read_on c =
+    let err = err_from_is_err_and c.from_residual.result c.from_residual.ensures.1 in
+    rw (err.1) c.in_err-read_on.ensures

@@ -1,0 +1,4 @@
+mod ExchangeLemmas
+mod ShutTurns
+pub mod TalkLemmas
+mod TurnLemmas

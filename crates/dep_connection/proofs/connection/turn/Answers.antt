@@ -1,0 +1,120 @@
+use Rattle.std.proofs.Common.{inl, inr, IsSome, ℕ, List, Vec, Global, refl, sym, ap, subst, length, drop, ◌∙◌}
+use Rattle.std.proofs.lemmas.List.{with_items_is}
+use Rattle.dep_connection.specs.Conversation.{MayShow, standing}
+use Rattle.dep_hub.specs.Standing.{intake_of}
+use Rattle.dep_hub.specs.declared.connections.Connection.{Connection}
+use Rattle.dep_hub.specs.declared.arrived.Arrived.TheVariants.{Open as StaysOpen, Closed as HasClosed, Cut}
+use Rattle.dep_connection.proofs.TurnLemmas.{has_room, some_room, read_whole, read_within, none_read, gives_bytes, gives_none, goes_then, goes_ahead, arrives_flushed, arrived_there, one_turn, no_turn}
+use Rattle.dep_hub.proofs.HubLemmas.{none_there}
+use Rattle.dep_connection.proofs.connection.turn.Goals as goal
+use Rattle.dep_connection.proofs.connection.turn.Given as given
+
+-- the connection goes on, and the store works ahead
+pub returns-in-Open-clause-there : goal.returns-in-Open-clause-there
+returns-in-Open-clause-there g c = subst (λ (cs : Vec Connection Global). IsSome (intake_of cs.items c.args.incoming.now.connection)) (sym c.work_ahead-left.ensures.rests.connections)
+    c.in-Open.ensures.arrival.is_there
+
+pub returns-in-Open-clause-turn : goal.returns-in-Open-clause-turn
+returns-in-Open-clause-turn g c = record {
+  served = c.arrive-arrived.new.self;
+  turn = one_turn g.A.Archive.condition g.A.Archive.may_commit (MayShow g.W.Outlet g.W.Flush.held g.W.Flush.has_failed) (given.C-step g) c.args.incoming.now.connection
+      (standing g.R.Inlet g.W.Outlet g.W.Flush.held g.W.Flush.has_failed c.args.hub.now c.args.reader.now c.args.writer.now c.args.clock.now)
+      (standing g.R.Inlet g.W.Outlet g.W.Flush.held g.W.Flush.has_failed c.arrive-arrived.new.self c.read.new.self c.flush.new.self c.clock-moment.new.self)
+      StaysOpen c.in-Ok.n c.clock-moment.result c.read.new.buffer c.deref.result.now
+      (read_whole c.args.incoming.now.buffer.len c.read.new.buffer (drop (length c.read.new.buffer) c.args.incoming.now.buffer.items) c.as_mut_slice.result.now c.deref.result.now c.deref.ensures.value c.read.auto.buffer c.as_mut_slice.ensures.len)
+      (has_room c.read.new.buffer c.as_mut_slice.result.now c.args.incoming.now.buffer.items c.read.auto.buffer c.as_mut_slice.ensures.value c.args.incoming.now.room)
+      c.in-Ok.ensures.bound.0 c.in-Ok.ensures.bound.1 c.in-Ok.n-test.1 c.in-Ok.ensures.bytes.0 c.read.ensures.count (c.in-Ok.ensures.last ∙ gives_bytes c.in-Ok.n c.in-Ok.n-test.1) c.clock-moment.ensures (inl c.in_default.ensures.sends) (c.flush.new.self, refl) (arrives_flushed g.A.Archive.condition _ _ _ _ _ _ _ _ _ _ _ _ c.flush.ensures.taken c.flush.ensures.failures c.in-Open.ensures.arrival);
+  gone_out = c.in_default.ensures.ok;
+  ahead = record {
+    same_config = c.work_ahead-left.ensures.rests.config;
+    same_connections = c.work_ahead-left.ensures.rests.connections;
+    store = c.work_ahead-left.ensures.rests.store;
+    commits = c.work_ahead-left.ensures.commits;
+  };
+  goes = goes_then g.A.Archive.condition c.in-Open.ensures.arrival.goes (goes_ahead g.A.Archive.condition c.work_ahead-left.ensures.rests);
+}
+
+-- a reply has closed it
+pub returns-in-Closed-clause-turn : goal.returns-in-Closed-clause-turn
+returns-in-Closed-clause-turn g c = (
+  one_turn g.A.Archive.condition g.A.Archive.may_commit (MayShow g.W.Outlet g.W.Flush.held g.W.Flush.has_failed) (given.C-step g) c.args.incoming.now.connection
+      (standing g.R.Inlet g.W.Outlet g.W.Flush.held g.W.Flush.has_failed c.args.hub.now c.args.reader.now c.args.writer.now c.args.clock.now)
+      (standing g.R.Inlet g.W.Outlet g.W.Flush.held g.W.Flush.has_failed c.arrive-arrived.new.self c.read.new.self c.flush.new.self c.clock-moment.new.self)
+      HasClosed c.in-Ok.n c.clock-moment.result c.read.new.buffer c.deref.result.now
+      (read_whole c.args.incoming.now.buffer.len c.read.new.buffer (drop (length c.read.new.buffer) c.args.incoming.now.buffer.items) c.as_mut_slice.result.now c.deref.result.now c.deref.ensures.value c.read.auto.buffer c.as_mut_slice.ensures.len)
+      (has_room c.read.new.buffer c.as_mut_slice.result.now c.args.incoming.now.buffer.items c.read.auto.buffer c.as_mut_slice.ensures.value c.args.incoming.now.room)
+      c.in-Ok.ensures.bound.0 c.in-Ok.ensures.bound.1 c.in-Ok.n-test.1 c.in-Ok.ensures.bytes.0 c.read.ensures.count (c.in-Ok.ensures.last ∙ gives_bytes c.in-Ok.n c.in-Ok.n-test.1) c.clock-moment.ensures (inl c.in_default.ensures.sends) (c.flush.new.self, refl) (arrives_flushed g.A.Archive.condition _ _ _ _ _ _ _ _ _ _ _ _ c.flush.ensures.taken c.flush.ensures.failures c.in-Closed.ensures.arrival),
+  c.in_default.ensures.ok,
+)
+
+-- a reply was cut
+pub returns-in-Cut-clause-turn : goal.returns-in-Cut-clause-turn
+returns-in-Cut-clause-turn g c = record {
+  answer = Cut;
+  turn = one_turn g.A.Archive.condition g.A.Archive.may_commit (MayShow g.W.Outlet g.W.Flush.held g.W.Flush.has_failed) (given.C-step g) c.args.incoming.now.connection
+      (standing g.R.Inlet g.W.Outlet g.W.Flush.held g.W.Flush.has_failed c.args.hub.now c.args.reader.now c.args.writer.now c.args.clock.now)
+      (standing g.R.Inlet g.W.Outlet g.W.Flush.held g.W.Flush.has_failed c.arrive-arrived.new.self c.read.new.self c.flush.new.self c.clock-moment.new.self)
+      Cut c.in-Ok.n c.clock-moment.result c.read.new.buffer c.deref.result.now
+      (read_whole c.args.incoming.now.buffer.len c.read.new.buffer (drop (length c.read.new.buffer) c.args.incoming.now.buffer.items) c.as_mut_slice.result.now c.deref.result.now c.deref.ensures.value c.read.auto.buffer c.as_mut_slice.ensures.len)
+      (has_room c.read.new.buffer c.as_mut_slice.result.now c.args.incoming.now.buffer.items c.read.auto.buffer c.as_mut_slice.ensures.value c.args.incoming.now.room)
+      c.in-Ok.ensures.bound.0 c.in-Ok.ensures.bound.1 c.in-Ok.n-test.1 c.in-Ok.ensures.bytes.0 c.read.ensures.count (c.in-Ok.ensures.last ∙ gives_bytes c.in-Ok.n c.in-Ok.n-test.1) c.clock-moment.ensures (inl c.in_default.ensures.sends) (c.flush.new.self, refl) (arrives_flushed g.A.Archive.condition _ _ _ _ _ _ _ _ _ _ _ _ c.flush.ensures.taken c.flush.ensures.failures c.in-Cut.ensures.arrival);
+  cut = inl refl;
+}
+
+-- the outlet gave up
+pub returns-in-Err-flush-clause-there : goal.returns-in-Err-flush-clause-there
+returns-in-Err-flush-clause-there g c =
+    (arrived_there g.A.Archive.condition _ _ _ _ _ _ _ _ _ c.arrive-arrived.result c.requires.there c.arrive-arrived.ensures.arrival).is_there
+
+pub returns-in-Err-flush-clause-turn : goal.returns-in-Err-flush-clause-turn
+returns-in-Err-flush-clause-turn g c = record {
+  answer = c.arrive-arrived.result;
+  turn = one_turn g.A.Archive.condition g.A.Archive.may_commit (MayShow g.W.Outlet g.W.Flush.held g.W.Flush.has_failed) (given.C-step g) c.args.incoming.now.connection
+      (standing g.R.Inlet g.W.Outlet g.W.Flush.held g.W.Flush.has_failed c.args.hub.now c.args.reader.now c.args.writer.now c.args.clock.now)
+      (standing g.R.Inlet g.W.Outlet g.W.Flush.held g.W.Flush.has_failed c.arrive-arrived.new.self c.read.new.self c.flush.new.self c.clock-moment.new.self)
+      c.arrive-arrived.result c.in-Ok.n c.clock-moment.result c.read.new.buffer c.deref.result.now
+      (read_whole c.args.incoming.now.buffer.len c.read.new.buffer (drop (length c.read.new.buffer) c.args.incoming.now.buffer.items) c.as_mut_slice.result.now c.deref.result.now c.deref.ensures.value c.read.auto.buffer c.as_mut_slice.ensures.len)
+      (has_room c.read.new.buffer c.as_mut_slice.result.now c.args.incoming.now.buffer.items c.read.auto.buffer c.as_mut_slice.ensures.value c.args.incoming.now.room)
+      c.in-Ok.ensures.bound.0 c.in-Ok.ensures.bound.1 c.in-Ok.n-test.1 c.in-Ok.ensures.bytes.0 c.read.ensures.count (c.in-Ok.ensures.last ∙ gives_bytes c.in-Ok.n c.in-Ok.n-test.1) c.clock-moment.ensures (inr c.in-Err-flush.ensures.err) (c.flush.new.self, refl) (arrives_flushed g.A.Archive.condition _ _ _ _ _ _ _ _ _ _ _ _ c.flush.ensures.taken c.flush.ensures.failures (arrived_there g.A.Archive.condition _ _ _ _ _ _ _ _ _ c.arrive-arrived.result c.requires.there c.arrive-arrived.ensures.arrival));
+  cut = inr c.in-Err-flush.ensures.err;
+}
+
+-- the read failed, or gave nothing
+pub returns-in-Err-clause-turn : goal.returns-in-Err-clause-turn
+returns-in-Err-clause-turn g c = (
+  no_turn g.A.Archive.condition
+      (standing g.R.Inlet g.W.Outlet g.W.Flush.held g.W.Flush.has_failed c.args.hub.now c.args.reader.now c.args.writer.now c.args.clock.now)
+      (standing g.R.Inlet g.W.Outlet g.W.Flush.held g.W.Flush.has_failed c.args.hub.now c.read.new.self c.args.writer.now c.args.clock.now)
+      refl refl refl c.in-Err.ensures.bytes c.read.ensures.count,
+  c.in-Err.ensures.last,
+)
+
+pub returns-in-Ok-eq0-clause-turn : goal.returns-in-Ok-eq0-clause-turn
+returns-in-Ok-eq0-clause-turn g c =
+    let none = c.in-Ok-eq0.field-0-test in (
+      no_turn g.A.Archive.condition
+          (standing g.R.Inlet g.W.Outlet g.W.Flush.held g.W.Flush.has_failed c.args.hub.now c.args.reader.now c.args.writer.now c.args.clock.now)
+          (standing g.R.Inlet g.W.Outlet g.W.Flush.held g.W.Flush.has_failed c.args.hub.now c.read.new.self c.args.writer.now c.args.clock.now)
+          refl refl refl
+          (none_read c.in-Ok-eq0.field-0 c.read.new.buffer (g.R.Inlet.unread c.args.reader.now) (g.R.Inlet.unread c.read.new.self) none c.in-Ok-eq0.ensures.bytes.0) c.read.ensures.count,
+      c.in-Ok-eq0.ensures.bytes.1 none (some_room (length c.read.new.buffer) (has_room c.read.new.buffer c.as_mut_slice.result.now c.args.incoming.now.buffer.items c.read.auto.buffer c.as_mut_slice.ensures.value c.args.incoming.now.room)),
+      c.in-Ok-eq0.ensures.last ∙ gives_none c.in-Ok-eq0.field-0 none,
+    )
+
+-- the buffer keeps its room
+pub invariant_of-incoming : goal.invariant_of-incoming
+invariant_of-incoming g c = record {
+  room = ap (λ (xs : List ℕ). length xs) (with_items_is c.args.incoming.now.buffer c.read.new.buffer (c.read.auto.buffer ∙ c.as_mut_slice.ensures.len))
+      ∙ has_room c.read.new.buffer c.as_mut_slice.result.now c.args.incoming.now.buffer.items c.read.auto.buffer c.as_mut_slice.ensures.value c.args.incoming.now.room;
+}
+
+-- what was read is a part of the buffer
+pub slice_bounds-arrive-end : goal.slice_bounds-arrive-end
+slice_bounds-arrive-end g c =
+    read_within c.in-Ok.n c.read.new.buffer c.deref.result.now
+    (read_whole c.args.incoming.now.buffer.len c.read.new.buffer (drop (length c.read.new.buffer) c.args.incoming.now.buffer.items) c.as_mut_slice.result.now c.deref.result.now c.deref.ensures.value c.read.auto.buffer c.as_mut_slice.ensures.len)
+    c.in-Ok.ensures.bound.1
+
+-- the connection is there
+pub unreachable-unreachable : goal.unreachable-unreachable
+unreachable-unreachable g c = none_there _ c.in-NoSuch.ensures.arrival.absent c.requires.there

@@ -1,0 +1,339 @@
+-- Requests that are prepared, in steps.
+use Rattle.std.proofs.Common.{◌≡◌, ◌≢◌, ◌⊎◌, inl, inr, ℕ, suc, zero, ◌==◌, ◌+◌, ◌≤◌, ◌<◌, Bool, true, false, List, [], ◌∷◌, ◌++◌, length, get_or, set, Option, None, Some, Result, Ok, Err, IfOk, MatchResult, if◌then◌else◌, refl, sym, ap, subst, ◌∙◌, arith, lt-ltb, le-ltb, append_assoc, not}
+use Rattle.std.proofs.lemmas.Bool.{cases_lt, cases_Bool, eq-eqb, eqb-true}
+use Rattle.std.proofs.lemmas.Bool.Decides.{nat_tests}
+use Rattle.std.specs.List.{position, position_or_len, prefix_len}
+use Rattle.std.specs.Option.{option_map}
+use Rattle.std.specs.declared.alloc.AllocError.{AllocError}
+use Rattle.dep_types.specs.State.{State}
+use Rattle.dep_types.specs.Conditions.{Condition}
+use Rattle.dep_types.specs.declared.config.Config.{Config}
+use Rattle.dep_message.specs.Giving.{HasFirstHead}
+use Rattle.dep_message.specs.Places.{Place, Open, Shut, Reading}
+use Rattle.dep_message.specs.Stream.{Item, Request, Fault, Continue, FirstAt}
+use Rattle.dep_message.specs.Working.{IsBegun}
+use Rattle.dep_message.specs.declared.message.Message.{Message}
+use Rattle.dep_message.proofs.Bodies.{begins_with_head}
+use Rattle.dep_message.proofs.OneReading.{one_at}
+use Rattle.dep_hub.specs.Archives.{KeepsEachState}
+use Rattle.dep_hub.specs.Claims.{is_content, is_pending, is_waiting}
+use Rattle.dep_hub.specs.Holding.{IsHeldAs}
+use Rattle.dep_hub.specs.Numbers.{index_of, Ascends}
+use Rattle.dep_hub.specs.Owing.{IsOwed}
+use Rattle.dep_hub.specs.Preparing.{BeginsToPrepare, MakesStepFor, goes_on, ends, is_preparing, names_uploads, steps_of, TellsUploads}
+use Rattle.dep_hub.specs.Records.{Run, stops, stopped, first_world}
+use Rattle.dep_hub.specs.Standing.{intake_of, store_of}
+use Rattle.dep_hub.specs.StandsOwing.{KeptBack, unsent, prepares_still, begins_to_prepare, waits_still, begins_to_wait, wants_memory, behind_at}
+use Rattle.dep_hub.specs.WorkingAhead.{AheadContents, AheadEnds, AheadStands, MakesOneStep, for_none, for_one, PreparesOnce, RestsAhead, steps_below}
+use Rattle.dep_hub.specs.declared.claim.Claim.{Claim}
+use Rattle.dep_hub.specs.declared.connections.Connection.{Connection}
+use Rattle.dep_hub.specs.declared.hub.Hub.{Hub}
+use Rattle.dep_hub.specs.declared.rest.Behind.{Behind}
+use Rattle.dep_hub.specs.declared.rest.Behind.TheVariants.{Nothing, Content, Broken, Waits, Prepares, Prepared}
+use Rattle.dep_hub.proofs.BehindLemmas.{behind_some, behinds_are, intakes_stay, others_are}
+use Rattle.dep_hub.proofs.ConnectionLemmas.{ascends_le}
+use Rattle.dep_hub.proofs.Leaving.{leaves_wider}
+use Rattle.dep_hub.proofs.PendingLemmas.{true_false}
+
+-- an item names uploads
+abbrev head_named : Item → Bool
+head_named (Request m) = names_uploads m.head
+head_named (Fault refusal bare) = false
+head_named Continue = false
+
+-- a request that stands first begins with a head
+pub request_head : (limit : ℕ) (at next : Place) (m : Message) → FirstAt limit at (Request m) next → HasFirstHead at
+request_head limit (Open continued bytes) next m f =
+    let h = f.spelled.has_head in
+    let begun : IsBegun limit continued h.front m.head f.spelled.frame = record { is_head = h.is_head; framed = h.framed; due_is = h.due_is } in
+    subst (λ (l : List ℕ). HasFirstHead (Open continued l))
+    (sym (f.whole ∙ (ap (λ (l : List ℕ). l ++ f.behind) h.whole ∙ append_assoc h.front f.spelled.body f.behind)))
+    (begins_with_head limit continued h.front (f.spelled.body ++ f.behind) m.head f.spelled.frame begun)
+request_head limit Shut next m f = absurd f
+
+-- what was told of it
+pub tells_named : (reading : Reading) (m : Message) (next : Place) (told : Result Bool AllocError) → FirstAt reading.limit reading.place (Request m) next
+    → IfOk told (λ named. named ≡ names_uploads m.head) → MatchResult told (TellsUploads reading) (λ _. HasFirstHead reading.place)
+tells_named reading m next (Ok true) first named = (m, next, first, sym named)
+tells_named reading m next (Ok false) first named = λ other after f.
+    let same = (one_at reading.limit reading.place (Request m) (Request other) next after first f).0 in
+    ap head_named (sym same) ∙ sym named
+tells_named reading m next (Err fault) first named = request_head reading.limit reading.place next m first
+
+-- ---- the first connection whose next request is prepared
+
+one_more : (n : ℕ) → suc n ≡ 1 + n
+one_more n = omega arith
+
+first_at : (cs : List Connection) → prefix_len (λ (c : Connection). not (is_preparing c.behind)) cs < length cs → (d : Connection)
+    → is_preparing (get_or cs (prefix_len (λ (c : Connection). not (is_preparing c.behind)) cs) d).behind ≡ true
+first_at [] l d = absurd (omega (arith, l))
+first_at (c ∷ cs) l d = elim (cases_Bool (is_preparing c.behind)) [
+  | inl passes ↦ rw passes passes
+  | inr fails ↦
+      let rest = rw fails at l in
+      rw fails (subst (λ (k : ℕ). is_preparing (get_or (c ∷ cs) k d).behind ≡ true) (one_more (prefix_len (λ (x : Connection). not (is_preparing x.behind)) cs))
+      (first_at cs (omega (arith, rest)) d))
+]
+
+pub found_preparing : (cs : List Connection) (i : ℕ) → position (λ (c : Connection). is_preparing c.behind) cs ≡ Some i
+    → (i < length cs) × ((c : Connection) → c ≡ get_or cs i c → is_preparing c.behind ≡ true)
+found_preparing cs i h =
+    let p : Connection → Bool = λ c. is_preparing c.behind in
+    elim (cases_lt (position_or_len p cs) (length cs)) [
+      | inl lt ↦
+          let is = rw (lt-ltb _ _ lt) at h in
+          let same : position_or_len p cs ≡ i = cc is in (
+            subst (λ (k : ℕ). k < length cs) same lt,
+            λ c item. ap (λ (x : Connection). is_preparing x.behind) item ∙ subst (λ (k : ℕ). is_preparing (get_or cs k c).behind ≡ true) same (first_at cs lt c),
+          )
+      | inr ge ↦ let is = rw (le-ltb _ _ ge) at h in cc is
+    ]
+
+none_at_all : (cs : List Connection) → length cs ≤ prefix_len (λ (c : Connection). not (is_preparing c.behind)) cs → (m : ℕ) → is_preparing (behind_at cs m) ≡ false
+none_at_all [] l m = refl
+none_at_all (c ∷ cs) l m = elim (cases_Bool (is_preparing c.behind)) [
+  | inl passes ↦ let bad = rw passes at l in absurd (omega (arith, bad))
+  | inr fails ↦ let rest = rw fails at l in let later = none_at_all cs (omega (arith, rest)) m in elim (cases_Bool (c.number == m)) [
+    | inl here ↦ rw here fails
+    | inr other ↦ rw other later
+  ]
+]
+
+pub none_preparing : (cs : List Connection) → position (λ (c : Connection). is_preparing c.behind) cs ≡ None → (m : ℕ) → is_preparing (behind_at cs m) ≡ false
+none_preparing cs h =
+    let p : Connection → Bool = λ c. is_preparing c.behind in
+    elim (cases_lt (position_or_len p cs) (length cs)) [
+      | inl lt ↦ let is = rw (lt-ltb _ _ lt) at h in cc is
+      | inr ge ↦ none_at_all cs ge
+    ]
+
+-- each connection has the index at which it stands
+found_here : (n : ℕ) (d : Connection) (cs : List Connection) (i : ℕ) → (d.number == n) ≡ false → index_of n cs ≡ Some i → index_of n (d ∷ cs) ≡ Some (suc i)
+found_here n d cs i other e = rw other (ap (option_map suc) e)
+
+index_at : (low high i : ℕ) (cs : List Connection) (c : Connection) → Ascends low cs high → i < length cs → c ≡ get_or cs i c
+    → (index_of c.number cs ≡ Some i) × (low ≤ c.number)
+index_at low high i [] c a l item = absurd (omega (arith, l))
+index_at low high zero (d ∷ cs) c a l item =
+    let same : d.number ≡ c.number = ap (λ (x : Connection). x.number) (sym item) in
+    (rw (eq-eqb d.number c.number same) refl, subst (λ (k : ℕ). low ≤ k) same a.0)
+index_at low high (suc i) (d ∷ cs) c a l item =
+    let x = index_at (d.number + 1) high i cs c a.1 (omega (arith, l)) item in
+    let above : d.number + 1 ≤ c.number = x.1 in
+    let lowest : low ≤ d.number = a.0 in
+    let other : (d.number == c.number) ≡ false = grind (arith, nat_tests, above) in
+    (found_here c.number d cs i other x.0, omega (arith, above, lowest))
+
+-- who is not below the end isn't there
+behind_beyond : (low high n : ℕ) (cs : List Connection) → Ascends low cs high → high ≤ n → behind_at cs n ≡ Nothing
+behind_beyond low high n [] a l = refl
+behind_beyond low high n (c ∷ cs) a l =
+    let below : c.number + 1 ≤ high = ascends_le (c.number + 1) high cs a.1 in
+    let h = behind_beyond (c.number + 1) high n cs a.1 l in grind (arith, nat_tests, h)
+
+preparing_below : (n high : ℕ) (cs : List Connection) → Ascends 0 cs high → is_preparing (behind_at cs n) ≡ true → n < high
+preparing_below n high cs a e = elim (cases_lt n high) [
+  | inl lt ↦ lt
+  | inr ge ↦ absurd (true_false (sym e ∙ ap is_preparing (behind_beyond 0 high n cs a ge)))
+]
+
+-- ---- a step
+
+was_preparing : (was now : Behind) → MakesStepFor was now → is_preparing was ≡ true
+was_preparing was now (goes_on left w n) = ap is_preparing w
+was_preparing was now (ends left w n) = ap is_preparing w
+
+step_fewer : (was now : Behind) → MakesStepFor was now → steps_of now < steps_of was
+step_fewer was now (goes_on left w n) = subst (λ (k : ℕ). steps_of now < k) (sym (ap steps_of w)) (subst (λ (k : ℕ). k < left + 1 + 1) (sym (ap steps_of n)) (omega arith))
+step_fewer was now (ends left w n) = subst (λ (k : ℕ). steps_of now < k) (sym (ap steps_of w)) (subst (λ (k : ℕ). k < left + 1) (sym (ap steps_of n)) (omega arith))
+
+step_owes : (s : State) (owed : List ℕ) (was now : Behind) → MakesStepFor was now → IsOwed s was owed → IsOwed s now owed
+step_owes s owed was now (goes_on left w n) h = subst (λ (b : Behind). IsOwed s b owed) (sym n) (subst (λ (b : Behind). IsOwed s b owed) w h)
+step_owes s owed was now (ends left w n) h = subst (λ (b : Behind). IsOwed s b owed) (sym n) (subst (λ (b : Behind). IsOwed s b owed) w h)
+
+step_content : (was now : Behind) → MakesStepFor was now → is_content now ≡ is_content was
+step_content was now (goes_on left w n) = ap is_content n ∙ sym (ap is_content w)
+step_content was now (ends left w n) = ap is_content n ∙ sym (ap is_content w)
+
+pub step_idle : (was now : Behind) → MakesStepFor was now → is_pending now ≡ is_pending was
+step_idle was now (goes_on left w n) = ap is_pending n ∙ sym (ap is_pending w)
+step_idle was now (ends left w n) = ap is_pending n ∙ sym (ap is_pending w)
+
+pub step_still : (was now : Behind) → MakesStepFor was now → is_waiting now ≡ is_waiting was
+step_still was now (goes_on left w n) = ap is_waiting n ∙ sym (ap is_waiting w)
+step_still was now (ends left w n) = ap is_waiting n ∙ sym (ap is_waiting w)
+
+prepared_whole : Prepared ≡ Broken → ⊥
+prepared_whole e = cc e
+
+prepares_whole : (left : ℕ) → Prepares left ≡ Broken → ⊥
+prepares_whole left e = cc e
+
+step_whole : (was now : Behind) → MakesStepFor was now → now ≡ Broken → was ≡ Broken
+step_whole was now (goes_on left w n) e = absurd (prepares_whole left (sym n ∙ e))
+step_whole was now (ends left w n) e = absurd (prepared_whole (sym n ∙ e))
+
+pub ended : (b : Behind) → is_preparing b ≡ true → MakesStepFor b Prepared
+ended (Prepares left) e = ends left refl refl
+ended Nothing e = cc e
+ended (Content r) e = cc e
+ended Broken e = cc e
+ended (Waits claim) e = cc e
+ended Prepared e = cc e
+
+-- ---- the steps that are left
+
+steps_same : (xs ys : List Connection) (n k : ℕ) → n ≤ k → ((m : ℕ) → m ≢ k → behind_at ys m ≡ behind_at xs m) → steps_below ys n ≡ steps_below xs n
+steps_same xs ys zero k l others = refl
+steps_same xs ys (suc n) k l others =
+    let other : n ≢ k = λ e. omega (arith, l, e) in
+    let front = steps_same xs ys n k (omega (arith, l)) others in
+    let last = ap steps_of (others n other) in
+    omega (arith, front, last)
+
+steps_fewer : (xs ys : List Connection) (n k : ℕ) → k < n → ((m : ℕ) → m ≢ k → behind_at ys m ≡ behind_at xs m)
+    → steps_of (behind_at ys k) < steps_of (behind_at xs k) → steps_below ys n < steps_below xs n
+steps_fewer xs ys zero k l others fewer = absurd (omega (arith, l))
+steps_fewer xs ys (suc n) k l others fewer = elim (cases_lt k n) [
+  | inl lt ↦
+      let other : n ≢ k = λ e. omega (arith, lt, e) in
+      let front = steps_fewer xs ys n k lt others fewer in
+      let last = ap steps_of (others n other) in
+      omega (arith, front, last)
+  | inr ge ↦
+      let same : k ≡ n = omega (arith, l, ge) in
+      let front = steps_same xs ys n k ge others in
+      let last = subst (λ (j : ℕ). steps_of (behind_at ys j) < steps_of (behind_at xs j)) same fewer in
+      omega (arith, front, last)
+]
+
+-- a step was made where a connection stands
+pub one_step : (next : ℕ) (old new : List Connection) → Ascends 0 old next → (i : ℕ) (c : Connection) (b : Behind) → i < length old → c ≡ get_or old i c
+    → MakesStepFor c.behind b → new ≡ set old i (record { number = c.number; intake = c.intake; behind = b })
+    → MakesOneStep old new × ((m : ℕ) → intake_of new m ≡ intake_of old m)
+one_step next old new ascends i c b within item step changed =
+    let n = c.number in
+    let index = (index_at 0 next i old c ascends within item).0 in
+    let behinds = behinds_are n i old c b index item c.intake new changed in
+    let here = behinds n ∙ ap (λ (t : Bool). if t then b else behind_at old n) (eq-eqb n n refl) in (
+      for_one n (subst (λ (x : Behind). MakesStepFor (behind_at old n) x) (sym here)
+          (subst (λ (x : Behind). MakesStepFor x b) (sym (behind_some n i old c index item)) step))
+          (others_are n old new b behinds),
+      intakes_stay n i old c b index item new changed,
+    )
+
+-- ---- a hub that worked ahead
+
+module _ {A : Type 0} (condition : A → Condition) (old new : Hub A) where
+  pub works_ahead : new.config ≡ old.config → new.next ≡ old.next → ((m : ℕ) → intake_of new.connections.items m ≡ intake_of old.connections.items m)
+      → MakesOneStep old.connections.items new.connections.items → KeepsEachState (store_of condition old) (store_of condition new) → RestsAhead condition old new
+  works_ahead config next intakes step store = record {
+    stands = λ clean first records held h. record {
+      world = h.world;
+      run = subst (λ (x : Config). Run x first records h.world) (sym config) h.run;
+      at = record {
+        state = store.kept clean h.world.state h.at.state;
+        kept = λ m. subst (λ (x : Config). IsHeldAs x.max_upload (h.world.line m) (held m) (intake_of new.connections.items m)) (sym config)
+            (subst (λ (o : Option Reading). IsHeldAs old.config.max_upload (h.world.line m) (held m) o) (sym (intakes m)) (h.at.kept m));
+      };
+    };
+    stops = λ honest first records held h.
+        leaves_wider (store_of condition new) _ _ (λ found e. subst (λ (s : State). Run old.config first (records ++ stopped ∷ []) (first_world s)) (sym e) (stops h.run))
+        (store.stop honest h.world.state h.at.state);
+    store = store;
+    config = config;
+    next = next;
+    intakes = intakes;
+    step = step;
+  }
+
+  -- so what is owed, and what is being sent
+  by_number : (f : Behind → Behind → Type 0) → ((b : Behind) → f b b) → ((was now : Behind) → MakesStepFor was now → f was now)
+      → MakesOneStep old.connections.items new.connections.items → (m : ℕ) → f (behind_at old.connections.items m) (behind_at new.connections.items m)
+  by_number f same made (for_none none e) m = subst (λ (cs : List Connection). f (behind_at old.connections.items m) (behind_at cs m)) (sym e) (same (behind_at old.connections.items m))
+  by_number f same made (for_one n step others) m = elim (cases_Bool (m == n)) [
+    | inl here ↦ subst (λ (k : ℕ). f (behind_at old.connections.items k) (behind_at new.connections.items k)) (sym (eqb-true m n here)) (made (behind_at old.connections.items n) (behind_at new.connections.items n) step)
+    | inr other ↦
+        let apart : m ≢ n = grind (arith, nat_tests, other) in
+        subst (λ (x : Behind). f (behind_at old.connections.items m) x) (sym (others m apart)) (same (behind_at old.connections.items m))
+  ]
+
+  pub ahead_owes : RestsAhead condition old new → (m : ℕ) (s : State) (owed : List ℕ) → IsOwed s (behind_at old.connections.items m) owed
+      → IsOwed s (behind_at new.connections.items m) owed
+  ahead_owes w m s owed = by_number (λ (was now : Behind). IsOwed s was owed → IsOwed s now owed) (λ b h. h) (λ was now step. step_owes s owed was now step) w.step m
+
+  pub ahead_contents : AheadContents condition old new
+  ahead_contents w m = (
+    by_number (λ (was now : Behind). is_content now ≡ is_content was) (λ b. refl) step_content w.step m,
+    by_number (λ (was now : Behind). now ≡ Broken → was ≡ Broken) (λ b h. h) step_whole w.step m,
+  )
+
+  pub ahead_stands : AheadStands condition old new
+  ahead_stands w clean world held owed h = record {
+    at = record {
+      state = w.store.kept clean world.state h.at.state;
+      kept = λ m. subst (λ (x : Config). IsHeldAs x.max_upload (world.line m) (held m) (intake_of new.connections.items m)) (sym w.config)
+          (subst (λ (o : Option Reading). IsHeldAs old.config.max_upload (world.line m) (held m) o) (sym (w.intakes m)) (h.at.kept m));
+    };
+    owes = λ m. ahead_owes w m world.state (owed m) (h.owes m);
+  }
+
+  pub ahead_ends : AheadEnds condition old new
+  ahead_ends w m is = elim w.step [
+    | for_none none e ↦ absurd (true_false (sym is ∙ none m))
+    | for_one n step others ↦
+        let was = was_preparing (behind_at old.connections.items n) (behind_at new.connections.items n) step in
+        let below = preparing_below n old.next old.connections.items old.ascends was in
+        subst (λ (k : ℕ). steps_below new.connections.items k < steps_below old.connections.items old.next) (sym w.next)
+        (steps_fewer old.connections.items new.connections.items old.next n below others
+        (step_fewer (behind_at old.connections.items n) (behind_at new.connections.items n) step))
+  ]
+
+waits_as : (b : Behind) (claim : Claim) → b ≡ Waits claim → is_preparing b ≡ true → ⊥
+waits_as b claim e p = true_false (sym p ∙ ap is_preparing e)
+
+prepared_as : (b : Behind) → b ≡ Prepared → is_preparing b ≡ true → ⊥
+prepared_as b e p = true_false (sym p ∙ ap is_preparing e)
+
+once : (cs : List Connection) (reading : Reading) (was now : Behind) → KeptBack cs reading was now → is_preparing now ≡ true → (was ≡ Nothing) ⊎ (now ≡ was)
+once cs reading was now (unsent u e) p = inr e
+once cs reading was now (prepares_still u e) p = inr e
+once cs reading was now (begins_to_prepare w n e) p = inl w
+once cs reading was now (waits_still claim w e t) p = absurd (waits_as now claim e p)
+once cs reading was now (begins_to_wait claim u c e t) p = absurd (waits_as now claim e p)
+once cs reading was now (wants_memory u f h e) p = absurd (prepared_as now e p)
+
+pub prepares_once : {A : Type 0} (condition : A → Condition) (old new : Hub A) → PreparesOnce condition old new
+prepares_once condition old new taken takes failures failures_after n k p =
+    once old.connections.items k.reading (behind_at old.connections.items n) (behind_at new.connections.items n) k.why p
+
+-- ---- a connection whose next request is kept back from now on
+
+-- nothing is pending there before and then
+pub begun_idle : (reading : Reading) (was now : Behind) → BeginsToPrepare reading was now → is_pending now ≡ is_pending was
+begun_idle reading was now (first, inl named) = ap is_pending named.0 ∙ sym (ap is_pending first)
+begun_idle reading was now (first, inr short) = ap is_pending short.0 ∙ sym (ap is_pending first)
+
+pub begun_still : (reading : Reading) (was now : Behind) → BeginsToPrepare reading was now → is_waiting now ≡ is_waiting was
+begun_still reading was now (first, inl named) = ap is_waiting named.0 ∙ sym (ap is_waiting first)
+begun_still reading was now (first, inr short) = ap is_waiting short.0 ∙ sym (ap is_waiting first)
+
+-- the same connection, with something else behind its reply
+pub set_behind : (cs : List Connection) (i : ℕ) (c d : Connection) (b : Behind) → d ≡ c
+    → set cs i (record { number = d.number; intake = d.intake; behind = b }) ≡ set cs i (record { number = c.number; intake = c.intake; behind = b })
+set_behind cs i c d b e = ap (λ (x : Connection). set cs i (record { number = x.number; intake = x.intake; behind = b })) e
+
+-- who has an index is there
+some_index : (o : Option ℕ) (i : ℕ) → option_map suc o ≡ Some i → (j : ℕ) × (o ≡ Some j)
+some_index None i e = cc
+some_index (Some j) i e = (j, refl)
+
+there_at : (n i : ℕ) (c : Connection) (cs : List Connection) (b : Bool) → (if b then Some 0 else option_map suc (index_of n cs)) ≡ Some i
+    → (if b then Some c.intake else intake_of cs n) ≡ None → ((j : ℕ) → index_of n cs ≡ Some j → intake_of cs n ≡ None → ⊥) → ⊥
+there_at n i c cs true e none k = cc none
+there_at n i c cs false e none k = let x = some_index (index_of n cs) i e in k x.0 x.1 none
+
+pub there_none : (n i : ℕ) (cs : List Connection) → index_of n cs ≡ Some i → intake_of cs n ≡ None → ⊥
+there_none n i [] e none = cc e
+there_none n i (c ∷ cs) e none = there_at n i c cs (c.number == n) e none (λ j. there_none n j cs)

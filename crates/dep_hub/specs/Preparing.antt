@@ -1,0 +1,84 @@
+-- Requests whose uploads are hashed before they are answered.
+use Rattle.std.specs.Prelude.{◌≡◌, ◌⊎◌, ℕ, ◌+◌, ◌&&◌, ◌||◌, Bool, true, false, Option, Some, None, codes, bytes_eq}
+use Rattle.dep_head.specs.Head.{HeadParts}
+use Rattle.dep_fields.specs.Told.{fields_of}
+use Rattle.dep_fields.specs.declared.field.Field.{Field}
+use Rattle.dep_fields.specs.declared.field.Field.TheVariants.{Value}
+use Rattle.dep_fields.specs.declared.kind.Kind.{Kind}
+use Rattle.dep_fields.specs.declared.kind.Kind.TheVariants.{References}
+use Rattle.dep_message.specs.Asking.{IsNoNext}
+use Rattle.dep_message.specs.Giving.{HasFirstHead}
+use Rattle.dep_message.specs.Places.{Place, Reading}
+use Rattle.dep_message.specs.Stream.{Request, FirstAt}
+use Rattle.dep_message.specs.declared.message.Message.{Message}
+use Rattle.dep_types.specs.Conditions.{Condition}
+use Rattle.dep_hub.specs.Archives.{CommitsIfDue, KeepsEachState}
+use Rattle.dep_hub.specs.Errands.{Account, Runs, WorkedAhead}
+use Rattle.dep_hub.specs.declared.rest.Behind.{Behind}
+use Rattle.dep_hub.specs.declared.rest.Behind.TheVariants.{Nothing, Prepares, Prepared}
+
+-- the content is a document of references
+abbrev pub is_by_reference : Field Kind → Bool
+is_by_reference (Value References) = true
+is_by_reference field = false
+
+-- a POST or a PUT by reference: its document names uploads
+abbrev pub names_uploads : HeadParts → Bool
+names_uploads head =
+    (bytes_eq head.method (codes "POST") || bytes_eq head.method (codes "PUT"))
+    && is_by_reference (fields_of head.fields).disposition
+
+-- so does the next request, which has come whole
+abbrev pub NamesUploads : Reading → Type 0
+NamesUploads reading = (m : Message) × (next : Place)
+    × FirstAt reading.limit reading.place (Request m) next × (names_uploads m.head ≡ true)
+
+-- or it doesn't, if one has come whole
+abbrev pub NamesNone : Reading → Type 0
+NamesNone reading = IsNoNext names_uploads reading.limit reading.place
+
+-- whether it does
+abbrev pub TellsUploads : Reading → Bool → Type 0
+TellsUploads reading true = NamesUploads reading
+TellsUploads reading false = NamesNone reading
+
+-- how many steps may be made for a request
+abbrev pub most_steps : ℕ
+most_steps = 16777216
+
+-- It wasn't looked at before: it is prepared from now on, as it names uploads; or it isn't, since memory ran out.
+abbrev pub BeginsToPrepare : Reading → (was now : Behind) → Type 0
+BeginsToPrepare reading was now = (was ≡ Nothing)
+    × (((now ≡ Prepares most_steps) × NamesUploads reading)
+    ⊎ ((now ≡ Prepared) × HasFirstHead reading.place))
+
+-- it was looked at, before or now, and names none
+abbrev pub IsLookedAt : Reading → Behind → Type 0
+IsLookedAt reading behind = behind ≡ Nothing → NamesNone reading
+
+-- the next request is prepared
+abbrev pub is_preparing : Behind → Bool
+is_preparing (Prepares left) = true
+is_preparing behind = false
+
+-- how many steps end that at most
+abbrev pub steps_of : Behind → ℕ
+steps_of (Prepares left) = left + 1
+steps_of behind = 0
+
+-- a step was made for it: another may follow, or it may be answered
+pub data MakesStepFor (was now : Behind) : Type 0 where
+  goes_on : (left : ℕ) → was ≡ Prepares (left + 1) → now ≡ Prepares left → MakesStepFor was now
+  ends : (left : ℕ) → was ≡ Prepares left → now ≡ Prepared → MakesStepFor was now
+
+module _ {A : Type 0} (account : A → Account) (may_commit : A → Bool) (condition : A → Condition) where
+  -- an archive worked ahead once, and returned whether more is left
+  pub record Works (old new : A) (is_left : Bool) : Type 0 where
+    pub asked : Runs (WorkedAhead is_left) (account old) (account new)
+    pub commits : CommitsIfDue (may_commit old) (may_commit new) (condition old) (condition new)
+    pub rests : KeepsEachState (condition old) (condition new)
+
+  -- and this is what it returned
+  abbrev pub WorksAs : (old new : A) → Option Bool → Type 0
+  WorksAs old new (Some is_left) = Works old new is_left
+  WorksAs old new None = ⊥
