@@ -164,7 +164,7 @@ module _ {A R K S : Type 0} (condition : A → Condition) (unread : R → Option
       clean = λ is. subst (λ (k : Hub A). IsClean condition k) h.same_hub is;
       honest = λ is. subst (λ (k : Hub A). IsHonest condition k) h.same_hub is;
     };
-    behind = λ number. ap (λ (k : Hub A). behind_at k.connections.items number) h.same_hub;
+    behind = inl (λ number. ap (λ (k : Hub A). behind_at k.connections.items number) h.same_hub);
     stands = same_hub_stands p.hub q.hub h.same_hub;
     same_limits = h.limits;
     told = subst (λ (o : Option Shut). (o ≡ p.shut) ⊎ ((is_some p.shut ≡ false) × IfSome o (λ shut. shut.cause ≡ cause.Store → IsClean condition q.hub → ⊥))) (sym h.shut) (told_of_a_stop q.hub p.shut second);

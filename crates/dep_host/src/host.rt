@@ -42,6 +42,7 @@ impl<A: Archive, R: Source + Drop, K: Sink + Drop, S: Spool + Drop> Host<A, R, K
     ghost use Rattle.std.specs.Io.KnownBytes.{IsAtEnd};
     ghost use Rattle.dep_outbox.specs.Wires.{told};
     ghost use Rattle.dep_hub.specs.Errands.{WorkedAhead, Runs};
+    ghost use Rattle.dep_hub.specs.WorkingAhead.{RestsAhead};
     ghost use Rattle.dep_host.specs.Hosting.{Deed, Steps, Serves, Closed, GoesRound, Sheds, Stays, HasTime, MayGo, IsEmpty, IsReadAt, farewell, IsVacant, IsWaiting, position, slot, unfinished_of, unfinished_in};
     ghost use Rattle.dep_host.specs.Coming.{origin, seated_from};
     ghost use Rattle.dep_host.specs.Courses.{is_overdue};
@@ -137,6 +138,7 @@ impl<A: Archive, R: Source + Drop, K: Sink + Drop, S: Spool + Drop> Host<A, R, K
         ensures stays { Stays self.old self.new }
         ensures seats { self.new.seats ≡ self.old.seats }
         ensures left { self.new.is_left ≡ result }
+        ensures prepares { RestsAhead A.condition self.old.hub self.new.hub }
         ensures asked { Runs (WorkedAhead result) (A.account self.old.hub.store)
             (A.account self.new.hub.store) }
     {
