@@ -399,7 +399,7 @@ module _ {A R K S : Type 0} (condition : A → Condition) (unread : R → Option
     pub leaves : after.course.unfinished ≡ before.course.unfinished
 
   -- What was to be done for a connection was done, after which it is this: its next item was answered, or
-  -- kept back for what is sent to others; one step of a content was sent, where it is its turn, and it goes on as
+  -- kept back for what is sent to others or to be prepared; one step of a content was sent, where it is its turn, and it goes on as
   -- that came to; what is owed was sent, as far as its socket takes it; a piece was read, where one may be and
   -- the socket had one; or its client was told that nothing more is sent. But for that it is as far as it
   -- was once its turn began, or over.

@@ -130,8 +130,8 @@ impl<A: Archive, R: Source + Drop, K: Sink + Drop, S: Spool + Drop> Host<A, R, K
         }
     }
 
-    /// Does a part of the work that a later request would have to wait for, and returns whether more is left
-    /// (`Hub::work_ahead`). Where this shuts the store, `is_open` returns so later.
+    /// Does a part of the work that a later request would have to wait for, or one that is kept back until then, and
+    /// returns whether more is left (`Hub::work_ahead`). Where this shuts the store, `is_open` returns so later.
     pub fn work_ahead(&mut self) -> bool
         ensures goes { Steps A.condition R.unread K.taken S.held (position self.old) []
             (position self.new) }
