@@ -9,6 +9,7 @@ use Rattle.std.specs.Io.KnownBytes.{Keeps}
 use Rattle.dep_types.specs.Conditions.{Condition}
 use Rattle.dep_hub.specs.Holding.{KeepsHolding, StandsHolding, RestsOn, IsHeldAs}
 use Rattle.dep_hub.specs.StandsOwing.{behind_at}
+use Rattle.dep_hub.specs.WorkingAhead.{RestsAhead}
 use Rattle.dep_hub.specs.declared.connections.Connection.{Connection}
 use Rattle.dep_hub.specs.declared.rest.Behind.TheVariants.{Nothing}
 use Rattle.dep_types.specs.State.{State}
@@ -250,9 +251,25 @@ module _ {A R K S : Type 0} (condition : A → Condition) (unread : R → Option
         sits = seats;
         hub = record { next = r.next; same_config = r.config; clean = clean; honest = honest };
         stands = λ is_clean w kept h. stands_still_at p.hub q.hub (keeps is_clean) r.config r.connections w kept h;
-        behind = λ number. ap (λ (cs : Vec Connection Global). behind_at cs.items number) r.connections;
+        behind = inl (λ number. ap (λ (cs : Vec Connection Global). behind_at cs.items number) r.connections);
         same_limits = limits;
         told = told;
+      })
+
+  -- the hub worked ahead
+  pub ahead_alone : (p q : Position A R K S) → RestsAhead condition p.hub q.hub → q.seats ≡ p.seats → q.limits ≡ p.limits → q.shut ≡ p.shut → Steps condition unread taken held p [] q
+  ahead_alone p q r seats limits shut =
+      asked p q (record {
+        sits = seats;
+        hub = record { next = r.next; same_config = r.config; clean = r.store.was_open; honest = r.store.honest };
+        stands = λ clean w kept h. record {
+          state = r.store.kept clean w.state h.state;
+          kept = λ number. subst (λ (k : Config). IsHeldAs k.max_upload (w.line number) (kept number) (intake_of q.hub.connections.items number)) (sym r.config)
+              (subst (λ i. IsHeldAs p.hub.config.max_upload (w.line number) (kept number) i) (sym (r.intakes number)) (h.kept number));
+        };
+        behind = inr r;
+        same_limits = limits;
+        told = inl shut;
       })
 
   -- a connection took note of something, and neither its bytes nor its phase changed

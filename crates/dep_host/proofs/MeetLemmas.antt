@@ -1,5 +1,5 @@
 -- What a host makes of what comes to it.
-use Rattle.std.proofs.Common.{◌≡◌, ◌⊎◌, inl, inr, ◌<◌, ◌+◌, ℕ, Bool, true, false, List, [], ◌∷◌, ◌++◌, Option, None, Some, is_some, refl, sym, ap, subst, ◌∙◌, length, set, IsSome, IfSome, arith}
+use Rattle.std.proofs.Common.{◌≡◌, ◌⊎◌, inl, inr, ◌<◌, ◌+◌, ℕ, Bool, true, false, List, [], ◌∷◌, ◌++◌, Option, None, Some, is_some, refl, sym, ap, subst, ◌∙◌, length, set, IfSome, arith}
 use Rattle.std.specs.Option.{option_map}
 use Rattle.std.specs.declared.result.Result.{Result}
 use Rattle.std.specs.declared.result.Result.TheVariants.{Ok, Err}
@@ -36,10 +36,6 @@ use Rattle.dep_host.specs.Rounds.{IsTold, EndsInTime}
 use Rattle.dep_host.proofs.SeatLemmas.{still_same}
 use Rattle.dep_host.proofs.HostLemmas.{grows_none, grows_on, asked, untouched, woken, alone, stands_still, steps_join}
 use Rattle.dep_host.proofs.RoundLemmas.{rounds_begin, rounds_go_on, one_second}
-
--- what goes on has not ended
-pub not_yet_ended : {X : Type 0} (x : X) (end : Ended) → (let r : Result X Ended = Ok x in r) ≡ Err end → ⊥
-not_yet_ended {X = X} x end e = let bad : (let r : Result X Ended = Ok x in r) ≡ Err end = e in cc
 
 -- where nobody sits nobody is changed
 pub changes_none : {X : Type 0} (f : X → X) (seats : List (Option X)) (at : ℕ) → slot at seats ≡ None → seats ≡ set seats at (option_map f (slot at seats))
@@ -95,9 +91,6 @@ offer_kept {R = R} {K = K} {S = S} p q at r w (Some place) v h = (
   subst (λ (l : List (Option (Seat R K S))). slot place l ≡ None) (sym h.seats) (free_on (λ (s : Seat R K S). woken_seat s r w) p.seats.items at place v.1),
   subst (λ (s : Option Shut). is_some s ≡ false) (sym h.stays.shut) v.2,
 )
-
-pub not_told : {X : Type 0} (o : Option X) → IsSome o → is_some o ≡ false → ⊥
-not_told o some none = let bad : true ≡ false = sym some ∙ none in cc
 
 pub none_offered : {A R K S : Type 0} (p : Host A R K S) (o : Option ℕ) → o ≡ None → IsOffer p o → IsOffer p None
 none_offered p o none h = subst (λ (v : Option ℕ). IsOffer p v) none h
@@ -171,7 +164,7 @@ module _ {A R K S : Type 0} (condition : A → Condition) (unread : R → Option
       clean = λ is. subst (λ (k : Hub A). IsClean condition k) h.same_hub is;
       honest = λ is. subst (λ (k : Hub A). IsHonest condition k) h.same_hub is;
     };
-    behind = λ number. ap (λ (k : Hub A). behind_at k.connections.items number) h.same_hub;
+    behind = inl (λ number. ap (λ (k : Hub A). behind_at k.connections.items number) h.same_hub);
     stands = same_hub_stands p.hub q.hub h.same_hub;
     same_limits = h.limits;
     told = subst (λ (o : Option Shut). (o ≡ p.shut) ⊎ ((is_some p.shut ≡ false) × IfSome o (λ shut. shut.cause ≡ cause.Store → IsClean condition q.hub → ⊥))) (sym h.shut) (told_of_a_stop q.hub p.shut second);

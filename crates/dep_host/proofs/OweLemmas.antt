@@ -1,5 +1,5 @@
 -- What a host sent and still owes is what a run says.
-use Rattle.std.proofs.Common.{◌≡◌, inl, inr, ◌≤◌, ◌+◌, ◌==◌, ℕ, suc, length, Bool, true, false, if◌then◌else◌, List, [], ◌∷◌, ◌++◌, Option, None, Some, refl, sym, ap, subst, ◌∙◌, append_assoc, IsTrue, arith}
+use Rattle.std.proofs.Common.{◌≡◌, ◌⊎◌, inl, inr, ◌≤◌, ◌+◌, ◌==◌, ℕ, suc, length, Bool, true, false, if◌then◌else◌, List, [], ◌∷◌, ◌++◌, Option, None, Some, refl, sym, ap, subst, ◌∙◌, append_assoc, IsTrue, arith}
 use Rattle.std.proofs.lemmas.List.{append-nil, append_cancel_left, length-append}
 use Rattle.std.proofs.lemmas.Bool.{cases_eq, eq-eqb, ne_eqb}
 use Rattle.std.specs.Io.KnownBytes.{Appends, append_known}
@@ -11,7 +11,9 @@ use Rattle.dep_hub.specs.Records.{Record, Connect, Arrive, Close, Line, Live, Ab
 use Rattle.dep_hub.specs.Standing.{IsClean, IsHonest}
 use Rattle.dep_hub.specs.Holding.{KeepsHolding, StandsHoldingAfter, PartArrives, IsNext, items_answered, with_held}
 use Rattle.dep_hub.specs.Owing.{IsOwed, bytes_later, with_more}
-use Rattle.dep_hub.specs.StandsOwing.{KeepsBack, unsent, waits_still, begins_to_wait, wants_memory, StandsOwingAfter, NextIsFree, OthersStay, Owes, IsPaid, behind_at, is_part, is_unsent}
+use Rattle.dep_hub.specs.StandsOwing.{KeepsBack, unsent, prepares_still, begins_to_prepare, waits_still, begins_to_wait, wants_memory, StandsOwingAfter, NextIsFree, OthersStay, Owes, IsPaid, behind_at, is_part, is_unsent}
+use Rattle.dep_hub.specs.WorkingAhead.{RestsAhead}
+use Rattle.dep_hub.proofs.PreparingLemmas.{ahead_owes}
 use Rattle.dep_hub.specs.declared.arrived.Arrived.{Arrived}
 use Rattle.dep_hub.specs.declared.hub.Hub.{Hub}
 use Rattle.dep_hub.specs.declared.next.Next.{Next}
@@ -19,7 +21,7 @@ use Rattle.dep_hub.specs.declared.next.Next.TheVariants.{More, Waiting, Closed, 
 use Rattle.dep_hub.specs.declared.rest.Behind.{Behind}
 use Rattle.dep_hub.specs.declared.sent_on.SentOn.{SentOn}
 use Rattle.dep_hub.specs.declared.sent_on.SentOn.TheVariants.{Part, All, Broken as BrokenOff}
-use Rattle.dep_hub.specs.declared.rest.Behind.TheVariants.{Nothing, Content, Broken, Waits}
+use Rattle.dep_hub.specs.declared.rest.Behind.TheVariants.{Nothing, Content, Broken, Waits, Prepares, Prepared}
 use Rattle.dep_outbox.specs.Wires.{told}
 use Rattle.dep_host.specs.declared.course.Phase.{Phase}
 use Rattle.dep_host.specs.declared.course.Phase.TheVariants.{Open, Over}
@@ -39,6 +41,8 @@ use Rattle.dep_host.proofs.SendLemmas.{Agrees, AllAgree, steps_agree}
 paid_off : (s : State) (b : Behind) (owed : List ℕ) → is_unsent b ≡ false → IsOwed s b owed → owed ≡ []
 paid_off s Nothing owed u h = h
 paid_off s (Waits claim) owed u h = h
+paid_off s (Prepares left) owed u h = h
+paid_off s Prepared owed u h = h
 paid_off s Broken owed u h = absurd (let bad : true ≡ false = u in cc)
 paid_off s (Content r) owed u h = absurd (let bad : true ≡ false = u in cc)
 
@@ -46,6 +50,8 @@ paid_off s (Content r) owed u h = absurd (let bad : true ≡ false = u in cc)
 read_unsent : (b : Behind) (p : Phase) → p ≡ Open → Agrees b p → is_unsent b ≡ false
 read_unsent Nothing p is_open h = refl
 read_unsent (Waits claim) p is_open h = refl
+read_unsent (Prepares left) p is_open h = refl
+read_unsent Prepared p is_open h = refl
 read_unsent Broken p is_open h = absurd (h.unbroken is_open refl)
 read_unsent (Content r) p is_open h = absurd (elim h.content [
   | inl content ↦ let bad : false ≡ true = sym (ap is_sending is_open) ∙ content in cc
@@ -132,10 +138,18 @@ kept_here : {A : Type 0} {condition : A → Condition} {t k : Option (List ℕ)}
     → IsOwed s (behind_at old.connections.items n) owed → IsOwed s (behind_at new.connections.items n) owed
 kept_here s n owed old new k h = elim k.why [
   | unsent u same ↦ subst (λ (b : Behind). IsOwed s b owed) (sym same) h
+  | prepares_still u same ↦ subst (λ (b : Behind). IsOwed s b owed) (sym same) h
+  | begins_to_prepare was names now ↦ subst (λ (b : Behind). IsOwed s b owed) (sym now) (subst (λ (b : Behind). IsOwed s b owed) was h)
   | waits_still claim was now held ↦ subst (λ (b : Behind). IsOwed s b owed) (sym now) (subst (λ (b : Behind). IsOwed s b owed) was h)
-  | begins_to_wait claim u has now held ↦ subst (λ (b : Behind). IsOwed s b owed) (sym now) (paid_off s (behind_at old.connections.items n) owed u h)
-  | wants_memory u pending has now ↦ subst (λ (b : Behind). IsOwed s b owed) (sym now) (paid_off s (behind_at old.connections.items n) owed u h)
+  | begins_to_wait claim u has now held ↦ subst (λ (b : Behind). IsOwed s b owed) (sym now) (paid_off s (behind_at old.connections.items n) owed u.0 h)
+  | wants_memory u pending has now ↦ subst (λ (b : Behind). IsOwed s b owed) (sym now) (paid_off s (behind_at old.connections.items n) owed u.0 h)
 ]
+
+-- or a request was prepared
+asked_owed : {A : Type 0} (condition : A → Condition) (s : State) (n : ℕ) (owed : List ℕ) (old new : Hub A) → SameBehind old new ⊎ RestsAhead condition old new
+    → IsOwed s (behind_at old.connections.items n) owed → IsOwed s (behind_at new.connections.items n) owed
+asked_owed condition s n owed old new (inl same) h = subst (λ (b : Behind). IsOwed s b owed) (sym (same n)) h
+asked_owed condition s n owed old new (inr w) h = ahead_owes condition old new w n s owed h
 
 kept_owed : {A : Type 0} {condition : A → Condition} {t k : Option (List ℕ)} {f g : ℕ} (s : State) (n number : ℕ) (owes : ℕ → List ℕ) (old new : Hub A) → KeepsBack condition t k f g old new number
     → IsOwed s (behind_at old.connections.items n) (owes n) → IsOwed s (behind_at new.connections.items n) (owes n)
@@ -215,7 +229,7 @@ module _ {A R K S : Type 0} (condition : A → Condition) (unread : R → Option
   step_owes {p = p} {q = q} {deeds = deeds} first before all m (refused r) clean =
       none_more p q first before deeds m (moved p.hub q.hub first (before ++ m.more) m.holds m.holds m.owes r.same_store r.same_config r.behind (λ lines h. r.keeps lines m.holds h) m.stands)
   step_owes {p = p} {q = q} {deeds = deeds} first before all m (asks r) clean =
-      none_more p q first before deeds m (stood p.hub q.hub first (before ++ m.more) m.holds m.owes r.stands r.hub.same_config (λ s n h. subst (λ (b : Behind). IsOwed s b (m.owes n)) (sym (r.behind n)) h) clean m.stands)
+      none_more p q first before deeds m (stood p.hub q.hub first (before ++ m.more) m.holds m.owes r.stands r.hub.same_config (λ s n h. asked_owed condition s n (m.owes n) p.hub q.hub r.behind h) clean m.stands)
   step_owes {p = p} {q = q} {deeds = deeds} first before all m (rests t r) clean =
       none_more p q first before deeds m (subst (λ (h : Hub A). StandsOwingAfter condition h first (before ++ m.more) m.holds m.owes) (sym r.same) m.stands)
   step_owes {p = p} {q = q} {deeds = deeds} first before all m (delays {before = seat} t d) clean =

@@ -311,6 +311,7 @@ module _ {A R K S : Type 0} (condition : A → Condition) (unread : R → Option
     owes = r.0.owes;
     paid = r.0.paid;
     free = r.1;
+    prepared = r.5;
     others = r.0.others;
     unbroken = r.2;
     goes = ap (λ (d : Course). d.phase) same ∙ r.3;
@@ -639,6 +640,7 @@ module _ {A R K S : Type 0} (condition : A → Condition) (unread : R → Option
       owes = a.owes;
       paid = a.paid;
       free = a.free;
+      prepared = a.prepared;
       others = a.others;
       unbroken = a.unbroken;
       goes = a.goes;

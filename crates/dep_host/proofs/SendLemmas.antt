@@ -3,19 +3,21 @@ use Rattle.std.proofs.Common.{◌≡◌, ◌⊎◌, inl, inr, ◌<◌, ℕ, Bool
 use Rattle.std.proofs.lemmas.Bool.{ne_eqb}
 use Rattle.dep_types.specs.Conditions.{Condition}
 use Rattle.dep_hub.specs.Claims.{is_content}
-use Rattle.dep_hub.specs.StandsOwing.{KeepsBack, unsent, waits_still, begins_to_wait, wants_memory, behind_at, is_part, is_unsent}
+use Rattle.dep_hub.specs.StandsOwing.{KeepsBack, unsent, prepares_still, begins_to_prepare, waits_still, begins_to_wait, wants_memory, behind_at, is_part, is_unsent}
+use Rattle.dep_hub.specs.WorkingAhead.{RestsAhead}
+use Rattle.dep_hub.proofs.PreparingLemmas.{ahead_contents}
 use Rattle.dep_hub.specs.declared.hub.Hub.{Hub}
 use Rattle.dep_hub.specs.declared.next.Next.{Next}
 use Rattle.dep_hub.specs.declared.next.Next.TheVariants.{More, Waiting, Closed, Cut, NoSuch}
 use Rattle.dep_hub.specs.declared.rest.Behind.{Behind}
-use Rattle.dep_hub.specs.declared.rest.Behind.TheVariants.{Nothing, Content, Broken, Waits}
+use Rattle.dep_hub.specs.declared.rest.Behind.TheVariants.{Nothing, Content, Broken, Waits, Prepares, Prepared}
 use Rattle.dep_hub.specs.declared.sent_on.SentOn.{SentOn}
 use Rattle.dep_hub.specs.declared.sent_on.SentOn.TheVariants.{Part, All, Broken as BrokenOff}
 use Rattle.dep_host.specs.declared.course.Phase.{Phase}
 use Rattle.dep_host.specs.declared.course.Phase.TheVariants.{Open, Answering, Sending, SendingLast, Last, Draining, Over}
 use Rattle.dep_host.specs.declared.seat.Seat.{Seat}
 use Rattle.dep_host.specs.Courses.{is_ended, is_sending, SendsStill}
-use Rattle.dep_host.specs.Seats.{phase_answered, phase_sent}
+use Rattle.dep_host.specs.Seats.{SameBehind, phase_answered, phase_sent}
 use Rattle.dep_host.specs.Hosting.{Position, slot, Deed, Step, refused, asks, comes, rests, offers, delays, sends, refuses, answers, leaves, HasTurn, Steps, begins, goes_on}
 use Rattle.dep_host.proofs.TellLemmas.{Tidy, steps_tidy, slot_set, some_same, no_some}
 
@@ -95,6 +97,8 @@ sent_all : (b : Behind) → is_unsent b ≡ false → is_content b ≡ false
 sent_all Nothing u = refl
 sent_all Broken u = refl
 sent_all (Waits claim) u = refl
+sent_all (Prepares left) u = refl
+sent_all Prepared u = refl
 sent_all (Content r) u = let bad : true ≡ false = u in cc
 
 -- a content is being sent where one was, where a request is kept back
@@ -102,10 +106,26 @@ kept_content : {A : Type 0} {condition : A → Condition} {t k : Option (List �
     → is_content (behind_at new.connections.items n) ≡ is_content (behind_at old.connections.items n)
 kept_content old new n k = elim k.why [
   | unsent u same ↦ ap is_content same
+  | prepares_still u same ↦ ap is_content same
+  | begins_to_prepare was names now ↦ ap is_content now ∙ sym (ap is_content was)
   | waits_still claim was now held ↦ ap is_content now ∙ sym (ap is_content was)
-  | begins_to_wait claim u has now held ↦ ap is_content now ∙ sym (sent_all (behind_at old.connections.items n) u)
-  | wants_memory u pending has now ↦ ap is_content now ∙ sym (sent_all (behind_at old.connections.items n) u)
+  | begins_to_wait claim u has now held ↦ ap is_content now ∙ sym (sent_all (behind_at old.connections.items n) u.0)
+  | wants_memory u pending has now ↦ ap is_content now ∙ sym (sent_all (behind_at old.connections.items n) u.0)
 ]
+
+-- or a request was prepared
+agrees_asked : {A : Type 0} (condition : A → Condition) (old new : Hub A) (n : ℕ) (p : Phase) → SameBehind old new ⊎ RestsAhead condition old new
+    → Agrees (behind_at old.connections.items n) p → Agrees (behind_at new.connections.items n) p
+agrees_asked condition old new n p (inl same) h = agrees_as _ _ p (same n) h
+agrees_asked condition old new n p (inr w) h =
+    let same = ahead_contents condition old new w n in
+    record {
+      content = elim h.content [
+        | inl content ↦ inl (content ∙ sym same.0)
+        | inr over ↦ inr over
+      ];
+      unbroken = λ is_open broken. h.unbroken is_open (same.1 broken);
+    }
 
 module _ {A R K S : Type 0} (condition : A → Condition) (unread : R → Option (List ℕ)) (taken : K → Option (List ℕ)) (held : S → Option (List ℕ)) where
   -- so it is with who sits at each place
@@ -136,7 +156,8 @@ module _ {A R K S : Type 0} (condition : A → Condition) (unread : R → Option
 
   step_agrees : {p q : Position A R K S} {deeds more : List Deed} → Tidy condition unread taken held p deeds → Step condition unread taken held p q more → AllAgree p → AllAgree q
   step_agrees {p = p} {q = q} tidy (refused r) all = all_same p q r.sits r.behind all
-  step_agrees {p = p} {q = q} tidy (asks r) all = all_same p q r.sits r.behind all
+  step_agrees {p = p} {q = q} tidy (asks r) all = λ at seat sits.
+      agrees_asked condition p.hub q.hub seat.connection seat.course.phase r.behind (all at seat (subst (λ (l : List (Option (Seat R K S))). slot at l ≡ Some seat) r.sits sits))
   step_agrees {p = p} {q = q} tidy (comes {at = at} {seat = seat} r) all = all_set p q at (Some seat) r.there r.sits
       (λ s e. subst (λ (u : Seat R K S). Agrees (behind_at q.hub.connections.items u.connection) u.course.phase) (some_same seat s e) (agrees_as Nothing _ seat.course.phase r.unowed
       (record { content = inl (ap is_sending r.opens); unbroken = λ is_open broken. let bad : Nothing ≡ Broken = broken in cc })))

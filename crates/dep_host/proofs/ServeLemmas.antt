@@ -2,7 +2,7 @@
 use Rattle.std.proofs.Common.{◌≡◌, ◌⊎◌, ◌<◌, ◌≤◌, ◌+◌, ◌==◌, ℕ, zero, suc, Bool, true, false, if◌then◌else◌, List, [], ◌∷◌, ◌++◌, Option, None, Some, refl, sym, ap, subst, ◌∙◌, append_assoc, length, get_or, set, nat_lt, is_some, ◌&&◌, ◌||◌, inl, inr, arith}
 use Rattle.std.proofs.lemmas.List.{append-nil, get_or-set_same, get_or-set_other}
 use Rattle.std.proofs.Math.ListN.{length-set}
-use Rattle.std.proofs.lemmas.Bool.{ne_eqb, eq-eqb, cases_eq, cases_lt, lt-ltb}
+use Rattle.std.proofs.lemmas.Bool.{ne_eqb, eq-eqb, cases_eq, cases_lt, lt-ltb, ltb-true}
 use Rattle.std.specs.Prelude.{IfSome}
 use Rattle.std.specs.Option.{option_map_or}
 use Rattle.dep_types.specs.Conditions.{Condition}
@@ -17,7 +17,7 @@ use Rattle.dep_outbox.specs.declared.wire.Wire.{Wire}
 use Rattle.dep_outbox.specs.Wires.{told, owed_count}
 use Rattle.dep_host.specs.declared.ending.Shut.{Shut}
 use Rattle.dep_host.specs.declared.course.Phase.{Phase}
-use Rattle.dep_host.specs.Courses.{SendsStill, StaysOrIsOver, duty, is_ended, is_held_back, is_sending, phase_begun}
+use Rattle.dep_host.specs.Courses.{SendsStill, StaysOrIsOver, duty, duty_sending, is_ended, is_held_back, is_sending, phase_begun}
 use Rattle.dep_host.specs.Causes.{Causes, HasCauses}
 use Rattle.dep_host.specs.declared.seat.Seat.{Seat}
 use Rattle.dep_host.specs.declared.seat.Time.{Time}
@@ -27,7 +27,7 @@ use Rattle.dep_host.specs.declared.course.Phase.TheVariants.{Open, Answering, Se
 use Rattle.dep_host.specs.declared.course.Duty.{Duty}
 use Rattle.dep_host.specs.declared.course.Duty.TheVariants as to
 use Rattle.dep_host.specs.Seats.{IsPutOff, IsUnknown, MayRest, ActsOnce, TakesTurn, next_duty, phase_sent}
-use Rattle.dep_host.specs.Hosting.{Position, slot, MayGo, farewell, note_of, closings_of, Deed, Takes, Replies, Sends, Declines, Closes, answers_at, pieces_at, sending_at, sendings_at, sendings_in, unfinished_of, unfinished_in, AreDoneAt, HasTurn, Goes, rests, offers, delays, sends, refuses, answers, leaves, Steps, begins, goes_on, IsClosed, IsLeftAs, IsOnce, IsLost, IsKeptBack, IsServed, IsServedAt, turn_duty, Serves, GoesRound, Sheds}
+use Rattle.dep_host.specs.Hosting.{Position, slot, MayGo, farewell, note_of, closings_of, Deed, Takes, Replies, Sends, Declines, Closes, answers_at, pieces_at, sending_at, sendings_at, sendings_in, unfinished_of, unfinished_in, AreDoneAt, HasTurn, Goes, rests, offers, delays, sends, refuses, answers, leaves, Steps, begins, goes_on, IsClosed, IsLeftAs, IsOnce, IsLost, IsKeptBack, IsServed, IsServedAt, IsTurned, WasAwaited, turn_duty, Serves, GoesRound, Sheds}
 use Rattle.std.proofs.lemmas.Grind.{flat_map-append}
 use Rattle.dep_host.specs.Notes.{Note, LetGo, Grows}
 use Rattle.dep_host.specs.declared.share.Share.{Share}
@@ -134,6 +134,21 @@ asks_sending Last a true r w = refl
 asks_sending Last a false r w = refl
 asks_sending Draining a true r w = refl
 asks_sending Draining a false r w = refl
+
+-- what a connection does next to which a content is sent
+sending_duty : (p : Phase) (is_shut a owes r w : Bool) → is_sending p ≡ true → duty (phase_begun p is_shut) a owes r w ≡ duty_sending a owes w
+sending_duty Open is_shut a owes r w h = absurd (let bad : false ≡ true = h in cc)
+sending_duty Answering is_shut a owes r w h = absurd (let bad : false ≡ true = h in cc)
+sending_duty Sending is_shut a owes r w h = refl
+sending_duty SendingLast is_shut a owes r w h = refl
+sending_duty Last is_shut a owes r w h = absurd (let bad : false ≡ true = h in cc)
+sending_duty Draining is_shut a owes r w h = absurd (let bad : false ≡ true = h in cc)
+sending_duty Over is_shut a owes r w h = absurd (let bad : false ≡ true = h in cc)
+
+sent_unless : (a owes w : Bool) → (duty_sending a owes w ≡ to.Send) ⊎ ((a ≡ false) × (owes ≡ true))
+sent_unless true owes w = inl refl
+sent_unless false true w = inr (refl, refl)
+sent_unless false false w = inl refl
 
 one_sent : (at : ℕ) (answer : SentOn) → (if at == at then answer ∷ [] else []) ++ [] ≡ answer ∷ []
 one_sent at answer = append-nil (if at == at then answer ∷ [] else []) ∙ ap (λ (b : Bool). if b then answer ∷ [] else []) (eq-eqb at at refl)
@@ -827,3 +842,23 @@ module _ {A R K S : Type 0} (condition : A → Condition) (unread : R → Option
         noted = noted_on told so_far tells s.deeds more s.noted noted;
         sheds = (q, s.deeds, more, so_far, refl, s.steps, s.noted, inr (place, seat, g, refl, noted));
       }
+
+  -- in its turn a content goes on
+  one_step : (p q : Position A R K S) (deeds : List Deed) (is_full may_send : Bool) (before after : Seat R K S) (answered read : ℕ) (sent : List SentOn) → may_send ≡ true
+      → IsServed condition unread taken held size causes p q deeds is_full may_send before after answered read sent to.Send → length sent ≡ 1
+  one_step p q deeds is_full may_send before after answered read sent turn (inl (may, s)) = let one : length (s.0 ∷ []) ≡ 1 = refl in ap (λ (l : List SentOn). length l) s.1 ∙ one
+  one_step p q deeds is_full may_send before after answered read sent turn (inr (none, unsent, off, phase)) = absurd (let bad : true ≡ false = sym turn ∙ none in cc)
+
+  pub goes_on_in_turn : (p q : Position A R K S) (first next : ℕ) (time : Time) (told tells : Option (List Note)) (g : GoesRound condition unread taken held size causes p q first next time told tells) (place : ℕ) (seat : Seat R K S)
+      → slot place p.seats ≡ Some seat → is_sending seat.course.phase ≡ true → is_turn first next place ≡ true
+      → (length (sendings_at place g.deeds) ≡ 1) ⊎ ((0 < owed_count size seat.wire) × WasAwaited condition unread taken held size causes p q g.deeds seat.connection false)
+  goes_on_in_turn p q first next time told tells g place seat sat sending turn =
+      let is_full = nat_lt p.limits.unfinished_bytes (unfinished_in p.seats) in
+      let t : IsTurned condition unread taken held size causes p q is_full (is_turn first next place) g.deeds place seat =
+      subst (λ (x : Option (Seat R K S)). IsServedAt condition unread taken held size causes p q is_full (is_turn first next place) g.deeds place x) sat (g.served place) in
+      elim (sent_unless t.is_awaited (nat_lt 0 (owed_count size seat.wire)) seat.course.is_writable) [
+        | inl send ↦ inl (one_step p q g.deeds is_full (is_turn first next place) seat t.after (answers_at place g.deeds) (pieces_at place g.deeds) (sendings_at place g.deeds) turn
+            (subst (λ (d : Duty). IsServed condition unread taken held size causes p q g.deeds is_full (is_turn first next place) seat t.after (answers_at place g.deeds) (pieces_at place g.deeds) (sendings_at place g.deeds) d)
+            (sending_duty seat.course.phase (is_some p.shut) t.is_awaited (nat_lt 0 (owed_count size seat.wire)) seat.course.is_readable seat.course.is_writable sending ∙ send) t.served))
+        | inr none ↦ inr (ltb-true 0 (owed_count size seat.wire) none.1, subst (λ (b : Bool). WasAwaited condition unread taken held size causes p q g.deeds seat.connection b) none.0 t.asked)
+      ]

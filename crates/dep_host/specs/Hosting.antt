@@ -7,6 +7,7 @@ use Rattle.dep_hub.specs.Records.{Line, Live, Absent, World}
 use Rattle.dep_hub.specs.Standing.{IsClean}
 use Rattle.dep_hub.specs.Holding.{KeepsHolding, MovesLine, StandsHolding, with_held}
 use Rattle.dep_hub.specs.StandsOwing.{KeepsBack, behind_at, is_awaited_at}
+use Rattle.dep_hub.specs.WorkingAhead.{RestsAhead}
 use Rattle.dep_hub.specs.declared.rest.Behind.TheVariants.{Nothing}
 use Rattle.dep_hub.specs.declared.sent_on.SentOn.{SentOn}
 use Rattle.dep_hub.specs.declared.hub.Hub.{Hub}
@@ -254,12 +255,12 @@ module _ {A R K S : Type 0} (condition : A → Condition) (unread : R → Option
     pub same_shut : q.shut ≡ p.shut
 
   -- the hub is asked whether its store is open, and may say for the first time that it isn't; or the
-  -- store works ahead; or it is told to stop, for the first time
+  -- store works ahead, also for the request that is prepared; or it is told to stop, for the first time
   pub record Asks (p q : Position A R K S) : Type 0 where
     pub sits : q.seats ≡ p.seats
     pub hub : HubStays condition p.hub q.hub
     pub stands : StandsStill condition p.hub q.hub
-    pub behind : SameBehind p.hub q.hub
+    pub behind : SameBehind p.hub q.hub ⊎ RestsAhead condition p.hub q.hub
     pub same_limits : q.limits ≡ p.limits
     pub told : (q.shut ≡ p.shut) ⊎ (IsNone p.shut × IsRightlyTold condition q)
 
@@ -398,7 +399,7 @@ module _ {A R K S : Type 0} (condition : A → Condition) (unread : R → Option
     pub leaves : after.course.unfinished ≡ before.course.unfinished
 
   -- What was to be done for a connection was done, after which it is this: its next item was answered, or
-  -- kept back for what is sent to others; one step of a content was sent, where it is its turn, and it goes on as
+  -- kept back for what is sent to others or to be prepared; one step of a content was sent, where it is its turn, and it goes on as
   -- that came to; what is owed was sent, as far as its socket takes it; a piece was read, where one may be and
   -- the socket had one; or its client was told that nothing more is sent. But for that it is as far as it
   -- was once its turn began, or over.

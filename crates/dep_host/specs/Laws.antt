@@ -1,5 +1,5 @@
 -- What follows from how a host goes on.
-use Rattle.std.specs.Prelude.{◌≡◌, ◌⊎◌, ◌≤◌, ◌+◌, length, ◌++◌, ℕ, List, [], Option, Some}
+use Rattle.std.specs.Prelude.{◌≡◌, ◌⊎◌, ◌<◌, ◌≤◌, true, false, ◌+◌, length, ◌++◌, ℕ, List, [], Option, Some}
 use Rattle.dep_types.specs.State.{State}
 use Rattle.dep_types.specs.Conditions.{Condition}
 use Rattle.dep_hub.specs.Records.{Record}
@@ -7,12 +7,16 @@ use Rattle.dep_hub.specs.Standing.{IsClean}
 use Rattle.dep_hub.specs.Holding.{StandsHoldingAfter}
 use Rattle.dep_hub.specs.Claims.{is_content}
 use Rattle.dep_hub.specs.StandsOwing.{behind_at}
-use Rattle.dep_outbox.specs.Wires.{told}
+use Rattle.dep_outbox.specs.Wires.{told, owed_count}
 use Rattle.dep_host.specs.Courses.{is_sending}
 use Rattle.dep_host.specs.declared.course.Phase.TheVariants.{Over}
 use Rattle.dep_host.specs.declared.ending.Shut.{Shut}
 use Rattle.dep_host.specs.declared.seat.Seat.{Seat}
-use Rattle.dep_host.specs.Hosting.{Position, Deed, Steps, Tells, AreOutgoing, IsEmpty, slot, replies_to}
+use Rattle.dep_host.specs.declared.seat.Time.{Time}
+use Rattle.dep_host.specs.Causes.{Causes}
+use Rattle.dep_host.specs.Notes.{Note}
+use Rattle.dep_host.specs.Sharing.{is_turn}
+use Rattle.dep_host.specs.Hosting.{Position, Deed, GoesRound, Steps, Tells, AreOutgoing, IsEmpty, WasAwaited, slot, replies_to, sendings_at}
 use Rattle.dep_host.specs.Runs.{StandsBehind, KeepsPromise, OwesNone, Follows, StaysOpen, read_of, arrived_of, parts_of, replies_of}
 
 -- what was read of a connection that stays open has arrived, but for what is held
@@ -84,3 +88,17 @@ module _ {A R K S : Type 0} (condition : A → Condition) (unread : R → Option
   abbrev pub TakesNothing : Type 0
   TakesNothing = (p q : Position A R K S) (deeds : List Deed) (since : Shut) → p.shut ≡ Some since
       → Steps condition unread taken held p deeds q → AreOutgoing deeds × (q.shut ≡ Some since)
+
+module _ {A R K S : Type 0} (condition : A → Condition) (unread : R → Option (List ℕ))
+    (taken : K → Option (List ℕ)) (held : S → Option (List ℕ)) (size : S → ℕ)
+    (causes : Causes R K S) where
+  -- In a round in which it is its turn one step is sent of a content that is sent to who sits at a place, unless
+  -- bytes are owed to it, and no request waited for the content.
+  abbrev pub GoesOnInTurn : Type 0
+  GoesOnInTurn = (p q : Position A R K S) (first next : ℕ) (time : Time)
+      (told tells : Option (List Note))
+      (g : GoesRound condition unread taken held size causes p q first next time told tells)
+      (place : ℕ) (seat : Seat R K S) → slot place p.seats ≡ Some seat
+      → is_sending seat.course.phase ≡ true → is_turn first next place ≡ true
+      → (length (sendings_at place g.deeds) ≡ 1) ⊎ ((0 < owed_count size seat.wire)
+      × WasAwaited condition unread taken held size causes p q g.deeds seat.connection false)

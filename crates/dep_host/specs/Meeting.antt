@@ -9,6 +9,7 @@ use Rattle.dep_types.specs.declared.store_fault.StoreFault.{StoreFault}
 use Rattle.dep_types.specs.Writing.{HasRisen}
 use Rattle.dep_hub.specs.Shut.{TellsOpen}
 use Rattle.dep_hub.specs.Errands.{Account, Asked, WorkedAhead, Runs, FailsToTell}
+use Rattle.dep_hub.specs.WorkingAhead.{RestsAhead}
 use Rattle.dep_hub.specs.Numbers.{most_connections, last_number}
 use Rattle.dep_hub.specs.declared.hub.Hub.{Hub}
 use Rattle.dep_host.specs.declared.seat.Seat.{Seat}
@@ -138,11 +139,12 @@ module _ {A R K S : Type 0} (condition : A → Condition) (account : A → Accou
         × Runs (Asked answer) (account p.hub.store) (account q.hub.store)
         × GoesBy p q second answer)
 
-  -- it asked whether its store is open, and then had it work ahead
+  -- it asked whether its store is open, and then had it work ahead, first for a request that is prepared
   pub record AsksOn (p q : Host A R K S) (second : ℕ) : Type 0 where
     pub mid : Host A R K S
     pub asks : IsAsked p mid second
     pub works : Steps condition unread taken held (position mid) [] (position q)
+    pub prepares : RestsAhead condition mid.hub q.hub
     pub stays : Stays mid q
     pub seats : q.seats ≡ p.seats
     pub ahead : Runs (WorkedAhead q.is_left) (account mid.hub.store) (account q.hub.store)

@@ -8,7 +8,7 @@ use Rattle.dep_hub.specs.Standing.{IsClean, IsHonest, intake_of}
 use Rattle.dep_hub.specs.Holding.{KeepsHolding, AnswersOver, OffersTo, IsNext, IsRefused, arrived_by, with_held}
 use Rattle.dep_hub.specs.Owing.{bytes_later, with_more}
 use Rattle.dep_hub.specs.Claims.{is_content}
-use Rattle.dep_hub.specs.StandsOwing.{KeepsBack, NextIsFree, OthersStay, Owes, RepliesOver, SendsOn as HubSends, behind_at, is_unsent}
+use Rattle.dep_hub.specs.StandsOwing.{KeepsBack, NextIsFree, NextIsPrepared, OthersStay, Owes, RepliesOver, SendsOn as HubSends, behind_at, is_unsent}
 use Rattle.dep_hub.specs.declared.rest.Behind.TheVariants.{Broken}
 use Rattle.dep_hub.specs.declared.sent_on.SentOn.{SentOn}
 use Rattle.dep_hub.specs.declared.sent_on.SentOn.TheVariants.{Part, All, Broken as BrokenOff}
@@ -217,6 +217,7 @@ module _ {A R K S : Type 0} (condition : A → Condition) (unread : R → Option
       × (after.course.phase ≡ phase_answered next
       (is_content (behind_at new.connections.items before.connection)))
       × (after.course.unfinished ≡ left_unfinished next before.course.unfinished)
+      × NextIsPrepared old before.connection
 
   -- The next item was answered where nothing was owed, and only what was sent for it was taken; with what
   -- is still to be sent of a content behind it that is the reply.
@@ -235,6 +236,7 @@ module _ {A R K S : Type 0} (condition : A → Condition) (unread : R → Option
     pub owes : Owes condition new before.connection (bytes_later more)
     pub paid : is_unsent (behind_at old.connections.items before.connection) ≡ false
     pub free : NextIsFree old before.connection
+    pub prepared : NextIsPrepared old before.connection
     pub others : OthersStay old new before.connection
     pub unbroken : behind_at new.connections.items before.connection ≢ Broken
     -- a connection is read again once no item of it is complete, and answered again once the content is out

@@ -65,8 +65,8 @@ pub struct Course {
     /// Whether a request of another connection waited for the content that is sent to this one, as its last
     /// turn began. Then the content is sent on in its turn, whatever the socket takes.
     pub is_awaited: bool,
-    /// Whether its next request was kept back in its last turn, for what is sent to others, or its content put
-    /// off, as it was the turn of others.
+    /// Whether its next request was kept back in its last turn, for what is sent to others or until its uploads are
+    /// hashed, or its content put off, as it was the turn of others.
     pub is_kept_back: bool,
     /// Whether something was read, answered or taken, or a request kept back, since its last turn began.
     pub has_moved: bool,

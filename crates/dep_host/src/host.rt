@@ -42,6 +42,7 @@ impl<A: Archive, R: Source + Drop, K: Sink + Drop, S: Spool + Drop> Host<A, R, K
     ghost use Rattle.std.specs.Io.KnownBytes.{IsAtEnd};
     ghost use Rattle.dep_outbox.specs.Wires.{told};
     ghost use Rattle.dep_hub.specs.Errands.{WorkedAhead, Runs};
+    ghost use Rattle.dep_hub.specs.WorkingAhead.{RestsAhead};
     ghost use Rattle.dep_host.specs.Hosting.{Deed, Steps, Serves, Closed, GoesRound, Sheds, Stays, HasTime, MayGo, IsEmpty, IsReadAt, farewell, IsVacant, IsWaiting, position, slot, unfinished_of, unfinished_in};
     ghost use Rattle.dep_host.specs.Coming.{origin, seated_from};
     ghost use Rattle.dep_host.specs.Courses.{is_overdue};
@@ -129,14 +130,15 @@ impl<A: Archive, R: Source + Drop, K: Sink + Drop, S: Spool + Drop> Host<A, R, K
         }
     }
 
-    /// Does a part of the work that a later request would have to wait for, and returns whether more is left
-    /// (`Hub::work_ahead`). Where this shuts the store, `is_open` returns so later.
+    /// Does a part of the work that a later request would have to wait for, or one that is kept back until then, and
+    /// returns whether more is left (`Hub::work_ahead`). Where this shuts the store, `is_open` returns so later.
     pub fn work_ahead(&mut self) -> bool
         ensures goes { Steps A.condition R.unread K.taken S.held (position self.old) []
             (position self.new) }
         ensures stays { Stays self.old self.new }
         ensures seats { self.new.seats ≡ self.old.seats }
         ensures left { self.new.is_left ≡ result }
+        ensures prepares { RestsAhead A.condition self.old.hub self.new.hub }
         ensures asked { Runs (WorkedAhead result) (A.account self.old.hub.store)
             (A.account self.new.hub.store) }
     {

@@ -1,6 +1,7 @@
 //! What follows from how a host goes on, apart from any code.
+ghost use Rattle.dep_host.specs.Causes.{causes_of};
 ghost use Rattle.dep_host.specs.Sharing.{TurnsCome};
-ghost use Rattle.dep_host.specs.Laws.{SendingEnds, MakesRuns, TakesWhatIsSent, ReadsArrive, SitsApart, SitsOpen, KeepsPromises, TakesNothing, SendsContents};
+ghost use Rattle.dep_host.specs.Laws.{GoesOnInTurn, SendingEnds, MakesRuns, TakesWhatIsSent, ReadsArrive, SitsApart, SitsOpen, KeepsPromises, TakesNothing, SendsContents};
 
 use dep_hub::Archive;
 use dep_hub::laws::{answers_make_a_run, connections_make_a_run, replies_make_a_run};
@@ -56,6 +57,13 @@ pub fn hosts_keep_the_archive_promise<A: Archive, R: Source, K: Sink, S: Spool>(
     connections_make_a_run::<A>();
     replies_make_a_run::<A>();
 }
+
+/// In a round in which it is its turn a content goes on for which a request waits, and one whose client took all
+/// that was sent.
+pub fn contents_go_on<A: Archive, R: Source, K: Sink, S: Spool>()
+    ensures { GoesOnInTurn A.condition R.unread K.taken S.held S.size
+        (causes_of R.halts K.halts S.failures) }
+{}
 
 /// A content that is sent in steps ends: each step of it sends some bytes of what is owed, or ends it, so that there
 /// are no more of them than bytes are owed.

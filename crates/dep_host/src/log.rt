@@ -62,7 +62,8 @@ pub trait HostLog {
     fn answering(&mut self, connection: ConnId, address: IpAddr) -> Self::Item
         ensures noted { notes self.new ≡ notes self.old };
 
-    /// It isn't answered yet, as it has to wait for what is sent to others. It is asked for again.
+    /// It isn't answered yet, as it has to wait for what is sent to others, or until its uploads are hashed. It is
+    /// asked for again.
     fn kept_back(&mut self, item: Self::Item)
         ensures noted { notes self.new ≡ notes self.old };
 

@@ -7,6 +7,7 @@ returns-clause-asks g c = record {
   mid = c.is_open-is_open.new.self;
   asks = c.is_open-is_open.ensures.asks;
   works = c.work_ahead-is_left.ensures.goes;
+  prepares = c.work_ahead-is_left.ensures.prepares;
   stays = c.work_ahead-is_left.ensures.stays;
   seats = c.work_ahead-is_left.ensures.seats ∙ c.is_open-is_open.ensures.seats;
   ahead = subst (λ (b : Bool). Runs (WorkedAhead b) (g.A.Archive.account c.is_open-is_open.new.self.hub.store) (g.A.Archive.account c.work_ahead-is_left.new.self.hub.store)) (sym c.work_ahead-is_left.ensures.left) c.work_ahead-is_left.ensures.asked;
