@@ -13,5 +13,6 @@ mod HoldingLemmas
 mod OwingLemmas
 mod BehindLemmas
 mod PendingLemmas
+mod LeastLemmas
 mod KeptLemmas
 pub mod PreparingLemmas

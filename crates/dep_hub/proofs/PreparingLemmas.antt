@@ -1,8 +1,7 @@
 -- Requests that are prepared, in steps.
-use Rattle.std.proofs.Common.{◌≡◌, ◌≢◌, ◌⊎◌, inl, inr, ℕ, suc, zero, ◌==◌, ◌+◌, ◌≤◌, ◌<◌, Bool, true, false, List, [], ◌∷◌, ◌++◌, length, get_or, set, Option, None, Some, Result, Ok, Err, IfOk, MatchResult, if◌then◌else◌, refl, sym, ap, subst, ◌∙◌, arith, lt-ltb, le-ltb, append_assoc, not}
+use Rattle.std.proofs.Common.{◌≡◌, ◌≢◌, ◌⊎◌, inl, inr, ℕ, suc, zero, ◌==◌, ◌+◌, ◌≤◌, ◌<◌, Bool, true, false, List, [], ◌∷◌, ◌++◌, length, get_or, set, Option, None, Some, Result, Ok, Err, IfOk, MatchResult, if◌then◌else◌, refl, sym, ap, subst, ◌∙◌, arith, append_assoc}
 use Rattle.std.proofs.lemmas.Bool.{cases_lt, cases_Bool, eq-eqb, eqb-true}
 use Rattle.std.proofs.lemmas.Bool.Decides.{nat_tests}
-use Rattle.std.specs.List.{position, position_or_len, prefix_len}
 use Rattle.std.specs.Option.{option_map}
 use Rattle.std.specs.declared.alloc.AllocError.{AllocError}
 use Rattle.dep_types.specs.State.{State}
@@ -20,7 +19,7 @@ use Rattle.dep_hub.specs.Claims.{is_content, is_pending, is_waiting}
 use Rattle.dep_hub.specs.Holding.{IsHeldAs}
 use Rattle.dep_hub.specs.Numbers.{index_of, Ascends}
 use Rattle.dep_hub.specs.Owing.{IsOwed}
-use Rattle.dep_hub.specs.Preparing.{BeginsToPrepare, MakesStepFor, goes_on, ends, is_preparing, names_uploads, steps_of, TellsUploads}
+use Rattle.dep_hub.specs.Preparing.{BeginsToPrepare, MakesStepFor, goes_on, ends, HaveAtMost, is_preparing, names_uploads, steps_of, TellsUploads}
 use Rattle.dep_hub.specs.Records.{Run, stops, stopped, first_world}
 use Rattle.dep_hub.specs.Standing.{intake_of, store_of}
 use Rattle.dep_hub.specs.StandsOwing.{KeptBack, unsent, prepares_still, begins_to_prepare, waits_still, begins_to_wait, wants_memory, behind_at}
@@ -33,6 +32,7 @@ use Rattle.dep_hub.specs.declared.rest.Behind.TheVariants.{Nothing, Content, Bro
 use Rattle.dep_hub.proofs.BehindLemmas.{behind_some, behinds_are, intakes_stay, others_are}
 use Rattle.dep_hub.proofs.ConnectionLemmas.{ascends_le}
 use Rattle.dep_hub.proofs.Leaving.{leaves_wider}
+use Rattle.dep_hub.proofs.LeastLemmas.{have_by_number}
 use Rattle.dep_hub.proofs.PendingLemmas.{true_false}
 
 -- an item names uploads
@@ -60,53 +60,7 @@ tells_named reading m next (Ok false) first named = λ other after f.
     ap head_named (sym same) ∙ sym named
 tells_named reading m next (Err fault) first named = request_head reading.limit reading.place next m first
 
--- ---- the first connection whose next request is prepared
-
-one_more : (n : ℕ) → suc n ≡ 1 + n
-one_more n = omega arith
-
-first_at : (cs : List Connection) → prefix_len (λ (c : Connection). not (is_preparing c.behind)) cs < length cs → (d : Connection)
-    → is_preparing (get_or cs (prefix_len (λ (c : Connection). not (is_preparing c.behind)) cs) d).behind ≡ true
-first_at [] l d = absurd (omega (arith, l))
-first_at (c ∷ cs) l d = elim (cases_Bool (is_preparing c.behind)) [
-  | inl passes ↦ rw passes passes
-  | inr fails ↦
-      let rest = rw fails at l in
-      rw fails (subst (λ (k : ℕ). is_preparing (get_or (c ∷ cs) k d).behind ≡ true) (one_more (prefix_len (λ (x : Connection). not (is_preparing x.behind)) cs))
-      (first_at cs (omega (arith, rest)) d))
-]
-
-pub found_preparing : (cs : List Connection) (i : ℕ) → position (λ (c : Connection). is_preparing c.behind) cs ≡ Some i
-    → (i < length cs) × ((c : Connection) → c ≡ get_or cs i c → is_preparing c.behind ≡ true)
-found_preparing cs i h =
-    let p : Connection → Bool = λ c. is_preparing c.behind in
-    elim (cases_lt (position_or_len p cs) (length cs)) [
-      | inl lt ↦
-          let is = rw (lt-ltb _ _ lt) at h in
-          let same : position_or_len p cs ≡ i = cc is in (
-            subst (λ (k : ℕ). k < length cs) same lt,
-            λ c item. ap (λ (x : Connection). is_preparing x.behind) item ∙ subst (λ (k : ℕ). is_preparing (get_or cs k c).behind ≡ true) same (first_at cs lt c),
-          )
-      | inr ge ↦ let is = rw (le-ltb _ _ ge) at h in cc is
-    ]
-
-none_at_all : (cs : List Connection) → length cs ≤ prefix_len (λ (c : Connection). not (is_preparing c.behind)) cs → (m : ℕ) → is_preparing (behind_at cs m) ≡ false
-none_at_all [] l m = refl
-none_at_all (c ∷ cs) l m = elim (cases_Bool (is_preparing c.behind)) [
-  | inl passes ↦ let bad = rw passes at l in absurd (omega (arith, bad))
-  | inr fails ↦ let rest = rw fails at l in let later = none_at_all cs (omega (arith, rest)) m in elim (cases_Bool (c.number == m)) [
-    | inl here ↦ rw here fails
-    | inr other ↦ rw other later
-  ]
-]
-
-pub none_preparing : (cs : List Connection) → position (λ (c : Connection). is_preparing c.behind) cs ≡ None → (m : ℕ) → is_preparing (behind_at cs m) ≡ false
-none_preparing cs h =
-    let p : Connection → Bool = λ c. is_preparing c.behind in
-    elim (cases_lt (position_or_len p cs) (length cs)) [
-      | inl lt ↦ let is = rw (lt-ltb _ _ lt) at h in cc is
-      | inr ge ↦ none_at_all cs ge
-    ]
+-- ---- a connection whose next request is prepared
 
 -- each connection has the index at which it stands
 found_here : (n : ℕ) (d : Connection) (cs : List Connection) (i : ℕ) → (d.number == n) ≡ false → index_of n cs ≡ Some i → index_of n (d ∷ cs) ≡ Some (suc i)
@@ -210,16 +164,18 @@ steps_fewer xs ys (suc n) k l others fewer = elim (cases_lt k n) [
 
 -- a step was made where a connection stands
 pub one_step : (next : ℕ) (old new : List Connection) → Ascends 0 old next → (i : ℕ) (c : Connection) (b : Behind) → i < length old → c ≡ get_or old i c
-    → MakesStepFor c.behind b → new ≡ set old i (record { number = c.number; intake = c.intake; behind = b })
+    → MakesStepFor c.behind b → HaveAtMost old (steps_of c.behind) → new ≡ set old i (record { number = c.number; intake = c.intake; behind = b })
     → MakesOneStep old new × ((m : ℕ) → intake_of new m ≡ intake_of old m)
-one_step next old new ascends i c b within item step changed =
+one_step next old new ascends i c b within item step least changed =
     let n = c.number in
     let index = (index_at 0 next i old c ascends within item).0 in
     let behinds = behinds_are n i old c b index item c.intake new changed in
+    let was = behind_some n i old c index item in
     let here = behinds n ∙ ap (λ (t : Bool). if t then b else behind_at old n) (eq-eqb n n refl) in (
       for_one n (subst (λ (x : Behind). MakesStepFor (behind_at old n) x) (sym here)
-          (subst (λ (x : Behind). MakesStepFor x b) (sym (behind_some n i old c index item)) step))
-          (others_are n old new b behinds),
+          (subst (λ (x : Behind). MakesStepFor x b) (sym was) step))
+          (others_are n old new b behinds)
+          (λ m. subst (λ (x : Behind). steps_of (behind_at old m) ≤ steps_of x) (sym was) (have_by_number old (steps_of c.behind) least m)),
       intakes_stay n i old c b index item new changed,
     )
 
@@ -252,7 +208,7 @@ module _ {A : Type 0} (condition : A → Condition) (old new : Hub A) where
   by_number : (f : Behind → Behind → Type 0) → ((b : Behind) → f b b) → ((was now : Behind) → MakesStepFor was now → f was now)
       → MakesOneStep old.connections.items new.connections.items → (m : ℕ) → f (behind_at old.connections.items m) (behind_at new.connections.items m)
   by_number f same made (for_none none e) m = subst (λ (cs : List Connection). f (behind_at old.connections.items m) (behind_at cs m)) (sym e) (same (behind_at old.connections.items m))
-  by_number f same made (for_one n step others) m = elim (cases_Bool (m == n)) [
+  by_number f same made (for_one n step others least) m = elim (cases_Bool (m == n)) [
     | inl here ↦ subst (λ (k : ℕ). f (behind_at old.connections.items k) (behind_at new.connections.items k)) (sym (eqb-true m n here)) (made (behind_at old.connections.items n) (behind_at new.connections.items n) step)
     | inr other ↦
         let apart : m ≢ n = grind (arith, nat_tests, other) in
@@ -282,7 +238,7 @@ module _ {A : Type 0} (condition : A → Condition) (old new : Hub A) where
   pub ahead_ends : AheadEnds condition old new
   ahead_ends w m is = elim w.step [
     | for_none none e ↦ absurd (true_false (sym is ∙ none m))
-    | for_one n step others ↦
+    | for_one n step others least ↦
         let was = was_preparing (behind_at old.connections.items n) (behind_at new.connections.items n) step in
         let below = preparing_below n old.next old.connections.items old.ascends was in
         subst (λ (k : ℕ). steps_below new.connections.items k < steps_below old.connections.items old.next) (sym w.next)

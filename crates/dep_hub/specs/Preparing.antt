@@ -1,5 +1,5 @@
 -- Requests whose uploads are hashed before they are answered.
-use Rattle.std.specs.Prelude.{◌≡◌, ◌⊎◌, ℕ, ◌+◌, ◌&&◌, ◌||◌, Bool, true, false, Option, Some, None, codes, bytes_eq}
+use Rattle.std.specs.Prelude.{◌≡◌, ◌⊎◌, ◌<◌, ◌≤◌, ℕ, ◌+◌, ◌&&◌, ◌||◌, Bool, true, false, List, length, get_or, Option, Some, None, codes, bytes_eq}
 use Rattle.dep_head.specs.Head.{HeadParts}
 use Rattle.dep_fields.specs.Told.{fields_of}
 use Rattle.dep_fields.specs.declared.field.Field.{Field}
@@ -14,6 +14,7 @@ use Rattle.dep_message.specs.declared.message.Message.{Message}
 use Rattle.dep_types.specs.Conditions.{Condition}
 use Rattle.dep_hub.specs.Archives.{CommitsIfDue, KeepsEachState}
 use Rattle.dep_hub.specs.Errands.{Account, Runs, WorkedAhead}
+use Rattle.dep_hub.specs.declared.connections.Connection.{Connection}
 use Rattle.dep_hub.specs.declared.rest.Behind.{Behind}
 use Rattle.dep_hub.specs.declared.rest.Behind.TheVariants.{Nothing, Prepares, Prepared}
 
@@ -65,6 +66,17 @@ is_preparing behind = false
 abbrev pub steps_of : Behind → ℕ
 steps_of (Prepares left) = left + 1
 steps_of behind = 0
+
+-- no next request of these connections needs more steps than so many
+abbrev pub HaveAtMost : List Connection → (most : ℕ) → Type 0
+HaveAtMost connections most = (j : ℕ) (c : Connection) → j < length connections
+    → c ≡ get_or connections j c → steps_of c.behind ≤ most
+
+-- the next request of this one is prepared, and for no other that is were fewer steps made
+abbrev pub IsLeastPrepared : List Connection → (i : ℕ) → Type 0
+IsLeastPrepared connections i = (i < length connections)
+    × ((c : Connection) → c ≡ get_or connections i c → (is_preparing c.behind ≡ true)
+    × HaveAtMost connections (steps_of c.behind))
 
 -- a step was made for it: another may follow, or it may be answered
 pub data MakesStepFor (was now : Behind) : Type 0 where

@@ -1,5 +1,5 @@
 -- What working ahead does to a hub, and how the preparing of requests ends.
-use Rattle.std.specs.Prelude.{◌≡◌, ◌≢◌, ◌⊎◌, ◌<◌, ◌+◌, ℕ, zero, suc, true, false, List, Option, Some}
+use Rattle.std.specs.Prelude.{◌≡◌, ◌≢◌, ◌⊎◌, ◌<◌, ◌≤◌, ◌+◌, ℕ, zero, suc, true, false, List, Option, Some}
 use Rattle.dep_types.specs.Conditions.{Condition}
 use Rattle.dep_message.specs.Places.{Reading}
 use Rattle.dep_hub.specs.Records.{World}
@@ -25,11 +25,14 @@ pub record BeginsToPrepare {A : Type 0} (old new : Hub A) (number : ℕ) : Type 
   pub why : Begins reading (behind_at old.connections.items number)
       (behind_at new.connections.items number)
 
--- a step is made for one connection whose next request is prepared, if there is such a one
+-- A step is made for a connection whose next request is prepared, if there is such a one: for one of those for
+-- which the fewest were made.
 pub data MakesOneStep (old new : List Connection) : Type 0 where
   for_none : ((m : ℕ) → is_preparing (behind_at old m) ≡ false) → new ≡ old → MakesOneStep old new
   for_one : (number : ℕ) → MakesStepFor (behind_at old number) (behind_at new number)
-      → ((m : ℕ) → m ≢ number → behind_at new m ≡ behind_at old m) → MakesOneStep old new
+      → ((m : ℕ) → m ≢ number → behind_at new m ≡ behind_at old m)
+      → ((m : ℕ) → steps_of (behind_at old m) ≤ steps_of (behind_at old number))
+      → MakesOneStep old new
 
 -- how many steps end what is prepared for the connections with numbers below this, at most
 abbrev pub steps_below : List Connection → (next : ℕ) → ℕ

@@ -16,7 +16,7 @@ use crate::faults::{ConnectFault, HubFault};
 use crate::keeping::kept_back;
 use crate::next::Next;
 use crate::pending::{
-    first_preparing, is_any_pending, is_any_waiting, is_awaited, still_pending, still_waiting,
+    is_any_pending, is_any_waiting, is_awaited, least_prepared, still_pending, still_waiting,
 };
 use crate::preparing::prepare;
 use crate::rest::{Behind, Rest, behind_of};
@@ -405,9 +405,9 @@ impl<A: Archive> Hub<A> {
     }
 
     /// Does a part of the work that a later request would have to wait for, and returns whether more is left
-    /// (`Archive::work_ahead`). Where a request is kept back until its uploads are hashed it is a part of that, for the
-    /// first such connection; it is answered by `reply` once no more of it is left, or so many steps were made as may be.
-    /// It is no event of a run.
+    /// (`Archive::work_ahead`). Where requests are kept back until their uploads are hashed it is a part of that, for the
+    /// one of them for which the fewest were made; it is answered by `reply` once no more of it is left, or so many steps
+    /// were made as may be. It is no event of a run.
     pub fn work_ahead(&mut self) -> bool
         ensures asked { Runs (WorkedAhead result) (A.account self.old.store)
             (A.account self.new.store) }
@@ -417,7 +417,7 @@ impl<A: Archive> Hub<A> {
             (store_of A.condition self.old) (store_of A.condition self.new) }
         ensures rests { RestsAhead A.condition self.old self.new }
     {
-        let Some(i) = first_preparing(self.connections.as_slice()) else {
+        let Some(i) = least_prepared(self.connections.as_slice()) else {
             return self.store.work_ahead(self.config.service(), None);
         };
         prepare(&self.config, &mut self.store, &mut self.connections[i])

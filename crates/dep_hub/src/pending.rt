@@ -1,8 +1,8 @@
 //! Contents that are being sent, and requests that wait.
-ghost use Rattle.std.specs.Prelude.{◌≡◌, false, position};
+ghost use Rattle.std.specs.Prelude.{◌≡◌, false, MatchOption};
 ghost use Rattle.dep_hub.specs.Claims as spec;
 ghost use Rattle.dep_hub.specs.Claims.{is_awaited_by, sends_of};
-ghost use Rattle.dep_hub.specs.Preparing.{is_preparing as spec_preparing};
+ghost use Rattle.dep_hub.specs.Preparing.{HaveAtMost, IsLeastPrepared, steps_of as spec_steps_of};
 
 use crate::claim::{Claim, Files};
 use crate::connections::Connection;
@@ -62,21 +62,31 @@ fn is_waiting(behind: Behind) -> bool
     }
 }
 
-/// Where the first of them stands whose next request is prepared.
-pub(crate) fn first_preparing(connections: &[Connection]) -> Option<usize>
-    ensures { result ≡ position (λ c. spec_preparing c.behind) connections.now }
+/// Where the one of them stands for whose next request the fewest steps were made, of those that are prepared;
+/// of equals the first.
+pub(crate) fn least_prepared(connections: &[Connection]) -> Option<usize>
+    ensures { MatchOption result (HaveAtMost connections.now 0)
+        (IsLeastPrepared connections.now) }
 {
-    connections
-        .iter()
-        .position(|connection| is_preparing(connection.behind))
+    let mut least = None;
+    let mut most = 0;
+    for (i, connection) in connections.iter().enumerate() {
+        let left = steps_of(connection.behind);
+        if left > most {
+            least = Some(i);
+            most = left;
+        }
+    }
+    least
 }
 
-fn is_preparing(behind: Behind) -> bool
-    ensures { result ≡ spec_preparing behind }
+// How many steps end the preparing of a next request at most.
+fn steps_of(behind: Behind) -> u64
+    ensures { result ≡ spec_steps_of behind }
 {
     match behind {
-        Behind::Prepares(_) => true,
-        _ => false,
+        Behind::Prepares(left) => u64::from(left) + 1,
+        _ => 0,
     }
 }
 
