@@ -220,7 +220,7 @@ impl<S: Alter> Store<S> {
     }
 
     /// Hashes a part of the uploads that references in a request name, before it is answered, and returns whether more may be
-    /// left: up to 64 blocks (4 MiB). Nothing is hashed for a request that is refused whatever they are. It changes nothing
+    /// left: up to 16 blocks (1 MiB). Nothing is hashed for a request that is refused whatever they are. It changes nothing
     /// that is kept.
     pub fn hash_for(
         &mut self,

@@ -19,8 +19,8 @@ use std::alloc::Global;
 /// it is kept how far they were hashed.
 const MOST_HASHED: usize = 1_024;
 
-/// How many blocks of them are hashed at once.
-const BLOCKS_AT_ONCE: u64 = 64;
+/// How many blocks of them are hashed at once. Whoever asks meanwhile waits for up to three such parts.
+const BLOCKS_AT_ONCE: u64 = 16;
 
 // The digests of an upload that is there, where no segment is missing.
 fn digests_if_whole<T: Statements>(
@@ -88,7 +88,7 @@ fn hash_uploads<T: Statements>(
     Ok(UploadViews::from_vec(hashed))
 }
 
-/// Hashes up to 64 blocks (4 MiB) of the uploads of these numbers, which references name, one after
+/// Hashes up to 16 blocks (1 MiB) of the uploads of these numbers, which references name, one after
 /// another, and returns whether more may be left: of the first 1,024, so that none of them gives way
 /// to another. Of each one row is read, and none of a segment. Where one isn't there, or lacks a
 /// segment, nothing behind it is hashed, since it refuses the deposit.
