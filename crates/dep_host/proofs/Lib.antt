@@ -1,7 +1,12 @@
+mod PhaseLemmas
 mod SeatLemmas
+mod CountedLemmas
 mod HostLemmas
 mod ShareLemmas
+mod DeedLemmas
+mod StretchLemmas
 mod ServeLemmas
+mod WholeRounds
 mod RunLemmas
 mod TellLemmas
 mod ReadLemmas

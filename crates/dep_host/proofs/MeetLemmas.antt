@@ -33,7 +33,7 @@ use Rattle.dep_host.specs.Hosting.{Deed, IsEmpty, Position, Steps, position, slo
 use Rattle.dep_host.specs.Meeting.{IsOffer, MayCall, IsShutBy, MayEnd, Stops, Wakes, MayRefuse, TurnsAway, Admits, Meets, refusal_for, refusal_of, shut_by, wakes, lets_in, turns_away, makes_round, stops, IsMet, begins, goes_on, all_given, Met}
 use Rattle.dep_host.specs.Notes.{Note, Grows}
 use Rattle.dep_host.specs.Rounds.{IsTold, EndsInTime}
-use Rattle.dep_host.proofs.SeatLemmas.{still_same}
+use Rattle.dep_host.proofs.PhaseLemmas.{still_same}
 use Rattle.dep_host.proofs.HostLemmas.{grows_none, grows_on, asked, untouched, woken, alone, stands_still, steps_join}
 use Rattle.dep_host.proofs.RoundLemmas.{rounds_begin, rounds_go_on, one_second}
 

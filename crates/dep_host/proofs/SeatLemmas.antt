@@ -2,7 +2,7 @@
 use Rattle.std.proofs.Common.{◌≡◌, ◌⊎◌, inl, inr, ◌<◌, ◌≤◌, ◌+◌, ◌-◌, ◌^◌, ◌||◌, min, nat_lt, ℕ, Bool, List, [], ◌∷◌, ◌++◌, Option, None, Some, length, take, false, true, refl, sym, subst, ap, ◌∙◌, arith}
 use Rattle.std.proofs.lemmas.List.{length-take, length-append, append-nil}
 use Rattle.std.proofs.lemmas.Bool.{lt-ltb}
-use Rattle.std.proofs.Math.Bool.{or-true, true-or}
+use Rattle.std.proofs.Math.Bool.{or-true}
 use Rattle.std.proofs.KnownBytes.{Keeps-refl, Appends-kept, Keeps-trans, append_known-kept}
 use Rattle.std.specs.Io.KnownBytes.{Appends, Keeps, Consumes, IsAtEnd, append_known}
 use Rattle.dep_types.specs.Conditions.{Condition}
@@ -11,7 +11,6 @@ use Rattle.dep_hub.specs.Owing.{with_more}
 use Rattle.dep_hub.specs.Claims.{is_content}
 use Rattle.dep_hub.specs.StandsOwing.{KeepsBack, SendsOn as HubSends, behind_at}
 use Rattle.dep_hub.specs.declared.sent_on.SentOn.{SentOn}
-use Rattle.dep_hub.specs.declared.sent_on.SentOn.TheVariants.{Part, All, Broken}
 use Rattle.dep_hub.specs.Numbers.{most_read}
 use Rattle.dep_hub.specs.declared.hub.Hub.{Hub}
 use Rattle.dep_hub.specs.declared.arrived.Arrived.{Arrived}
@@ -27,22 +26,13 @@ use Rattle.dep_outbox.specs.Wires.{told, owed, owed_count}
 use Rattle.dep_host.specs.declared.seat.Seat.{Seat}
 use Rattle.dep_host.specs.declared.course.Course.{Course}
 use Rattle.dep_host.specs.declared.course.Phase.{Phase}
-use Rattle.dep_host.specs.declared.course.Phase.TheVariants.{Open, Answering, Sending, SendingLast, Last, Draining, Over}
+use Rattle.dep_host.specs.declared.course.Phase.TheVariants.{Open, Answering, Draining, Over}
 use Rattle.dep_host.specs.declared.course.Duty.{Duty}
-use Rattle.dep_host.specs.declared.course.Duty.TheVariants.{Flush, Answer, Send, Read, Finish, Drain, Wait}
-use Rattle.dep_host.specs.Courses.{duty, is_ended, is_sending, phase_begun, SendsStill, StaysOrEnds}
+use Rattle.dep_host.specs.declared.course.Duty.TheVariants.{Flush, Answer, Send, Read, Finish, Drain}
+use Rattle.dep_host.specs.Courses.{duty, is_ended, is_sending, SendsStill, StaysOrEnds}
 use Rattle.dep_host.specs.Causes.{Causes, HasCauses}
-use Rattle.dep_host.specs.Seats.{HubStays, PutsOff, SameBehind, SameClient, SendsOn, IsUnknown, Rests, Answers, IsRead, IsReplied, MayRest, ActsOnce, TakesTurn, next_duty, phase_offered, phase_answered, phase_sent}
-
-is_over : (mid after : Phase) → mid ≡ Over → (after ≡ mid) ⊎ (after ≡ Over) → after ≡ Over
-is_over mid after m (inl s) = s ∙ m
-is_over mid after m (inr o) = o
-
-not_open : (after : Phase) → after ≡ Over → after ≡ Open → ⊥
-not_open after o h = absurd (let e : Over ≡ Open = sym o ∙ h in cc)
-
-not_ended : (after : Phase) → after ≡ Over → is_ended after ≡ false → ⊥
-not_ended after o h = absurd (let e : true ≡ false = sym (ap is_ended o) ∙ h in cc)
+use Rattle.dep_host.specs.Seats.{HubStays, PutsOff, SameBehind, SameClient, SendsOn, IsUnknown, Rests, Answers, IsRead, IsReplied, MayRest, ActsOnce, TakesTurn, next_duty, phase_offered, phase_sent}
+use Rattle.dep_host.proofs.PhaseLemmas.{not_open, not_ended, ended_still, still_same, sends_still, opened_still, finishes_last, sends_content, ended_sent, over_sent, not_yet, over_offered, over_answered}
 
 -- its wire and its course changed, and changed again
 pub source_of : {R K S : Type 0} (before after : Seat R K S) (w : Wire K S) (c : Course) → after ≡ record before { wire = w; course = c } → after.source ≡ before.source
@@ -62,39 +52,6 @@ offered_to {R = R} {K = K} {S = S} before after got w c n p = (
   ap (λ (s : Seat R K S). s.source) p,
 )
 
--- who goes on as he was, or is over, has ended where he had, and is read only where he was
-ended_still : (before after : Phase) → (after ≡ before) ⊎ (after ≡ Over) → is_ended before ≡ true → is_ended after ≡ true
-ended_still before after (inl s) e = ap is_ended s ∙ e
-ended_still before after (inr o) e = ap is_ended o
-
-pub still_same : (p : Phase) → SendsStill p p
-still_same Over = inl refl
-still_same Open = inr (refl, λ e. let bad : Open ≡ Over = e in cc)
-still_same Answering = inr (refl, λ e. let bad : Answering ≡ Over = e in cc)
-still_same Sending = inr (refl, λ e. let bad : Sending ≡ Over = e in cc)
-still_same SendingLast = inr (refl, λ e. let bad : SendingLast ≡ Over = e in cc)
-still_same Last = inr (refl, λ e. let bad : Last ≡ Over = e in cc)
-still_same Draining = inr (refl, λ e. let bad : Draining ≡ Over = e in cc)
-
-sends_still : (before after : Phase) → (after ≡ before) ⊎ (after ≡ Over) → SendsStill before after
-sends_still before after (inl s) = subst (λ (p : Phase). SendsStill before p) (sym s) (still_same before)
-sends_still before after (inr o) = inl o
-
--- also once a turn begins
-pub still_begun : (p : Phase) (is_shut : Bool) → SendsStill p (phase_begun p is_shut)
-still_begun Open true = inr (refl, λ e. let bad : Open ≡ Over = e in cc)
-still_begun Open false = still_same Open
-still_begun Answering is_shut = still_same Answering
-still_begun Sending is_shut = still_same Sending
-still_begun SendingLast is_shut = still_same SendingLast
-still_begun Last is_shut = still_same Last
-still_begun Draining is_shut = still_same Draining
-still_begun Over is_shut = still_same Over
-
-opened_still : (before after : Phase) → (after ≡ before) ⊎ (after ≡ Over) → after ≡ Open → before ≡ Open
-opened_still before after (inl s) h = sym s ∙ h
-opened_still before after (inr o) h = absurd (not_open after o h)
-
 -- a socket that has ended, or failed, gave nothing
 pub ends_read : (old new : Option (List ℕ)) (room : List ℕ) (it : Received) → (it ≡ gave.Ended) ⊎ (it ≡ gave.Failed) → Receives old new room it → Keeps old new
 ends_read old new room it (inl e) gives = let both : Receives old new room gave.Ended = subst (λ (r : Received). Receives old new room r) e gives in both.0
@@ -109,136 +66,6 @@ ended_asked old new it (inr e) counts = inr (inl (counts ∙ ap (λ (r : Receive
 pub due_as : {R K S : Type 0} (size : S → ℕ) (seat : Seat R K S) (owes : Bool) (next to : Duty) → owes ≡ nat_lt 0 (owed_count size seat.wire)
     → next ≡ duty seat.course.phase seat.course.is_awaited owes seat.course.is_readable seat.course.is_writable → next ≡ to → next_duty size seat ≡ to
 due_as size seat owes next to owed is comes = ap (λ (o : Bool). duty seat.course.phase seat.course.is_awaited o seat.course.is_readable seat.course.is_writable) (sym owed) ∙ (sym is ∙ comes)
-
--- who sends owes, and of who is drained nothing comes to the hub any more
-pub sends_owed : (p : Phase) (a owes r w : Bool) → duty p a owes r w ≡ Flush → owes ≡ true
-sends_owed p a true r w h = refl
-sends_owed Over a false r w h = absurd (let bad : Wait ≡ Flush = h in cc)
-sends_owed Open a false true w h = absurd (let bad : Read ≡ Flush = h in cc)
-sends_owed Open a false false w h = absurd (let bad : Wait ≡ Flush = h in cc)
-sends_owed Answering a false r w h = absurd (let bad : Answer ≡ Flush = h in cc)
-sends_owed Sending true false r w h = absurd (let bad : Send ≡ Flush = h in cc)
-sends_owed Sending false false r w h = absurd (let bad : Send ≡ Flush = h in cc)
-sends_owed SendingLast true false r w h = absurd (let bad : Send ≡ Flush = h in cc)
-sends_owed SendingLast false false r w h = absurd (let bad : Send ≡ Flush = h in cc)
-sends_owed Last a false r w h = absurd (let bad : Finish ≡ Flush = h in cc)
-sends_owed Draining a false true w h = absurd (let bad : Drain ≡ Flush = h in cc)
-sends_owed Draining a false false w h = absurd (let bad : Wait ≡ Flush = h in cc)
-
-pub drains_ended : (p : Phase) (a owes r w : Bool) → duty p a owes r w ≡ Drain → is_ended p ≡ true
-drains_ended Over a owes r w h = refl
-drains_ended SendingLast a owes r w h = refl
-drains_ended Last a owes r w h = refl
-drains_ended Draining a owes r w h = refl
-drains_ended Open a true r true h = absurd (let bad : Flush ≡ Drain = h in cc)
-drains_ended Open a true r false h = absurd (let bad : Wait ≡ Drain = h in cc)
-drains_ended Open a false true w h = absurd (let bad : Read ≡ Drain = h in cc)
-drains_ended Open a false false w h = absurd (let bad : Wait ≡ Drain = h in cc)
-drains_ended Answering a true r true h = absurd (let bad : Flush ≡ Drain = h in cc)
-drains_ended Answering a true r false h = absurd (let bad : Wait ≡ Drain = h in cc)
-drains_ended Answering a false r w h = absurd (let bad : Answer ≡ Drain = h in cc)
-drains_ended Sending true owes r w h = absurd (let bad : Send ≡ Drain = h in cc)
-drains_ended Sending false true r true h = absurd (let bad : Flush ≡ Drain = h in cc)
-drains_ended Sending false true r false h = absurd (let bad : Wait ≡ Drain = h in cc)
-drains_ended Sending false false r w h = absurd (let bad : Send ≡ Drain = h in cc)
-
--- who is told that nothing more is sent is read no more, and sent no content
-finishes_last : (p : Phase) (a owes r w : Bool) → duty p a owes r w ≡ Finish → SendsStill p Draining
-finishes_last Last a owes r w h = inr (refl, λ e. let bad : Last ≡ Over = e in cc)
-finishes_last Over a owes r w h = absurd (let bad : Wait ≡ Finish = h in cc)
-finishes_last Open a owes r w h = inr (refl, λ e. let bad : Open ≡ Over = e in cc)
-finishes_last Answering a owes r w h = inr (refl, λ e. let bad : Answering ≡ Over = e in cc)
-finishes_last Draining a owes r w h = inr (refl, λ e. let bad : Draining ≡ Over = e in cc)
-finishes_last Sending true owes r w h = absurd (let bad : Send ≡ Finish = h in cc)
-finishes_last Sending false true r true h = absurd (let bad : Flush ≡ Finish = h in cc)
-finishes_last Sending false true r false h = absurd (let bad : Wait ≡ Finish = h in cc)
-finishes_last Sending false false r w h = absurd (let bad : Send ≡ Finish = h in cc)
-finishes_last SendingLast true owes r w h = absurd (let bad : Send ≡ Finish = h in cc)
-finishes_last SendingLast false true r true h = absurd (let bad : Flush ≡ Finish = h in cc)
-finishes_last SendingLast false true r false h = absurd (let bad : Wait ≡ Finish = h in cc)
-finishes_last SendingLast false false r w h = absurd (let bad : Send ≡ Finish = h in cc)
-
--- a content is sent on where one is sent, and where no request waits for it only where nothing is owed
-sends_content : (p : Phase) (a owes r w : Bool) → duty p a owes r w ≡ Send → is_sending p ≡ true
-sends_content Sending a owes r w h = refl
-sends_content SendingLast a owes r w h = refl
-sends_content Over a owes r w h = absurd (let bad : Wait ≡ Send = h in cc)
-sends_content Open a true r true h = absurd (let bad : Flush ≡ Send = h in cc)
-sends_content Open a true r false h = absurd (let bad : Wait ≡ Send = h in cc)
-sends_content Open a false true w h = absurd (let bad : Read ≡ Send = h in cc)
-sends_content Open a false false w h = absurd (let bad : Wait ≡ Send = h in cc)
-sends_content Answering a true r true h = absurd (let bad : Flush ≡ Send = h in cc)
-sends_content Answering a true r false h = absurd (let bad : Wait ≡ Send = h in cc)
-sends_content Answering a false r w h = absurd (let bad : Answer ≡ Send = h in cc)
-sends_content Last a true r true h = absurd (let bad : Flush ≡ Send = h in cc)
-sends_content Last a true r false h = absurd (let bad : Wait ≡ Send = h in cc)
-sends_content Last a false r w h = absurd (let bad : Finish ≡ Send = h in cc)
-sends_content Draining a true r true h = absurd (let bad : Flush ≡ Send = h in cc)
-sends_content Draining a true r false h = absurd (let bad : Wait ≡ Send = h in cc)
-sends_content Draining a false true w h = absurd (let bad : Drain ≡ Send = h in cc)
-sends_content Draining a false false w h = absurd (let bad : Wait ≡ Send = h in cc)
-
-pub sends_unowed : (p : Phase) (a owes r w : Bool) → duty p a owes r w ≡ Send → a ≡ false → owes ≡ false
-sends_unowed p a false r w h e = refl
-sends_unowed p true true r w h e = absurd (let bad : true ≡ false = e in cc)
-sends_unowed Over false true r w h e = absurd (let bad : Wait ≡ Send = h in cc)
-sends_unowed Open false true r true h e = absurd (let bad : Flush ≡ Send = h in cc)
-sends_unowed Open false true r false h e = absurd (let bad : Wait ≡ Send = h in cc)
-sends_unowed Answering false true r true h e = absurd (let bad : Flush ≡ Send = h in cc)
-sends_unowed Answering false true r false h e = absurd (let bad : Wait ≡ Send = h in cc)
-sends_unowed Sending false true r true h e = absurd (let bad : Flush ≡ Send = h in cc)
-sends_unowed Sending false true r false h e = absurd (let bad : Wait ≡ Send = h in cc)
-sends_unowed SendingLast false true r true h e = absurd (let bad : Flush ≡ Send = h in cc)
-sends_unowed SendingLast false true r false h e = absurd (let bad : Wait ≡ Send = h in cc)
-sends_unowed Last false true r true h e = absurd (let bad : Flush ≡ Send = h in cc)
-sends_unowed Last false true r false h e = absurd (let bad : Wait ≡ Send = h in cc)
-sends_unowed Draining false true r true h e = absurd (let bad : Flush ≡ Send = h in cc)
-sends_unowed Draining false true r false h e = absurd (let bad : Wait ≡ Send = h in cc)
-
--- who has ended has ended once some of a content was sent, and is over only where it was
-ended_sent : (p : Phase) (answer : SentOn) → is_ended p ≡ true → is_ended (phase_sent p answer) ≡ true
-ended_sent p Part e = e
-ended_sent p Broken e = refl
-ended_sent Open All e = refl
-ended_sent Answering All e = refl
-ended_sent Sending All e = absurd (let bad : false ≡ true = e in cc)
-ended_sent SendingLast All e = refl
-ended_sent Last All e = refl
-ended_sent Draining All e = refl
-ended_sent Over All e = refl
-
-over_sent : (p : Phase) (answer : SentOn) → phase_sent p answer ≡ Over → p ≡ Over
-over_sent p Part e = e
-over_sent p Broken e = absurd (let bad : Last ≡ Over = e in cc)
-over_sent Open All e = absurd (let bad : Last ≡ Over = e in cc)
-over_sent Answering All e = absurd (let bad : Last ≡ Over = e in cc)
-over_sent Sending All e = absurd (let bad : Answering ≡ Over = e in cc)
-over_sent SendingLast All e = absurd (let bad : Last ≡ Over = e in cc)
-over_sent Last All e = absurd (let bad : Last ≡ Over = e in cc)
-over_sent Draining All e = absurd (let bad : Last ≡ Over = e in cc)
-over_sent Over All e = absurd (let bad : Last ≡ Over = e in cc)
-
--- who is read or answered has not ended
-not_yet : (before after p : Phase) → before ≡ p → is_ended p ≡ false → is_ended before ≡ true → is_ended after ≡ true
-not_yet before after p b going e = absurd (let bad : true ≡ false = sym e ∙ (ap is_ended b ∙ going) in cc)
-
--- a connection is over once a piece was offered, or an item answered, only where the hub doesn't know it
-over_offered : (answer : Arrived) (after : Phase) → after ≡ phase_offered answer → after ≡ Over → answer ≡ came.NoSuch
-over_offered came.Open after p h = absurd (let bad : Answering ≡ Over = sym p ∙ h in cc)
-over_offered came.Closed after p h = absurd (let bad : Last ≡ Over = sym p ∙ h in cc)
-over_offered came.Cut after p h = absurd (let bad : Last ≡ Over = sym p ∙ h in cc)
-over_offered came.NoSuch after p h = refl
-
-over_answered : (next : Next) (sends : Bool) (after : Phase) → after ≡ phase_answered next sends → after ≡ Over → next ≡ NoSuch
-over_answered More true after p h = absurd (let bad : Sending ≡ Over = sym p ∙ h in cc)
-over_answered More false after p h = absurd (let bad : Answering ≡ Over = sym p ∙ h in cc)
-over_answered Waiting true after p h = absurd (let bad : Sending ≡ Over = sym p ∙ h in cc)
-over_answered Waiting false after p h = absurd (let bad : Open ≡ Over = sym p ∙ h in cc)
-over_answered Closed true after p h = absurd (let bad : SendingLast ≡ Over = sym p ∙ h in cc)
-over_answered Closed false after p h = absurd (let bad : Last ≡ Over = sym p ∙ h in cc)
-over_answered Cut true after p h = absurd (let bad : SendingLast ≡ Over = sym p ∙ h in cc)
-over_answered Cut false after p h = absurd (let bad : Last ≡ Over = sym p ∙ h in cc)
-over_answered NoSuch sends after p h = refl
 
 empty_of : (l : List ℕ) → length l ≡ 0 → l ≡ []
 empty_of [] h = refl
@@ -569,123 +396,6 @@ module _ {A R K S : Type 0} (condition : A → Condition) (unread : R → Option
         }) store behind o p moment;
         caused = goes_as_was causes (IsUnknown old before.connection) before after readable writable (λ h. inr (unknown_offered old new before after (take n room) answer o (over_offered answer after.course.phase p h)));
       }
-
-  -- what was sent in a turn is counted behind it
-  abbrev with_counted : Seat R K S → ℕ → Seat R K S
-  with_counted mid bytes =
-      record mid { course = record mid.course { has_moved = mid.course.has_moved || nat_lt 0 bytes; moved = min (mid.course.moved + bytes) (2 ^ 64 - 1) } }
-
-  stirs_still : (mid : Seat R K S) (bytes : ℕ) → mid.course.has_moved ≡ true → (with_counted mid bytes).course.has_moved ≡ true
-  stirs_still mid bytes h = ap (λ (b : Bool). b || nat_lt 0 bytes) h ∙ true-or (nat_lt 0 bytes)
-
-  read_counted : (before mid : Seat R K S) (bytes : ℕ) (piece : List ℕ) (is_full is_shut : Bool) → IsRead condition unread taken held before mid piece is_full is_shut
-      → IsRead condition unread taken held before (with_counted mid bytes) piece is_full is_shut
-  read_counted before mid bytes piece is_full is_shut r = record {
-    unowed = r.unowed;
-    waits = r.waits;
-    some = r.some;
-    small = r.small;
-    gives = r.gives;
-    allowed = r.allowed;
-    is_open = r.is_open;
-    stirs = stirs_still mid bytes r.stirs;
-    moves = let m = r.moves in omega (arith, m);
-    counts = r.counts;
-  }
-
-  rest_counted : (size : S → ℕ) (hub : Hub A) (before mid : Seat R K S) (bytes : ℕ) (is_full is_shut may_send : Bool) (d : Duty) → MayRest condition unread taken held size hub before mid is_full is_shut may_send d
-      → MayRest condition unread taken held size hub before (with_counted mid bytes) is_full is_shut may_send d
-  rest_counted size hub before mid bytes is_full is_shut may_send Flush may = may
-  rest_counted size hub before mid bytes is_full is_shut may_send Answer may = may
-  rest_counted size hub before mid bytes is_full is_shut may_send Send (none, off, phase) =
-      (none, record { sends = off.sends; stirs = λ h. stirs_still mid bytes (off.stirs h); counts_not = off.counts_not }, phase)
-  rest_counted size hub before mid bytes is_full is_shut may_send Read may = may
-  rest_counted size hub before mid bytes is_full is_shut may_send Finish may = may
-  rest_counted size hub before mid bytes is_full is_shut may_send Drain may = may
-  rest_counted size hub before mid bytes is_full is_shut may_send Wait may = may
-
-  acts_counted : (size : S → ℕ) (old new : Hub A) (before mid : Seat R K S) (bytes moment : ℕ) (is_full is_shut may_send : Bool) → ActsOnce condition unread taken held size old new before mid moment is_full is_shut may_send
-      → ActsOnce condition unread taken held size old new before (with_counted mid bytes) moment is_full is_shut may_send
-  acts_counted size old new before mid bytes moment is_full is_shut may_send (inl (r, may)) = inl (
-    record { same = r.same; keeps = r.keeps; gives = r.gives; opens = r.opens; sends_still = r.sends_still; keeps_count = r.keeps_count },
-    rest_counted size old before mid bytes is_full is_shut may_send (next_duty size before) may,
-  )
-  acts_counted size old new before mid bytes moment is_full is_shut may_send (inr (inl (o, due))) = inr (inl (
-    record {
-      piece = o.piece;
-      read = read_counted before mid bytes o.piece is_full is_shut o.read;
-      answers_next = o.answers_next;
-      keeps = o.keeps;
-      same_store = o.same_store;
-      behind = o.behind;
-      holds = o.holds;
-    },
-    due,
-  ))
-  acts_counted size old new before mid bytes moment is_full is_shut may_send (inr (inr (inl (r, due)))) = inr (inr (inl (
-    record { piece = r.piece; read = read_counted before mid bytes r.piece is_full is_shut r.read; ends = r.ends; unsent = r.unsent; behind = r.behind; answer = r.answer; answers = r.answers },
-    due,
-  )))
-  acts_counted size old new before mid bytes moment is_full is_shut may_send (inr (inr (inr (inl (a, due))))) = inr (inr (inr (inl (
-    record {
-      unowed = a.unowed;
-      was_read = a.was_read;
-      same_source = a.same_source;
-      next = a.next;
-      known = a.known;
-      more = a.more;
-      now = a.now;
-      appends = a.appends;
-      answers = a.answers;
-      owes = a.owes;
-      paid = a.paid;
-      free = a.free;
-      prepared = a.prepared;
-      others = a.others;
-      unbroken = a.unbroken;
-      goes = a.goes;
-      stirs = stirs_still mid bytes a.stirs;
-      leaves = a.leaves;
-    },
-    due,
-  ))))
-  acts_counted size old new before mid bytes moment is_full is_shut may_send (inr (inr (inr (inr (inl (d, due)))))) = inr (inr (inr (inr (inl (
-    record {
-      unowed = d.unowed;
-      was_read = d.was_read;
-      same_source = d.same_source;
-      keeps = d.keeps;
-      stays = d.stays;
-      stirs = stirs_still mid bytes d.stirs;
-      counts_not = d.counts_not;
-      leaves = d.leaves;
-    },
-    due,
-  )))))
-  acts_counted size old new before mid bytes moment is_full is_shut may_send (inr (inr (inr (inr (inr (s, due, may)))))) = inr (inr (inr (inr (inr (
-    record {
-      unowed = s.unowed;
-      was_sending = s.was_sending;
-      same_source = s.same_source;
-      answer = s.answer;
-      sends = s.sends;
-      goes = s.goes;
-      leaves = s.leaves;
-    },
-    due,
-    may,
-  )))))
-
-  pub counted : (size : S → ℕ) (causes : Causes R K S) (old new : Hub A) (before mid : Seat R K S) (course : Course) (bytes moment : ℕ) (is_full is_shut may_send : Bool) → TakesTurn condition unread taken held size causes old new before mid moment is_full is_shut may_send
-      → course ≡ (with_counted mid bytes).course → TakesTurn condition unread taken held size causes old new before (record mid { course = course }) moment is_full is_shut may_send
-  counted size causes old new before mid course bytes moment is_full is_shut may_send t e =
-      subst (λ (k : Course). TakesTurn condition unread taken held size causes old new before (record mid { course = k }) moment is_full is_shut may_send) (sym e) (record {
-        client = record { connection = t.client.connection; address = t.client.address };
-        hub = t.hub;
-        ended = t.ended;
-        acts = acts_counted size old new before mid bytes moment is_full is_shut may_send t.acts;
-        caused = record { readable = t.caused.readable; writable = t.caused.writable; over = t.caused.over };
-      })
 
   -- an item was answered, whatever else may be
   pub answers_turn : (size : S → ℕ) (causes : Causes R K S) (old new : Hub A) (before after : Seat R K S) (moment : ℕ) → SameClient before after → HubStays condition old new → before.course.phase ≡ Answering → next_duty size before ≡ Answer

@@ -1,5 +1,5 @@
 use Rattle.dep_host.specs.Causes.{causes_of}
-use Rattle.dep_host.proofs.ServeLemmas.{goes_on_in_turn}
+use Rattle.dep_host.proofs.WholeRounds.{goes_on_in_turn}
 use Rattle.dep_host.proofs.laws.contents_go_on.Goals as goal
 
 pub returns : goal.returns

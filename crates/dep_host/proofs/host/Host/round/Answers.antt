@@ -6,7 +6,7 @@ use Rattle.dep_host.specs.declared.share.Share.{Share}
 use Rattle.dep_host.specs.Hosting.{GoesRound, HasTime, IsWaiting, Position, Serves, position, slot}
 use Rattle.dep_host.proofs.HostLemmas.{each_goes_on, each_sheds, neither, stays_same, stays_on}
 use Rattle.dep_host.proofs.ShareLemmas.{counted_first}
-use Rattle.dep_host.proofs.ServeLemmas.{room_for, round_begins, round_goes_on, round_ends}
+use Rattle.dep_host.proofs.WholeRounds.{room_for, round_begins, round_goes_on, round_ends}
 use Rattle.dep_host.proofs.host.Host.round.Goals as goal
 
 pub loop-at-init : goal.loop-at-init

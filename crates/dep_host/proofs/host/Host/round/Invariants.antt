@@ -1,7 +1,7 @@
 use Rattle.std.proofs.Common.{◌≡◌, ◌<◌, ℕ, false}
 use Rattle.dep_host.specs.Causes.{causes_of}
 use Rattle.dep_host.specs.Hosting.{HasTime, IsWaiting, Stays, position, slot}
-use Rattle.dep_host.proofs.ServeLemmas.{RoundSoFar}
+use Rattle.dep_host.proofs.WholeRounds.{RoundSoFar}
 use Rattle.dep_host.proofs.host.Host.round.Given as goal
 
 abbrev pub invariant-loop-at : goal.invariant-loop-at

@@ -4,7 +4,8 @@ use Rattle.dep_host.specs.declared.course.Course.{Course}
 use Rattle.dep_host.specs.declared.course.Duty.TheVariants.{Flush, Send, Read, Finish, Drain, Wait}
 use Rattle.dep_host.specs.Causes.{causes_of}
 use Rattle.dep_host.specs.Seats.{TakesTurn}
-use Rattle.dep_host.proofs.SeatLemmas.{put_off, due_as, sends_owed, sends_unowed, drains_ended, flushed, finished, drained, rested_so}
+use Rattle.dep_host.proofs.SeatLemmas.{put_off, due_as, flushed, finished, drained, rested_so}
+use Rattle.dep_host.proofs.PhaseLemmas.{sends_owed, sends_unowed, drains_ended}
 use Rattle.dep_host.proofs.seat.Seat.act.Goals as goal
 
 pub returns-in-Flush-clause-turn : goal.returns-in-Flush-clause-turn

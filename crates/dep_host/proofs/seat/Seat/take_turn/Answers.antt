@@ -1,5 +1,5 @@
 use Rattle.dep_host.specs.Causes.{causes_of}
-use Rattle.dep_host.proofs.SeatLemmas.{counted}
+use Rattle.dep_host.proofs.CountedLemmas.{counted}
 use Rattle.dep_host.proofs.seat.Seat.take_turn.Goals as goal
 
 pub returns-clause-turn : goal.returns-clause-turn
