@@ -14,7 +14,7 @@ use Rattle.dep_manifest.specs.TagFiles.{bagit_text}
 use Rattle.dep_manifest.specs.Manifest.{digest_by, manifest_of}
 use Rattle.dep_manifest.specs.declared.algorithm.Algorithm.{Algorithm}
 use Rattle.dep_manifest.specs.declared.algorithm.Algorithm.TheVariants.{Sha256, Sha512}
-use Rattle.dep_bag.specs.Parts.{tag_file_at, told_parts, told_part, text_part, stored_part}
+use Rattle.dep_bag.specs.Parts.{tag_file_at, reported_parts, reported_part, text_part, stored_part}
 use Rattle.dep_bag.specs.declared.part.BagPart.{BagPart}
 use Rattle.dep_bag.specs.declared.part.BagPart.TheVariants.{Bytes, Stored}
 use Rattle.dep_bag.specs.declared.part.TagFile.{TagFile}
@@ -23,11 +23,11 @@ use Rattle.dep_bag.proofs.Keys.{entries-held}
 use Rattle.dep_bag.specs.Bag.{tag_files, bag_files, listed_files, payload}
 use Rattle.dep_bag.proofs.Files.{payload_entry}
 use Rattle.dep_bag.proofs.TagFileParts.{part_of as at_tag_file, by_tag_file}
-use Rattle.dep_bag.proofs.ToldBag.{same_tag_files}
+use Rattle.dep_bag.proofs.ReportedBag.{same_tag_files}
 use Rattle.dep_answers.specs.Answers.{Document, PlainText, ReplyContent, StoredContent, bytes_of}
 use Rattle.dep_answers.specs.Bags.{BagEntry, bag_entries, tags_shown, payload_shown, shown_in_bag}
-use Rattle.dep_answers.specs.Telling.{IsTagView, tag_view, view_by}
-use Rattle.dep_answers.specs.Told.{content_of, form_at}
+use Rattle.dep_answers.specs.Reporting.{IsTagView, tag_view, view_by}
+use Rattle.dep_answers.specs.Reported.{content_of, form_at}
 
 -- a path, and what is shown there, if it is known
 abbrev Known : Type 0
@@ -36,27 +36,27 @@ Known = List ℕ × Option ReplyContent
 abbrev shown_file : File → ReplyContent
 shown_file file = StoredContent file.media file.content
 
-abbrev told_entry : Object → List ℕ × BagPart → Known
-told_entry o (path, Bytes text) = (path, Some (content_of (form_at path) text))
-told_entry o (path, Stored f) = (path, option_map shown_file (finmap.get o.files f))
+abbrev reported_entry : Object → List ℕ × BagPart → Known
+reported_entry o (path, Bytes text) = (path, Some (content_of (form_at path) text))
+reported_entry o (path, Stored f) = (path, option_map shown_file (finmap.get o.files f))
 
 abbrev held_entry : BagEntry → Known
 held_entry place = (place.0, Some place.1)
 
 -- ---- what a view tells is the bag
 
-payload_told : (n : ℕ) (o : Object) (es : List (ℕ × File)) → All (λ e. finmap.get o.files e.0 ≡ Some e.1) es
-    → each (told_entry o) (each stored_part (each (λ e. file_row n e.0 e.1) es)) ≡ each held_entry (each payload_shown es)
-payload_told n o [] h = refl
-payload_told n o (e ∷ es) h = λ i.
+payload_reported : (n : ℕ) (o : Object) (es : List (ℕ × File)) → All (λ e. finmap.get o.files e.0 ≡ Some e.1) es
+    → each (reported_entry o) (each stored_part (each (λ e. file_row n e.0 e.1) es)) ≡ each held_entry (each payload_shown es)
+payload_reported n o [] h = refl
+payload_reported n o (e ∷ es) h = λ i.
     ((payload_shown e).0, option_map shown_file (All-head (λ e. finmap.get o.files e.0 ≡ Some e.1) e es h i))
-    ∷ payload_told n o es (All-tail (λ e. finmap.get o.files e.0 ≡ Some e.1) e es h) i
+    ∷ payload_reported n o es (All-tail (λ e. finmap.get o.files e.0 ≡ Some e.1) e es h) i
 
-entries_told : (n : ℕ) (o : Object) → each (told_entry o) (told_parts (object_view n o)) ≡ each held_entry (bag_entries o)
-entries_told n o =
+entries_reported : (n : ℕ) (o : Object) → each (reported_entry o) (reported_parts (object_view n o)) ≡ each held_entry (bag_entries o)
+entries_reported n o =
     let held = entries-held nat_cmp_total finmap.nat_cmp-IsAntisymmetric o.files in
-    ap (λ (texts : List Entry). each (told_entry o) (each text_part texts ++ each stored_part (object_view n o).files)) (same_tag_files n o)
-    ∙ ap (λ (l : List Known). each held_entry (tags_shown o) ++ l) (payload_told n o (finmap.entries o.files) held)
+    ap (λ (texts : List Entry). each (reported_entry o) (each text_part texts ++ each stored_part (object_view n o).files)) (same_tag_files n o)
+    ∙ ap (λ (l : List Known). each held_entry (tags_shown o) ++ l) (payload_reported n o (finmap.entries o.files) held)
 
 -- the files of the bag
 pub shown_files : (o : Object) → each (λ (p : BagEntry). (p.0, bytes_of p.1)) (bag_entries o) ≡ bag_files o
@@ -70,7 +70,7 @@ shown_files o = ap (λ (l : List Entry). tag_files o ++ l) (same_payload (finmap
 -- ---- what is read of an object shows what all of it does
 
 module _ (n : ℕ) (o : Object) (path : List ℕ) where
-  pub same_part : told_part (tag_view path n o false) path ≡ told_part (object_view n o) path
+  pub same_part : reported_part (tag_view path n o false) path ≡ reported_part (object_view n o) path
   same_part = sym (by_tag_file (tag_view path n o false) path) ∙ (go (tag_file_at path) ∙ by_tag_file (object_view n o) path)
     where
       go : (file : Option TagFile) → at_tag_file (view_by n o file false) path file ≡ at_tag_file (object_view n o) path file
@@ -112,24 +112,24 @@ found_there test (y ∷ ys) x e = go (test y) refl e (found_there test ys x)
 
 module _ (n : ℕ) (o : Object) (path : List ℕ) where
   abbrev part : Option (List ℕ × BagPart)
-  part = find (λ p. bytes_eq path p.0) (told_parts (object_view n o))
+  part = find (λ p. bytes_eq path p.0) (reported_parts (object_view n o))
 
   abbrev place : Option BagEntry
   place = find (λ p. bytes_eq path p.0) (bag_entries o)
 
-  same_path : (p : List ℕ × BagPart) → (told_entry o p).0 ≡ p.0
+  same_path : (p : List ℕ × BagPart) → (reported_entry o p).0 ≡ p.0
   same_path (q, Bytes text) = refl
   same_path (q, Stored f) = refl
 
-  both_found : option_map (told_entry o) part ≡ option_map held_entry place
+  both_found : option_map (reported_entry o) part ≡ option_map held_entry place
   both_found =
-      sym (found_through path (λ (p : List ℕ × BagPart). p.0) (λ (k : Known). k.0) (told_entry o) same_path (told_parts (object_view n o)))
-      ∙ ap (find (λ (k : Known). bytes_eq path k.0)) (entries_told n o)
+      sym (found_through path (λ (p : List ℕ × BagPart). p.0) (λ (k : Known). k.0) (reported_entry o) same_path (reported_parts (object_view n o)))
+      ∙ ap (find (λ (k : Known). bytes_eq path k.0)) (entries_reported n o)
       ∙ found_through path (λ (p : BagEntry). p.0) (λ (k : Known). k.0) held_entry (λ p. refl) (bag_entries o)
 
   right_path : (p : List ℕ × BagPart) → part ≡ Some p → p.0 ≡ path
   right_path p e =
-      let there : bytes_eq path p.0 ≡ true = found_there (λ (p : List ℕ × BagPart). bytes_eq path p.0) (told_parts (object_view n o)) p e in
+      let there : bytes_eq path p.0 ≡ true = found_there (λ (p : List ℕ × BagPart). bytes_eq path p.0) (reported_parts (object_view n o)) p e in
       sym ((bytes_eq-Decides path p.0).0 there)
 
 same_text : (a b : List ℕ) → Some (Bytes a) ≡ Some (Bytes b) → a ≡ b
@@ -139,7 +139,7 @@ same_stored : (f g : ℕ) → Some (Stored f) ≡ Some (Stored g) → f ≡ g
 same_stored f g e = cc
 
 by_bytes : (o : Object) (path : List ℕ) (p : Option (List ℕ × BagPart)) (q : Option BagEntry)
-    → option_map (told_entry o) p ≡ option_map held_entry q → ((x : List ℕ × BagPart) → p ≡ Some x → x.0 ≡ path)
+    → option_map (reported_entry o) p ≡ option_map held_entry q → ((x : List ℕ × BagPart) → p ≡ Some x → x.0 ≡ path)
     → (text : List ℕ) → Some (Bytes text) ≡ option_map (λ x. x.1) p
     → option_map (λ x. x.1) q ≡ Some (content_of (form_at path) text)
 by_bytes o path None q e right text is = absurd (cc)
@@ -155,7 +155,7 @@ known_file : (m : Option File) (c : ReplyContent) → option_map shown_file m �
 known_file None c e = absurd (cc)
 known_file (Some it) c e = (it, (refl, sym e))
 
-by_stored : (o : Object) (p : Option (List ℕ × BagPart)) (q : Option BagEntry) → option_map (told_entry o) p ≡ option_map held_entry q
+by_stored : (o : Object) (p : Option (List ℕ × BagPart)) (q : Option BagEntry) → option_map (reported_entry o) p ≡ option_map held_entry q
     → (f : ℕ) → Some (Stored f) ≡ option_map (λ x. x.1) p
     → (it : File) × ((finmap.get o.files f ≡ Some it) × (option_map (λ x. x.1) q ≡ Some (shown_file it)))
 by_stored o None q e f is = absurd (cc)
@@ -167,32 +167,32 @@ by_stored o (Some (r, Stored g)) (Some place) e f is =
     let file = known_file (finmap.get o.files g) place.1 known in
     (file.0, (ap (finmap.get o.files) (same_stored f g is) ∙ file.1.0, file.1.1))
 
-by_none : (o : Object) (p : Option (List ℕ × BagPart)) (q : Option BagEntry) → option_map (told_entry o) p ≡ option_map held_entry q
+by_none : (o : Object) (p : Option (List ℕ × BagPart)) (q : Option BagEntry) → option_map (reported_entry o) p ≡ option_map held_entry q
     → None ≡ option_map (λ x. x.1) p → option_map (λ x. x.1) q ≡ None
 by_none o None None e is = refl
 by_none o None (Some place) e is = absurd (cc)
 by_none o (Some x) q e is = absurd (cc)
 
 -- what is read shows what all of the object does
-part_of : (n : ℕ) (o : Object) (path : List ℕ) (view : ObjectView) → IsTagView path view false n o → told_part view path ≡ told_part (object_view n o) path
-part_of n o path view e = ap (λ (v : ObjectView). told_part v path) e ∙ same_part n o path
+part_of : (n : ℕ) (o : Object) (path : List ℕ) (view : ObjectView) → IsTagView path view false n o → reported_part view path ≡ reported_part (object_view n o) path
+part_of n o path view e = ap (λ (v : ObjectView). reported_part v path) e ∙ same_part n o path
 
 -- a text of the bag
 pub text_shown : (n : ℕ) (o : Object) (view : ObjectView) (path text : List ℕ) → IsTagView path view false n o
-    → Some (Bytes text) ≡ told_part view path → shown_in_bag o path ≡ Some (content_of (form_at path) text)
+    → Some (Bytes text) ≡ reported_part view path → shown_in_bag o path ≡ Some (content_of (form_at path) text)
 text_shown n o view path text e is =
     by_bytes o path (part n o path) (place n o path) (both_found n o path) (right_path n o path) text
     (is ∙ part_of n o path view e)
 
 -- the content of a file of the object
 pub file_shown : (n : ℕ) (o : Object) (view : ObjectView) (path : List ℕ) (f : ℕ) → IsTagView path view false n o
-    → Some (Stored f) ≡ told_part view path
+    → Some (Stored f) ≡ reported_part view path
     → (it : File) × ((finmap.get o.files f ≡ Some it) × (shown_in_bag o path ≡ Some (StoredContent it.media it.content)))
 file_shown n o view path f e is =
     by_stored o (part n o path) (place n o path) (both_found n o path) f (is ∙ part_of n o path view e)
 
 pub nothing_shown : (n : ℕ) (o : Object) (view : ObjectView) (path : List ℕ) → IsTagView path view false n o
-    → None ≡ told_part view path → shown_in_bag o path ≡ None
+    → None ≡ reported_part view path → shown_in_bag o path ≡ None
 nothing_shown n o view path e is =
     by_none o (part n o path) (place n o path) (both_found n o path) (is ∙ part_of n o path view e)
 

@@ -29,7 +29,7 @@ use Rattle.dep_decisions.proofs.FoundInMaps.{at-some, unless-none}
 use Rattle.dep_decisions.proofs.Passed.{content_passed, presence_passed}
 use Rattle.dep_answers.specs.Answers.{Answer}
 use Rattle.dep_answers.specs.Steps.{accepted_answer}
-use Rattle.dep_answers.proofs.Made.{answered, decided, deposit_for, deposited, document_passed, it_is, kind_unless, left_by, taken, told_kind}
+use Rattle.dep_answers.proofs.Made.{answered, decided, deposit_for, deposited, document_passed, it_is, kind_unless, left_by, taken, reported_kind}
 
 -- ---- what becomes of an object
 
@@ -51,20 +51,20 @@ module _ (config : Config) (s : State) (op : Operation) where
   object_tag t n o there is = ap (option_map (λ (x : state.Object). x.tag)) there ∙ ap (λ (k : ℕ). Some k) is
 
   -- the tag of what was asked for, once this decision is carried out
-  abbrev Tells : Resource → Decision → Type 0
-  Tells r d = tag_at (effect_of s op.content d) r ≡ Some s.next.change
+  abbrev Reports : Resource → Decision → Type 0
+  Reports r d = tag_at (effect_of s op.content d) r ≡ Some s.next.change
 
-  completed : (n : ℕ) (o : state.Object) → finmap.get s.objects n ≡ Some o → Tells (Object n) (Complete n)
+  completed : (n : ℕ) (o : state.Object) → finmap.get s.objects n ≡ Some o → Reports (Object n) (Complete n)
   completed n o there =
       object_tag (effect_of s op.content (Complete n)) n (ingested_by true (changed s o))
       (changed_at s.objects n (λ x. ingested_by true (changed s x)) o there) refl
 
-  grown : (n : ℕ) (o : state.Object) → finmap.get s.objects n ≡ Some o → (d : Deposit) → Tells (Object n) (Append n d (ingests op))
+  grown : (n : ℕ) (o : state.Object) → finmap.get s.objects n ≡ Some o → (d : Deposit) → Reports (Object n) (Append n d (ingests op))
   grown n o there d =
       object_tag (effect_of s op.content (Append n d (ingests op))) n (ingested_by (ingests op) (appended s op.content d o))
       (changed_at s.objects n (λ x. ingested_by (ingests op) (appended s op.content d x)) o there) (appended_tag d o)
 
-  replaced : (n : ℕ) (o : state.Object) → finmap.get s.objects n ≡ Some o → (d : Deposit) → Tells (Object n) (Replace n d (ingests op))
+  replaced : (n : ℕ) (o : state.Object) → finmap.get s.objects n ≡ Some o → (d : Deposit) → Reports (Object n) (Replace n d (ingests op))
   replaced n o there d =
       object_tag (effect_of s op.content (Replace n d (ingests op))) n (filled s op.content d (o.ingested || ingests op))
       (changed_at s.objects n (λ x. filled s op.content d (x.ingested || ingests op)) o there) (filled_tag d (o.ingested || ingests op))
@@ -76,7 +76,7 @@ module _ (config : Config) (s : State) (op : Operation) where
 
   -- what is asked for tells the number of the change
   abbrev IsAsked : Resource → Method → Type 0
-  IsAsked r m = (d : Decision) × ((decision_at entries op r m ≡ Some d) × Tells r d)
+  IsAsked r m = (d : Decision) × ((decision_at entries op r m ≡ Some d) × Reports r d)
 
   posted_kinds : (n : ℕ) (kind : Kind) → takes_kind (Object n) Post kind ≡ true → takes_kind Service Post kind ≡ true
   posted_kinds n (of.File name) e = refl
@@ -118,7 +118,7 @@ module _ (config : Config) (s : State) (op : Operation) where
   in_its_place : (n : ℕ) (o : state.Object) → finmap.get s.objects n ≡ Some o → op.target.resource ≡ Object n → op.target.method ≡ Put
       → kind_rule op ≡ None → document_rule config (in_state s) op ≡ None → IsAsked (Object n) Put
   in_its_place n o there r m kinds document =
-      let kind = told_kind op (λ i. may_complete (r i) (m i)) kinds in
+      let kind = reported_kind op (λ i. may_complete (r i) (m i)) kinds in
       let takes = put_kinds n kind.0 ((λ i. takes_kind (sym r i) (sym m i) kind.0) ∙ taken op kind.0 (λ i. kind_without (r i) (m i)) kind.1) in
       let d = deposit_is kind.0 kind.1 takes document in
       (Replace n d.0 (ingests op), (ap (option_map (λ (x : Deposit). Replace n x (ingests op))) d.1, replaced n o there d.0))
@@ -129,8 +129,8 @@ module _ (config : Config) (s : State) (op : Operation) where
   unfolding presence_rule
   object_there n r e = it_is (finmap.get s.objects n) (unless-none (has_object s n) NotFound (ap (presence_refusal (in_state s)) (sym r) ∙ e))
 
-  tells : (r : Resource) (m : Method) → op.target.resource ≡ r → op.target.method ≡ m → IsAsked r m → tag_at (effect config s op) r ≡ Some s.next.change
-  tells r m at by asked =
+  reports : (r : Resource) (m : Method) → op.target.resource ≡ r → op.target.method ≡ m → IsAsked r m → tag_at (effect config s op) r ≡ Some s.next.change
+  reports r m at by asked =
       ap (λ (t : State). tag_at t r) (left_by config s op asked.0 (decided config s op r m asked.0 at by asked.1.0)) ∙ asked.1.1
 
   pub posted_tag : (n : ℕ) → op.target.resource ≡ Object n → op.target.method ≡ Post → refusal config s op ≡ None
@@ -139,7 +139,7 @@ module _ (config : Config) (s : State) (op : Operation) where
       let passed = content_passed config (in_state s) op e (ap has_content m) in
       let o = object_there n r (presence_passed config (in_state s) op e) in
       ap (λ (a : Answer). a.tag) (answered config s op (Object n) Post r m (effect config s op))
-      ∙ tells (Object n) Post r m (grown_or_completed n o.0 o.1 r m passed.kind passed.document (is_completion op) refl)
+      ∙ reports (Object n) Post r m (grown_or_completed n o.0 o.1 r m passed.kind passed.document (is_completion op) refl)
 
   pub put_tag : (n : ℕ) → op.target.resource ≡ Object n → op.target.method ≡ Put → refusal config s op ≡ None
       → (accepted_answer config (effect config s op) op).tag ≡ Some s.next.change
@@ -147,10 +147,10 @@ module _ (config : Config) (s : State) (op : Operation) where
       let passed = content_passed config (in_state s) op e (ap has_content m) in
       let o = object_there n r (presence_passed config (in_state s) op e) in
       ap (λ (a : Answer). a.tag) (answered config s op (Object n) Put r m (effect config s op))
-      ∙ tells (Object n) Put r m (in_its_place n o.0 o.1 r m passed.kind passed.document)
+      ∙ reports (Object n) Put r m (in_its_place n o.0 o.1 r m passed.kind passed.document)
 
-pub told_tag : (config : Config) (s : State) (op : Operation) (n : ℕ) → op.target.resource ≡ Object n
+pub reported_tag : (config : Config) (s : State) (op : Operation) (n : ℕ) → op.target.resource ≡ Object n
     → (op.target.method ≡ Post) ⊎ (op.target.method ≡ Put) → refusal config s op ≡ None
     → (accepted_answer config (effect config s op) op).tag ≡ Some s.next.change
-told_tag config s op n at (inl by) e = posted_tag config s op n at by e
-told_tag config s op n at (inr by) e = put_tag config s op n at by e
+reported_tag config s op n at (inl by) e = posted_tag config s op n at by e
+reported_tag config s op n at (inr by) e = put_tag config s op n at by e

@@ -1,6 +1,6 @@
 pub mod ReplyLemmas
 pub mod Rising
-pub mod ToldLemmas
+pub mod ReportedLemmas
 pub mod BagLemmas
 pub mod ShownReplies
 pub mod NumberedReplies

@@ -36,7 +36,7 @@ use Rattle.dep_decisions.proofs.Passed.{content_passed}
 use Rattle.dep_answers.specs.Answers.{Document, answer}
 use Rattle.dep_answers.specs.Replies.{answer_to, created_answer, opened_answer}
 use Rattle.dep_answers.specs.Steps.{accepted_answer}
-use Rattle.dep_answers.specs.Laws.{IsToldObject, IsToldUpload}
+use Rattle.dep_answers.specs.Laws.{IsReportedObject, IsReportedUpload}
 
 -- ---- kinds
 
@@ -84,9 +84,9 @@ unfolding kind_rule
 kind_unless op none e =
     it_is (kind_of op) (either_true (is_some (kind_of op)) (is_completion op) (unless-none (is_some (kind_of op) || is_completion op) BadRequest e) none)
 
-pub told_kind : (op : Operation) → may_complete op.target.resource op.target.method ≡ false → kind_rule op ≡ None
+pub reported_kind : (op : Operation) → may_complete op.target.resource op.target.method ≡ false → kind_rule op ≡ None
     → (kind : Kind) × (kind_of op ≡ Some kind)
-told_kind op whole e = kind_unless op (no_completion op whole) e
+reported_kind op whole e = kind_unless op (no_completion op whole) e
 
 back : (n : ℕ) → (n + 1) - 1 ≡ n
 back n = omega arith
@@ -144,9 +144,9 @@ module _ (config : Config) (s : State) (op : Operation) where
   filled_tag (deposit.Files new) = refl
   filled_tag (deposit.Metadata texts) = refl
 
-  told_object_at : (d : Deposit) → op.target.resource ≡ Service → op.target.method ≡ Post → decision config op ≡ Create d (ingests op)
-      → IsToldObject config s op
-  told_object_at d at by is =
+  reported_object_at : (d : Deposit) → op.target.resource ≡ Service → op.target.method ≡ Post → decision config op ≡ Create d (ingests op)
+      → IsReportedObject config s op
+  reported_object_at d at by is =
       let o = filled s op.content d (ingests op) in
       let after = effect_of s op.content (Create d (ingests op)) in
       let there : finmap.get after.objects s.next.object ≡ Some o = get-insert_same s.objects s.next.object o in
@@ -163,13 +163,13 @@ module _ (config : Config) (s : State) (op : Operation) where
             ∙ ap (λ (n : ℕ). answer 201 (Some (Document (status_document config (object_view s.next.object o)))) (Some n) (Some (object_url config s.next.object))) (filled_tag d);
       }
 
-  pub told_object : op.target.resource ≡ Service → op.target.method ≡ Post → refusal config s op ≡ None → IsToldObject config s op
-  told_object at by e =
+  pub reported_object : op.target.resource ≡ Service → op.target.method ≡ Post → refusal config s op ≡ None → IsReportedObject config s op
+  reported_object at by e =
       let passed = content_passed config (in_state s) op e (ap has_content by) in
-      let kind = told_kind op (λ i. may_complete (at i) (by i)) passed.kind in
+      let kind = reported_kind op (λ i. may_complete (at i) (by i)) passed.kind in
       let takes = (λ i. takes_kind (sym at i) (sym by i) kind.0) ∙ taken op kind.0 (λ i. kind_without (at i) (by i)) kind.1 in
       let d = deposit_for kind.0 takes (document_passed kind.0 kind.1 passed.document) in
-      told_object_at d.0 at by
+      reported_object_at d.0 at by
       (decided Service Post (Create d.0 (ingests op)) at by (ap (option_map (λ (x : Deposit). Create x (ingests op))) (deposited kind.0 d.0 kind.1 d.1)))
 
   -- ---- uploads
@@ -181,9 +181,9 @@ module _ (config : Config) (s : State) (op : Operation) where
   opening_for of.References takes = absurd (cc)
   opening_for (of.Segment k) takes = absurd (cc)
 
-  told_upload_at : (o : Opening) → op.target.resource ≡ Staging → op.target.method ≡ Post → decision config op ≡ Open o
-      → IsToldUpload config s op
-  told_upload_at o at by is =
+  reported_upload_at : (o : Opening) → op.target.resource ≡ Staging → op.target.method ≡ Post → decision config op ≡ Open o
+      → IsReportedUpload config s op
+  reported_upload_at o at by is =
       let u = fresh s o in
       let after = effect_of s op.content (Open o) in
       let there : finmap.get after.uploads s.next.upload ≡ Some u = get-insert_same s.uploads s.next.upload u in
@@ -199,10 +199,10 @@ module _ (config : Config) (s : State) (op : Operation) where
             ∙ ap (λ (l : List ℕ). answer 201 (Some (Document (upload_document config (upload_row s.next.upload u) l))) None (Some (upload_url config s.next.upload))) no_keys;
       }
 
-  pub told_upload : op.target.resource ≡ Staging → op.target.method ≡ Post → refusal config s op ≡ None → IsToldUpload config s op
-  told_upload at by e =
-      let kind = told_kind op (λ i. may_complete (at i) (by i)) (content_passed config (in_state s) op e (ap has_content by)).kind in
+  pub reported_upload : op.target.resource ≡ Staging → op.target.method ≡ Post → refusal config s op ≡ None → IsReportedUpload config s op
+  reported_upload at by e =
+      let kind = reported_kind op (λ i. may_complete (at i) (by i)) (content_passed config (in_state s) op e (ap has_content by)).kind in
       let takes = (λ i. takes_kind (sym at i) (sym by i) kind.0) ∙ taken op kind.0 (λ i. kind_without (at i) (by i)) kind.1 in
       let o = opening_for kind.0 takes in
-      told_upload_at o.0 at by
+      reported_upload_at o.0 at by
       (decided Staging Post (Open o.0) at by (ap (option_and_then opened) kind.1 ∙ o.1))

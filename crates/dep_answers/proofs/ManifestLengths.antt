@@ -8,7 +8,7 @@ use Rattle.dep_types.specs.State.{State, Object, File}
 use Rattle.dep_types.specs.declared.rows.ObjectView.{ObjectView}
 use Rattle.dep_manifest.specs.Lengths.{OfLength}
 use Rattle.dep_manifest.specs.Manifest.{digest_by, manifest_of}
-use Rattle.dep_manifest.specs.Told.{row_path, told_listed}
+use Rattle.dep_manifest.specs.Reported.{row_path, reported_listed}
 use Rattle.dep_manifest.specs.declared.algorithm.Algorithm.{Algorithm}
 use Rattle.dep_manifest.specs.declared.algorithm.Algorithm.TheVariants.{Sha256, Sha512}
 use Rattle.dep_bag.specs.Bag.{listed_files, payload}
@@ -18,11 +18,11 @@ use Rattle.dep_bag.specs.declared.part.TagFile.TheVariants as tag
 use Rattle.dep_answers.specs.Answers.{PlainText, ReplyContent, answer}
 use Rattle.dep_answers.specs.Bags.{shown_in_bag}
 use Rattle.dep_answers.specs.Performing.{IsReply, Says}
-use Rattle.dep_answers.specs.Subjects.{tag_subject}
-use Rattle.dep_answers.specs.Telling.{IsShownByRow, IsTagView, SaysLength, measured_by, view_by}
+use Rattle.dep_answers.specs.ReadSets.{tag_read_set}
+use Rattle.dep_answers.specs.Reporting.{IsShownByRow, IsTagView, SaysLength, measured_by, view_by}
 use Rattle.dep_answers.specs.declared.performed.Delivery.{Delivery}
 use Rattle.dep_answers.specs.declared.performed.Performed.{Performed}
-use Rattle.dep_answers.specs.declared.subject.Subject.TheVariants as subject
+use Rattle.dep_answers.specs.declared.read_set.ReadSet.TheVariants as read_set
 use Rattle.dep_answers.proofs.BagLemmas.{manifest_shown, tag_manifest_shown}
 use Rattle.dep_answers.proofs.ShownReplies.{replies_as}
 
@@ -51,28 +51,28 @@ module _ (s : State) (n : ℕ) (o : Object) (path : List ℕ) (delivery : Delive
       replies_as s (answer 200 (Some (PlainText text)) None None) (answer 200 (shown_in_bag o path) None None) delivery p
       (ap (λ (x : Option ReplyContent). answer 200 x None None) (sym is)) says
 
-  pub manifest_measured : (view : ObjectView) → tag_file_at path ≡ Some (tag.Manifest a) → delivery.is_bare ≡ true → IsTagView path view delivery.is_bare n o
+  pub manifest_measured : (view : ObjectView) → tag_file_at path ≡ Some (tag.Manifest a) → delivery.is_head_only ≡ true → IsTagView path view delivery.is_head_only n o
       → OfLength a (map row_path view.files) (λ size. SaysLength size delivery p) → SaysPath
-  manifest_measured view at bare is says =
+  manifest_measured view at head_only is says =
       let rows : map (λ (file : Entry). file.0) (payload o) ≡ map row_path view.files =
       payload_rows n (finmap.entries o.files)
-      ∙ ap (map row_path) (sym (ap (λ (v : ObjectView). v.files) is ∙ same_files n o (tag_file_at path) delivery.is_bare)) in
+      ∙ ap (map row_path) (sym (ap (λ (v : ObjectView). v.files) is ∙ same_files n o (tag_file_at path) delivery.is_head_only)) in
       let text = manifest_of (digest_by a) (payload o) in
-      shown_as text (manifest_shown path o a at) (says (payload o) rows bare s text refl)
+      shown_as text (manifest_shown path o a at) (says (payload o) rows head_only s text refl)
 
-  pub tag_manifest_measured : (size : ℕ) → tag_file_at path ≡ Some (tag.TagManifest a) → IsShownByRow path delivery.is_bare n o
-      → ((view : ObjectView) → OfLength a (map (λ file. file.0) (told_listed view)) (λ length. size ≡ length)) → SaysLength size delivery p → SaysPath
-  tag_manifest_measured size at by told says =
+  pub tag_manifest_measured : (size : ℕ) → tag_file_at path ≡ Some (tag.TagManifest a) → IsShownByRow path delivery.is_head_only n o
+      → ((view : ObjectView) → OfLength a (map (λ file. file.0) (reported_listed view)) (λ length. size ≡ length)) → SaysLength size delivery p → SaysPath
+  tag_manifest_measured size at by reported says =
       let text = manifest_of (digest_by a) (listed_files o) in
       shown_as text (tag_manifest_shown path o a at)
-      (says (bare delivery.is_bare (ap (λ (file : Option TagFile). tag_subject n file delivery.is_bare) (sym at) ∙ by)) s text (sym (told (object_view n o) (listed_files o) refl)))
+      (says (head_only delivery.is_head_only (ap (λ (file : Option TagFile). tag_read_set n file delivery.is_head_only) (sym at) ∙ by)) s text (sym (reported (object_view n o) (listed_files o) refl)))
     where
-      bare : (b : Bool) → tag_subject n (Some (tag.TagManifest a)) b ≡ subject.ObjectRow n → b ≡ true
-      bare true e = refl
-      bare false e = absurd (cc)
+      head_only : (b : Bool) → tag_read_set n (Some (tag.TagManifest a)) b ≡ read_set.ObjectRow n → b ≡ true
+      head_only true e = refl
+      head_only false e = absurd (cc)
 
 -- what the row shows and is no tag manifest is the declaration
-pub declared_by_row : (n : ℕ) (file : Option TagFile) (b : Bool) → tag_subject n file b ≡ subject.ObjectRow n → ((a : Algorithm) → file ≡ Some (tag.TagManifest a) → ⊥)
+pub declared_by_row : (n : ℕ) (file : Option TagFile) (b : Bool) → tag_read_set n file b ≡ read_set.ObjectRow n → ((a : Algorithm) → file ≡ Some (tag.TagManifest a) → ⊥)
     → file ≡ Some tag.Declaration
 declared_by_row n (Some tag.Declaration) b e none = refl
 declared_by_row n (Some tag.Information) b e none = absurd (cc)

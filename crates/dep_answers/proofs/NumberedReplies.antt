@@ -22,12 +22,12 @@ use Rattle.dep_bag.proofs.Lines.{All-none}
 use Rattle.dep_bag.proofs.Numbered.{HasStorable, files_storable, found_by_number, none_by_number, numbered}
 use Rattle.dep_answers.specs.Answers.{Document, ReplyContent, StoredContent, answer}
 use Rattle.dep_answers.specs.Bags.{BagEntry, bag_entries, payload_shown, shown_in_bag, tags_shown}
-use Rattle.dep_answers.specs.Subjects.{files_view, payload_view, shown_at, subject_in_bag, tag_subject}
-use Rattle.dep_answers.specs.Telling.{IsShownByRow, IsTagView, view_by}
-use Rattle.dep_answers.specs.Told.{bag_answer}
-use Rattle.dep_answers.specs.declared.subject.Shown.{Shown}
-use Rattle.dep_answers.specs.declared.subject.Shown.TheVariants as shown
-use Rattle.dep_answers.specs.declared.subject.Subject.TheVariants as subject
+use Rattle.dep_answers.specs.ReadSets.{files_view, payload_view, shown_at, read_set_in_bag, tag_read_set}
+use Rattle.dep_answers.specs.Reporting.{IsShownByRow, IsTagView, view_by}
+use Rattle.dep_answers.specs.Reported.{bag_answer}
+use Rattle.dep_answers.specs.declared.read_set.Shown.{Shown}
+use Rattle.dep_answers.specs.declared.read_set.Shown.TheVariants as shown
+use Rattle.dep_answers.specs.declared.read_set.ReadSet.TheVariants as read_set
 use Rattle.dep_answers.proofs.BagLemmas.{found_through, metadata_shown}
 use Rattle.dep_answers.proofs.ShownReplies.{file_in, no_bag_answer, no_file}
 
@@ -154,15 +154,15 @@ not_shown sh show other something None e = something e
 not_shown sh show other something (Some x) e = other x e
 
 -- what a tag file of an object is shown by
-abbrev show_by : ℕ → Option TagFile → (is_bare : Bool) → Object → Shown
-show_by n (Some tag.Declaration) is_bare o = shown.ObjectRow (object_row n o)
-show_by n (Some tag.Metadata) is_bare o = shown.Metadata (object_row n o) o.metadata
+abbrev show_by : ℕ → Option TagFile → (is_head_only : Bool) → Object → Shown
+show_by n (Some tag.Declaration) is_head_only o = shown.ObjectRow (object_row n o)
+show_by n (Some tag.Metadata) is_head_only o = shown.Metadata (object_row n o) o.metadata
 show_by n (Some (tag.Manifest Sha512)) false o = shown.Files (payload_view n o)
 show_by n (Some (tag.TagManifest a)) false o = shown.Object (object_view n o)
 show_by n (Some (tag.TagManifest a)) true o = shown.ObjectRow (object_row n o)
-show_by n file is_bare o = shown.Files (files_view n o)
+show_by n file is_head_only o = shown.Files (files_view n o)
 
-read_by : (s : State) (n : ℕ) (file : Option TagFile) (b : Bool) → shown_at s (tag_subject n file b) ≡ option_map_or (show_by n file b) (finmap.get s.objects n) shown.Nothing
+read_by : (s : State) (n : ℕ) (file : Option TagFile) (b : Bool) → shown_at s (tag_read_set n file b) ≡ option_map_or (show_by n file b) (finmap.get s.objects n) shown.Nothing
 read_by s n (Some tag.Declaration) b = refl
 read_by s n (Some tag.Information) b = refl
 read_by s n (Some (tag.Manifest Sha256)) b = refl
@@ -194,7 +194,7 @@ view_shown n view (Some (tag.TagManifest a)) false o (inr e) = absurd (cc)
 view_shown n view None b o (inl e) = absurd (cc)
 view_shown n view None b o (inr e) = cc
 
-row_shown : (n : ℕ) (row : ObjectRow) (file : Option TagFile) (b : Bool) (o : Object) → shown.ObjectRow row ≡ show_by n file b o → tag_subject n file b ≡ subject.ObjectRow n
+row_shown : (n : ℕ) (row : ObjectRow) (file : Option TagFile) (b : Bool) (o : Object) → shown.ObjectRow row ≡ show_by n file b o → tag_read_set n file b ≡ read_set.ObjectRow n
 row_shown n row (Some tag.Declaration) b o e = refl
 row_shown n row (Some tag.Information) b o e = absurd (cc)
 row_shown n row (Some (tag.Manifest Sha256)) b o e = absurd (cc)
@@ -217,33 +217,33 @@ texts_shown n row texts (Some (tag.TagManifest a)) true o e = absurd (cc)
 texts_shown n row texts (Some (tag.TagManifest a)) false o e = absurd (cc)
 texts_shown n row texts None b o e = absurd (cc)
 
-module _ (s : State) (n : ℕ) (path : List ℕ) (is_bare : Bool) (sh : Shown) where
+module _ (s : State) (n : ℕ) (path : List ℕ) (is_head_only : Bool) (sh : Shown) where
   abbrev IsRead : Type 0
-  IsRead = sh ≡ shown_at s (subject_in_bag n path is_bare)
+  IsRead = sh ≡ shown_at s (read_set_in_bag n path is_head_only)
 
   -- no file can stand at the path, and what is shown of the object is what its tag file is shown by
   abbrev IsTagRead : Object → Type 0
-  IsTagRead o = (file_number path ≡ None) × ((finmap.get s.objects n ≡ Some o) × (sh ≡ show_by n (tag_file_at path) is_bare o))
+  IsTagRead o = (file_number path ≡ None) × ((finmap.get s.objects n ≡ Some o) × (sh ≡ show_by n (tag_file_at path) is_head_only o))
 
   -- the row of the one file that can stand at the path, or else what the tag file there is shown by
   abbrev IsFileRead : ℕ → Type 0
   IsFileRead f = (file_number path ≡ Some f) × (sh ≡ option_map_or (λ (it : File). shown.File (file_row n f it)) (file_at s n f) shown.Nothing)
 
   abbrev IsObjectRead : Type 0
-  IsObjectRead = (file_number path ≡ None) × (sh ≡ option_map_or (show_by n (tag_file_at path) is_bare) (finmap.get s.objects n) shown.Nothing)
+  IsObjectRead = (file_number path ≡ None) × (sh ≡ option_map_or (show_by n (tag_file_at path) is_head_only) (finmap.get s.objects n) shown.Nothing)
 
   either_read : IsRead → ((f : ℕ) × IsFileRead f) ⊎ IsObjectRead
   either_read read = go (file_number path) refl read
     where
-      go : (k : Option ℕ) → file_number path ≡ k → sh ≡ shown_at s (option_map_or (λ f. subject.File (record { object = n; file = f })) k (tag_subject n (tag_file_at path) is_bare))
+      go : (k : Option ℕ) → file_number path ≡ k → sh ≡ shown_at s (option_map_or (λ f. read_set.File (record { object = n; file = f })) k (tag_read_set n (tag_file_at path) is_head_only))
           → ((f : ℕ) × IsFileRead f) ⊎ IsObjectRead
       go (Some f) of e = inl (f, (of, e))
-      go None of e = inr (of, e ∙ read_by s n (tag_file_at path) is_bare)
+      go None of e = inr (of, e ∙ read_by s n (tag_file_at path) is_head_only)
 
   tag_read : (sh ≡ shown.Nothing → ⊥) → ((row : FileRow) → sh ≡ shown.File row → ⊥) → IsRead → (o : Object) × IsTagRead o
   tag_read something no_row read = go (either_read read)
     where
-      there : file_number path ≡ None → (x : Option Object) → finmap.get s.objects n ≡ x → sh ≡ option_map_or (show_by n (tag_file_at path) is_bare) x shown.Nothing
+      there : file_number path ≡ None → (x : Option Object) → finmap.get s.objects n ≡ x → sh ≡ option_map_or (show_by n (tag_file_at path) is_head_only) x shown.Nothing
           → (o : Object) × IsTagRead o
       there of None is e = absurd (something e)
       there of (Some o) is e = (o, (of, (is, e)))
@@ -257,26 +257,26 @@ module _ (s : State) (n : ℕ) (path : List ℕ) (is_bare : Bool) (sh : Shown) w
   IsKnown known = (file_number path ≡ None) × ((o : Object) × ((finmap.get s.objects n ≡ Some o) × known n o))
 
   -- where an object was shown with its files, this is what its tag file is made of
-  pub object_read : (view : ObjectView) → (sh ≡ shown.Object view) ⊎ (sh ≡ shown.Files view) → IsRead → IsKnown (IsTagView path view is_bare)
+  pub object_read : (view : ObjectView) → (sh ≡ shown.Object view) ⊎ (sh ≡ shown.Files view) → IsRead → IsKnown (IsTagView path view is_head_only)
   object_read view (inl is) read =
       let found = tag_read (λ e. cc) (λ row e. cc) read in
-      (found.1.0, (found.0, (found.1.1.0, view_shown n view (tag_file_at path) is_bare found.0 (inl (sym is ∙ found.1.1.1)))))
+      (found.1.0, (found.0, (found.1.1.0, view_shown n view (tag_file_at path) is_head_only found.0 (inl (sym is ∙ found.1.1.1)))))
   object_read view (inr is) read =
       let found = tag_read (λ e. cc) (λ row e. cc) read in
-      (found.1.0, (found.0, (found.1.1.0, view_shown n view (tag_file_at path) is_bare found.0 (inr (sym is ∙ found.1.1.1)))))
+      (found.1.0, (found.0, (found.1.1.0, view_shown n view (tag_file_at path) is_head_only found.0 (inr (sym is ∙ found.1.1.1)))))
 
   -- where its row was shown alone, that is all that its tag file is shown by
-  pub row_read : (row : ObjectRow) → sh ≡ shown.ObjectRow row → IsRead → IsKnown (IsShownByRow path is_bare)
+  pub row_read : (row : ObjectRow) → sh ≡ shown.ObjectRow row → IsRead → IsKnown (IsShownByRow path is_head_only)
   row_read row is read =
       let found = tag_read (λ e. cc) (λ row e. cc) read in
-      (found.1.0, (found.0, (found.1.1.0, row_shown n row (tag_file_at path) is_bare found.0 (sym is ∙ found.1.1.1))))
+      (found.1.0, (found.0, (found.1.1.0, row_shown n row (tag_file_at path) is_head_only found.0 (sym is ∙ found.1.1.1))))
 
   -- where its metadata was shown with it, that stands there
   pub texts_read : (row : ObjectRow) (texts : Texts) → sh ≡ shown.Metadata row texts → IsRead
       → (o : Object) × ((finmap.get s.objects n ≡ Some o) × (shown_in_bag o path ≡ Some (Document (bag_metadata_document texts))))
   texts_read row texts is read =
       let found = tag_read (λ e. cc) (λ row e. cc) read in
-      let shows = texts_shown n row texts (tag_file_at path) is_bare found.0 (sym is ∙ found.1.1.1) in
+      let shows = texts_shown n row texts (tag_file_at path) is_head_only found.0 (sym is ∙ found.1.1.1) in
       (found.0, (found.1.1.0, metadata_shown path found.0 shows.0 ∙ ap (λ (t : Texts). Some (Document (bag_metadata_document t))) (sym shows.1)))
 
   -- where a file was shown, it is the one that was read
@@ -298,7 +298,7 @@ module _ (s : State) (n : ℕ) (path : List ℕ) (is_bare : Bool) (sh : Shown) w
       go : ((f : ℕ) × IsFileRead f) ⊎ IsObjectRead → (f : ℕ) × (file_number path ≡ Some f) × (it : File) × (file_at s n f ≡ Some it) × (row ≡ file_row n f it)
       go (inl (f, (of, e))) = let found = file_in n f row (file_at s n f) (sym is ∙ e) in (f, of, found.0, found.1.0, found.1.1)
       go (inr (of, e)) =
-          absurd (not_shown sh (show_by n (tag_file_at path) is_bare) (λ o e. no_row (tag_file_at path) is_bare o (sym is ∙ e)) (λ e. cc) (finmap.get s.objects n) e)
+          absurd (not_shown sh (show_by n (tag_file_at path) is_head_only) (λ o e. no_row (tag_file_at path) is_head_only o (sym is ∙ e)) (λ e. cc) (finmap.get s.objects n) e)
 
   -- where none of them was shown, nothing stands at the path
   module _ (no_view : (view : ObjectView) → sh ≡ shown.Object view → ⊥) (no_files : (view : ObjectView) → sh ≡ shown.Files view → ⊥)
@@ -315,9 +315,9 @@ module _ (s : State) (n : ℕ) (path : List ℕ) (is_bare : Bool) (sh : Shown) w
     no_show (Some (tag.TagManifest a)) false o e = no_view (object_view n o) e
     no_show None b o e = no_files (files_view n o) e
 
-    no_object : (x : Option Object) → sh ≡ option_map_or (show_by n (tag_file_at path) is_bare) x shown.Nothing → x ≡ None
+    no_object : (x : Option Object) → sh ≡ option_map_or (show_by n (tag_file_at path) is_head_only) x shown.Nothing → x ≡ None
     no_object None e = refl
-    no_object (Some o) e = absurd (no_show (tag_file_at path) is_bare o e)
+    no_object (Some o) e = absurd (no_show (tag_file_at path) is_head_only o e)
 
     pub nothing_read : IsSound s → IsRead → answer 200 None None None ≡ bag_answer s n path
     nothing_read sound read = go (either_read read)

@@ -9,7 +9,7 @@ use Rattle.dep_answers.specs.Replies.{stored_text, refused_answer}
 use Rattle.dep_answers.specs.Steps.{step_by, refused_step, is_head, operation_step}
 
 -- a refusal shows no content of a file
-pub nothing_stored : (s : State) (r : Refusal) (allow : Option (List ℕ)) (is_bare : Bool) → stored_text (refused_answer s.clock r allow) is_bare ≡ []
+pub nothing_stored : (s : State) (r : Refusal) (allow : Option (List ℕ)) (is_head_only : Bool) → stored_text (refused_answer s.clock r allow) is_head_only ≡ []
 unfolding stored_text
 nothing_stored s r allow true = refl
 nothing_stored s r allow false = refl

@@ -7,14 +7,14 @@ use Rattle.dep_types.specs.Rows.{file_row}
 use Rattle.dep_types.specs.declared.rows.FileRow.{FileRow}
 use Rattle.dep_reply.specs.Head.{ReplyHead, head_text}
 use Rattle.dep_answers.specs.Answers.{Answer, PlainText, ReplyContent, StoredContent, bytes_of, document_of, media_of, stored_of, answer, head_of, is_silent}
-use Rattle.dep_answers.specs.Replies.{unless_bare, front_text, stored_text}
+use Rattle.dep_answers.specs.Replies.{unless_head_only, front_text, stored_text}
 use Rattle.dep_answers.specs.Performing.{HasEnd, HasStatus, IsReply, measured_head, stored_in, stored_behind, stored_file}
-use Rattle.dep_answers.specs.Telling.{SaysLength}
+use Rattle.dep_answers.specs.Reporting.{SaysLength}
 use Rattle.dep_answers.specs.declared.performed.Delivery.{Delivery}
 use Rattle.dep_answers.specs.declared.performed.Performed.{Performed}
 use Rattle.dep_answers.specs.declared.performed.StoredFile.{StoredFile}
 
-nothing_either_way : (is_bare : Bool) → unless_bare is_bare [] ≡ []
+nothing_either_way : (is_head_only : Bool) → unless_head_only is_head_only [] ≡ []
 nothing_either_way true = refl
 nothing_either_way false = refl
 
@@ -24,34 +24,34 @@ none_there (Some it) e h = cc
 
 -- a reply without the content of a file
 pub text_reply : (s : State) (a : Answer) (delivery : Delivery) (p : Performed)
-    → p.front.items ≡ head_text (head_of a delivery.clock delivery.closes) ++ unless_bare delivery.is_bare (document_of a.content)
+    → p.front.items ≡ head_text (head_of a delivery.clock delivery.closes) ++ unless_head_only delivery.is_head_only (document_of a.content)
     → stored_of a.content ≡ [] → p.stored ≡ None → IsReply s a delivery p
 unfolding front_text stored_text
 text_reply s a delivery p front none nothing = record {
   front = front;
-  stored = ap (stored_in s) nothing ∙ sym (ap (unless_bare delivery.is_bare) none ∙ nothing_either_way delivery.is_bare);
+  stored = ap (stored_in s) nothing ∙ sym (ap (unless_head_only delivery.is_head_only) none ∙ nothing_either_way delivery.is_head_only);
   not_empty = λ has. absurd (none_there p.stored nothing has);
-  size = subst (λ (o : Option StoredFile). IfSome o (λ it. it.size ≡ length (unless_bare delivery.is_bare (stored_of a.content)))) (sym nothing) tt;
+  size = subst (λ (o : Option StoredFile). IfSome o (λ it. it.size ≡ length (unless_head_only delivery.is_head_only (stored_of a.content)))) (sym nothing) tt;
 }
 
 -- ---- where a reply ends
 
-told_end : (content : Option ReplyContent) (b : Bool) → (not (is_some content) && not b) ≡ false
+reported_end : (content : Option ReplyContent) (b : Bool) → (not (is_some content) && not b) ≡ false
     → (is_some (option_map (λ (c : ReplyContent). length (bytes_of c)) content) || b) ≡ true
-told_end (Some c) b e = refl
-told_end None true e = refl
-told_end None false e = absurd (cc)
+reported_end (Some c) b e = refl
+reported_end None true e = refl
+reported_end None false e = absurd (cc)
 
 -- what isn't silent tells where it ends
 pub ends_by : (a : Answer) (delivery : Delivery) (p : Performed) → is_silent a ≡ false
-    → p.front.items ≡ front_text a delivery.clock delivery.is_bare delivery.closes → HasStatus a.status None p → HasEnd p
+    → p.front.items ≡ front_text a delivery.clock delivery.is_head_only delivery.closes → HasStatus a.status None p → HasEnd p
 unfolding front_text
 ends_by a delivery p e front status = record {
   head = head_of a delivery.clock delivery.closes;
-  behind = unless_bare delivery.is_bare (document_of a.content);
+  behind = unless_head_only delivery.is_head_only (document_of a.content);
   front = front;
   status = status;
-  ends = told_end a.content (a.status == 204) e;
+  ends = reported_end a.content (a.status == 204) e;
 }
 
 -- ---- the content of a file
@@ -60,21 +60,21 @@ ends_by a delivery p e front status = record {
 abbrev head_by : FileRow → (tag : Option ℕ) → Delivery → ReplyHead
 head_by row tag delivery = measured_head row.media row.size tag delivery
 
-content_behind : (s : State) (is_bare : Bool) (content : List ℕ) (it : StoredFile)
+content_behind : (s : State) (is_head_only : Bool) (content : List ℕ) (it : StoredFile)
     → option_map_or (λ (x : File). x.content) (file_at s it.object it.file) [] ≡ content
-    → stored_in s (stored_behind is_bare content it) ≡ unless_bare is_bare content
+    → stored_in s (stored_behind is_head_only content it) ≡ unless_head_only is_head_only content
 content_behind s true content it e = refl
 content_behind s false [] it e = refl
 content_behind s false (b ∷ content) it e = e
 
-not_nothing : (is_bare : Bool) (content : List ℕ) (it : StoredFile) → IsSome (stored_behind is_bare content it)
-    → unless_bare is_bare content ≢ []
+not_nothing : (is_head_only : Bool) (content : List ℕ) (it : StoredFile) → IsSome (stored_behind is_head_only content it)
+    → unless_head_only is_head_only content ≢ []
 not_nothing true content it h = absurd (none_there None refl h)
 not_nothing false [] it h = absurd (none_there None refl h)
 not_nothing false (b ∷ content) it h = λ e. cc
 
-sized_behind : (is_bare : Bool) (content : List ℕ) (it : StoredFile) → it.size ≡ length content
-    → IfSome (stored_behind is_bare content it) (λ it. it.size ≡ length (unless_bare is_bare content))
+sized_behind : (is_head_only : Bool) (content : List ℕ) (it : StoredFile) → it.size ≡ length content
+    → IfSome (stored_behind is_head_only content it) (λ it. it.size ≡ length (unless_head_only is_head_only content))
 sized_behind true content it e = tt
 sized_behind false [] it e = tt
 sized_behind false (b ∷ content) it e = e
@@ -83,7 +83,7 @@ sized_behind false (b ∷ content) it e = e
 pub stored_ready : (s : State) (file : File) (row : FileRow) (tag : Option ℕ) (delivery : Delivery) (p : Performed)
     → file_at s row.object row.file ≡ Some file → row ≡ file_row row.object row.file file
     → p.front.items ≡ head_text (head_by row tag delivery)
-    → p.stored ≡ stored_behind delivery.is_bare file.content (stored_file row)
+    → p.stored ≡ stored_behind delivery.is_head_only file.content (stored_file row)
     → IsReply s (answer 200 (Some (StoredContent file.media file.content)) tag None) delivery p
 unfolding front_text stored_text
 stored_ready s file row tag delivery p there is front stored =
@@ -91,12 +91,12 @@ stored_ready s file row tag delivery p there is front stored =
     record {
       front = front ∙ ap (λ (r : FileRow). head_text (head_by r tag delivery)) is
           ∙ sym (append-nil (head_text (head_by (file_row row.object row.file file) tag delivery)))
-          ∙ ap (λ (l : List ℕ). head_text (head_by (file_row row.object row.file file) tag delivery) ++ l) (sym (nothing_either_way delivery.is_bare));
+          ∙ ap (λ (l : List ℕ). head_text (head_by (file_row row.object row.file file) tag delivery) ++ l) (sym (nothing_either_way delivery.is_head_only));
       stored = ap (stored_in s) stored
-          ∙ content_behind s delivery.is_bare file.content it (ap (λ (o : Option File). option_map_or (λ (x : File). x.content) o []) there);
-      not_empty = λ has. not_nothing delivery.is_bare file.content it (subst IsSome stored has);
-      size = subst (λ (o : Option StoredFile). IfSome o (λ it. it.size ≡ length (unless_bare delivery.is_bare file.content))) (sym stored)
-          (sized_behind delivery.is_bare file.content it (ap (λ (r : FileRow). r.size) is));
+          ∙ content_behind s delivery.is_head_only file.content it (ap (λ (o : Option File). option_map_or (λ (x : File). x.content) o []) there);
+      not_empty = λ has. not_nothing delivery.is_head_only file.content it (subst IsSome stored has);
+      size = subst (λ (o : Option StoredFile). IfSome o (λ it. it.size ≡ length (unless_head_only delivery.is_head_only file.content))) (sym stored)
+          (sized_behind delivery.is_head_only file.content it (ap (λ (r : FileRow). r.size) is));
     }
 
 -- a head with a length tells where its reply ends
@@ -119,12 +119,12 @@ abbrev length_head : (size : ℕ) → Delivery → ReplyHead
 length_head size delivery = measured_head (media_of (PlainText [])) size None delivery
 
 pub length_ready : (size : ℕ) (delivery : Delivery) (p : Performed) → p.front.items ≡ head_text (length_head size delivery) → p.stored ≡ None → SaysLength size delivery p
-length_ready size delivery p front nothing bare s text sized =
+length_ready size delivery p front nothing head_only s text sized =
     text_reply s (answer 200 (Some (PlainText text)) None None) delivery p
     (front
     ∙ ap (λ (n : ℕ). head_text (length_head n delivery)) (sym sized)
     ∙ sym (append-nil (head_text (length_head (length text) delivery)))
-    ∙ ap (λ (b : Bool). head_text (length_head (length text) delivery) ++ unless_bare b text) (sym bare))
+    ∙ ap (λ (b : Bool). head_text (length_head (length text) delivery) ++ unless_head_only b text) (sym head_only))
     refl nothing
 
 pub length_ends : (size : ℕ) (delivery : Delivery) (p : Performed) → p.front.items ≡ head_text (length_head size delivery) → HasStatus 200 None p → HasEnd p

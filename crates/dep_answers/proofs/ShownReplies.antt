@@ -15,14 +15,14 @@ use Rattle.dep_answers.specs.Bags.{shown_in_bag}
 use Rattle.dep_answers.specs.Performing.{IsReply, Says}
 use Rattle.dep_answers.specs.Replies.{answer_to, shown_answer}
 use Rattle.dep_answers.specs.Steps.{is_head}
-use Rattle.dep_answers.specs.Subjects.{shown_at, subject_at, subject_of}
-use Rattle.dep_answers.specs.Told.{file_answer, bag_answer}
+use Rattle.dep_answers.specs.ReadSets.{shown_at, read_set_at, read_set_of}
+use Rattle.dep_answers.specs.Reported.{file_answer, bag_answer}
 use Rattle.dep_answers.specs.declared.performed.Delivery.{Delivery}
 use Rattle.dep_answers.specs.declared.performed.FileId.{FileId}
 use Rattle.dep_answers.specs.declared.performed.Performed.{Performed}
-use Rattle.dep_answers.specs.declared.subject.Shown.{Shown}
-use Rattle.dep_answers.specs.declared.subject.Shown.TheVariants as shown
-use Rattle.dep_answers.specs.declared.subject.Subject.TheVariants as subject
+use Rattle.dep_answers.specs.declared.read_set.Shown.{Shown}
+use Rattle.dep_answers.specs.declared.read_set.Shown.TheVariants as shown
+use Rattle.dep_answers.specs.declared.read_set.ReadSet.TheVariants as read_set
 
 -- the same reply, where the answer is another's
 pub says_as : (s : State) (a b : Answer) (delivery : Delivery) (said : Option Performed) → a ≡ b → Says s a delivery said → Says s b delivery said
@@ -56,7 +56,7 @@ says_row row tag delivery p says s n f file there is =
     (is ∙ ap (λ (r : FileRow). file_row r.object r.file file) (sym is))
 
 pub file_reply_is : (s : State) (id : FileId) (row : FileRow) (sh : Shown) (delivery : Delivery) (p : Performed)
-    → sh ≡ shown.File row → sh ≡ shown_at s (subject.File id) → SaysRow row (Some row.tag) delivery p
+    → sh ≡ shown.File row → sh ≡ shown_at s (read_set.File id) → SaysRow row (Some row.tag) delivery p
     → IsReply s (file_answer s id) delivery p
 file_reply_is s id row sh delivery p is e says =
     let found = file_in id.object id.file row (file_at s id.object id.file) (sym is ∙ e) in
@@ -93,18 +93,18 @@ no_bag_answer s n path none =
 
 -- the reply that shows a resource that is this one
 pub shows : (config : Config) (s : State) (sh : Shown) (delivery : Delivery) (said : Option Performed) (r q : Resource) → r ≡ q
-    → (sh ≡ shown_at s (subject_at q delivery.is_bare) → Says s (shown_answer config s q) delivery said)
-    → sh ≡ shown_at s (subject_at r delivery.is_bare) → Says s (shown_answer config s r) delivery said
+    → (sh ≡ shown_at s (read_set_at q delivery.is_head_only) → Says s (shown_answer config s q) delivery said)
+    → sh ≡ shown_at s (read_set_at r delivery.is_head_only) → Says s (shown_answer config s r) delivery said
 shows config s sh delivery said r q is says =
-    subst (λ (x : Resource). sh ≡ shown_at s (subject_at x delivery.is_bare) → Says s (shown_answer config s x) delivery said) (sym is) says
+    subst (λ (x : Resource). sh ≡ shown_at s (read_set_at x delivery.is_head_only) → Says s (shown_answer config s x) delivery said) (sym is) says
 
 -- what a GET shows, or in a bare reply a HEAD, is the answer to it
 pub shows_safe : (config : Config) (s : State) (sh : Shown) (delivery : Delivery) (said : Option Performed) (r : Resource) (m : Method)
-    → is_safe m ≡ true → delivery.is_bare ≡ is_head m
-    → (sh ≡ shown_at s (subject_at r delivery.is_bare) → Says s (shown_answer config s r) delivery said)
-    → sh ≡ shown_at s (subject_of s.next r m) → Says s (answer_to config s r m) delivery said
-shows_safe config s sh delivery said r Get safe bare says e = says (e ∙ ap (λ (b : Bool). shown_at s (subject_at r b)) (sym bare))
-shows_safe config s sh delivery said r Head safe bare says e = says (e ∙ ap (λ (b : Bool). shown_at s (subject_at r b)) (sym bare))
-shows_safe config s sh delivery said r Post safe bare says e = absurd (cc)
-shows_safe config s sh delivery said r Put safe bare says e = absurd (cc)
-shows_safe config s sh delivery said r Delete safe bare says e = absurd (cc)
+    → is_safe m ≡ true → delivery.is_head_only ≡ is_head m
+    → (sh ≡ shown_at s (read_set_at r delivery.is_head_only) → Says s (shown_answer config s r) delivery said)
+    → sh ≡ shown_at s (read_set_of s.next r m) → Says s (answer_to config s r m) delivery said
+shows_safe config s sh delivery said r Get safe head_only says e = says (e ∙ ap (λ (b : Bool). shown_at s (read_set_at r b)) (sym head_only))
+shows_safe config s sh delivery said r Head safe head_only says e = says (e ∙ ap (λ (b : Bool). shown_at s (read_set_at r b)) (sym head_only))
+shows_safe config s sh delivery said r Post safe head_only says e = absurd (cc)
+shows_safe config s sh delivery said r Put safe head_only says e = absurd (cc)
+shows_safe config s sh delivery said r Delete safe head_only says e = absurd (cc)

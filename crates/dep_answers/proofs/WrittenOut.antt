@@ -66,13 +66,13 @@ shown_is =
 file_answer : answer_to example_config example_state (at.File 1 1) Get ≡ answer 200 (Some (StoredContent (codes "text/plain") (codes "abc"))) (Some 1) None
 file_answer = λ i. answer 200 (option_map (λ (f : File). StoredContent f.media f.content) (file i)) (option_map (λ (f : File). f.tag) (file i)) None
 
-file_by : (is_bare : Bool) → front_text (answer 200 (Some (StoredContent (codes "text/plain") (codes "abc"))) (Some 1) None) 1523836800 is_bare false ≡ file_head
+file_by : (is_head_only : Bool) → front_text (answer 200 (Some (StoredContent (codes "text/plain") (codes "abc"))) (Some 1) None) 1523836800 is_head_only false ≡ file_head
 unfolding front_text reply_on_literals
 file_by true = refl
 file_by false = refl
 
-pub file_front : (is_bare : Bool) → front_text (answer_to example_config example_state (at.File 1 1) Get) 1523836800 is_bare false ≡ file_head
-file_front is_bare = ap (λ (a : Answer). front_text a 1523836800 is_bare false) file_answer ∙ file_by is_bare
+pub file_front : (is_head_only : Bool) → front_text (answer_to example_config example_state (at.File 1 1) Get) 1523836800 is_head_only false ≡ file_head
+file_front is_head_only = ap (λ (a : Answer). front_text a 1523836800 is_head_only false) file_answer ∙ file_by is_head_only
 
 pub file_sent : stored_text (answer_to example_config example_state (at.File 1 1) Get) false ≡ codes "abc"
 unfolding stored_text

@@ -23,7 +23,7 @@ is_shown Staging = false
 is_shown resource = true
 
 -- an object stands at the number that was next, of the change that was next, and is answered with
-pub record IsToldObject (config : Config) (s : State) (op : Operation) : Type 0 where
+pub record IsReportedObject (config : Config) (s : State) (op : Operation) : Type 0 where
   pub object : Object
   pub there : finmap.get (effect config s op).objects s.next.object ≡ Some object
   pub tag : object.tag ≡ s.next.change
@@ -32,7 +32,7 @@ pub record IsToldObject (config : Config) (s : State) (op : Operation) : Type 0 
       (Some s.next.change) (Some (object_url config s.next.object))
 
 -- an upload stands at the number that was next, without segments, and is answered with
-pub record IsToldUpload (config : Config) (s : State) (op : Operation) : Type 0 where
+pub record IsReportedUpload (config : Config) (s : State) (op : Operation) : Type 0 where
   pub opening : Opening
   pub there : finmap.get (effect config s op).uploads s.next.upload ≡ Some (fresh s opening)
   pub answer : accepted_answer config (effect config s op) op
@@ -45,10 +45,10 @@ abbrev pub IsPostOrPut : Operation → Type 0
 IsPostOrPut op = (op.target.method ≡ Post) ⊎ (op.target.method ≡ Put)
 
 -- the tag that is answered is the number of the change
-abbrev pub IsToldTag : Config → State → Operation → Type 0
-IsToldTag config s op = (accepted_answer config (effect config s op) op).tag ≡ Some s.next.change
+abbrev pub IsReportedTag : Config → State → Operation → Type 0
+IsReportedTag config s op = (accepted_answer config (effect config s op) op).tag ≡ Some s.next.change
 
 -- what is sent is the reply to this refusal
-abbrev pub IsToldRefusal : Config → State → Operation → Refusal → Type 0
-IsToldRefusal config s op r = (operation_step config s op).front
+abbrev pub IsReportedRefusal : Config → State → Operation → Refusal → Type 0
+IsReportedRefusal config s op r = (operation_step config s op).front
     ≡ front_text (refused_answer s.clock r None) s.clock (is_head op.target.method) op.closes

@@ -2,9 +2,9 @@ pub mod Answers
 pub mod Bags
 pub mod Replies
 pub mod Steps
-pub mod Subjects
-pub mod Told
+pub mod ReadSets
+pub mod Reported
 pub mod Performing
-pub mod Telling
+pub mod Reporting
 pub mod Laws
 pub mod Examples

@@ -26,7 +26,7 @@ pub record IsReady (stepped : Stepped) (p : Performed) : Type 0 where
 
 -- what is ready says this, at the state
 abbrev pub IsReply : State → Answer → Delivery → Performed → Type 0
-IsReply s a delivery p = IsReady (answered_step s a delivery.clock delivery.is_bare delivery.closes) p
+IsReply s a delivery p = IsReady (answered_step s a delivery.clock delivery.is_head_only delivery.closes) p
 
 -- The same of what may be ready. What would show nothing, in a reply that has to give the length of its
 -- content, isn't said.
@@ -61,7 +61,7 @@ measured_head media size tag delivery = record {
 }
 
 -- the file whose content stands behind a head, unless the reply is bare or the file is empty
-abbrev pub stored_behind : (is_bare : Bool) → (content : List ℕ) → StoredFile → Option StoredFile
+abbrev pub stored_behind : (is_head_only : Bool) → (content : List ℕ) → StoredFile → Option StoredFile
 stored_behind true content it = None
 stored_behind false [] it = None
 stored_behind false (b ∷ content) it = Some it

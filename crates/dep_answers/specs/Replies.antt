@@ -128,14 +128,14 @@ refused_answer clock r allow = record {
 
 -- ---- bytes
 
-abbrev pub unless_bare : (is_bare : Bool) → List ℕ → List ℕ
-unless_bare is_bare bytes = if is_bare then [] else bytes
+abbrev pub unless_head_only : (is_head_only : Bool) → List ℕ → List ℕ
+unless_head_only is_head_only bytes = if is_head_only then [] else bytes
 
 -- the reply at a clock, as far as the content of a file: its head and a document; a bare one has no body
-unfoldable pub front_text : Answer → (clock : ℕ) (is_bare closes : Bool) → List ℕ
-front_text a clock is_bare closes =
-    head_text (head_of a clock closes) ++ unless_bare is_bare (document_of a.content)
+unfoldable pub front_text : Answer → (clock : ℕ) (is_head_only closes : Bool) → List ℕ
+front_text a clock is_head_only closes =
+    head_text (head_of a clock closes) ++ unless_head_only is_head_only (document_of a.content)
 
 -- the content of a file behind it
-unfoldable pub stored_text : Answer → (is_bare : Bool) → List ℕ
-stored_text a is_bare = unless_bare is_bare (stored_of a.content)
+unfoldable pub stored_text : Answer → (is_head_only : Bool) → List ℕ
+stored_text a is_head_only = unless_head_only is_head_only (stored_of a.content)

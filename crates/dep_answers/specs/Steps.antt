@@ -25,19 +25,19 @@ abbrev pub sent_by : Stepped → List ℕ
 sent_by stepped = stepped.front ++ stepped.stored
 
 -- the step that leaves this state and is answered so at this clock
-abbrev pub answered_step : State → Answer → (clock : ℕ) (is_bare closes : Bool) → Stepped
-answered_step s a clock is_bare closes = record {
+abbrev pub answered_step : State → Answer → (clock : ℕ) (is_head_only closes : Bool) → Stepped
+answered_step s a clock is_head_only closes = record {
   state = s;
-  front = front_text a clock is_bare closes;
-  stored = stored_text a is_bare;
+  front = front_text a clock is_head_only closes;
+  stored = stored_text a is_head_only;
   closes = closes;
 }
 
 -- what is refused leaves the state
-abbrev pub refused_step : State → Refusal → (allow : Option (List ℕ)) → (is_bare closes : Bool)
+abbrev pub refused_step : State → Refusal → (allow : Option (List ℕ)) → (is_head_only closes : Bool)
     → Stepped
-refused_step s r allow is_bare closes =
-    answered_step s (refused_answer s.clock r allow) s.clock is_bare closes
+refused_step s r allow is_head_only closes =
+    answered_step s (refused_answer s.clock r allow) s.clock is_head_only closes
 
 -- the reply to a HEAD is bare (RFC 9110, section 9.3.2)
 abbrev pub is_head : Method → Bool

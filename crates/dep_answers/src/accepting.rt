@@ -7,27 +7,27 @@ ghost use Rattle.dep_answers.specs.Answers.{answer, Document};
 ghost use Rattle.dep_answers.specs.Performing.{HasEnd, Says};
 ghost use Rattle.dep_answers.specs.Replies.{shown_answer};
 ghost use Rattle.dep_answers.specs.Steps.{is_head};
-ghost use Rattle.dep_answers.specs.Subjects.{shown_at, subject_at};
-ghost use Rattle.dep_answers.specs.Telling.{SaysShown};
-ghost use Rattle.dep_answers.specs.Told.{told_change, told_text};
+ghost use Rattle.dep_answers.specs.ReadSets.{shown_at, read_set_at};
+ghost use Rattle.dep_answers.specs.Reporting.{SaysShown};
+ghost use Rattle.dep_answers.specs.Reported.{reported_change, reported_text};
 
 use crate::answer::{Answer, ReplyText};
 use crate::bags::{bag_list, bag_reply};
 use crate::objects::{created, metadata, put, status};
 use crate::performed::{Delivery, Performed};
+use crate::read_set::Shown;
 use crate::service::Service;
 use crate::stored::file_reply;
-use crate::subject::Shown;
 use crate::uploads::{opened, upload};
 use dep_reply::Status;
 use dep_types::{Config, Method, Resource, Target};
 use std::alloc::{AllocError, Global};
 
 /// Returns the reply to a request that was accepted and carried out, by what the archive then shows at its
-/// [`Subject`](crate::Subject) (RFC 9110, section 15.3; SWORD 3.0). A reply to a HEAD, and no other, is delivered bare:
+/// [`ReadSet`](crate::Subject) (RFC 9110, section 15.3; SWORD 3.0). A reply to a HEAD, and no other, is delivered bare:
 /// it is that to the GET without its body, so that less may have been read for it. It is `None` where the reply would
 /// have nothing to show, though it had to give a length: for a resource that has no GET, where nothing was read, and
-/// where a damaged table gave numbers of segments that don't rise from 1 on. An `Err` is want of memory.
+/// where a damaged table gave numbers of segments that don't rise from 1 on. An `Err` is lack of memory.
 pub fn accepted(
     alloc: Global,
     service: &Service,
@@ -35,7 +35,7 @@ pub fn accepted(
     shown: &Shown,
     delivery: Delivery,
 ) -> Result<Option<Performed>, AllocError>
-    requires { delivery.is_bare ≡ is_head target.now.method }
+    requires { delivery.is_head_only ≡ is_head target.now.method }
     ensures says { IfOk result
         (SaysShown service.now target.now shown.now delivery) }
     ensures ends { IfOk result (λ said. IfSome said HasEnd) }
@@ -55,7 +55,7 @@ fn show(
     delivery: Delivery,
 ) -> Result<Option<Performed>, AllocError>
     ensures says { IfOk result (λ said. (s : State) → IsSound s
-        → shown.now ≡ shown_at s (subject_at resource.now delivery.is_bare)
+        → shown.now ≡ shown_at s (read_set_at resource.now delivery.is_head_only)
         → Says s (shown_answer service.now s resource.now) delivery said) }
     ensures ends { IfOk result (λ said. IfSome said HasEnd) }
 {
@@ -73,7 +73,7 @@ fn text(
     resource: &Resource,
     shown: &Shown,
 ) -> Result<Answer, AllocError>
-    ensures { IfOk result (λ a. a ≡ told_text service.now resource.now shown.now) }
+    ensures { IfOk result (λ a. a ≡ reported_text service.now resource.now shown.now) }
 {
     match resource {
         Resource::Service => service_document(alloc, service),
@@ -101,7 +101,7 @@ fn changed(
     shown: &Shown,
 ) -> Result<Answer, AllocError>
     ensures { IfOk result (λ a.
-        a ≡ told_change config.now target.now.method target.now.resource shown.now) }
+        a ≡ reported_change config.now target.now.method target.now.resource shown.now) }
 {
     match (target.method, &target.resource) {
         (Method::Post, Resource::Service) => created(alloc, config, shown),

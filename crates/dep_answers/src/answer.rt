@@ -4,8 +4,8 @@ ghost use Rattle.dep_types.specs.State.{State};
 ghost use Rattle.dep_reply.specs.Statuses.{status_number};
 ghost use Rattle.dep_answers.specs.Answers.{answer, head_of, is_silent, media_of, document_of, stored_of, Document};
 ghost use Rattle.dep_answers.specs.Performing.{HasEnd, HasStatus, IsReply, Says};
-ghost use Rattle.dep_answers.specs.Replies.{front_text, unless_bare};
-ghost use Rattle.dep_answers.specs.Told.{content_of};
+ghost use Rattle.dep_answers.specs.Replies.{front_text, unless_head_only};
+ghost use Rattle.dep_answers.specs.Reported.{content_of};
 
 use crate::performed::{Delivery, Performed};
 use dep_moment::Moment;
@@ -26,7 +26,7 @@ pub(crate) enum Form {
 impl Form {
     ghost use Rattle.std.specs.Prelude.{◌≡◌, ℕ, List};
     ghost use Rattle.dep_answers.specs.Answers.{media_of};
-    ghost use Rattle.dep_answers.specs.Told.{content_of};
+    ghost use Rattle.dep_answers.specs.Reported.{content_of};
 
     /// Its media type (RFC 9110, section 8.3).
     pub(crate) fn media(self) -> &'static str
@@ -48,7 +48,7 @@ pub(crate) struct ReplyText {
 
 impl Model for ReplyText {
     ghost use Rattle.dep_answers.specs.Answers.{ReplyContent};
-    ghost use Rattle.dep_answers.specs.Told.{content_of};
+    ghost use Rattle.dep_answers.specs.Reported.{content_of};
 
     ghost Value = { ReplyContent };
 
@@ -182,11 +182,11 @@ impl Answer {
     ) -> Result<Performed, AllocError>
         ensures says { IfOk result (λ p. (s : State) → IsReply s self.now delivery p) }
         ensures front { IfOk result (λ p. p.front.items
-            ≡ front_text self.now delivery.clock delivery.is_bare delivery.closes) }
+            ≡ front_text self.now delivery.clock delivery.is_head_only delivery.closes) }
         ensures status { IfOk result (HasStatus self.now.status refusal) }
     {
         let mut front = spell_head(alloc, &self.head(delivery.clock, delivery.closes))?;
-        self.add_text(&mut front, delivery.is_bare)?;
+        self.add_text(&mut front, delivery.is_head_only)?;
         Ok(Performed {
             status: self.status,
             refusal,
@@ -196,16 +196,16 @@ impl Answer {
     }
 
     // Adds the text behind a head, unless the reply has no body.
-    fn add_text(&self, front: &mut Vec<u8>, is_bare: bool) -> Result<(), AllocError>
+    fn add_text(&self, front: &mut Vec<u8>, is_head_only: bool) -> Result<(), AllocError>
         ensures text { OnOk result (front.new.items ≡
-            front.old.items ++ unless_bare is_bare (document_of self.now.content)) }
+            front.old.items ++ unless_head_only is_head_only (document_of self.now.content)) }
         ensures stored { stored_of self.now.content ≡ [] }
     {
         let Some(content) = &self.content else {
             return Ok(());
         };
         let text = content.bytes();
-        if is_bare {
+        if is_head_only {
             return Ok(());
         }
         front.extend_from_slice(text)

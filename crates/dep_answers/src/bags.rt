@@ -5,20 +5,20 @@ ghost use Rattle.dep_types.specs.Sound.{IsSound};
 ghost use Rattle.dep_docs_out.specs.Documents.{bag_metadata_document};
 ghost use Rattle.dep_manifest.specs.Lengths.{OfLength};
 ghost use Rattle.dep_manifest.specs.TagFiles.{bagit_text};
-ghost use Rattle.dep_manifest.specs.Told.{row_path};
+ghost use Rattle.dep_manifest.specs.Reported.{row_path};
 ghost use Rattle.dep_bag.specs.Bag.{list_text};
 ghost use Rattle.dep_bag.specs.Parts.{tag_file_at};
 ghost use Rattle.dep_answers.specs.Answers.{answer, Document, PlainText};
 ghost use Rattle.dep_answers.specs.Performing.{HasEnd, Says};
-ghost use Rattle.dep_answers.specs.Subjects.{shown_at, subject_in_bag};
-ghost use Rattle.dep_answers.specs.Told.{told_list, form_at, bag_answer};
-ghost use Rattle.dep_answers.specs.Telling.{IsShownByRow, IsTagView, SaysLength, SaysPayload, SaysTagFile, measured_by};
+ghost use Rattle.dep_answers.specs.ReadSets.{shown_at, read_set_in_bag};
+ghost use Rattle.dep_answers.specs.Reported.{reported_list, form_at, bag_answer};
+ghost use Rattle.dep_answers.specs.Reporting.{IsShownByRow, IsTagView, SaysLength, SaysPayload, SaysTagFile, measured_by};
 
 use crate::answer::{Answer, Form, ReplyText};
 use crate::measured::measured_reply;
 use crate::performed::{Delivery, Performed};
+use crate::read_set::Shown;
 use crate::stored::stored_reply;
-use crate::subject::Shown;
 use dep_bag::{BagPart, TagFile, bag_file, bag_paths, is_payload_path, tag_file};
 use dep_docs_out::bag_metadata_doc;
 use dep_manifest::{
@@ -30,7 +30,7 @@ use std::alloc::{AllocError, Global};
 
 /// The list of a bag: the path of each of its files, with a line feed.
 pub(crate) fn bag_list(alloc: Global, shown: &Shown) -> Result<Answer, AllocError>
-    ensures { IfOk result (λ a. a ≡ told_list shown.now) }
+    ensures { IfOk result (λ a. a ≡ reported_list shown.now) }
 {
     let Shown::Files(view) = shown else {
         return Ok(Answer::without_content(Status::Ok));
@@ -65,7 +65,7 @@ pub(crate) fn bag_reply(
     delivery: Delivery,
 ) -> Result<Option<Performed>, AllocError>
     ensures says { IfOk result (λ said. (s : State) (n : ℕ) → IsSound s
-        → shown.now ≡ shown_at s (subject_in_bag n path.now delivery.is_bare)
+        → shown.now ≡ shown_at s (read_set_in_bag n path.now delivery.is_head_only)
         → Says s (bag_answer s n path.now) delivery said) }
     ensures ends { IfOk result (λ said. IfSome said HasEnd) }
 {
@@ -86,7 +86,7 @@ fn reply_by_row(
     delivery: Delivery,
 ) -> Result<Option<Performed>, AllocError>
     ensures says { IfOk result
-        (SaysTagFile path.now (IsShownByRow path.now delivery.is_bare) delivery) }
+        (SaysTagFile path.now (IsShownByRow path.now delivery.is_head_only) delivery) }
     ensures ends { IfOk result (λ said. IfSome said HasEnd) }
 {
     match tag_file(path) {
@@ -141,10 +141,10 @@ fn tag_file_reply(
     delivery: Delivery,
 ) -> Result<Option<Performed>, AllocError>
     ensures says { IfOk result
-        (SaysTagFile path.now (IsTagView path.now view.now delivery.is_bare) delivery) }
+        (SaysTagFile path.now (IsTagView path.now view.now delivery.is_head_only) delivery) }
     ensures ends { IfOk result (λ said. IfSome said HasEnd) }
 {
-    if let Some(algorithm) = measured(path, delivery.is_bare) {
+    if let Some(algorithm) = measured(path, delivery.is_head_only) {
         let files = view.files.as_slice();
         return Ok(Some(measured_manifest(alloc, files, algorithm, delivery)?));
     }
@@ -158,10 +158,10 @@ fn tag_file_reply(
 }
 
 // The algorithm of the payload's manifest, where that stands at the path and a bare reply is to say how long it is.
-fn measured(path: &[u8], is_bare: bool) -> Option<Algorithm>
-    ensures { result ≡ measured_by (tag_file_at path.now) is_bare }
+fn measured(path: &[u8], is_head_only: bool) -> Option<Algorithm>
+    ensures { result ≡ measured_by (tag_file_at path.now) is_head_only }
 {
-    match (tag_file(path), is_bare) {
+    match (tag_file(path), is_head_only) {
         (Some(TagFile::Manifest(algorithm)), true) => Some(algorithm),
         _ => None,
     }

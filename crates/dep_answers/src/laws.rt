@@ -18,7 +18,7 @@ ghost use Rattle.dep_answers.specs.Answers.{bytes_of, head_of};
 ghost use Rattle.dep_answers.specs.Bags.{bag_entries};
 ghost use Rattle.dep_docs_out.specs.ExampleDocuments.{example_config};
 ghost use Rattle.dep_answers.specs.Examples.{example_state, created_reply, upload_reply, file_head, changed_reply};
-ghost use Rattle.dep_answers.specs.Laws.{IsToldObject, IsToldUpload, IsToldTag, IsToldRefusal, IsPostOrPut, is_shown};
+ghost use Rattle.dep_answers.specs.Laws.{IsReportedObject, IsReportedUpload, IsReportedTag, IsReportedRefusal, IsPostOrPut, is_shown};
 ghost use Rattle.dep_answers.specs.Replies.{answer_to, content_at, refused_answer, front_text, stored_text};
 ghost use Rattle.dep_answers.specs.Steps.{operation_step};
 
@@ -48,25 +48,25 @@ pub fn what_is_there_is_shown()
 
 /// A deposit on the Service-URL is answered with the object that it made, under the number that was
 /// next, with the number of the change as its tag, and with its URL.
-pub fn deposits_are_told_their_object()
+pub fn deposits_are_reported_their_object()
     ensures { (config : AConfig) (s : State) (op : AnOperation) → op.target.resource ≡ AService
-        → op.target.method ≡ APost → refusal config s op ≡ None → IsToldObject config s op }
+        → op.target.method ≡ APost → refusal config s op ≡ None → IsReportedObject config s op }
 {}
 
 /// An opening is answered with the upload that it made, under the number that was next, all of
 /// whose segments are still to come, and with its URL.
-pub fn openings_are_told_their_upload()
+pub fn openings_are_reported_their_upload()
     ensures { (config : AConfig) (s : State) (op : AnOperation) → op.target.resource ≡ AStaging
-        → op.target.method ≡ APost → refusal config s op ≡ None → IsToldUpload config s op }
+        → op.target.method ≡ APost → refusal config s op ≡ None → IsReportedUpload config s op }
 {}
 
 /// A POST and a PUT on an Object-URL are answered with the number of the change as the object's
 /// tag.
-pub fn changes_are_told_their_tag()
+pub fn changes_are_reported_their_tag()
     ensures { (config : AConfig) (s : State) (op : AnOperation) (n : ℕ)
         → op.target.resource ≡ AnObject n → IsPostOrPut op
         → refusal config s op ≡ None
-        → IsToldTag config s op }
+        → IsReportedTag config s op }
 {}
 
 /// A refused request changes nothing: it leaves the state as it was, and is sent the reply to its
@@ -75,7 +75,7 @@ pub fn refused_requests_change_nothing()
     ensures state { (config : AConfig) (s : State) (op : AnOperation) (r : ARefusal)
         → refusal config s op ≡ Some r → (operation_step config s op).state ≡ s }
     ensures reply { (config : AConfig) (s : State) (op : AnOperation) (r : ARefusal)
-        → refusal config s op ≡ Some r → IsToldRefusal config s op r }
+        → refusal config s op ≡ Some r → IsReportedRefusal config s op r }
     ensures alone { (config : AConfig) (s : State) (op : AnOperation) (r : ARefusal)
         → refusal config s op ≡ Some r → (operation_step config s op).stored ≡ [] }
 {}
@@ -95,8 +95,8 @@ pub fn upload_of_example()
 
 /// The head of the reply to a GET of a file, which is that of the HEAD, and the content behind it.
 pub fn file_of_example()
-    ensures head { (is_bare : Bool) → front_text
-        (answer_to example_config example_state (AFile 1 1) AGet) 1523836800 is_bare false
+    ensures head { (is_head_only : Bool) → front_text
+        (answer_to example_config example_state (AFile 1 1) AGet) 1523836800 is_head_only false
         ≡ file_head }
     ensures sent { stored_text (answer_to example_config example_state (AFile 1 1) AGet) false
         ≡ codes "abc" }

@@ -8,14 +8,14 @@ pub mod laws;
 mod measured;
 mod objects;
 mod performed;
+mod read_set;
 mod refusing;
 mod service;
 mod stored;
-mod subject;
 mod uploads;
 
 pub use accepting::accepted;
 pub use performed::{Delivery, FileId, Performed, StoredFile};
+pub use read_set::{ReadSet, Shown};
 pub use refusing::refused;
 pub use service::Service;
-pub use subject::{Shown, Subject};

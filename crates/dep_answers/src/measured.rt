@@ -2,7 +2,7 @@
 ghost use Rattle.std.specs.Prelude.{◌≡◌, IfOk};
 ghost use Rattle.dep_reply.specs.Head.{head_text};
 ghost use Rattle.dep_answers.specs.Performing.{HasEnd, measured_head};
-ghost use Rattle.dep_answers.specs.Telling.{SaysLength};
+ghost use Rattle.dep_answers.specs.Reporting.{SaysLength};
 
 use crate::answer::Form;
 use crate::performed::{Delivery, Performed};

@@ -1,10 +1,10 @@
 //! Answers that show objects and uploads.
 ghost use Rattle.std.specs.Prelude.{◌≡◌, IfOk, None};
 ghost use Rattle.dep_answers.specs.Answers.{answer};
-ghost use Rattle.dep_answers.specs.Told.{told_status, told_created, told_metadata, told_tag};
+ghost use Rattle.dep_answers.specs.Reported.{reported_status, reported_created, reported_metadata, reported_tag};
 
 use crate::answer::{Answer, ReplyText};
-use crate::subject::Shown;
+use crate::read_set::Shown;
 use dep_docs_out::{metadata_doc, object_url, status_doc};
 use dep_reply::Status;
 use dep_types::{Config, Resource, Text};
@@ -12,7 +12,7 @@ use std::alloc::{AllocError, Global};
 
 /// The status document of an object (SWORD 3.0), with its entity tag.
 pub(crate) fn status(alloc: Global, config: &Config, shown: &Shown) -> Result<Answer, AllocError>
-    ensures { IfOk result (λ a. a ≡ told_status config.now shown.now) }
+    ensures { IfOk result (λ a. a ≡ reported_status config.now shown.now) }
 {
     let Shown::Files(view) = shown else {
         return Ok(Answer::without_content(Status::Ok));
@@ -28,7 +28,7 @@ pub(crate) fn status(alloc: Global, config: &Config, shown: &Shown) -> Result<An
 
 /// The same for an object that was made, with its URL.
 pub(crate) fn created(alloc: Global, config: &Config, shown: &Shown) -> Result<Answer, AllocError>
-    ensures { IfOk result (λ a. a ≡ told_created config.now shown.now) }
+    ensures { IfOk result (λ a. a ≡ reported_created config.now shown.now) }
 {
     let Shown::Files(view) = shown else {
         return Ok(Answer::without_content(Status::Created));
@@ -51,7 +51,7 @@ pub(crate) fn created(alloc: Global, config: &Config, shown: &Shown) -> Result<A
 
 /// The metadata document of an object (SWORD 3.0), with its entity tag.
 pub(crate) fn metadata(alloc: Global, config: &Config, shown: &Shown) -> Result<Answer, AllocError>
-    ensures { IfOk result (λ a. a ≡ told_metadata config.now shown.now) }
+    ensures { IfOk result (λ a. a ≡ reported_metadata config.now shown.now) }
 {
     let Shown::Metadata { object, metadata } = shown else {
         return Ok(Answer::without_content(Status::Ok));
@@ -68,7 +68,7 @@ pub(crate) fn metadata(alloc: Global, config: &Config, shown: &Shown) -> Result<
 
 /// Nothing but the entity tag of a part that was put in its place.
 pub(crate) fn put(resource: &Resource, shown: &Shown) -> Answer
-    ensures { result ≡ answer 204 None (told_tag resource.now shown.now) None }
+    ensures { result ≡ answer 204 None (reported_tag resource.now shown.now) None }
 {
     Answer {
         status: Status::NoContent,
@@ -80,7 +80,7 @@ pub(crate) fn put(resource: &Resource, shown: &Shown) -> Answer
 }
 
 fn tag_of(resource: &Resource, shown: &Shown) -> Option<u64>
-    ensures { result ≡ told_tag resource.now shown.now }
+    ensures { result ≡ reported_tag resource.now shown.now }
 {
     match (resource, shown) {
         (Resource::Metadata(_), Shown::ObjectRow(row)) => Some(row.metadata_tag),

@@ -44,21 +44,21 @@ pub struct Delivery {
     /// The clock of the server.
     pub clock: Moment,
     /// The reply has no body, as that to a HEAD (RFC 9110, section 9.3.2).
-    pub is_bare: bool,
+    pub is_head_only: bool,
     /// The connection is closed after it.
     pub closes: bool,
 }
 
 impl Delivery {
     /// Returns how a reply goes out at this clock. Each is made here.
-    pub fn new(clock: Moment, is_bare: bool, closes: bool) -> Delivery
+    pub fn new(clock: Moment, is_head_only: bool, closes: bool) -> Delivery
         ensures clock { result.clock ≡ clock }
-        ensures bare { result.is_bare ≡ is_bare }
+        ensures head_only { result.is_head_only ≡ is_head_only }
         ensures closes { result.closes ≡ closes }
     {
         Delivery {
             clock,
-            is_bare,
+            is_head_only,
             closes,
         }
     }

@@ -15,7 +15,7 @@ use dep_types::{Refusal, StoreFault};
 use std::alloc::{AllocError, Global};
 
 /// Returns the reply to a request that is refused, with the methods of the resource where one is not allowed
-/// (RFC 9110, section 10.2.1). It shows the clock, and nothing of the archive. An `Err` is want of memory.
+/// (RFC 9110, section 10.2.1). It shows the clock, and nothing of the archive. An `Err` is lack of memory.
 pub fn refused(
     alloc: Global,
     refusal: Refusal,

@@ -29,7 +29,7 @@ impl Model for Service {
 }
 
 impl Service {
-    /// Spells the service document, and keeps it. An `Err` is want of memory.
+    /// Spells the service document, and keeps it. An `Err` is lack of memory.
     pub fn new(alloc: Global, config: Config) -> Result<Service, AllocError>
         ensures { IfOk result (λ service. service ≡ config) }
     {

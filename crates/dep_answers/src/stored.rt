@@ -2,15 +2,15 @@
 ghost use Rattle.std.specs.Prelude.{◌≡◌, IfOk, IfSome, Some, None, ℕ, List, length};
 ghost use Rattle.dep_types.specs.State.{State};
 ghost use Rattle.dep_answers.specs.Performing.{HasEnd, Says, stored_behind, stored_file};
-ghost use Rattle.dep_answers.specs.Subjects.{shown_at};
-ghost use Rattle.dep_answers.specs.Told.{file_answer};
-ghost use Rattle.dep_answers.specs.Telling.{IsContentOf};
+ghost use Rattle.dep_answers.specs.ReadSets.{shown_at};
+ghost use Rattle.dep_answers.specs.Reported.{file_answer};
+ghost use Rattle.dep_answers.specs.Reporting.{IsContentOf};
 ghost use Rattle.dep_answers.specs.declared.performed.FileId.{FileId as AFileId};
-ghost use Rattle.dep_answers.specs.declared.subject.Subject.TheVariants.{File};
+ghost use Rattle.dep_answers.specs.declared.read_set.ReadSet.TheVariants.{File};
 
 use crate::measured::measured_front;
 use crate::performed::{Delivery, Performed, StoredFile};
-use crate::subject::Shown;
+use crate::read_set::Shown;
 use dep_reply::Status;
 use dep_types::FileRow;
 use std::alloc::{AllocError, Global};
@@ -46,16 +46,16 @@ pub(crate) fn stored_reply(
         status: Status::Ok,
         refusal: None,
         front: measured_front(alloc, row.media.as_str(), row.size, tag, delivery)?,
-        stored: content_behind(row, delivery.is_bare),
+        stored: content_behind(row, delivery.is_head_only),
     })
 }
 
 // The content of the file, unless the reply has no body or the file is empty.
-fn content_behind(row: &FileRow, is_bare: bool) -> Option<StoredFile>
+fn content_behind(row: &FileRow, is_head_only: bool) -> Option<StoredFile>
     ensures { (content : List ℕ) → length content ≡ row.now.size
-        → result ≡ stored_behind is_bare content (stored_file row.now) }
+        → result ≡ stored_behind is_head_only content (stored_file row.now) }
 {
-    if is_bare || row.size == 0 {
+    if is_head_only || row.size == 0 {
         None
     } else {
         Some(StoredFile {

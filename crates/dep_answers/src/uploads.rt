@@ -1,9 +1,9 @@
 //! Answers that show staged uploads.
 ghost use Rattle.std.specs.Prelude.{◌≡◌, IfOk};
-ghost use Rattle.dep_answers.specs.Told.{told_upload, told_opened, ordered_upload};
+ghost use Rattle.dep_answers.specs.Reported.{reported_upload, reported_opened, ordered_upload};
 
 use crate::answer::{Answer, ReplyText};
-use crate::subject::Shown;
+use crate::read_set::Shown;
 use dep_docs_out::{upload_doc, upload_url};
 use dep_operations::Numbers;
 use dep_reply::Status;
@@ -12,7 +12,7 @@ use std::alloc::{AllocError, Global};
 
 /// The document of a staged upload (SWORD 3.0, segmented upload).
 pub(crate) fn upload(alloc: Global, config: &Config, shown: &Shown) -> Result<Answer, AllocError>
-    ensures { IfOk result (λ a. a ≡ told_upload config.now shown.now) }
+    ensures { IfOk result (λ a. a ≡ reported_upload config.now shown.now) }
 {
     let Shown::Upload { upload, received } = shown else {
         return Ok(Answer::without_content(Status::Ok));
@@ -28,7 +28,7 @@ pub(crate) fn upload(alloc: Global, config: &Config, shown: &Shown) -> Result<An
 
 /// The same for an upload that was opened, with its URL.
 pub(crate) fn opened(alloc: Global, config: &Config, shown: &Shown) -> Result<Answer, AllocError>
-    ensures { IfOk result (λ a. a ≡ told_opened config.now shown.now) }
+    ensures { IfOk result (λ a. a ≡ reported_opened config.now shown.now) }
 {
     let Shown::Upload { upload, received } = shown else {
         return Ok(Answer::without_content(Status::Created));

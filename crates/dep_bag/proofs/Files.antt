@@ -118,7 +118,7 @@ All-five P a b c d e p q r s t =
 
 -- what holds of each of the files that a tag manifest names
 pub All-listed : (P : Entry → Type 0) (o : Object) → P bagit_file → P (info_file o) → ((a : Algorithm) → P (payload_manifest a o)) → P (metadata_file o) → All P (listed_files o)
-All-listed P o declared told made kept = All-five P bagit_file (info_file o) (payload_manifest Sha256 o) (payload_manifest Sha512 o) (metadata_file o) declared told (made Sha256) (made Sha512) kept
+All-listed P o declared reported made kept = All-five P bagit_file (info_file o) (payload_manifest Sha256 o) (payload_manifest Sha512 o) (metadata_file o) declared reported (made Sha256) (made Sha512) kept
 
 manifest-plain : (a : Algorithm) → BeginsPlain (manifest_path a)
 manifest-plain Sha256 = record { first = 109; rest = codes "anifest-sha256.txt"; is = refl; no_blank = refl }

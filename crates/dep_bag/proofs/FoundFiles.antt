@@ -4,7 +4,7 @@ use Rattle.std.specs.Prelude.{Option, option_map, find, bytes_eq}
 use Rattle.dep_types.specs.declared.rows.FileRow.{FileRow}
 use Rattle.dep_bag.specs.declared.part.BagPart.{BagPart}
 use Rattle.dep_bag.specs.declared.part.BagPart.TheVariants.{Stored}
-use Rattle.dep_manifest.specs.Told.{row_path}
+use Rattle.dep_manifest.specs.Reported.{row_path}
 use Rattle.dep_bag.specs.Parts.{stored_part}
 
 -- what is found at a path among these

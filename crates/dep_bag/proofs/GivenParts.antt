@@ -4,7 +4,7 @@ use Rattle.std.specs.Io.KnownBytes.{Appends, Keeps}
 use Rattle.std.proofs.KnownBytes.{Appends-nil, Appends-trans, Appends-kept}
 use Rattle.std.specs.Prelude.{Result}
 use Rattle.std.specs.Result.{IsErrAnd}
-use Rattle.dep_types.specs.Sinks.{IsFront, file_begun, file_ended, file_given}
+use Rattle.dep_types.specs.Sinks.{IsPrefix, file_begun, file_ended, file_given}
 use Rattle.dep_types.specs.Writing.{HasRisen, TakesPart}
 use Rattle.dep_bag.specs.Giving.{IsGivenAt, IsGiven, IsCausedBy, HasCause, SinkState, IsGivenTo}
 use Rattle.dep_bag.specs.declared.export_fault.ExportFault.{ExportFault}
@@ -39,16 +39,16 @@ IsOurs Sink = Unit {0}
 IsOurs Store = Unit {0}
 IsOurs Memory = Unit {0}
 
-pub front_given : (e : ExportFault) (whole given : List ℕ) → IsOurs e → IsFront given whole → IsGivenAt e whole given
+pub front_given : (e : ExportFault) (whole given : List ℕ) → IsOurs e → IsPrefix given whole → IsGivenAt e whole given
 front_given NoSuchObject whole given ours f = ours
 front_given _ whole given ours f = f
 
-pub given_front : (e : ExportFault) (whole given : List ℕ) → IsGivenAt e whole given → IsOurs e × IsFront given whole
+pub given_front : (e : ExportFault) (whole given : List ℕ) → IsGivenAt e whole given → IsOurs e × IsPrefix given whole
 given_front NoSuchObject whole given f = absurd f
 given_front _ whole given f = (tt, f)
 
 -- an error that is this fault, after a front
-pub faulty : {X : Type 0} (r : Result X ExportFault) (fault : ExportFault) (whole given : List ℕ) → IsErrAnd r (λ e. e ≡ fault) → IsOurs fault → IsFront given whole → IsGiven whole given r
+pub faulty : {X : Type 0} (r : Result X ExportFault) (fault : ExportFault) (whole given : List ℕ) → IsErrAnd r (λ e. e ≡ fault) → IsOurs fault → IsPrefix given whole → IsGiven whole given r
 faulty (Ok x) fault whole given h ours f = absurd h
 faulty (Err e) fault whole given h ours f = subst (λ e. IsGivenAt e whole given) (sym h) (front_given fault whole given ours f)
 
@@ -92,9 +92,9 @@ cause_passed before now after (Err x) e same cause err = subst (λ f. IsCausedBy
 regroup : (given front rest left : List ℕ) → given ++ ((front ++ rest) ++ left) ≡ (given ++ front) ++ (rest ++ left)
 regroup given front rest left = simp append_assoc
 
--- a front of what is left next was added
+-- a prefix of what is left next was added
 breaks : {X : Type 0} (a b c : SinkState) (whole one left front : List ℕ) (r : Result X ExportFault) (e : ExportFault) → Leaves a b whole (one ++ left)
-    → Appends b.taken c.taken front → IsFront front one → IsCausedBy e b.failures c.failures → IsErrAnd r (λ x. x ≡ e) → IsOurs e → IsGivenTo a c whole r
+    → Appends b.taken c.taken front → IsPrefix front one → IsCausedBy e b.failures c.failures → IsErrAnd r (λ x. x ≡ e) → IsOurs e → IsGivenTo a c whole r
 breaks a b c whole one left front r e l adds part cause err ours = record {
   given = l.given ++ front;
   appends = Appends-trans a.taken b.taken c.taken l.given front l.appends adds;
@@ -111,7 +111,7 @@ ends a b whole x l = record { given = l.given; appends = l.appends; is = sym (l.
 pub part_given : {X : Type 0} (a b c : SinkState) (whole one left : List ℕ) (x : X) → Leaves a b whole (one ++ left) → IsGivenTo b c one (Ok x) → Leaves a c whole left
 part_given a b c whole one left x l g = leaves_less a b c whole one left l (subst (Appends b.taken c.taken) g.is g.appends) g.cause
 
--- and a front of it, at a fault
+-- and a prefix of it, at a fault
 pub part_fails : {X Y : Type 0} (a b c : SinkState) (whole one left : List ℕ) (r : Result X ExportFault) (e : ExportFault) → Leaves a b whole (one ++ left)
     → IsGivenTo {X = Y} b c one (Err e) → IsErrAnd r (λ x. x ≡ e) → IsGivenTo a c whole r
 part_fails a b c whole one left r e l g err =
@@ -129,7 +129,7 @@ part_last {X} a b c whole one (Err e) l g =
 pub nothing_given : (a b : Option (List ℕ)) → Keeps a b → Appends a b []
 nothing_given a b keeps = kept a a b [] (Appends-nil a) keeps
 
-pub nothing_front : (whole : List ℕ) → IsFront [] whole
+pub nothing_front : (whole : List ℕ) → IsPrefix [] whole
 nothing_front whole = record { rest = whole; joined = refl }
 
 -- a fault before anything was given
@@ -153,18 +153,18 @@ none_asked a whole r err = record {
 
 -- ---- a file
 
--- a beginning, a front of some bytes, their rest and an end
+-- a beginning, a prefix of some bytes, their rest and an end
 regroup_ended : (begun front rest ended : List ℕ) → (begun ++ (front ++ rest)) ++ ended ≡ (begun ++ front) ++ (rest ++ ended)
 regroup_ended begun front rest ended = simp append_assoc
 
--- a front of a file's bytes, behind its beginning
-pub file_front : (path part bytes : List ℕ) → IsFront part bytes → IsFront (file_begun path ++ part) (file_given (path, bytes))
+-- a prefix of a file's bytes, behind its beginning
+pub file_front : (path part bytes : List ℕ) → IsPrefix part bytes → IsPrefix (file_begun path ++ part) (file_given (path, bytes))
 file_front path part bytes f = record {
   rest = f.rest ++ file_ended;
   joined = ap (λ t. (file_begun path ++ t) ++ file_ended) f.joined ∙ regroup_ended (file_begun path) part f.rest file_ended;
 }
 
-pub whole_front : (whole : List ℕ) → IsFront whole whole
+pub whole_front : (whole : List ℕ) → IsPrefix whole whole
 whole_front whole = record { rest = []; joined = sym (append-nil whole) }
 
 -- a file was begun
@@ -178,7 +178,7 @@ module _ {X : Type 0} (a b c d : SinkState) (path text seen : List ℕ) (r : Res
   text_breaks p risen err = record {
     given = file_begun path ++ p.0;
     appends = Appends-trans a.taken b.taken c.taken (file_begun path) p.0 begun.adds p.2;
-    is = faulty r Sink (file_given (path, text)) (file_begun path ++ p.0) err tt (file_front path p.0 text (subst (IsFront p.0) is (record { rest = p.1.rest; joined = p.1.joined })));
+    is = faulty r Sink (file_given (path, text)) (file_begun path ++ p.0) err tt (file_front path p.0 text (subst (IsPrefix p.0) is (record { rest = p.1.rest; joined = p.1.joined })));
     cause = cause_passed a.failures b.failures c.failures r Sink begun.steady risen err;
   }
 
@@ -188,7 +188,7 @@ module _ {X : Type 0} (a b c d : SinkState) (path text seen : List ℕ) (r : Res
   text_unended adds steady keeps risen err = record {
     given = file_begun path ++ seen;
     appends = kept a.taken c.taken d.taken (file_begun path ++ seen) (Appends-trans a.taken b.taken c.taken (file_begun path) seen begun.adds adds) keeps;
-    is = faulty r Sink (file_given (path, text)) (file_begun path ++ seen) err tt (file_front path seen text (subst (IsFront seen) is (whole_front seen)));
+    is = faulty r Sink (file_given (path, text)) (file_begun path ++ seen) err tt (file_front path seen text (subst (IsPrefix seen) is (whole_front seen)));
     cause = cause_passed a.failures c.failures d.failures r Sink (steady ∙ begun.steady) risen err;
   }
 

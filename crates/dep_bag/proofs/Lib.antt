@@ -1,7 +1,7 @@
 pub mod Lines
 pub mod Fronts
 pub mod FoundFiles
-pub mod ToldBag
+pub mod ReportedBag
 pub mod GivenParts
 pub mod GivenFiles
 pub mod StoredFiles
@@ -13,7 +13,7 @@ pub mod PayloadPaths
 pub mod Numbered
 pub mod Files
 pub mod Whole
-pub mod Tells
+pub mod Reports
 pub mod Names
 pub mod TagFileParts
 pub mod TagPaths

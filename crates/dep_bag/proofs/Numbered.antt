@@ -66,21 +66,21 @@ both P Q [] p q = All-nil (λ x. P x × Q x)
 both P Q (x ∷ xs) p q =
     All-cons (λ x. P x × Q x) x xs (All-head P x xs p, All-head Q x xs q) (both P Q xs (All-tail P x xs p) (All-tail Q x xs q))
 
-abbrev pub stands_at : (path : List ℕ) → ℕ × File → Bool
-stands_at path e = bytes_eq path (payload_path e.0 e.1.name)
+abbrev pub represents_at : (path : List ℕ) → ℕ × File → Bool
+represents_at path e = bytes_eq path (payload_path e.0 e.1.name)
 
 -- the file of a number, where it stands at the path
 abbrev pub numbered : (path : List ℕ) → ℕ → Option File → Option (ℕ × File)
-numbered path f it = option_and_then (λ (file : File). if stands_at path (f, file) then Some (f, file) else None) it
+numbered path f it = option_and_then (λ (file : File). if represents_at path (f, file) then Some (f, file) else None) it
 
 abbrev pub HasStorable : ℕ × File → Type 0
 HasStorable e = IsStorable e.0
 
-path_is : (path : List ℕ) (e : ℕ × File) → stands_at path e ≡ true → path ≡ payload_path e.0 e.1.name
+path_is : (path : List ℕ) (e : ℕ × File) → represents_at path e ≡ true → path ≡ payload_path e.0 e.1.name
 path_is path e there = (bytes_eq-Decides path (payload_path e.0 e.1.name)).0 there
 
 module _ (path : List ℕ) (f : ℕ) (of : file_number path ≡ Some f) (files : finmap.FinMap nat_cmp File) where
-  same_number : (e : ℕ × File) → IsStorable e.0 → stands_at path e ≡ true → e.0 ≡ f
+  same_number : (e : ℕ × File) → IsStorable e.0 → represents_at path e ≡ true → e.0 ≡ f
   same_number e small there =
       let both : Some f ≡ Some e.0 = sym of ∙ ap file_number (path_is path e there) ∙ payload_numbered e.0 e.1.name small in
       cc
@@ -88,67 +88,67 @@ module _ (path : List ℕ) (f : ℕ) (of : file_number path ≡ Some f) (files :
   abbrev Held : ℕ × File → Type 0
   Held e = (finmap.get files e.0 ≡ Some e.1) × IsStorable e.0
 
-  hit : (es : List (ℕ × File)) → All Held es → (e : ℕ × File) → find (stands_at path) es ≡ Some e → Some e ≡ numbered path f (finmap.get files f)
+  hit : (es : List (ℕ × File)) → All Held es → (e : ℕ × File) → find (represents_at path) es ≡ Some e → Some e ≡ numbered path f (finmap.get files f)
   hit [] h e found = absurd (cc)
-  hit (x ∷ es) h e found = go (stands_at path x) refl found (hit es (All-tail Held x es h) e)
+  hit (x ∷ es) h e found = go (represents_at path x) refl found (hit es (All-tail Held x es h) e)
     where
-      go : (b : Bool) → stands_at path x ≡ b → cond b (Some x) (find (stands_at path) es) ≡ Some e
-          → (find (stands_at path) es ≡ Some e → Some e ≡ numbered path f (finmap.get files f)) → Some e ≡ numbered path f (finmap.get files f)
+      go : (b : Bool) → represents_at path x ≡ b → cond b (Some x) (find (represents_at path) es) ≡ Some e
+          → (find (represents_at path) es ≡ Some e → Some e ≡ numbered path f (finmap.get files f)) → Some e ≡ numbered path f (finmap.get files f)
       go true is at later =
           let held = All-head Held x es h in
           let same : x.0 ≡ f = same_number x held.1 is in
           let got : finmap.get files f ≡ Some x.1 = ap (finmap.get files) (sym same) ∙ held.0 in
-          let stays : stands_at path (f, x.1) ≡ true = ap (λ (k : ℕ). stands_at path (k, x.1)) (sym same) ∙ is in
+          let stays : represents_at path (f, x.1) ≡ true = ap (λ (k : ℕ). represents_at path (k, x.1)) (sym same) ∙ is in
           sym at ∙ ap (λ (k : ℕ). Some (k, x.1)) same
           ∙ sym (ap (numbered path f) got ∙ ap (λ b. if b then Some (f, x.1) else None) stays)
       go false is at later = later at
 
-  miss : (es : List (ℕ × File)) (it : File) → entries.find nat_cmp f es ≡ Some it → find (stands_at path) es ≡ None → stands_at path (f, it) ≡ false
+  miss : (es : List (ℕ × File)) (it : File) → entries.find nat_cmp f es ≡ Some it → find (represents_at path) es ≡ None → represents_at path (f, it) ≡ false
   miss [] it got none = absurd (cc)
-  miss (x ∷ es) it got none = go (stands_at path x) refl none (miss es it)
+  miss (x ∷ es) it got none = go (represents_at path x) refl none (miss es it)
     where
-      go : (b : Bool) → stands_at path x ≡ b → cond b (Some x) (find (stands_at path) es) ≡ None
-          → (entries.find nat_cmp f es ≡ Some it → find (stands_at path) es ≡ None → stands_at path (f, it) ≡ false) → stands_at path (f, it) ≡ false
+      go : (b : Bool) → represents_at path x ≡ b → cond b (Some x) (find (represents_at path) es) ≡ None
+          → (entries.find nat_cmp f es ≡ Some it → find (represents_at path) es ≡ None → represents_at path (f, it) ≡ false) → represents_at path (f, it) ≡ false
       go true is at later = absurd (cc)
       go false is at later =
-          elim (nat_cmp f x.0) as (λ t. nat_cmp f x.0 ≡ t → cond (is_eq t) (Some x.1) (entries.find nat_cmp f es) ≡ Some it → stands_at path (f, it) ≡ false) [
+          elim (nat_cmp f x.0) as (λ t. nat_cmp f x.0 ≡ t → cond (is_eq t) (Some x.1) (entries.find nat_cmp f es) ≡ Some it → represents_at path (f, it) ≡ false) [
             | Less ↦ λ t e. later e at
             | Equal ↦ λ t e.
                 let same : f ≡ x.0 = finmap.nat_cmp-IsAntisymmetric f x.0 t in
                 let file : x.1 ≡ it = cc in
-                ap (λ (k : ℕ). stands_at path (k, it)) same ∙ ap (λ (v : File). stands_at path (x.0, v)) (sym file) ∙ is
+                ap (λ (k : ℕ). represents_at path (k, it)) same ∙ ap (λ (v : File). represents_at path (x.0, v)) (sym file) ∙ is
             | Greater ↦ λ t e. later e at
           ] refl got
 
-  missed : (it : Option File) → finmap.get files f ≡ it → find (stands_at path) (finmap.entries files) ≡ None → None ≡ numbered path f it
+  missed : (it : Option File) → finmap.get files f ≡ it → find (represents_at path) (finmap.entries files) ≡ None → None ≡ numbered path f it
   missed None is none = refl
   missed (Some it) is none =
       sym (ap (λ b. if b then Some (f, it) else None) (miss (finmap.entries files) it (sym (finmap.get-entries files f) ∙ is) none))
 
   -- what stands at the path is the file of its number, if that stands there
-  pub found_by_number : All HasStorable (finmap.entries files) → find (stands_at path) (finmap.entries files) ≡ numbered path f (finmap.get files f)
-  found_by_number small = go (find (stands_at path) (finmap.entries files)) refl
+  pub found_by_number : All HasStorable (finmap.entries files) → find (represents_at path) (finmap.entries files) ≡ numbered path f (finmap.get files f)
+  found_by_number small = go (find (represents_at path) (finmap.entries files)) refl
     where
       held : All Held (finmap.entries files)
       held = both (λ (e : ℕ × File). finmap.get files e.0 ≡ Some e.1) HasStorable (finmap.entries files) (entries-held nat_cmp_total finmap.nat_cmp-IsAntisymmetric files) small
 
-      go : (o : Option (ℕ × File)) → find (stands_at path) (finmap.entries files) ≡ o → find (stands_at path) (finmap.entries files) ≡ numbered path f (finmap.get files f)
+      go : (o : Option (ℕ × File)) → find (represents_at path) (finmap.entries files) ≡ o → find (represents_at path) (finmap.entries files) ≡ numbered path f (finmap.get files f)
       go None is = is ∙ missed (finmap.get files f) refl is
       go (Some e) is = is ∙ hit (finmap.entries files) held e is
 
 -- nothing of a payload stands at a path that has no number
-none_among : (path : List ℕ) → file_number path ≡ None → (es : List (ℕ × File)) → All HasStorable es → find (stands_at path) es ≡ None
+none_among : (path : List ℕ) → file_number path ≡ None → (es : List (ℕ × File)) → All HasStorable es → find (represents_at path) es ≡ None
 none_among path of [] h = refl
-none_among path of (e ∷ es) h = at (stands_at path e) refl (none_among path of es (All-tail HasStorable e es h))
+none_among path of (e ∷ es) h = at (represents_at path e) refl (none_among path of es (All-tail HasStorable e es h))
   where
-    at : (b : Bool) → stands_at path e ≡ b → find (stands_at path) es ≡ None → cond b (Some e) (find (stands_at path) es) ≡ None
+    at : (b : Bool) → represents_at path e ≡ b → find (represents_at path) es ≡ None → cond b (Some e) (find (represents_at path) es) ≡ None
     at true is none =
         let both : None ≡ Some e.0 = sym of ∙ ap file_number (path_is path e is) ∙ payload_numbered e.0 e.1.name (All-head HasStorable e es h) in
         absurd (cc)
     at false is none = none
 
 pub none_by_number : (path : List ℕ) → file_number path ≡ None → (files : finmap.FinMap nat_cmp File) → All HasStorable (finmap.entries files)
-    → find (stands_at path) (finmap.entries files) ≡ None
+    → find (represents_at path) (finmap.entries files) ≡ None
 none_by_number path of files small = none_among path of (finmap.entries files) small
 
 -- the numbers of an object's files are those that a table can hold

@@ -5,11 +5,11 @@ use Rattle.std.specs.Io.KnownBytes.{Appends}
 use Rattle.std.proofs.KnownBytes.{Appends-nil, Appends-trans}
 use Rattle.std.proofs.lemmas.Grind.{flat_map-append}
 use Rattle.dep_types.specs.State.{State}
-use Rattle.dep_types.specs.Conditions.{Condition, StandsFor, HasCleanDisk, Leaves}
-use Rattle.dep_types.specs.Sinks.{Entry, IsFront, file_given}
+use Rattle.dep_types.specs.Conditions.{Condition, Represents, HasCleanDisk, Leaves}
+use Rattle.dep_types.specs.Sinks.{Entry, IsPrefix, file_given}
 use Rattle.dep_types.specs.declared.rows.FileRow.{FileRow}
 use Rattle.dep_types.specs.Streams.{HasContent}
-use Rattle.dep_manifest.specs.Told.{row_path}
+use Rattle.dep_manifest.specs.Reported.{row_path}
 use Rattle.std.specs.Result.{IsErrAnd}
 use Rattle.dep_bag.specs.Source.{StandsStill}
 use Rattle.dep_bag.proofs.Still.{unchanged, still_then}
@@ -31,11 +31,11 @@ pub record SoFar (old now : Condition) (before after : SinkState) (rows left : L
   pub appends : Appends before.taken after.taken given
   pub steady : after.failures ≡ before.failures
   pub still : StandsStill old now
-  pub kept : HasCleanDisk now → (s : State) → StandsFor old s → StandsFor now s
-  pub split : HasCleanDisk now → (s : State) → StandsFor old s → (files : List Entry) → AreFilesOf s rows files → IsSplit s left files given
+  pub kept : HasCleanDisk now → (s : State) → Represents old s → Represents now s
+  pub split : HasCleanDisk now → (s : State) → Represents old s → (files : List Entry) → AreFilesOf s rows files → IsSplit s left files given
 
 pub none_so_far : (old : Condition) (before : SinkState) (rows : List FileRow)
-    → ((s : State) → StandsFor old s → Leaves old (λ left. left ≡ s)) → SoFar old old before before rows rows
+    → ((s : State) → Represents old s → Leaves old (λ left. left ≡ s)) → SoFar old old before before rows rows
 none_so_far old before rows settled = record {
   given = [];
   appends = Appends-nil before.taken;
@@ -68,7 +68,7 @@ moved given more rest after = simp append_assoc
 -- the fault came in the middle of a file
 split_front : (s : State) (row : FileRow) (left : List FileRow) (files : List Entry) (given more : List ℕ) (done rest : List Entry)
     → files ≡ done ++ rest → AreFilesOf s (row ∷ left) rest → given ≡ flat_map file_given done
-    → ((bytes : List ℕ) → HasContent s row.file bytes → IsFront more (file_given (row_path row, bytes))) → IsFront (given ++ more) (flat_map file_given files)
+    → ((bytes : List ℕ) → HasContent s row.file bytes → IsPrefix more (file_given (row_path row, bytes))) → IsPrefix (given ++ more) (flat_map file_given files)
 split_front s row left files given more done [] joined are is gives = absurd are
 split_front s row left files given more done (file ∷ rest) joined are is gives =
     let front = gives file.1 are.1 in
@@ -116,7 +116,7 @@ one_fails {X} {Y} old mid now before between after rows i row e r inside is far 
           (λ bytes has. (given_front e (file_given (row_path row, bytes)) gave.given (gave.is c s (far.kept (gave.still.honest_before c) s at) bytes has)).1) in
           faulty r e (flat_map file_given files) (far.given ++ gave.given) err ours front;
       cause = cause_passed before.failures between.failures after.failures r e far.steady gave.cause err;
-      kept = λ c s at. err_keeps r e (StandsFor now s) err;
+      kept = λ c s at. err_keeps r e (Represents now s) err;
       still = still_then old mid now far.kept far.still gave.still;
       there = ours_there r e err ours;
     }

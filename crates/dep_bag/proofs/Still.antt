@@ -1,11 +1,11 @@
 -- What is read leaves an archive as it stood.
 use Rattle.std.proofs.Common.{◌≡◌}
 use Rattle.dep_types.specs.State.{State}
-use Rattle.dep_types.specs.Conditions.{Condition, StandsFor, HasCleanDisk, Leaves}
+use Rattle.dep_types.specs.Conditions.{Condition, Represents, HasCleanDisk, Leaves}
 use Rattle.dep_bag.specs.Source.{StandsStill}
 
 -- nothing was read
-pub unchanged : (c : Condition) → ((s : State) → StandsFor c s → Leaves c (λ left. left ≡ s)) → StandsStill c c
+pub unchanged : (c : Condition) → ((s : State) → Represents c s → Leaves c (λ left. left ≡ s)) → StandsStill c c
 unchanged c settled = record {
   honest_before = λ clean. clean;
   open_before = λ is_open. is_open;
@@ -14,7 +14,7 @@ unchanged c settled = record {
 }
 
 -- more was read, behind an Ok
-pub still_then : (old mid new : Condition) → (HasCleanDisk mid → (s : State) → StandsFor old s → StandsFor mid s)
+pub still_then : (old mid new : Condition) → (HasCleanDisk mid → (s : State) → Represents old s → Represents mid s)
     → StandsStill old mid → StandsStill mid new → StandsStill old new
 still_then old mid new kept first then = record {
   honest_before = λ clean. first.honest_before (then.honest_before clean);

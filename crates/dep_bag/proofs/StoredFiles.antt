@@ -4,15 +4,15 @@ use Rattle.std.specs.Prelude.{Result, Err}
 use Rattle.std.specs.Result.{IsErrAnd}
 use Rattle.std.specs.Io.KnownBytes.{Appends}
 use Rattle.dep_types.specs.State.{State, File, file_at}
-use Rattle.dep_types.specs.Conditions.{Condition, StandsFor, Leaves}
+use Rattle.dep_types.specs.Conditions.{Condition, Represents, Leaves}
 use Rattle.dep_types.specs.Sound.{IsSound}
 use Rattle.dep_types.specs.declared.rows.FileRow.{FileRow}
-use Rattle.dep_types.specs.Sinks.{IsFront, file_begun, file_ended, file_given}
+use Rattle.dep_types.specs.Sinks.{IsPrefix, file_begun, file_ended, file_given}
 use Rattle.dep_types.specs.Streams.{HasContent, HasNoFile, IsPartOfContent, IsStreamed}
 use Rattle.dep_types.specs.declared.stream_fault.StreamFault.{StreamFault}
 use Rattle.dep_types.specs.declared.stream_fault.StreamFault.TheVariants.{Writer, Store, Memory, NoSuchFile}
 use Rattle.dep_types.specs.Writing.{HasRisen}
-use Rattle.dep_manifest.specs.Told.{row_path}
+use Rattle.dep_manifest.specs.Reported.{row_path}
 use Rattle.dep_bag.specs.ExportFaults.{unsent_fault}
 use Rattle.dep_bag.specs.Giving.{IsCausedBy, SinkState, IsStreamedTo, IsContentGiven}
 use Rattle.dep_bag.specs.declared.export_fault.ExportFault.{ExportFault}
@@ -29,16 +29,16 @@ same_content s sound f a b x y =
     let file = same_file x.file y.file (sym x.held ∙ ap (λ n. file_at s n f) place ∙ y.held) in
     sym x.is ∙ ap (λ (file : File). file.content) file ∙ y.is
 
--- a front of it, behind the beginning of the file
+-- a prefix of it, behind the beginning of the file
 pub part_sent : (s : State) → IsSound s → (f : ℕ) (path sent bytes : List ℕ) → IsPartOfContent s f sent → HasContent s f bytes
-    → IsFront (file_begun path ++ sent) (file_given (path, bytes))
+    → IsPrefix (file_begun path ++ sent) (file_given (path, bytes))
 part_sent s sound f path sent bytes p has =
-    file_front path sent bytes (subst (IsFront sent) (same_content s sound f p.whole bytes p.has has) (record { rest = p.front.rest; joined = p.front.joined }))
+    file_front path sent bytes (subst (IsPrefix sent) (same_content s sound f p.whole bytes p.has has) (record { rest = p.front.rest; joined = p.front.joined }))
 
 -- the same where nothing may have been sent
 pub perhaps_sent : (s : State) → IsSound s → (f : ℕ) (path sent bytes : List ℕ) → (sent ≡ []) ⊎ IsPartOfContent s f sent → HasContent s f bytes
-    → IsFront (file_begun path ++ sent) (file_given (path, bytes))
-perhaps_sent s sound f path sent bytes (inl none) has = file_front path sent bytes (subst (λ l. IsFront l bytes) (sym none) (record { rest = bytes; joined = refl }))
+    → IsPrefix (file_begun path ++ sent) (file_given (path, bytes))
+perhaps_sent s sound f path sent bytes (inl none) has = file_front path sent bytes (subst (λ l. IsPrefix l bytes) (sym none) (record { rest = bytes; joined = refl }))
 perhaps_sent s sound f path sent bytes (inr part) has = part_sent s sound f path sent bytes part has
 
 pub no_content : (s : State) (f : ℕ) (bytes : List ℕ) → HasNoFile s f → HasContent s f bytes → ⊥
@@ -51,13 +51,13 @@ all_sent s sound f path sent bytes has held =
     ap (λ t. (file_begun path ++ t) ++ file_ended) (same_content s sound f sent bytes has held)
 
 pub all_front : (s : State) → IsSound s → (f : ℕ) (path sent bytes : List ℕ) → HasContent s f sent → HasContent s f bytes
-    → IsFront (file_begun path ++ sent) (file_given (path, bytes))
+    → IsPrefix (file_begun path ++ sent) (file_given (path, bytes))
 all_front s sound f path sent bytes has held =
-    file_front path sent bytes (subst (IsFront sent) (same_content s sound f sent bytes has held) (whole_front sent))
+    file_front path sent bytes (subst (IsPrefix sent) (same_content s sound f sent bytes has held) (whole_front sent))
 
--- a front of it, where it was not sent to its end
+-- a prefix of it, where it was not sent to its end
 pub unsent_front : (s : State) → IsSound s → (f : ℕ) (path sent bytes : List ℕ) (fault : StreamFault) → IsStreamed {X = Unit {0}} s f sent (Err fault) → HasContent s f bytes
-    → IsFront (file_begun path ++ sent) (file_given (path, bytes))
+    → IsPrefix (file_begun path ++ sent) (file_given (path, bytes))
 unsent_front s sound f path sent bytes Writer is has = part_sent s sound f path sent bytes is has
 unsent_front s sound f path sent bytes Store is has = perhaps_sent s sound f path sent bytes is has
 unsent_front s sound f path sent bytes Memory is has = perhaps_sent s sound f path sent bytes is has
@@ -77,14 +77,14 @@ unsent_ours Writer = tt
 unsent_ours _ = tt
 
 -- a fault before the source was asked
-pub none_streamed : {X : Type 0} (c : Condition) → ((s : State) → StandsFor c s → Leaves c (λ left. left ≡ s)) → (a b : SinkState) (row : FileRow) (r : Result X ExportFault)
+pub none_streamed : {X : Type 0} (c : Condition) → ((s : State) → Represents c s → Leaves c (λ left. left ≡ s)) → (a b : SinkState) (row : FileRow) (r : Result X ExportFault)
     (e : ExportFault) → Appends a.taken b.taken [] → IsCausedBy e a.failures b.failures → IsErrAnd r (λ x. x ≡ e) → IsOurs e → IsStreamedTo c c a b (IsContentGiven row) r
 none_streamed c settled a b row r e adds cause err ours = record {
   given = [];
   appends = adds;
   is = λ clean s at bytes has. faulty r e (file_given (row_path row, bytes)) [] err ours (nothing_front (file_given (row_path row, bytes)));
   cause = cause_passed a.failures a.failures b.failures r e refl cause err;
-  kept = λ clean s at. err_keeps r e (StandsFor c s) err;
+  kept = λ clean s at. err_keeps r e (Represents c s) err;
   still = unchanged c settled;
   there = ours_there r e err ours;
 }

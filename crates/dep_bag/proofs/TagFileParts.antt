@@ -3,7 +3,7 @@ use Rattle.std.proofs.Common.{◌≡◌, Bool, true, false, cond, ℕ, List, Som
 use Rattle.std.specs.Prelude.{Option, option_map, find}
 use Rattle.dep_types.specs.declared.rows.ObjectView.{ObjectView}
 use Rattle.dep_manifest.specs.declared.algorithm.Algorithm.TheVariants.{Sha256, Sha512}
-use Rattle.dep_bag.specs.Parts.{part_at, stored_part, tag_file_at, tag_text, told_part}
+use Rattle.dep_bag.specs.Parts.{part_at, stored_part, tag_file_at, tag_text, reported_part}
 use Rattle.dep_bag.specs.declared.part.BagPart.{BagPart}
 use Rattle.dep_bag.specs.declared.part.BagPart.TheVariants.{Bytes}
 use Rattle.dep_bag.specs.declared.part.TagFile.{TagFile}
@@ -24,7 +24,7 @@ module _ (view : ObjectView) (path : List ℕ) where
       either true = refl
       either false = rest
 
-  pub by_tag_file : part_of (tag_file_at path) ≡ told_part view path
+  pub by_tag_file : part_of (tag_file_at path) ≡ reported_part view path
   by_tag_file =
       first (codes "bagit.txt") Declaration _ _
       (first (codes "bag-info.txt") Information _ _

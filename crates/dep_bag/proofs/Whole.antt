@@ -128,13 +128,13 @@ info_lines day sum no_day no_sum =
     ∙ split_first p (codes "Bagging-Date: " ++ day) 10 ((codes "Payload-Oxum: " ++ sum) ++ 10 ∷ []) (none-append p (codes "Bagging-Date: ") day refl no_day) refl
     ∙ ap (λ l. (codes "Bagging-Date: " ++ day) ∷ l) (split_first p (codes "Payload-Oxum: " ++ sum) 10 [] (none-append p (codes "Payload-Oxum: ") sum refl no_sum) refl)
 
-abbrev told : List (List ℕ) → List (List ℕ)
-told lines = filter (λ line. starts_with nat_eq line (codes "Payload-Oxum:")) lines
+abbrev reported : List (List ℕ) → List (List ℕ)
+reported lines = filter (λ line. starts_with nat_eq line (codes "Payload-Oxum:")) lines
 
 counted : (o : Object) → All IsSmall (finmap.entries o.files)
-    → told (lines_of (info_text o.changed (oxum (payload o)))) ≡ (codes "Payload-Oxum: " ++ oxum (payload_in (bag_of o))) ∷ []
+    → reported (lines_of (info_text o.changed (oxum (payload o)))) ≡ (codes "Payload-Oxum: " ++ oxum (payload_in (bag_of o))) ∷ []
 counted o small =
-    ap told (info_lines (day_text (min o.changed greatest_moment)) (oxum (payload o)) (date-no_lf (min o.changed greatest_moment)) (oxum-no_lf (payload o)))
+    ap reported (info_lines (day_text (min o.changed greatest_moment)) (oxum (payload o)) (date-no_lf (min o.changed greatest_moment)) (oxum-no_lf (payload o)))
     ∙ ap (λ sum. (codes "Payload-Oxum: " ++ sum) ∷ []) (same_oxum (payload o) (payload_in (bag_of o)) (payload_permuted o small))
 
 -- ---- the bag

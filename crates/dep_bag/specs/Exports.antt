@@ -2,7 +2,7 @@
 use Rattle.std.specs.Prelude.{◌≡◌, ◌⊎◌, ℕ, List, [], Some, None, Result, Ok, Err, codes, ◌∷◌}
 use Rattle.std.specs.FinMap as map
 use Rattle.dep_types.specs.State.{State, Object}
-use Rattle.dep_types.specs.Sinks.{transcript, IsFront}
+use Rattle.dep_types.specs.Sinks.{transcript, IsPrefix}
 use Rattle.dep_bag.specs.Bag.{bag_files}
 use Rattle.dep_bag.specs.declared.export_fault.ExportFault.{ExportFault}
 use Rattle.dep_bag.specs.declared.export_fault.ExportFault.TheVariants.{NoSuchObject, Sink, Store, Memory}
@@ -15,9 +15,9 @@ bag_transcript o = transcript (codes "data" ∷ []) (bag_files o)
 abbrev pub OfObject : State → ℕ → (Object → Type 0) → Type 0
 OfObject s n holds = (o : Object) × (map.get s.objects n ≡ Some o) × holds o
 
--- the sink was given a front of the bag
+-- the sink was given a prefix of the bag
 abbrev pub IsGivenInPart : State → ℕ → (given : List ℕ) → Type 0
-IsGivenInPart s n given = OfObject s n (λ o. IsFront given (bag_transcript o))
+IsGivenInPart s n given = OfObject s n (λ o. IsPrefix given (bag_transcript o))
 
 -- what the sink was given
 abbrev pub IsExported : {X : Type 0} → State → ℕ → (given : List ℕ) → Result X ExportFault

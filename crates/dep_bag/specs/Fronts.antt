@@ -1,4 +1,4 @@
--- What stands behind a front of a text.
+-- What stands behind a prefix of a text.
 use Rattle.std.specs.Prelude.{◌≡◌, ◌≢◌, ℕ, List, Option, MatchOption}
 
 -- what makes the text behind the front, if something does

@@ -4,24 +4,24 @@ use Rattle.std.specs.Io.KnownBytes.{Appends}
 use Rattle.dep_types.specs.State.{State}
 use Rattle.dep_types.specs.Conditions.{Condition}
 use Rattle.dep_types.specs.Writing.{HasRisen}
-use Rattle.dep_types.specs.Sinks.{Entry, folder_made, file_given, IsFront}
+use Rattle.dep_types.specs.Sinks.{Entry, folder_made, file_given, IsPrefix}
 use Rattle.dep_types.specs.declared.rows.FileRow.{FileRow}
 use Rattle.dep_types.specs.declared.rows.ObjectView.{ObjectView}
 use Rattle.dep_types.specs.Streams.{HasContent}
-use Rattle.dep_manifest.specs.Told.{row_path, told_listed}
-use Rattle.dep_bag.specs.Parts.{told_tag_files, told_tag_manifests}
+use Rattle.dep_manifest.specs.Reported.{row_path, reported_listed}
+use Rattle.dep_bag.specs.Parts.{reported_tag_files, reported_tag_manifests}
 use Rattle.dep_bag.specs.Source.{OfEachState, KeepsStanding, StandsStill}
 use Rattle.dep_bag.specs.declared.export_fault.ExportFault.{ExportFault}
 use Rattle.dep_bag.specs.declared.export_fault.ExportFault.TheVariants.{NoSuchObject, Sink, Store, Memory}
 
--- a front of it was given; no such fault says that the object isn't there
+-- a prefix of it was given; no such fault says that the object isn't there
 abbrev pub IsGivenAt : ExportFault → (whole given : List ℕ) → Type 0
 IsGivenAt NoSuchObject whole given = ⊥
-IsGivenAt Sink whole given = IsFront given whole
-IsGivenAt Store whole given = IsFront given whole
-IsGivenAt Memory whole given = IsFront given whole
+IsGivenAt Sink whole given = IsPrefix given whole
+IsGivenAt Store whole given = IsPrefix given whole
+IsGivenAt Memory whole given = IsPrefix given whole
 
--- all of it was given, or after a fault a front of it
+-- all of it was given, or after a fault a prefix of it
 abbrev pub IsGiven : {X : Type 0} → (whole given : List ℕ) → Result X ExportFault → Type 0
 IsGiven whole given (Ok x) = given ≡ whole
 IsGiven whole given (Err fault) = IsGivenAt fault whole given
@@ -43,7 +43,7 @@ pub record SinkState : Type 0 where
   pub taken : Option (List ℕ)
   pub failures : ℕ
 
--- all of it was given, or after a fault, which has its cause, a front of it
+-- all of it was given, or after a fault, which has its cause, a prefix of it
 pub record IsGivenTo {X : Type 0} (old new : SinkState) (whole : List ℕ)
     (result : Result X ExportFault) : Type 0 where
   pub given : List ℕ
@@ -53,15 +53,15 @@ pub record IsGivenTo {X : Type 0} (old new : SinkState) (whole : List ℕ)
 
 -- What was given as a source streams it: it is so in each state for which the source stood, and a
 -- fault, which isn't that the object isn't there, has its cause. The source stands still.
-pub record IsStreamedTo {X : Type 0} (stood stands : Condition) (old new : SinkState)
+pub record IsStreamedTo {X : Type 0} (stood represents : Condition) (old new : SinkState)
     (holds : State → (given : List ℕ) → Result X ExportFault → Type 0)
     (result : Result X ExportFault) : Type 0 where
   pub given : List ℕ
   pub appends : Appends old.taken new.taken given
-  pub is : OfEachState stood stands (λ s. holds s given result)
+  pub is : OfEachState stood represents (λ s. holds s given result)
   pub cause : HasCause result old.failures new.failures
-  pub kept : KeepsStanding stood stands result
-  pub still : StandsStill stood stands
+  pub kept : KeepsStanding stood represents result
+  pub still : StandsStill stood represents
   pub there : result ≢ Err NoSuchObject
 
 module _ {K : Type 0} (taken : K → Option (List ℕ)) (failures : K → ℕ) where
@@ -75,23 +75,23 @@ module _ {K : Type 0} (taken : K → Option (List ℕ)) (failures : K → ℕ) w
   Gives old new whole result = IsGivenTo (state_of old) (state_of new) whole result
 
   -- and this as a source streams it
-  abbrev pub Streams : {X S : Type 0} → (S → Condition) → (stood stands : S) → (old new : K)
+  abbrev pub Streams : {X S : Type 0} → (S → Condition) → (stood represents : S) → (old new : K)
       → (State → (given : List ℕ) → Result X ExportFault → Type 0) → Result X ExportFault
       → Type 0
-  Streams condition stood stands old new holds result = IsStreamedTo (condition stood)
-      (condition stands) (state_of old) (state_of new) holds result
+  Streams condition stood represents old new holds result = IsStreamedTo (condition stood)
+      (condition represents) (state_of old) (state_of new) holds result
 
 -- the folder of the payload, and the files that a tag manifest names
 abbrev pub listed_transcript : ObjectView → List ℕ
-listed_transcript view = folder_made (codes "data") ++ flat_map file_given (told_listed view)
+listed_transcript view = folder_made (codes "data") ++ flat_map file_given (reported_listed view)
 
 -- the folder of the payload, and the files that are not payload
 abbrev pub tag_transcript : ObjectView → List ℕ
-tag_transcript view = folder_made (codes "data") ++ flat_map file_given (told_tag_files view)
+tag_transcript view = folder_made (codes "data") ++ flat_map file_given (reported_tag_files view)
 
 -- the tag manifests
 abbrev pub manifests_transcript : ObjectView → List ℕ
-manifests_transcript view = flat_map file_given (told_tag_manifests view)
+manifests_transcript view = flat_map file_given (reported_tag_manifests view)
 
 -- these are the files of the rows: their paths, and their contents in the state
 abbrev pub AreFilesOf : State → List FileRow → List Entry → Type 0

@@ -73,7 +73,7 @@ pub record HasManifest (d : Digest) (b : Bag) (path : List ℕ) (lines : List Li
   pub checked : All (IsChecked d b) lines
 
 -- one of these lines names the path, and has the digest of the bytes
-pub record TellsFile (d : Digest) (lines : List Line) (path bytes : List ℕ) : Type 0 where
+pub record ReportsFile (d : Digest) (lines : List Line) (path bytes : List ℕ) : Type 0 where
   pub line : Line
   pub among : Contains lines line
   pub named : line.path ≡ encoded_path path
@@ -97,7 +97,7 @@ pub record IsTagManifest (a : Algorithm) (b : Bag) : Type 0 where
       : All (λ name. IsTrue (not (starts_with nat_eq name (codes "tagmanifest-")))) (paths_of lines)
 
 -- one line says how many bytes and files the payload has
-pub record TellsOxum (b : Bag) : Type 0 where
+pub record ReportsOxum (b : Bag) : Type 0 where
   pub info : List ℕ
   pub has : finmap.get b.files (codes "bag-info.txt") ≡ Some info
   pub once : filter (λ line. starts_with nat_eq line (codes "Payload-Oxum:")) (lines_of info)
@@ -109,4 +109,4 @@ pub record IsValidBag (b : Bag) : Type 0 where
   pub folder : Contains b.folders (codes "data") ⊎ (payload_in b ≢ [])
   pub manifest : (a : Algorithm) → IsPayloadManifest a b
   pub tag_manifest : (a : Algorithm) → IsTagManifest a b
-  pub oxum : TellsOxum b
+  pub oxum : ReportsOxum b

@@ -75,7 +75,7 @@ impl From<WriteFailed> for ExportFault {
 }
 
 impl From<StoreFault> for ExportFault {
-    ghost from_gives = { λ fault told. told ≡ export_fault_for fault };
+    ghost from_gives = { λ fault reported. reported ≡ export_fault_for fault };
 
     fn from(fault: StoreFault) -> ExportFault {
         match fault {
@@ -86,7 +86,7 @@ impl From<StoreFault> for ExportFault {
 }
 
 impl From<StreamFault> for ExportFault {
-    ghost from_gives = { λ fault told. told ≡ unsent_fault fault };
+    ghost from_gives = { λ fault reported. reported ≡ unsent_fault fault };
 
     fn from(fault: StreamFault) -> ExportFault {
         match fault {

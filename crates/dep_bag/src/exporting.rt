@@ -13,7 +13,7 @@ use std::alloc::Global;
 
 /// Gives a sink the folder `data` and then each file of an object's bag, in the order of the list.
 /// Contents are sent as the source streams them, and no content is held or hashed here. After a
-/// fault the sink holds a front of what it was to be given.
+/// fault the sink holds a prefix of what it was to be given.
 pub fn export<S: BagSource, K: BagSink>(
     alloc: Global,
     source: &mut S,

@@ -8,9 +8,9 @@ ghost use Rattle.dep_types.specs.BagPaths.{bag_paths, payload_path, tag_paths};
 ghost use Rattle.dep_manifest.specs.Manifest.{digest_by, encoded_path};
 ghost use Rattle.dep_manifest.specs.declared.algorithm.Algorithm.{Algorithm};
 ghost use Rattle.dep_bag.specs.Bag.{Bag, HoldsAll, oxum, list_text, bag_of, bag_at, bag_files};
-ghost use Rattle.dep_bag.specs.Valid.{IsValidBag, TellsFile, is_payload, lines_of};
+ghost use Rattle.dep_bag.specs.Valid.{IsValidBag, ReportsFile, is_payload, lines_of};
 ghost use Rattle.dep_types.specs.Rows.{object_view};
-ghost use Rattle.dep_bag.specs.Parts.{told_parts, told_bytes, held_bytes};
+ghost use Rattle.dep_bag.specs.Parts.{reported_parts, reported_bytes, held_bytes};
 ghost use Rattle.dep_bag.specs.Named.{percent_encoded};
 ghost use Rattle.dep_bag.specs.Numbered.{file_number};
 ghost use Rattle.dep_bag.specs.ExampleBags.{example_payload, paths_with, tag_list};
@@ -33,16 +33,16 @@ pub fn bag_has_its_paths()
 {}
 
 /// The parts of a bag that a view of an object has, with the contents of its files, are its bag's files.
-pub fn view_tells_bag()
+pub fn view_reports_bag()
     ensures { (n : ℕ) (o : Object)
-        → each (told_bytes o) (told_parts (object_view n o)) ≡ each held_bytes (bag_files o) }
+        → each (reported_bytes o) (reported_parts (object_view n o)) ≡ each held_bytes (bag_files o) }
 {}
 
 /// A valid bag has the digests of each of its payload files, by both algorithms.
-pub fn valid_bag_tells_each_file()
+pub fn valid_bag_reports_each_file()
     ensures { (b : Bag) (valid : IsValidBag b) (a : Algorithm) (path bytes : List ℕ)
         → is_payload path ≡ true → map.get b.files path ≡ Some bytes
-        → TellsFile (digest_by a) (valid.manifest a).lines path bytes }
+        → ReportsFile (digest_by a) (valid.manifest a).lines path bytes }
 {}
 
 /// Of the paths of files with good names nothing but the percent sign is written otherwise.
@@ -52,7 +52,7 @@ pub fn good_path_is_encoded()
 {}
 
 /// The number of a payload file is found by its path.
-pub fn payload_path_tells_its_number()
+pub fn payload_path_reports_its_number()
     ensures { (file : ℕ) (name : List ℕ) → IsStorable file
         → file_number (payload_path file name) ≡ Some file }
 {}

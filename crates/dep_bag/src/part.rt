@@ -1,7 +1,7 @@
 //! What stands at a path of a bag.
 ghost use Rattle.std.specs.Prelude.{◌≡◌, IfOk, bytes_eq, map};
 ghost use Rattle.dep_docs_out.specs.Made.{Makes};
-ghost use Rattle.dep_bag.specs.Parts.{part_at, stored_part, tag_file_at, tag_text, told_part};
+ghost use Rattle.dep_bag.specs.Parts.{part_at, stored_part, tag_file_at, tag_text, reported_part};
 
 use crate::paths::is_payload_path;
 use dep_docs_out::bag_metadata_doc;
@@ -37,13 +37,13 @@ pub enum TagFile {
 }
 
 /// Returns what stands at a path of an object's bag, if something does. Paths are compared byte by byte. No
-/// content is read. An `Err` is want of memory.
+/// content is read. An `Err` is lack of memory.
 pub fn bag_file(
     alloc: Global,
     view: &ObjectView,
     path: &[u8],
 ) -> Result<Option<BagPart>, AllocError>
-    ensures { IfOk result (λ part. part ≡ told_part view.now path.now) }
+    ensures { IfOk result (λ part. part ≡ reported_part view.now path.now) }
 {
     match tag_file(path) {
         Some(file) => {

@@ -6,8 +6,8 @@ ghost use Rattle.dep_types.specs.BagPaths.{tag_paths};
 ghost use Rattle.dep_types.specs.Limits.{IsStorable};
 ghost use Rattle.dep_manifest.specs.Growing.{Grows};
 ghost use Rattle.dep_bag.specs.Fronts.{IsBehind};
-ghost use Rattle.dep_manifest.specs.Told.{row_path};
-ghost use Rattle.dep_bag.specs.Parts.{in_folder, told_paths};
+ghost use Rattle.dep_manifest.specs.Reported.{row_path};
+ghost use Rattle.dep_bag.specs.Parts.{in_folder, reported_paths};
 ghost use Rattle.dep_bag.specs.Numbered.{file_number, number_written};
 
 use crate::part::{stored_file, tag_file};
@@ -37,7 +37,7 @@ const GREATEST_KEY: u64 = 9_223_372_036_854_775_807;
 /// Returns the paths of an object's bag, in the order of its list: the tag files, then the payload by
 /// ascending file number (RFC 8493, section 2).
 pub fn bag_paths(alloc: Global, view: &ObjectView) -> Result<TextList, AllocError>
-    ensures { IfOk result (λ paths. paths ≡ told_paths view.now) }
+    ensures { IfOk result (λ paths. paths ≡ reported_paths view.now) }
 {
     let mut paths = Vec::new(alloc);
     add_tag_paths(alloc, &mut paths)?;
@@ -79,7 +79,7 @@ pub fn has_bag_path(files: &[FileRow], path: &[u8]) -> bool
 /// `data/NUMBER/NAME`, where a table can hold it. It may begin with zeros, so whether the file stands there
 /// is still to be asked.
 pub fn file_number(path: &[u8]) -> Option<u64>
-    ensures told { result ≡ file_number path.now }
+    ensures reported { result ≡ file_number path.now }
     ensures fits { IfSome result IsStorable }
 {
     match after(path, b"data/") {
@@ -89,7 +89,7 @@ pub fn file_number(path: &[u8]) -> Option<u64>
 }
 
 fn number_written(digits: &[u8]) -> Option<u64>
-    ensures told { result ≡ number_written digits.now }
+    ensures reported { result ≡ number_written digits.now }
     ensures fits { IfSome result IsStorable }
 {
     match decimal(digits, GREATEST_KEY) {

@@ -1,14 +1,14 @@
 //! What bags are made from.
 ghost use Rattle.std.specs.Prelude.{◌≡◌, ◌≢◌, OnOk, Err};
 ghost use Rattle.dep_types.specs.State.{State};
-ghost use Rattle.dep_types.specs.Conditions.{Condition, StandsFor, Leaves};
+ghost use Rattle.dep_types.specs.Conditions.{Condition, Represents, Leaves};
 ghost use Rattle.dep_types.specs.Streams.{IsStreamed};
 ghost use Rattle.dep_types.specs.Writing.{HasRisen};
-ghost use Rattle.dep_bag.specs.Source.{OfEachState, TellsView, GivesFrom, KeepsStanding, StandsStill};
+ghost use Rattle.dep_bag.specs.Source.{OfEachState, ReportsView, GivesFrom, KeepsStanding, StandsStill};
 
 use dep_types::{ObjectView, Outlet, StoreFault, StreamFault};
 
-/// What bags are made from: it stands for a state of the archive, shows its objects, and sends the contents
+/// What bags are made from: it represents a state of the archive, shows its objects, and sends the contents
 /// of its files.
 pub trait BagSource {
     /// How it stands.
@@ -17,7 +17,7 @@ pub trait BagSource {
     /// Returns the object with this number as it is shown, if it is there.
     fn view(&mut self, object: u64) -> Result<Option<ObjectView>, StoreFault>
         ensures ok { OfEachState (condition self.old) (condition self.new)
-            (λ s. TellsView s object result) }
+            (λ s. ReportsView s object result) }
         ensures kept { KeepsStanding (condition self.old) (condition self.new) result }
         ensures still { StandsStill (condition self.old) (condition self.new) };
 
@@ -33,7 +33,7 @@ pub trait BagSource {
         ensures others { result ≢ Err StreamFault.Writer →
             O.failures out.new ≡ O.failures out.old };
 
-    // While it stands for a state, a crash leaves that state.
-    ghost settled: { (x : Self) (s : State) → StandsFor (condition x) s
+    // While it represents a state, a crash leaves that state.
+    ghost settled: { (x : Self) (s : State) → Represents (condition x) s
         → Leaves (condition x) (λ left. left ≡ s) };
 }

@@ -8,7 +8,7 @@ use Rattle.dep_body.specs.Lines.{line_text}
 use Rattle.dep_body.specs.Body.{IsChunkedPart, begun_line, begun_chunk, begun_trailers, lines_text}
 use Rattle.dep_body.specs.Standing.{StandsAt, is_settled, IsInLine, IsInData, IsBehindData, IsInTrailers}
 use Rattle.dep_body.specs.ReaderValue.{ReaderValue}
-use Rattle.dep_body.specs.Feeding.{HasFed, HasChunkByte, TellsFed, answer_of}
+use Rattle.dep_body.specs.Feeding.{HasFed, HasChunkByte, ReportsFed, answer_of}
 use Rattle.dep_body.specs.declared.left.DataLeft.{DataLeft}
 use Rattle.dep_body.specs.declared.size.SizeLine.{SizeLine}
 use Rattle.dep_body.specs.declared.trailers.Trailers.{Trailers}
@@ -117,18 +117,18 @@ feeds_fed new fed piece used h = record { text = h.text; behind = h.behind; fed_
 whole_stream : (fed piece text behind : List ℕ) → fed ++ piece ≡ text ++ behind → behind ≡ [] → text ≡ fed ++ piece
 whole_stream fed piece text behind e none = sym (e ∙ ap (λ s. text ++ s) none ∙ append-nil text)
 
-pub tells : (limit : ℕ) (content fed piece : List ℕ) (stage : Stage) (used : ℕ)
+pub reports : (limit : ℕ) (content fed piece : List ℕ) (stage : Stage) (used : ℕ)
     → FeedsTo (record { limit = limit; content = content; stage = stage }) fed piece used
-    → TellsFed (record { limit = limit; content = content; stage = stage }) fed piece (answer_of stage used)
-tells limit content fed piece (Line state) used h = subst (λ s. IsChunkedPart limit s content) (whole_stream fed piece h.text h.behind h.stream_is (h.all refl)) (line_part limit content h.text state h.stands)
-tells limit content fed piece (Data left) used h = subst (λ s. IsChunkedPart limit s content) (whole_stream fed piece h.text h.behind h.stream_is (h.all refl)) (data_part limit content h.text left.bytes h.stands)
-tells limit content fed piece (ChunkEnd byte) used h = subst (λ s. IsChunkedPart limit s content) (whole_stream fed piece h.text h.behind h.stream_is (h.all refl)) (end_part limit content h.text byte h.stands)
-tells limit content fed piece (Section state) used h = subst (λ s. IsChunkedPart limit s content) (whole_stream fed piece h.text h.behind h.stream_is (h.all refl)) (section_part limit content h.text state h.stands)
-tells limit content fed piece Done used h = record { text = h.text; behind = h.behind; stream_is = h.stream_is; body = h.stands; used_is = h.used_is }
-tells limit content fed piece Bad used h = record { text = h.text; behind = h.behind; stream_is = h.stream_is; shown = h.stands }
-tells limit content fed piece TooLarge used h = record { text = h.text; behind = h.behind; stream_is = h.stream_is; shown = h.stands }
+    → ReportsFed (record { limit = limit; content = content; stage = stage }) fed piece (answer_of stage used)
+reports limit content fed piece (Line state) used h = subst (λ s. IsChunkedPart limit s content) (whole_stream fed piece h.text h.behind h.stream_is (h.all refl)) (line_part limit content h.text state h.stands)
+reports limit content fed piece (Data left) used h = subst (λ s. IsChunkedPart limit s content) (whole_stream fed piece h.text h.behind h.stream_is (h.all refl)) (data_part limit content h.text left.bytes h.stands)
+reports limit content fed piece (ChunkEnd byte) used h = subst (λ s. IsChunkedPart limit s content) (whole_stream fed piece h.text h.behind h.stream_is (h.all refl)) (end_part limit content h.text byte h.stands)
+reports limit content fed piece (Section state) used h = subst (λ s. IsChunkedPart limit s content) (whole_stream fed piece h.text h.behind h.stream_is (h.all refl)) (section_part limit content h.text state h.stands)
+reports limit content fed piece Done used h = record { text = h.text; behind = h.behind; stream_is = h.stream_is; body = h.stands; used_is = h.used_is }
+reports limit content fed piece Bad used h = record { text = h.text; behind = h.behind; stream_is = h.stream_is; shown = h.stands }
+reports limit content fed piece TooLarge used h = record { text = h.text; behind = h.behind; stream_is = h.stream_is; shown = h.stands }
 
--- a front, and a front of what follows it
+-- a front, and a prefix of what follows it
 pub take_further : (text piece : List ℕ) (used count : ℕ) → used ≤ length piece
     → (text ++ take used piece) ++ take count (drop used piece) ≡ text ++ take (used + count) piece
 take_further text piece used count within =

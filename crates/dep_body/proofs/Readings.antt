@@ -7,7 +7,7 @@ use Rattle.std.specs.Char.{digit_value}
 use Rattle.std.specs.Str.Parse.{digits_value, digits_value_after}
 use Rattle.dep_octets.specs.Octets.{capped, is_token_octet}
 use Rattle.dep_body.specs.Lines.{line_size, is_hex_octet, begins_extension, is_extension_octet, is_extension, is_trailer_line, is_trailer_value, is_trailer_octet}
-use Rattle.dep_body.specs.Reading.{with_digit, size_after, size_reading, Says, trailer_after, trailer_reading, Tells}
+use Rattle.dep_body.specs.Reading.{with_digit, size_after, size_reading, Says, trailer_after, trailer_reading, Reports}
 use Rattle.dep_body.specs.declared.size.SizeReading.TheVariants.{Digits, Extension, Malformed}
 use Rattle.dep_body.specs.declared.trailers.TrailerReading as T
 use Rattle.dep_body.specs.declared.trailers.TrailerReading.TheVariants as V
@@ -174,17 +174,17 @@ trailer-nil : is_trailer_line [] ≡ false
 unfolding is_trailer_line
 trailer-nil = refl
 
-name_tells : (r : T.TrailerReading) (b : ℕ) (line : List ℕ) → is_token_octet b ≡ true → NameSays r line → Tells r (b ∷ line)
-name_tells V.Empty b line t h = absurd h
-name_tells V.Name b line t h = (omega arith, trailer-token b line t ∙ h)
-name_tells V.Value b line t h = (omega arith, trailer-token b line t ∙ h)
-name_tells V.Broken b line t h = (omega arith, trailer-token b line t ∙ h)
+name_reports : (r : T.TrailerReading) (b : ℕ) (line : List ℕ) → is_token_octet b ≡ true → NameSays r line → Reports r (b ∷ line)
+name_reports V.Empty b line t h = absurd h
+name_reports V.Name b line t h = (omega arith, trailer-token b line t ∙ h)
+name_reports V.Value b line t h = (omega arith, trailer-token b line t ∙ h)
+name_reports V.Broken b line t h = (omega arith, trailer-token b line t ∙ h)
 
 -- the reading of a trailer line tells whether it is one
-pub trailer_told : (line : List ℕ) → Tells (trailer_reading line) line
-trailer_told [] = (refl, trailer-nil)
-trailer_told (b ∷ line) =
+pub trailer_reported : (line : List ℕ) → Reports (trailer_reading line) line
+trailer_reported [] = (refl, trailer-nil)
+trailer_reported (b ∷ line) =
     elim (cases_Bool (is_token_octet b)) [
-      | inl t ↦ rw t (name_tells _ b line t (name_from line))
+      | inl t ↦ rw t (name_reports _ b line t (name_from line))
       | inr f ↦ rw (f, broken_stays line) (omega arith, trailer-no_token b line f)
     ]

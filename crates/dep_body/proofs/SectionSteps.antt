@@ -6,7 +6,7 @@ use Rattle.std.proofs.lemmas.List.Elements.{All-append, All-cons, All-nil}
 use Rattle.std.proofs.lemmas.List.Folds.{list_all-append}
 use Rattle.dep_body.specs.Lines.{crlf, line_text, is_trailer_line}
 use Rattle.dep_body.specs.Body.{IsSizeLine, HasChunks, IsTrailer, lines_text, IsSection, IsChunkedBody, IsChunkedFault, long_trailers, bad_trailers, section_limit}
-use Rattle.dep_body.specs.Reading.{trailer_after, trailer_reading, next_trailer, Tells}
+use Rattle.dep_body.specs.Reading.{trailer_after, trailer_reading, next_trailer, Reports}
 use Rattle.dep_body.specs.Standing.{IsBegunLine, IsInTrailers, IsBehindLines, IsSizedLine}
 use Rattle.dep_body.specs.declared.frame.FrameFault.TheVariants.{Bad}
 use Rattle.dep_body.specs.declared.trailers.Trailers.{Trailers}
@@ -15,7 +15,7 @@ use Rattle.dep_body.specs.declared.trailers.TrailerReading.TheVariants as V
 use Rattle.dep_body.proofs.LineEnds.{end_nil}
 use Rattle.dep_body.proofs.BegunLines.{begun_none, begun_line, begun_text, reading_more}
 use Rattle.dep_body.proofs.ChunkLemmas.{chunks_more, chunks_rest}
-use Rattle.dep_body.proofs.Readings.{trailer_told}
+use Rattle.dep_body.proofs.Readings.{trailer_reported}
 use Rattle.dep_body.proofs.SizeSteps.{begun_next, next_line, not_both, capped_some}
 
 reading_next : (bytes line : List ℕ) (cr : Bool) (b : ℕ) → IsBegunLine bytes line cr
@@ -92,9 +92,9 @@ ended_length limit content text state h cr =
     ap (λ t. length (lines_text h.lines ++ t)) (sym (begun_text h.rest h.line (subst (IsBegunLine h.rest h.line) cr h.begun)))
     ∙ one_longer limit content text state 10 h
 
-told : (limit : ℕ) (content text : List ℕ) (state : Trailers) (r : T.TrailerReading) → (h : IsInTrailers limit content state text)
-    → state.reading ≡ r → Tells r h.line
-told limit content text state r h e = subst (λ q. Tells q h.line) (sym h.reading_is ∙ e) (trailer_told h.line)
+reported : (limit : ℕ) (content text : List ℕ) (state : Trailers) (r : T.TrailerReading) → (h : IsInTrailers limit content state text)
+    → state.reading ≡ r → Reports r h.line
+reported limit content text state r h e = subst (λ q. Reports q h.line) (sym h.reading_is ∙ e) (trailer_reported h.line)
 
 whole : (limit : ℕ) (content text : List ℕ) (state : Trailers) → (h : IsInTrailers limit content state text) → state.after_cr ≡ true
     → h.line ≡ [] → IsSection (lines_text h.lines ++ crlf) h.lines
@@ -115,7 +115,7 @@ last_text limit content text state h cr none =
 pub section_done : (limit : ℕ) (content text : List ℕ) (state : Trailers) → IsInTrailers limit content state text → state.after_cr ≡ true
     → state.reading ≡ V.Empty → state.good ≡ true → IsChunkedBody limit (text ++ 10 ∷ []) content
 section_done limit content text state h cr empty good =
-    let none = (told limit content text state V.Empty h empty).0 in
+    let none = (reported limit content text state V.Empty h empty).0 in
     record {
       rest = line_text h.size_line ++ (lines_text h.lines ++ crlf);
       chunks = last_text limit content text state h cr none;
@@ -133,7 +133,7 @@ section_done limit content text state h cr empty good =
 pub section_bad : (limit : ℕ) (content text : List ℕ) (state : Trailers) → IsInTrailers limit content state text → state.after_cr ≡ true
     → state.reading ≡ V.Empty → state.good ≡ false → IsChunkedFault limit (text ++ 10 ∷ []) Bad content
 section_bad limit content text state h cr empty bad =
-    let none = (told limit content text state V.Empty h empty).0 in
+    let none = (reported limit content text state V.Empty h empty).0 in
     record {
       before = content;
       rest = line_text h.size_line ++ (lines_text h.lines ++ crlf);
@@ -170,7 +170,7 @@ line_joins limit content text state good h cr some good_is =
 pub value_joins : (limit : ℕ) (content text : List ℕ) (state : Trailers) → IsInTrailers limit content state text → state.after_cr ≡ true
     → state.reading ≡ V.Value → IsBehindLines limit content (state.length + 1) state.good (text ++ 10 ∷ [])
 value_joins limit content text state h cr value =
-    let t = told limit content text state V.Value h value in
+    let t = reported limit content text state V.Value h value in
     line_joins limit content text state state.good h cr t.0 (sym (and_true state.good) ∙ ap (λ b. state.good && b) (sym t.1))
 
 and_false : (a : Bool) → (a && false) ≡ false
@@ -180,13 +180,13 @@ and_false false = refl
 pub name_joins : (limit : ℕ) (content text : List ℕ) (state : Trailers) → IsInTrailers limit content state text → state.after_cr ≡ true
     → state.reading ≡ V.Name → IsBehindLines limit content (state.length + 1) false (text ++ 10 ∷ [])
 name_joins limit content text state h cr name =
-    let t = told limit content text state V.Name h name in
+    let t = reported limit content text state V.Name h name in
     line_joins limit content text state false h cr t.0 (sym (and_false state.good) ∙ ap (λ b. state.good && b) (sym t.1))
 
 pub broken_joins : (limit : ℕ) (content text : List ℕ) (state : Trailers) → IsInTrailers limit content state text → state.after_cr ≡ true
     → state.reading ≡ V.Broken → IsBehindLines limit content (state.length + 1) false (text ++ 10 ∷ [])
 broken_joins limit content text state h cr broken =
-    let t = told limit content text state V.Broken h broken in
+    let t = reported limit content text state V.Broken h broken in
     line_joins limit content text state false h cr t.0 (sym (and_false state.good) ∙ ap (λ b. state.good && b) (sym t.1))
 
 pub lines_long : (limit : ℕ) (content text : List ℕ) (size : ℕ) (good : Bool) → IsBehindLines limit content size good text → size ≡ section_limit

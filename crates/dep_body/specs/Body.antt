@@ -99,7 +99,7 @@ pub data IsUnitFault (limit taken : ℕ) (rest : List ℕ) : FrameFault → (hel
       → IsSizeLine line 0 → IsSection section lines → list_all is_trailer_line lines ≡ false
       → IsUnitFault limit taken rest Bad []
 
--- behind chunks of so many bytes the rest is a front of a unit, and no fault yet; held are the bytes
+-- behind chunks of so many bytes the rest is a prefix of a unit, and no fault yet; held are the bytes
 -- of an unfinished chunk
 pub data IsBegunUnit (limit taken : ℕ) (rest : List ℕ) : (held : List ℕ) → Type 0 where
   begun_line : line_end rest ≡ None → length rest < line_limit → IsBegunUnit limit taken rest []
@@ -125,7 +125,7 @@ pub record IsChunkedFault (limit : ℕ) (text : List ℕ) (fault : FrameFault) (
   pub unit : IsUnitFault limit (length before) rest fault held
   pub content_is : content ≡ before ++ held
 
--- chunks and a front of a unit; content are the bytes of chunks up to there
+-- chunks and a prefix of a unit; content are the bytes of chunks up to there
 pub record IsChunkedPart (limit : ℕ) (text content : List ℕ) : Type 0 where
   pub before : List ℕ
   pub rest : List ℕ
@@ -140,13 +140,13 @@ IsBodyText limit Empty text content = (text ≡ []) × (content ≡ [])
 IsBodyText limit (Length n) text content = (length text ≡ n) × (content ≡ text)
 IsBodyText limit Chunked text content = IsChunkedBody limit text content
 
--- the text is the shortest front of a stream that shows this fault of a body
+-- the text is the shortest prefix of a stream that shows this fault of a body
 abbrev pub IsBodyFault : ℕ → Framing → List ℕ → FrameFault → Type 0
 IsBodyFault limit Empty text fault = ⊥
 IsBodyFault limit (Length n) text fault = ⊥
 IsBodyFault limit Chunked text fault = (content : List ℕ) × IsChunkedFault limit text fault content
 
--- the text is a proper front of a body, and no fault of one
+-- the text is a proper prefix of a body, and no fault of one
 abbrev pub IsPartOfBody : ℕ → Framing → List ℕ → Type 0
 IsPartOfBody limit Empty text = ⊥
 IsPartOfBody limit (Length n) text = length text < n

@@ -35,11 +35,11 @@ pub record ShowsFault (limit : ℕ) (content fed piece : List ℕ) (fault : Fram
   pub shown : IsChunkedFault limit text fault content
 
 -- what is returned for a piece says this of the stream: the bytes fed before and the piece
-abbrev pub TellsFed : ReaderValue → List ℕ → List ℕ → Fed → Type 0
-TellsFed reader fed piece A.More = IsChunkedPart reader.limit (fed ++ piece) reader.content
-TellsFed reader fed piece (A.Done used) = EndsBody reader.limit reader.content fed piece used
-TellsFed reader fed piece A.Bad = ShowsFault reader.limit reader.content fed piece F.Bad
-TellsFed reader fed piece A.TooLarge = ShowsFault reader.limit reader.content fed piece F.TooLarge
+abbrev pub ReportsFed : ReaderValue → List ℕ → List ℕ → Fed → Type 0
+ReportsFed reader fed piece A.More = IsChunkedPart reader.limit (fed ++ piece) reader.content
+ReportsFed reader fed piece (A.Done used) = EndsBody reader.limit reader.content fed piece used
+ReportsFed reader fed piece A.Bad = ShowsFault reader.limit reader.content fed piece F.Bad
+ReportsFed reader fed piece A.TooLarge = ShowsFault reader.limit reader.content fed piece F.TooLarge
 
 -- a byte of a chunk stands in the piece, behind the stream that was fed before
 pub record HasChunkByte (limit : ℕ) (fed piece : List ℕ) : Type 0 where

@@ -58,8 +58,8 @@ Says most (Extension value) size = (n : ℕ) × (size ≡ Some n) × (value ≡ 
 Says most Malformed size = size ≡ None
 
 -- what a reading says of a trailer line
-abbrev pub Tells : T.TrailerReading → List ℕ → Type 0
-Tells V.Empty line = (line ≡ []) × (is_trailer_line line ≡ false)
-Tells V.Name line = (0 < length line) × (is_trailer_line line ≡ false)
-Tells V.Value line = (0 < length line) × (is_trailer_line line ≡ true)
-Tells V.Broken line = (0 < length line) × (is_trailer_line line ≡ false)
+abbrev pub Reports : T.TrailerReading → List ℕ → Type 0
+Reports V.Empty line = (line ≡ []) × (is_trailer_line line ≡ false)
+Reports V.Name line = (0 < length line) × (is_trailer_line line ≡ false)
+Reports V.Value line = (0 < length line) × (is_trailer_line line ≡ true)
+Reports V.Broken line = (0 < length line) × (is_trailer_line line ≡ false)

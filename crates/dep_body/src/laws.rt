@@ -6,7 +6,7 @@ ghost use Rattle.dep_body.specs.Trailers.{section_end};
 ghost use Rattle.dep_body.specs.declared.frame.Framing.{Framing as Frame};
 ghost use Rattle.dep_body.specs.declared.frame.FrameFault.{FrameFault as Fault};
 
-/// A stream begins with at most one body, which has one content. So no body is a proper front of another.
+/// A stream begins with at most one body, which has one content. So no body is a proper prefix of another.
 pub fn one_body()
     ensures { (limit : ℕ) (framing : Frame) (a b x y c d : List ℕ) → a ++ x ≡ b ++ y
         → IsBodyText limit framing a c → IsBodyText limit framing b d → (a ≡ b) × (c ≡ d) }

@@ -1,7 +1,7 @@
 //! Reads a chunked body piece by piece.
 ghost use Rattle.std.specs.Prelude.{◌≡◌, ◌<◌, ◌≤◌, ◌++◌, ℕ, List, [], length, take, true, false, IfOk, OnErr};
 ghost use Rattle.dep_body.specs.Standing.{StandsAt, IsInData, is_settled};
-ghost use Rattle.dep_body.specs.Feeding.{HasFed, HasChunkByte, TellsFed, answer_of, used_by};
+ghost use Rattle.dep_body.specs.Feeding.{HasFed, HasChunkByte, ReportsFed, answer_of, used_by};
 
 use crate::left::DataLeft;
 use crate::size::SizeLine;
@@ -58,13 +58,13 @@ impl ChunkReader {
     }
 
     /// Reads the next piece of the body's stream, and no byte of it twice. After `Bad` and `TooLarge` it
-    /// returns the same again, and after `Done` it returns `Done(0)`. An `Err` is want of memory, and changes
+    /// returns the same again, and after `Done` it returns `Done(0)`. An `Err` is lack of memory, and changes
     /// nothing.
     pub fn feed(&mut self, piece: &[u8]) -> Result<Fed, AllocError>
         ensures fed { IfOk result (λ _. (fed : List ℕ) → HasFed self.old fed
             → HasFed self.new (fed ++ piece.now)) }
-        ensures told { IfOk result (λ answer. (fed : List ℕ) → HasFed self.old fed
-            → TellsFed self.new fed piece.now answer) }
+        ensures reported { IfOk result (λ answer. (fed : List ℕ) → HasFed self.old fed
+            → ReportsFed self.new fed piece.now answer) }
         ensures within { IfOk result (λ answer. used_by answer ≤ length piece.now) }
         ensures limit { self.new.limit ≡ self.old.limit }
         ensures err { OnErr result (self.new ≡ self.old) }

@@ -10,13 +10,13 @@ use Rattle.dep_types.specs.Uploads.{assembled}
 use Rattle.dep_tables.specs.Tables.{Tables}
 use Rattle.dep_row_maps.specs.TablesAre.{TablesAre, with_object}
 use Rattle.dep_row_maps.proofs.Lens.{get_left, insert_again, insert_twice}
-use Rattle.dep_decisions.specs.Rules.{stands_twice}
+use Rattle.dep_decisions.specs.Rules.{occurs_twice}
 use Rattle.dep_decisions.specs.Effects.{added, added_from, bytes_from, file_from, upload_of, uploads_of, without}
 use Rattle.dep_decisions.specs.declared.decision.Source.{Source}
 use Rattle.dep_decisions.specs.declared.decision.Source.TheVariants.{Posted, Assembled}
 use Rattle.dep_decisions.specs.declared.decision.NewFile.{NewFile}
 use Rattle.dep_operations.specs.declared.view.UploadView.{UploadView}
-use Rattle.dep_changes.specs.Told.{IsSource, AreSources}
+use Rattle.dep_changes.specs.Reported.{IsSource, AreSources}
 use Rattle.dep_changes.specs.Changed.{made_file, with_new_file}
 
 -- ---- files
@@ -93,17 +93,17 @@ among_these (y ∷ xs) zero x u v at is none =
 among_these (y ∷ xs) (suc i) x u v at is none = among_these xs i x u v at is (none_behind v (upload_of y.source) (uploads_of xs) none)
 
 -- where no upload stands twice, that of a file is not one of those before it
-pub not_before : (xs : List NewFile) (i : ℕ) (x : NewFile) (u : ℕ) → stands_twice (uploads_of xs) ≡ false → slice_get xs i ≡ Some x → upload_of x.source ≡ Some u → is_among u (uploads_of (take i xs)) ≡ false
-unfolding stands_twice
+pub not_before : (xs : List NewFile) (i : ℕ) (x : NewFile) (u : ℕ) → occurs_twice (uploads_of xs) ≡ false → slice_get xs i ≡ Some x → upload_of x.source ≡ Some u → is_among u (uploads_of (take i xs)) ≡ false
+unfolding occurs_twice
 not_before [] i x u once at is = cc at
 not_before (y ∷ xs) zero x u once at is = refl
 not_before (y ∷ xs) (suc i) x u once at is = go (upload_of y.source) once (λ v none. among_these xs i x u v at is none) (λ e. not_before xs i x u e at is)
   where
-    go : (o : Option ℕ) → stands_twice (cons_option o (uploads_of xs)) ≡ false → ((v : ℕ) → is_among v (uploads_of xs) ≡ false → nat_eq v u ≡ false) → (stands_twice (uploads_of xs) ≡ false → is_among u (uploads_of (take i xs)) ≡ false)
+    go : (o : Option ℕ) → occurs_twice (cons_option o (uploads_of xs)) ≡ false → ((v : ℕ) → is_among v (uploads_of xs) ≡ false → nat_eq v u ≡ false) → (occurs_twice (uploads_of xs) ≡ false → is_among u (uploads_of (take i xs)) ≡ false)
         → is_among u (cons_option o (uploads_of (take i xs))) ≡ false
     go None e others later = later e
     go (Some v) e others later =
-        let both = both_false (is_among v (uploads_of xs)) (stands_twice (uploads_of xs)) e in
+        let both = both_false (is_among v (uploads_of xs)) (occurs_twice (uploads_of xs)) e in
         ap (λ (b : Bool). b || is_among u (uploads_of (take i xs))) (turned u v (others v both.0)) ∙ later both.1
 
 -- ---- one file more
@@ -137,8 +137,8 @@ module _ (s : State) (content : List ℕ) (seen : List UploadView) (n : ℕ) (o 
   upload_before u is = still_there s.uploads (uploads_of (take i all)) u (not_before all i x u sources.1 at is)
 
   source_by : (source : Source) → x.source ≡ source → IsSource s content (slice_get seen i) source → IsSource state_before content (slice_get seen i) source
-  source_by (Posted digests) is told = told
-  source_by (Assembled u) is told = record { upload = told.upload; there = upload_before u (ap upload_of is) ∙ told.there; whole = told.whole; seen_so = told.seen_so }
+  source_by (Posted digests) is reported = reported
+  source_by (Assembled u) is reported = record { upload = reported.upload; there = upload_before u (ap upload_of is) ∙ reported.there; whole = reported.whole; seen_so = reported.seen_so }
 
   pub its_source : IsSource state_before content (slice_get seen i) x.source
   its_source = source_by x.source refl (sources.0 i x at)

@@ -15,7 +15,7 @@ use Rattle.dep_decisions.specs.declared.decision.Decision.TheVariants.{Append}
 use Rattle.dep_changes.specs.declared.change.Change.{Change}
 use Rattle.dep_changes.specs.Changed.{with_deposit}
 use Rattle.dep_changes.specs.Clauses.{Appends, CarriesOut}
-use Rattle.dep_changes.specs.Told.{Rewrites, TellsObject}
+use Rattle.dep_changes.specs.Reported.{Rewrites, ReportsObject}
 use Rattle.dep_changes.proofs.Carried.{at_object}
 use Rattle.dep_changes.proofs.Filled.{ingested_row}
 use Rattle.dep_changes.proofs.Steps.{row_is, its_number, rewritten}
@@ -32,20 +32,20 @@ appended_at t s content k n o d ingests same are =
     (subst (λ (m : ℕ). TablesAre t (with_deposit s m (appended s content d (ingested_by ingests o)) d)) same are)
 
 module _ {T : Type 0} (state : T → db.State) (old new : T) (r : Result (Unit {0}) StoreFault) (change : Change) (d : Deposit) (ingests : Bool) (found row : ObjectRow) (seen : change.view.now.object ≡ Some found) (is : row ≡ record found { ingested = found.ingested || ingests }) (n : ℕ) where
-  row_of : (s : State) (o : Object) → TellsObject change.view.now s n o → row ≡ object_row n (ingested_by ingests o)
-  row_of s o told = ingested_row n o ingests found row (row_is s n o change.view.now.object told.0 found seen) is
+  row_of : (s : State) (o : Object) → ReportsObject change.view.now s n o → row ≡ object_row n (ingested_by ingests o)
+  row_of s o reported = ingested_row n o ingests found row (row_is s n o change.view.now.object reported.0 found seen) is
 
-  rewrites : (s : State) (o : Object) → TellsObject change.view.now s n o → Rewrites s row (ingested_by ingests o)
-  rewrites s o told = rewritten s n o (ingested_by ingests o) row (row_of s o told) told.1 refl refl
+  rewrites : (s : State) (o : Object) → ReportsObject change.view.now s n o → Rewrites s row (ingested_by ingests o)
+  rewrites s o reported = rewritten s n o (ingested_by ingests o) row (row_of s o reported) reported.1 refl refl
 
   pub append_carried : {L : Type 0} {lenders : T → L} → Appends lenders state old new r change row d → CarriesOut lenders state old new r change (Append n d ingests)
   append_carried made = record {
-    done = λ clean inside ours s are told.
+    done = λ clean inside ours s are reported.
         let content = change.content.now in
-        let o = told.1.0 in
+        let o = reported.1.0 in
         let it : Object = ingested_by ingests o in
-        at_object s (without s.uploads (uploads_in d)) (state new) r n o (λ (x : Object). ingested_by ingests (appended s content d x)) told.1.1.1
-        (ok_then r (made.done it clean inside ours s are ((told.0, told.1.2), rewrites s o told.1.1))
-        (λ added. appended_at (tables_of (state new)) s content row.object n o d ingests (its_number n it row (row_of s o told.1.1)) added));
+        at_object s (without s.uploads (uploads_in d)) (state new) r n o (λ (x : Object). ingested_by ingests (appended s content d x)) reported.1.1.1
+        (ok_then r (made.done it clean inside ours s are ((reported.0, reported.1.2), rewrites s o reported.1.1))
+        (λ added. appended_at (tables_of (state new)) s content row.object n o d ingests (its_number n it row (row_of s o reported.1.1)) added));
     keeps = made.keeps;
   }

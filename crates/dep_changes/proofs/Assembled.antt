@@ -7,16 +7,16 @@ use Rattle.dep_types.specs.declared.rows.FileRow.{FileRow}
 use Rattle.dep_types.specs.declared.rows.UploadRow.{UploadRow}
 use Rattle.dep_decisions.specs.Effects.{is_reference}
 use Rattle.dep_decisions.specs.declared.decision.NewFile.{NewFile}
-use Rattle.dep_changes.specs.Told.{TellsNumbers}
+use Rattle.dep_changes.specs.Reported.{ReportsNumbers}
 use Rattle.dep_changes.specs.Changed.{IsExtent, made_file, new_row}
 use Rattle.dep_changes.specs.declared.change.Change.{Change}
 use Rattle.dep_changes.specs.declared.new_files.Extent.{Extent}
 use Rattle.dep_changes.specs.declared.new_files.FileNumbers.{FileNumbers}
 
-pub made_row : (change : Change) (s : State) (numbers : FileNumbers) (new : NewFile) (extent : Extent) (bytes : List ℕ) (row : FileRow) → row ≡ new_row change numbers new extent → TellsNumbers change.view.now s → IsExtent extent bytes
+pub made_row : (change : Change) (s : State) (numbers : FileNumbers) (new : NewFile) (extent : Extent) (bytes : List ℕ) (row : FileRow) → row ≡ new_row change numbers new extent → ReportsNumbers change.view.now s → IsExtent extent bytes
     → row ≡ file_row numbers.object numbers.file (made_file s new bytes)
-made_row change s numbers new extent bytes row is told has =
-    is ∙ (λ i. record { file = numbers.file; object = numbers.object; name = new.name; media = new.media; size = has.0 i; tag = (told.1 i).change; deposited = told.0 i; behalf = new.behalf; by_reference = is_reference new.source; sha256 = (has.1 i).sha256 })
+made_row change s numbers new extent bytes row is reported has =
+    is ∙ (λ i. record { file = numbers.file; object = numbers.object; name = new.name; media = new.media; size = has.0 i; tag = (reported.1 i).change; deposited = reported.0 i; behalf = new.behalf; by_reference = is_reference new.source; sha256 = (has.1 i).sha256 })
 
 -- what is said of the numbers that the rows have is said of those of the file and the upload
 pub done_as : (Done : (n f u : ℕ) → Type 0) (s : State) (n f u : ℕ) (o : Object) (it : Upload) (file : File) (row : FileRow) (up : UploadRow) → row ≡ file_row n f file → up ≡ upload_row u it → finmap.get s.objects n ≡ Some o → finmap.get s.uploads u ≡ Some it

@@ -20,11 +20,11 @@ use Rattle.dep_decisions.specs.declared.operation.Operation.{Operation}
 use Rattle.dep_decisions.specs.declared.decision.Decision.{Decision}
 use Rattle.dep_operations.specs.Views.{true_view}
 use Rattle.dep_operations.specs.declared.view.View.{View}
-use Rattle.dep_changes.specs.Told.{IsAccepted, TellsFor, TellsNumbers}
+use Rattle.dep_changes.specs.Reported.{IsAccepted, ReportsFor, ReportsNumbers}
 use Rattle.dep_changes.specs.Changed.{with_maps}
 use Rattle.dep_changes.specs.Clauses.{CarriesOut}
 use Rattle.dep_changes.specs.declared.change.Change.{Change}
-use Rattle.dep_changes.proofs.Accepted.{told_for}
+use Rattle.dep_changes.proofs.Accepted.{reported_for}
 
 -- room for all numbers is room for those of files
 pub room_of_files : (next : Counters) (d : Decision) (count : ℕ) → (numbers_for d).file ≡ count → IsTrue (room_for next (numbers_for d)) → IsTrue (has_room next.file count)
@@ -38,15 +38,15 @@ room_of_files next d count is room =
 
 -- an accepted request tells all that its decision relies on
 module _ (s : State) (view : View) (content : List ℕ) (d : Decision) (it : IsAccepted s view content d) where
-  pub numbers_told : TellsNumbers view s
-  numbers_told = (ap (λ (v : View). v.clock) it.seen, ap (λ (v : View). v.next) it.seen)
+  pub numbers_reported : ReportsNumbers view s
+  numbers_reported = (ap (λ (v : View). v.clock) it.seen, ap (λ (v : View). v.next) it.seen)
 
-  pub told : TellsFor view s content d
-  told =
+  pub reported : ReportsFor view s content d
+  reported =
       let ruling = it.ruling in
-      subst (λ (v : View). TellsFor v s content d) (sym it.seen)
-      (subst (λ (bytes : List ℕ). TellsFor (true_view it.config s it.op) s bytes d) (sym it.sent)
-      (subst (TellsFor (true_view it.config s it.op) s it.op.content) (sym ruling.1) (told_for it.config s it.op it.sound ruling.0)))
+      subst (λ (v : View). ReportsFor v s content d) (sym it.seen)
+      (subst (λ (bytes : List ℕ). ReportsFor (true_view it.config s it.op) s bytes d) (sym it.sent)
+      (subst (ReportsFor (true_view it.config s it.op) s it.op.content) (sym ruling.1) (reported_for it.config s it.op it.sound ruling.0)))
 
 -- with the counters the maps are the state after it
 pub carried : (s : State) (content : List ℕ) (d : Decision) (t : Tables) (clock : ℕ) (next : Counters) → clock ≡ s.clock → next ≡ counters_after s.next (numbers_for d)

@@ -14,7 +14,7 @@ use Rattle.dep_decisions.specs.Effects.{blank, filled, ingested_by, uploads_in, 
 use Rattle.dep_decisions.specs.declared.decision.Deposit.{Deposit}
 use Rattle.dep_decisions.specs.declared.decision.Deposit.TheVariants.{Files, Metadata}
 use Rattle.dep_operations.specs.declared.view.UploadView.{UploadView}
-use Rattle.dep_changes.specs.Told.{HasSources}
+use Rattle.dep_changes.specs.Reported.{HasSources}
 use Rattle.dep_changes.specs.Changed.{put_in, with_deposit}
 use Rattle.dep_changes.proofs.Added.{added_alike}
 use Rattle.dep_changes.proofs.Steps.{row_is_of}

@@ -15,19 +15,19 @@ use Rattle.dep_decisions.specs.declared.decision.Decision.{Decision}
 use Rattle.dep_decisions.specs.declared.decision.Deposit.{Deposit}
 use Rattle.dep_decisions.specs.declared.decision.NewFile.{NewFile}
 use Rattle.dep_decisions.specs.declared.decision.Decision.TheVariants.{Show, Create, Append, Replace, Complete, SetMetadata, SetFiles, SetFile}
-use Rattle.dep_answers.specs.Subjects.{files_view}
-use Rattle.dep_answers.specs.declared.subject.Shown.TheVariants as shown
+use Rattle.dep_answers.specs.ReadSets.{files_view}
+use Rattle.dep_answers.specs.declared.read_set.Shown.TheVariants as shown
 use Rattle.dep_operations.specs.declared.view.View.{View}
 use Rattle.dep_objects.specs.Objects.{HasRow}
 use Rattle.dep_objects.proofs.Puts.{has_row}
 use Rattle.dep_changes.proofs.Appended.{ingested_after}
 use Rattle.dep_changes.specs.Known.{known_row, known_shown, row_in, row_left}
-use Rattle.dep_changes.specs.Told.{TellsObject}
+use Rattle.dep_changes.specs.Reported.{ReportsObject}
 
 -- a new object
-pub created_known : (s : State) (content : List ℕ) (d : Deposit) (ingests : Bool) (told : ObjectView) → told ≡ files_view s.next.object (filled s content d ingests)
-    → Some (shown.Files told) ≡ known_shown s content (Create d ingests)
-created_known s content d ingests told is =
+pub created_known : (s : State) (content : List ℕ) (d : Deposit) (ingests : Bool) (reported : ObjectView) → reported ≡ files_view s.next.object (filled s content d ingests)
+    → Some (shown.Files reported) ≡ known_shown s content (Create d ingests)
+created_known s content d ingests reported is =
     ap (λ (v : ObjectView). Some (shown.Files v)) is
     ∙ sym (ap (λ (x : Option Kept). Some (option_map_or (λ (o : Kept). shown.Files (files_view s.next.object o)) x shown.Nothing)) (get_here s.objects s.next.object (filled s content d ingests)))
 
@@ -50,9 +50,9 @@ module _ (s : State) (content : List ℕ) (n : ℕ) (o : Kept) (there : finmap.g
   pub files_known : (new : List NewFile) (row : ObjectRow) → row ≡ object_row n (with_files s (added s content new finmap.empty) o) → Some (shown.ObjectRow row) ≡ known_shown s content (SetFiles n new)
   files_known new row is = row_after (with_files s (added s content new finmap.empty)) row is
 
-  pub replaced_known : (d : Deposit) (ingests : Bool) (told : ObjectView) → told ≡ files_view n (filled s content d (o.ingested || ingests))
-      → Some (shown.Files told) ≡ known_shown s content (Replace n d ingests)
-  replaced_known d ingests told is =
+  pub replaced_known : (d : Deposit) (ingests : Bool) (reported : ObjectView) → reported ≡ files_view n (filled s content d (o.ingested || ingests))
+      → Some (shown.Files reported) ≡ known_shown s content (Replace n d ingests)
+  replaced_known d ingests reported is =
       ap (λ (v : ObjectView). Some (shown.Files v)) is
       ∙ sym (ap (λ (x : Option Kept). Some (option_map_or (λ (y : Kept). shown.Files (files_view n y)) x shown.Nothing)) (at_here s.objects n o (λ (y : Kept). filled s content d (y.ingested || ingests)) there))
 
@@ -89,13 +89,13 @@ module _ (s : State) (content : List ℕ) (view : View) where
   pub shown_left : (looked : Option ℕ) → view.object ≡ (looked >>= (λ n. option_map (object_row n) (finmap.get s.objects n))) → Leaves Show view.object
   shown_left looked is = seen_again s.objects looked view.object is
 
-  module _ (n : ℕ) (o : Kept) (told : TellsObject view s n o) where
+  module _ (n : ℕ) (o : Kept) (reported : ReportsObject view s n o) where
     left_at : (f : Kept → Kept) (row : ObjectRow) → row ≡ object_row n (f o)
         → Some row ≡ (view.object >>= (λ was. option_map (object_row was.object) (finmap.get (at s.objects n f) was.object)))
     left_at f row is =
         ap (λ (r : ObjectRow). Some r) is
-        ∙ sym (ap (λ (x : Option ObjectRow). x >>= (λ was. option_map (object_row was.object) (finmap.get (at s.objects n f) was.object))) told.0
-        ∙ ap (option_map (object_row n)) (at_here s.objects n o f told.1))
+        ∙ sym (ap (λ (x : Option ObjectRow). x >>= (λ was. option_map (object_row was.object) (finmap.get (at s.objects n f) was.object))) reported.0
+        ∙ ap (option_map (object_row n)) (at_here s.objects n o f reported.1))
 
     pub completed_left : (row : ObjectRow) → row ≡ object_row n (ingested_by true (changed s o)) → Leaves (Complete n) (Some row)
     completed_left row is = left_at (λ (x : Kept). ingested_by true (changed s x)) row is

@@ -23,9 +23,9 @@ use Rattle.dep_decisions.specs.declared.decision.Source.TheVariants.{Posted, Ass
 use Rattle.dep_decisions.specs.declared.decision.Deposit.{Deposit}
 use Rattle.dep_decisions.specs.declared.decision.Deposit.TheVariants.{Files, Metadata}
 use Rattle.dep_decisions.specs.declared.decision.NewFile.{NewFile}
-use Rattle.dep_answers.specs.Subjects.{files_view}
+use Rattle.dep_answers.specs.ReadSets.{files_view}
 use Rattle.dep_operations.specs.declared.view.UploadView.{UploadView}
-use Rattle.dep_changes.specs.Told.{IsSource, whole_view}
+use Rattle.dep_changes.specs.Reported.{IsSource, whole_view}
 use Rattle.dep_changes.specs.Changed.{IsExtent, new_rows}
 use Rattle.dep_changes.proofs.Added.{length_before, take_next}
 
@@ -36,15 +36,15 @@ HasExtent s content source size digests = IsExtent (record { size = size; digest
 
 module _ (s : State) (content : List ℕ) (seen : Option UploadView) (source : Source) where
   pub posted_extent : (digests : Digests) (bytes : List ℕ) → source ≡ Posted digests → bytes ≡ content → IsSource s content seen source → HasExtent s content source (length bytes) digests
-  posted_extent digests bytes is same told =
-      let has : IsSource s content seen (Posted digests) = subst (IsSource s content seen) is told in
+  posted_extent digests bytes is same reported =
+      let has : IsSource s content seen (Posted digests) = subst (IsSource s content seen) is reported in
       subst (λ (x : Source). HasExtent s content x (length bytes) digests) (sym is) (ap (λ (b : List ℕ). length b) same, has)
 
   pub whole_extent : (u : ℕ) (row : UploadRow) (digests : Digests) → source ≡ Assembled u
       → ((w : ℕ) (it : Upload) → seen ≡ Some (whole_view w it) → (row ≡ upload_row w it) × (digests ≡ digests_of (assembled it)))
       → IsSource s content seen source → HasExtent s content source row.size digests
-  whole_extent u row digests is found told =
-      let has : IsSource s content seen (Assembled u) = subst (IsSource s content seen) is told in
+  whole_extent u row digests is found reported =
+      let has : IsSource s content seen (Assembled u) = subst (IsSource s content seen) is reported in
       let its = found u has.upload has.seen_so in
       let bytes : bytes_from s content (Assembled u) ≡ assembled has.upload = ap (λ (x : Option Upload). option_map_or assembled x []) has.there in
       subst (λ (x : Source). HasExtent s content x row.size digests) (sym is) (
@@ -141,12 +141,12 @@ module _ (s : State) (content : List ℕ) (n : ℕ) (ingested : Bool) (row : Obj
       → ◌≡◌ {A = ObjectView} (record { object = row; metadata = texts; files = rows; sha512s = values }) (files_view n (filled s content d ingested))
   view_of_files new same texts none rows are values unread =
       let rows_are : rows ≡ new_rows s content n new = are ∙ ap (λ (r : ObjectRow). new_rows s content r.object new) is in
-      let told : ◌≡◌ {A = ObjectView} (record { object = row; metadata = texts; files = rows; sha512s = values }) (files_view n (filled s content (Files new) ingested)) = λ i. record { object = is i; metadata = none i; files = rows_are i; sha512s = unread i } in
-      told ∙ ap (λ (x : Deposit). files_view n (filled s content x ingested)) (sym same)
+      let reported : ◌≡◌ {A = ObjectView} (record { object = row; metadata = texts; files = rows; sha512s = values }) (files_view n (filled s content (Files new) ingested)) = λ i. record { object = is i; metadata = none i; files = rows_are i; sha512s = unread i } in
+      reported ∙ ap (λ (x : Deposit). files_view n (filled s content x ingested)) (sym same)
 
   pub view_of_texts : (given : Texts) → d ≡ Metadata given → (texts : Texts) → texts ≡ finmap.empty → (rows : List FileRow) → rows ≡ [] → (values : List (List ℕ)) → values ≡ []
       → ◌≡◌ {A = ObjectView} (record { object = row; metadata = texts; files = rows; sha512s = values }) (files_view n (filled s content d ingested))
   view_of_texts given same texts none rows no_rows values unread =
       let rows_are : rows ≡ map (λ (e : Entry). file_row n e.0 e.1) (finmap.entries finmap.empty) = no_rows ∙ sym (ap (map (λ (e : Entry). file_row n e.0 e.1)) (entries-empty nat_cmp File)) in
-      let told : ◌≡◌ {A = ObjectView} (record { object = row; metadata = texts; files = rows; sha512s = values }) (files_view n (filled s content (Metadata given) ingested)) = λ i. record { object = is i; metadata = none i; files = rows_are i; sha512s = unread i } in
-      told ∙ ap (λ (x : Deposit). files_view n (filled s content x ingested)) (sym same)
+      let reported : ◌≡◌ {A = ObjectView} (record { object = row; metadata = texts; files = rows; sha512s = values }) (files_view n (filled s content (Metadata given) ingested)) = λ i. record { object = is i; metadata = none i; files = rows_are i; sha512s = unread i } in
+      reported ∙ ap (λ (x : Deposit). files_view n (filled s content x ingested)) (sym same)

@@ -14,7 +14,7 @@ use Rattle.dep_operations.specs.declared.view.LiveUpload.{LiveUpload}
 use Rattle.dep_operations.specs.declared.view.UploadState.{UploadState}
 use Rattle.dep_operations.specs.declared.view.UploadState.TheVariants.{Unknown, TimedOut, Live}
 use Rattle.dep_operations.specs.declared.view.UploadView.{UploadView}
-use Rattle.dep_changes.specs.Told.{whole_view}
+use Rattle.dep_changes.specs.Reported.{whole_view}
 
 -- the row in this state, or another where there is none
 abbrev row_in : UploadRow → UploadState → UploadRow

@@ -14,7 +14,7 @@ use Rattle.dep_row_maps.specs.TablesAre.{TablesAre, metadata_at, files_at, with_
 use Rattle.dep_row_maps.proofs.Files.{same_number}
 use Rattle.dep_row_maps.proofs.Lens.{get_here, get_there, get_gone, get_left, insert_twice}
 use Rattle.dep_decisions.specs.Effects.{changed, ingested_by, with_files, with_texts}
-use Rattle.dep_changes.specs.Told.{Rewrites}
+use Rattle.dep_changes.specs.Reported.{Rewrites}
 
 -- an object is written, and then again
 pub written_again : (t : Tables) (s : State) (n : ℕ) (a b : Object) → TablesAre t (with_object (with_object s n a) n b) → TablesAre t (with_object s n b)
@@ -47,7 +47,7 @@ module _ (s : State) (n : ℕ) (o : Object) (row : ObjectRow) (was : row ≡ obj
   files_of_row files is = cc
 
 -- the row of the object that is touched, and the row that is written in its place
-module _ (s : State) (n : ℕ) (o : Object) (seen : Option ObjectRow) (told : seen ≡ Some (object_row n o)) (row : ObjectRow) (found : seen ≡ Some row) where
+module _ (s : State) (n : ℕ) (o : Object) (seen : Option ObjectRow) (reported : seen ≡ Some (object_row n o)) (row : ObjectRow) (found : seen ≡ Some row) where
   pub row_is : row ≡ object_row n o
   row_is = cc
 

@@ -13,46 +13,46 @@ use Rattle.dep_decisions.specs.declared.decision.Deposit.{Deposit}
 use Rattle.dep_decisions.specs.declared.decision.Decision.{Decision}
 use Rattle.dep_changes.specs.declared.change.Change.{Change}
 use Rattle.dep_changes.specs.declared.new_files.FileNumbers.{FileNumbers}
-use Rattle.dep_changes.specs.Told.{Rewrites, TellsDecision, TellsDeposit, TellsNewFile}
+use Rattle.dep_changes.specs.Reported.{Rewrites, ReportsDecision, ReportsDeposit, ReportsNewFile}
 use Rattle.dep_changes.specs.Changed.{made_file, put_in, with_deposit, with_maps, with_new_file}
 
 module _ {T A : Type 0} (state : T → db.State) (old new : T) (result : Result A StoreFault) where
   -- inside a transaction over a state's tables, where this holds of it, an Ok turns it into this one
-  abbrev pub Turns : (told : State → Type 0) → (after : State → State) → Type 0
-  Turns told after = FromMaps (state old) (state new)
-      (λ s. told s → OnOk result (SeesState (state new) (after s)))
+  abbrev pub Turns : (reported : State → Type 0) → (after : State → State) → Type 0
+  Turns reported after = FromMaps (state old) (state new)
+      (λ s. reported s → OnOk result (SeesState (state new) (after s)))
 
 module _ {T L A : Type 0} (lenders : T → L) (state : T → db.State) (old new : T)
     (result : Result A StoreFault) where
   -- so it turns a state
-  abbrev pub Makes : (told : State → Type 0) → (after : State → State) → Type 0
-  Makes told after = Does lenders state old new result (Turns state old new result told after)
+  abbrev pub Makes : (reported : State → Type 0) → (after : State → State) → Type 0
+  Makes reported after = Does lenders state old new result (Turns state old new result reported after)
 
   -- the same where it holds of an object, whichever that is
-  abbrev pub MakesOf : (told : Object → State → Type 0) → (after : Object → State → State) → Type 0
-  MakesOf told after = Does lenders state old new result
-      ((o : Object) → Turns state old new result (told o) (after o))
+  abbrev pub MakesOf : (reported : Object → State → Type 0) → (after : Object → State → State) → Type 0
+  MakesOf reported after = Does lenders state old new result
+      ((o : Object) → Turns state old new result (reported o) (after o))
 
   -- where what the decision relies on is known, an Ok has carried it out on the maps
   abbrev pub CarriesOut : Change → Decision → Type 0
   CarriesOut change d =
-      Makes (λ s. TellsDecision change s d) (λ s. with_maps s change.content.now d)
+      Makes (λ s. ReportsDecision change s d) (λ s. with_maps s change.content.now d)
 
   -- an Ok has put the deposit in the object of this number
   abbrev pub PutsIn : Change → (n : ℕ) → Deposit → Type 0
   PutsIn change n d =
-      MakesOf (λ o s. TellsDeposit change s d × (map.get s.objects n ≡ Some o))
+      MakesOf (λ o s. ReportsDeposit change s d × (map.get s.objects n ≡ Some o))
       (λ o s. with_deposit s n (put_in s change.content.now d o) d)
 
   -- an Ok has added the deposit to the object that this row makes of one that is there
   abbrev pub Appends : Change → ObjectRow → Deposit → Type 0
   Appends change row d =
-      MakesOf (λ o s. TellsDeposit change s d × Rewrites s row o)
+      MakesOf (λ o s. ReportsDeposit change s d × Rewrites s row o)
       (λ o s. with_deposit s row.object (appended s change.content.now d o) d)
 
   -- an Ok has put a file with the bytes of this source in its object, and an upload is gone with them
   abbrev pub PutsFile : Change → FileNumbers → NewFile → (place : ℕ) → Source → Type 0
   PutsFile change numbers new_file place source = MakesOf
-      (λ o s. TellsNewFile change s place source × (map.get s.objects numbers.object ≡ Some o))
+      (λ o s. ReportsNewFile change s place source × (map.get s.objects numbers.object ≡ Some o))
       (λ o s. with_new_file s numbers.object o numbers.file
       (made_file s new_file (bytes_from s change.content.now source)) source)

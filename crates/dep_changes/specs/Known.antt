@@ -13,28 +13,28 @@ use Rattle.dep_decisions.specs.declared.decision.Decision.{Decision}
 use Rattle.dep_decisions.specs.declared.decision.Deposit.{Deposit}
 use Rattle.dep_decisions.specs.declared.decision.NewFile.{NewFile}
 use Rattle.dep_decisions.specs.declared.decision.Decision.TheVariants.{Show, Create, Append, Replace, Complete, SetMetadata, SetFiles, SetFile}
-use Rattle.dep_answers.specs.Subjects.{files_view, shown_at}
-use Rattle.dep_answers.specs.declared.subject.Subject.{Subject}
-use Rattle.dep_answers.specs.declared.subject.Subject.TheVariants.{File, Files, ObjectRow}
-use Rattle.dep_answers.specs.declared.subject.Shown.{Shown}
+use Rattle.dep_answers.specs.ReadSets.{files_view, shown_at}
+use Rattle.dep_answers.specs.declared.read_set.ReadSet.{ReadSet}
+use Rattle.dep_answers.specs.declared.read_set.ReadSet.TheVariants.{File, Files, ObjectRow}
+use Rattle.dep_answers.specs.declared.read_set.Shown.{Shown}
 use Rattle.dep_operations.specs.declared.view.View.{View}
-use Rattle.dep_changes.specs.Told.{TellsDeposit}
+use Rattle.dep_changes.specs.Reported.{ReportsDeposit}
 use Rattle.dep_changes.specs.declared.change.Change.{Change}
 use Rattle.dep_changes.specs.declared.change.NumberedDeposit.{NumberedDeposit}
 
 -- What is known of a decision once it is carried out: an object that it makes, under the next number, or puts in the place
 -- of another, the row of one that gets other metadata or files alone, and a file.
-abbrev pub known_subject : (next : Counters) → Decision → Option Subject
-known_subject next (Create d ingests) = Some (Files next.object)
-known_subject next (Replace n d ingests) = Some (Files n)
-known_subject next (SetMetadata n texts) = Some (ObjectRow n)
-known_subject next (SetFiles n new) = Some (ObjectRow n)
-known_subject next (SetFile n f new) = Some (File (record { object = n; file = f }))
-known_subject next d = None
+abbrev pub known_read_set : (next : Counters) → Decision → Option ReadSet
+known_read_set next (Create d ingests) = Some (Files next.object)
+known_read_set next (Replace n d ingests) = Some (Files n)
+known_read_set next (SetMetadata n texts) = Some (ObjectRow n)
+known_read_set next (SetFiles n new) = Some (ObjectRow n)
+known_read_set next (SetFile n f new) = Some (File (record { object = n; file = f }))
+known_read_set next d = None
 
 -- what the state after shows there
 abbrev pub known_shown : State → (content : List ℕ) → Decision → Option Shown
-known_shown s content d = option_map (shown_at (effect_of s content d)) (known_subject s.next d)
+known_shown s content d = option_map (shown_at (effect_of s content d)) (known_read_set s.next d)
 
 -- the row of the object that has the number of this one
 abbrev pub row_in : State → Row → Option Row
@@ -54,8 +54,8 @@ abbrev pub known_row : State → (content : List ℕ) → View → Decision → 
 known_row s content view d = view.object >>= row_left s content d
 
 -- a deposit with a number for each of its files is known
-abbrev pub TellsNumbered : NumberedDeposit → State → Type 0
-TellsNumbered d s = TellsDeposit d.change.now s d.deposit.now
+abbrev pub ReportsNumbered : NumberedDeposit → State → Type 0
+ReportsNumbered d s = ReportsDeposit d.change.now s d.deposit.now
 
 -- an object that has this deposit alone, as it is shown without its metadata
 abbrev pub IsFilledView : State → Change → Deposit → (n : ℕ) → (ingested : Bool) → ObjectView → Type 0

@@ -1,4 +1,4 @@
-pub mod Told
+pub mod Reported
 pub mod Changed
 pub mod Clauses
 pub mod Known

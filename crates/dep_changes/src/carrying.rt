@@ -6,7 +6,7 @@ ghost use Rattle.dep_decisions.specs.Decisions.{numbers_for};
 ghost use Rattle.dep_decisions.specs.Effects.{effect_of};
 ghost use Rattle.dep_decisions.specs.declared.decision.Decision.TheVariants.{Show};
 ghost use Rattle.dep_changes.specs.Clauses.{CarriesOut, Makes};
-ghost use Rattle.dep_changes.specs.Told.{IsAccepted};
+ghost use Rattle.dep_changes.specs.Reported.{IsAccepted};
 
 use crate::change::{Change, NumberedDeposit, NumberedFiles};
 use crate::deposits::{append, create, replace};

@@ -36,7 +36,7 @@ pub(crate) struct NumberedDeposit<'a> {
 
 /// The object that is touched. That none is there is a fault of the store, as the rules let no such request through.
 pub(crate) fn touched_object(view: &View) -> Result<ObjectRow, StoreFault>
-    ensures told { IfOk result (λ row. view.now.object ≡ Some row) }
+    ensures reported { IfOk result (λ row. view.now.object ≡ Some row) }
 {
     view.object.ok_or(StoreFault::Store)
 }

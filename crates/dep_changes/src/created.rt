@@ -7,8 +7,8 @@ ghost use Rattle.dep_types.specs.State.{State, Object};
 ghost use Rattle.dep_decisions.specs.Effects.{blank, bytes_from, file_from};
 ghost use Rattle.dep_decisions.specs.declared.decision.Deposit.TheVariants.{Files};
 ghost use Rattle.dep_changes.specs.Changed.{IsExtent, new_rows};
-ghost use Rattle.dep_changes.specs.Known.{IsFilledView, IsRowFrom, TellsNumbered};
-ghost use Rattle.dep_changes.specs.Told.{TellsDeposit, TellsNewFile, TellsObject, TellsSource};
+ghost use Rattle.dep_changes.specs.Known.{IsFilledView, IsRowFrom, ReportsNumbered};
+ghost use Rattle.dep_changes.specs.Reported.{ReportsDeposit, ReportsNewFile, ReportsObject, ReportsSource};
 
 use crate::change::{Change, NumberedDeposit, NumberedFiles, touched_object};
 use crate::new_files::{Extent, FileNumbers, new_row, whole_upload};
@@ -17,7 +17,7 @@ use dep_types::{FileRow, FileRows, Metadata, ObjectRow, ObjectView, Sha512s, Sto
 
 // How many bytes a new file has, and their digests.
 fn extent_of(change: &Change<'_>, source: Source, index: usize) -> Result<Extent, StoreFault>
-    ensures { (s : State) → TellsSource change.now s index source
+    ensures { (s : State) → ReportsSource change.now s index source
         → IfOk result (λ extent. IsExtent extent (bytes_from s change.now.content.now source)) }
 {
     match source {
@@ -42,7 +42,7 @@ fn row_of(
     new: &NewFile,
     index: usize,
 ) -> Result<FileRow, StoreFault>
-    ensures told { (s : State) → TellsNewFile change.now s index new.now.source
+    ensures reported { (s : State) → ReportsNewFile change.now s index new.now.source
         → IfOk result (λ row. row
         ≡ file_row numbers.object numbers.file (file_from s change.now.content.now new.now)) }
 {
@@ -52,7 +52,7 @@ fn row_of(
 
 // The rows of the files of a new object, under the next numbers in their order.
 fn new_rows(numbered: &NumberedFiles<'_>, object: u64) -> Result<FileRows, StoreFault>
-    ensures told { (s : State) → TellsDeposit numbered.now.change.now s (Files numbered.now.files.now)
+    ensures reported { (s : State) → ReportsDeposit numbered.now.change.now s (Files numbered.now.files.now)
         → IfOk result (λ rows.
         rows ≡ new_rows s numbered.now.change.now.content.now object numbered.now.files.now) }
 {
@@ -75,8 +75,8 @@ pub(crate) fn filled_view(
     numbered: &NumberedDeposit<'_>,
     row: ObjectRow,
 ) -> Result<ObjectView, StoreFault>
-    ensures told { (s : State) (n : ℕ) (ingested : Bool)
-        → TellsNumbered numbered.now s → row ≡ object_row n (blank s ingested)
+    ensures reported { (s : State) (n : ℕ) (ingested : Bool)
+        → ReportsNumbered numbered.now s → row ≡ object_row n (blank s ingested)
         → IfOk result (IsFilledView s numbered.now.change.now numbered.now.deposit.now n ingested) }
 {
     let change = numbered.change;
@@ -106,8 +106,8 @@ pub(crate) fn replaced_file(
     file: u64,
     new: &NewFile,
 ) -> Result<FileRow, StoreFault>
-    ensures told { (s : State) (n : ℕ) (o : Object) → TellsNewFile change.now s 0 new.now.source
-        → TellsObject change.now.view.now s n o
+    ensures reported { (s : State) (n : ℕ) (o : Object) → ReportsNewFile change.now s 0 new.now.source
+        → ReportsObject change.now.view.now s n o
         → IfOk result (IsRowFrom s change.now new.now n file) }
 {
     let object = touched_object(change.view)?.object;

@@ -9,7 +9,7 @@ ghost use Rattle.dep_decisions.specs.Effects.{appended};
 ghost use Rattle.dep_decisions.specs.declared.decision.Decision.TheVariants.{Append, Create, Replace};
 ghost use Rattle.dep_changes.specs.Changed.{blank_row};
 ghost use Rattle.dep_changes.specs.Clauses.{Appends, CarriesOut, MakesOf, PutsIn};
-ghost use Rattle.dep_changes.specs.Told.{TellsNumbers};
+ghost use Rattle.dep_changes.specs.Reported.{ReportsNumbers};
 
 use crate::change::{Change, NumberedDeposit, NumberedFiles, touched_object};
 use crate::new_files::put_new_files;
@@ -48,7 +48,7 @@ pub(crate) fn blank_row(view: &View, object: u64, ingested: bool) -> ObjectRow
 
 /// The row of an object to which the deposit is added.
 pub(crate) fn added_to(view: &View, row: ObjectRow, deposit: &Deposit) -> ObjectRow
-    ensures { (s : State) (content : List ℕ) (n : ℕ) (o : Object) → TellsNumbers view.now s
+    ensures { (s : State) (content : List ℕ) (n : ℕ) (o : Object) → ReportsNumbers view.now s
         → row ≡ object_row n o → result ≡ object_row n (appended s content deposit.now o) }
 {
     match deposit {

@@ -5,7 +5,7 @@ ghost use Rattle.dep_types.specs.Numbers.{room_for};
 ghost use Rattle.dep_types.specs.State.{State};
 ghost use Rattle.dep_decisions.specs.Decisions.{numbers_for};
 ghost use Rattle.dep_changes.specs.Known.{known_row, known_shown};
-ghost use Rattle.dep_changes.specs.Told.{IsAccepted};
+ghost use Rattle.dep_changes.specs.Reported.{IsAccepted};
 
 use crate::change::{Change, NumberedDeposit, touched_object};
 use crate::created::{filled_view, replaced_file};
@@ -20,7 +20,7 @@ use std::alloc::Global;
 
 /// What the reply shows of what was decided, once it is carried out, where all of that is known: an object that is made or
 /// replaced, the row of one whose metadata or files are put in their place, and that of a file. No statement is run: rows,
-/// numbers and digests stand in the view and in the decision. It fails for want of memory alone.
+/// numbers and digests stand in the view and in the decision. It fails for lack of memory alone.
 pub fn known_after(
     alloc: Global,
     view: &View,
@@ -28,7 +28,7 @@ pub fn known_after(
     content: &HashedOctets,
 ) -> Result<Option<Shown>, StoreFault>
     requires { IsTrue (room_for view.now.next (numbers_for decision.now)) }
-    ensures told { (s : State) → IsAccepted s view.now content.now decision.now
+    ensures reported { (s : State) → IsAccepted s view.now content.now decision.now
         → IfOk result (λ known. known ≡ known_shown s content.now decision.now) }
 {
     let change = &Change {

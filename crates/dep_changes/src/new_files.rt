@@ -11,7 +11,7 @@ ghost use Rattle.dep_decisions.specs.declared.decision.Deposit.TheVariants.{File
 ghost use Rattle.dep_decisions.specs.declared.decision.Source.TheVariants.{Assembled, Posted};
 ghost use Rattle.dep_changes.specs.Changed.{new_row};
 ghost use Rattle.dep_changes.specs.Clauses.{CarriesOut, PutsFile, PutsIn};
-ghost use Rattle.dep_changes.specs.Told.{whole_view};
+ghost use Rattle.dep_changes.specs.Reported.{whole_view};
 
 use crate::change::{Change, NumberedFiles, touched_object};
 use crate::objects::{files_changed, write_row};
@@ -116,7 +116,7 @@ pub(crate) struct WholeUpload {
 /// The upload that is seen at this place. That it isn't there or isn't whole is a fault of the store, as the rules let
 /// no such request through.
 pub(crate) fn whole_upload(view: &View, index: usize) -> Result<WholeUpload, StoreFault>
-    ensures told { IfOk result (λ whole. (u : ℕ) (it : Upload)
+    ensures reported { IfOk result (λ whole. (u : ℕ) (it : Upload)
         → slice_get view.now.uploads index ≡ Some (whole_view u it)
         → (whole.row ≡ upload_row u it) × (whole.digests ≡ digests_of (assembled it))) }
 {

@@ -5,7 +5,7 @@ ghost use Rattle.std.specs.FinMap as map;
 ghost use Rattle.dep_row_maps.specs.TablesAre.{with_object, without_object};
 ghost use Rattle.dep_decisions.specs.declared.decision.Decision.TheVariants.{Complete, DropFile, SetMetadata};
 ghost use Rattle.dep_changes.specs.Clauses.{CarriesOut, MakesOf};
-ghost use Rattle.dep_changes.specs.Told.{Rewrites};
+ghost use Rattle.dep_changes.specs.Reported.{Rewrites};
 
 use crate::change::{Change, touched_object};
 use dep_files::{delete_file, delete_files};

@@ -4,7 +4,7 @@ use Rattle.std.specs.Prelude.{IsErrAnd, ◌≢◌}
 use Rattle.std.proofs.KnownBytes.{Appends-nil}
 use Rattle.std.proofs.lemmas.Grind.{flat_map-append}
 use Rattle.dep_tables.proofs.Results.{if_ok}
-use Rattle.dep_types.specs.Sinks.{IsFront}
+use Rattle.dep_types.specs.Sinks.{IsPrefix}
 use Rattle.dep_types.specs.Writing.{HasRisen}
 use Rattle.dep_files.specs.Faults.{BlamesOutlet}
 use Rattle.dep_commands.specs.Reporting.{IsWritten, WritesTo}
@@ -16,7 +16,7 @@ regrouped a part rest more = ap (λ l. a ++ l) (append_assoc part rest more) ∙
 
 -- the lines so far, and a front of the next one
 pub line_part : (line : ℕ → List ℕ) (files : List ℕ) (i d : ℕ) → i < length files → (written part : List ℕ)
-    → written ≡ flat_map line (take i files) → IsFront part (line (get_or files i d)) → IsFront (written ++ part) (flat_map line files)
+    → written ≡ flat_map line (take i files) → IsPrefix part (line (get_or files i d)) → IsPrefix (written ++ part) (flat_map line files)
 line_part line files i d less written part so_far front = record {
   rest = front.rest ++ flat_map line (drop (i + 1) files);
   joined =
@@ -37,7 +37,7 @@ lines_next line files i d less written part so_far is =
     ∙ ap (flat_map line) (sym (take-suc files i d less) ∙ ap (λ n. take n files) (sym (add-one i)))
 
 pub line_fails : {X : Type 0} (line : ℕ → List ℕ) (files : List ℕ) (i d : ℕ) → i < length files → (written part : List ℕ)
-    → written ≡ flat_map line (take i files) → IsFront part (line (get_or files i d)) → (fault : AuditFault) (result : Result X AuditFault)
+    → written ≡ flat_map line (take i files) → IsPrefix part (line (get_or files i d)) → (fault : AuditFault) (result : Result X AuditFault)
     → IsErrAnd result (λ x. x ≡ fault) → IsWritten (flat_map line files) (written ++ part) result
 line_fails line files i d less written part so_far front fault (Ok x) err = absurd err
 line_fails line files i d less written part so_far front fault (Err e) err = line_part line files i d less written part so_far front
@@ -54,8 +54,8 @@ pub blame_passed : {X Y : Type 0} (before mid after : ℕ) → mid ≡ before �
 blame_passed before mid after same fault it (Ok y) err = absurd err
 blame_passed before mid after same fault it (Err e) err = record {
   kept = tt;
-  cause = λ is. let told : e ≡ Writer = cc is in subst (λ n. HasRisen n after) same (it.cause (ap Err (sym err ∙ told)));
-  others = λ other. it.others (λ is. let told : fault ≡ Writer = cc is in other (ap Err (err ∙ told))) ∙ same;
+  cause = λ is. let reported : e ≡ Writer = cc is in subst (λ n. HasRisen n after) same (it.cause (ap Err (sym err ∙ reported)));
+  others = λ other. it.others (λ is. let reported : fault ≡ Writer = cc is in other (ap Err (err ∙ reported))) ∙ same;
 }
 
 -- it was not asked for anything
@@ -66,7 +66,7 @@ none_written taken failures out whole (Err e) err = record {
   writes = ([], Appends-nil (taken out), record { rest = whole; joined = refl });
   blames = record {
     kept = tt;
-    cause = λ is. let told : e ≡ Writer = cc is in absurd (let other = sym err ∙ told in cc other);
+    cause = λ is. let reported : e ≡ Writer = cc is in absurd (let other = sym err ∙ reported in cc other);
     others = λ other. refl;
   };
 }

@@ -12,8 +12,8 @@ use Rattle.dep_statements.specs.Rows.{is_after, IsOrdered}
 use Rattle.dep_tables.specs.Tables.{Tables}
 use Rattle.dep_tables.specs.Edits.{IsObjectAfter}
 use Rattle.sqlite.specs.State.{State}
-use Rattle.dep_schema.specs.Standing.{Stands}
-use Rattle.dep_types.specs.Sinks.{IsFront}
+use Rattle.dep_schema.specs.OpenTables.{StaysFile}
+use Rattle.dep_types.specs.Sinks.{IsPrefix}
 use Rattle.dep_files.specs.Faults.{BlamesOutlet}
 use Rattle.dep_files.specs.Fixity.{IsAudited}
 use Rattle.dep_commands.specs.Audits.{Audited, AreAudits, object_rows, damaged_line, damaged_lines, lines_of, checked_in, damaged_in, count_line, audit_text, outcome_of_audit, IsWhole, IsBegun, Audits}
@@ -27,13 +27,13 @@ use Rattle.dep_commands.specs.declared.audit_fault.AuditFault.TheVariants.{Store
 use Rattle.dep_files.proofs.Walks.{next_row, no_row, none_found, row_found}
 
 -- the rows of the objects rise
-pub objects_rise : {d : State} {t : Tables} → Stands d t → IsOrdered t.objects
-objects_rise stands = subst (λ (t : Tables). IsOrdered t.objects) stands.rows stands.ours.trees.ordered.1.1.0
+pub objects_rise : {d : State} {t : Tables} → StaysFile d t → IsOrdered t.objects
+objects_rise represents = subst (λ (t : Tables). IsOrdered t.objects) represents.rows represents.ours.trees.ordered.1.1.0
 
-pub whole_front : (xs : List ℕ) → IsFront xs xs
+pub whole_front : (xs : List ℕ) → IsPrefix xs xs
 whole_front xs = record { rest = []; joined = sym (append-nil xs) }
 
-more_front : (xs part whole : List ℕ) → IsFront part whole → IsFront (xs ++ part) (xs ++ whole)
+more_front : (xs part whole : List ℕ) → IsPrefix part whole → IsPrefix (xs ++ part) (xs ++ whole)
 more_front xs part whole f = record { rest = f.rest; joined = ap (λ l. xs ++ l) f.joined ∙ sym (append_assoc xs part f.rest) }
 
 lines_more : (found : List Audited) (a : Audited) → lines_of (found ++ a ∷ []) ≡ lines_of found ++ damaged_lines a
@@ -50,15 +50,15 @@ audits_more t rows found r a h same audited = record {
 
 -- so many objects were told
 abbrev pub IsCounted : Tables → (after : ℕ) → (written : List ℕ) → Tally → (count : ℕ) → Type 0
-IsCounted t after written tally count = (told : IsReportedTo t after written tally) × (length told.rows ≡ count)
+IsCounted t after written tally count = (reported : IsReportedTo t after written tally) × (length reported.rows ≡ count)
 
 -- nothing was told yet
-pub told_none : (t : Tables) (tally : Tally) → tally.checked ≡ 0 → tally.damaged ≡ 0 → IsCounted t 0 [] tally 0
-told_none t tally checked damaged = (
+pub reported_none : (t : Tables) (tally : Tally) → tally.checked ≡ 0 → tally.damaged ≡ 0 → IsCounted t 0 [] tally 0
+reported_none t tally checked damaged = (
   record {
     rows = [];
     first = refl;
-    told = record {
+    reported = record {
       found = [];
       are = record { objects = refl; audits = All-nil (λ (b : Audited). IsAudited t b.object b.audit) };
       lines = refl;
@@ -70,74 +70,74 @@ told_none t tally checked damaged = (
 )
 
 -- it ended between two objects
-abbrev pub told_so_far : (t : Tables) (after : ℕ) (written : List ℕ) (tally : Tally) → IsReportedTo t after written tally → IsBegun t written
-told_so_far t after written tally h = record {
+abbrev pub reported_so_far : (t : Tables) (after : ℕ) (written : List ℕ) (tally : Tally) → IsReportedTo t after written tally → IsBegun t written
+reported_so_far t after written tally h = record {
   rows = h.rows;
   others = filter (is_after after) t.objects;
   first = h.first;
-  found = h.told.found;
-  are = h.told.are;
-  front = inl (subst (λ l. IsFront l (lines_of h.told.found)) (sym h.told.lines) (whole_front (lines_of h.told.found)));
+  found = h.reported.found;
+  are = h.reported.are;
+  front = inl (subst (λ l. IsPrefix l (lines_of h.reported.found)) (sym h.reported.lines) (whole_front (lines_of h.reported.found)));
 }
 
 module _ (t : Tables) (ordered : IsOrdered t.objects) (after n : ℕ) (written : List ℕ) (tally : Tally)
-    (told : IsReportedTo t after written tally) (next : IsObjectAfter after t (Some n)) where
+    (reported : IsReportedTo t after written tally) (next : IsObjectAfter after t (Some n)) where
   the_row : (row : Row) × (find (is_after after) t.objects ≡ Some row) × (rowid row ≡ Int (pos n))
   the_row = row_found n (find (is_after after) t.objects) next
 
-  first_now : object_rows t ≡ (told.rows ++ the_row.0 ∷ []) ++ filter (is_after n) t.objects
-  first_now = told.first
-      ∙ ap (λ l. told.rows ++ l) (next_row after n the_row.0 t.objects ordered.0 the_row.1 the_row.2)
-      ∙ sym (append_assoc told.rows (the_row.0 ∷ []) (filter (is_after n) t.objects))
+  first_now : object_rows t ≡ (reported.rows ++ the_row.0 ∷ []) ++ filter (is_after n) t.objects
+  first_now = reported.first
+      ∙ ap (λ l. reported.rows ++ l) (next_row after n the_row.0 t.objects ordered.0 the_row.1 the_row.2)
+      ∙ sym (append_assoc reported.rows (the_row.0 ∷ []) (filter (is_after n) t.objects))
 
   -- what is told of the next object
   abbrev with_next : Audit → List Audited
-  with_next audit = told.told.found ++ record { object = n; audit = audit } ∷ []
+  with_next audit = reported.reported.found ++ record { object = n; audit = audit } ∷ []
 
   sums : (more : List ℕ) (its : Tally) (h : IsReportedObject t n more its) → (tally.checked + its.checked ≡ checked_in (with_next h.audit)) × (tally.damaged + its.damaged ≡ damaged_in (with_next h.audit))
   sums more its h = (
-    ap₂ (λ x y. x + y) told.told.checked h.checked ∙ sym (sum_by_push (λ (b : Audited). b.audit.checked) told.told.found (record { object = n; audit = h.audit })),
-    ap₂ (λ x y. x + y) told.told.damaged h.damaged ∙ sym (sum_by_push (λ (b : Audited). length b.audit.damaged.items) told.told.found (record { object = n; audit = h.audit })),
+    ap₂ (λ x y. x + y) reported.reported.checked h.checked ∙ sym (sum_by_push (λ (b : Audited). b.audit.checked) reported.reported.found (record { object = n; audit = h.audit })),
+    ap₂ (λ x y. x + y) reported.reported.damaged h.damaged ∙ sym (sum_by_push (λ (b : Audited). length b.audit.damaged.items) reported.reported.found (record { object = n; audit = h.audit })),
   )
 
   -- the lines of the next object were written too
-  pub told_more : (more : List ℕ) (its sum : Tally) (count : ℕ) → IsReportedObject t n more its → sum.checked ≡ tally.checked + its.checked
-      → sum.damaged ≡ tally.damaged + its.damaged → length told.rows ≡ count → IsCounted t n (written ++ more) sum (count + 1)
-  told_more more its sum count h checked damaged counted =
-      let all = told.told in
+  pub reported_more : (more : List ℕ) (its sum : Tally) (count : ℕ) → IsReportedObject t n more its → sum.checked ≡ tally.checked + its.checked
+      → sum.damaged ≡ tally.damaged + its.damaged → length reported.rows ≡ count → IsCounted t n (written ++ more) sum (count + 1)
+  reported_more more its sum count h checked damaged counted =
+      let all = reported.reported in
       let a : Audited = record { object = n; audit = h.audit } in (
         record {
-          rows = told.rows ++ the_row.0 ∷ [];
+          rows = reported.rows ++ the_row.0 ∷ [];
           first = first_now;
-          told = record {
+          reported = record {
             found = all.found ++ a ∷ [];
-            are = audits_more t told.rows all.found the_row.0 a all.are (sym the_row.2) h.audited;
+            are = audits_more t reported.rows all.found the_row.0 a all.are (sym the_row.2) h.audited;
             lines = ap₂ (λ xs ys. xs ++ ys) all.lines h.lines ∙ sym (lines_more all.found a);
             checked = checked ∙ (sums more its h).0;
             damaged = damaged ∙ (sums more its h).1;
           };
         },
-        length-append told.rows (the_row.0 ∷ []) ∙ ap (λ k. k + 1) counted,
+        length-append reported.rows (the_row.0 ∷ []) ∙ ap (λ k. k + 1) counted,
       )
 
   -- a front of them was written
-  abbrev told_part : (part : List ℕ) → IsPartOfObject t n part → IsBegun t (written ++ part)
-  told_part part h =
-      let all = told.told in
+  abbrev reported_part : (part : List ℕ) → IsPartOfObject t n part → IsBegun t (written ++ part)
+  reported_part part h =
+      let all = reported.reported in
       let a : Audited = record { object = n; audit = h.audit } in
-      let front : IsFront (written ++ part) (lines_of (all.found ++ a ∷ [])) = subst (IsFront (written ++ part)) (ap (λ l. l ++ damaged_lines a) all.lines ∙ sym (lines_more all.found a)) (more_front written part (damaged_lines a) h.front) in
+      let front : IsPrefix (written ++ part) (lines_of (all.found ++ a ∷ [])) = subst (IsPrefix (written ++ part)) (ap (λ l. l ++ damaged_lines a) all.lines ∙ sym (lines_more all.found a)) (more_front written part (damaged_lines a) h.front) in
       record {
-        rows = told.rows ++ the_row.0 ∷ [];
+        rows = reported.rows ++ the_row.0 ∷ [];
         others = filter (is_after n) t.objects;
         first = first_now;
         found = all.found ++ a ∷ [];
-        are = audits_more t told.rows all.found the_row.0 a all.are (sym the_row.2) h.audited;
+        are = audits_more t reported.rows all.found the_row.0 a all.are (sym the_row.2) h.audited;
         front = inl front;
       }
 
   begun : (more : List ℕ) → ((more ≡ []) ⊎ IsPartOfObject t n more) → IsBegun t (written ++ more)
-  begun more (inl none) = subst (IsBegun t) (sym (ap (λ l. written ++ l) none ∙ append-nil written)) (told_so_far t after written tally told)
-  begun more (inr part) = told_part more part
+  begun more (inl none) = subst (IsBegun t) (sym (ap (λ l. written ++ l) none ∙ append-nil written)) (reported_so_far t after written tally reported)
+  begun more (inr part) = reported_part more part
 
   pub objects_fail : (more : List ℕ) (fault : AuditFault) → ((more ≡ []) ⊎ IsPartOfObject t n more) → (result : Result (Option Tally) AuditFault)
       → IsErrAnd result (λ x. x ≡ fault) → ReportsObjects t (written ++ more) result
@@ -148,7 +148,7 @@ module _ (t : Tables) (ordered : IsOrdered t.objects) (after n : ℕ) (written :
   pub sum_passes : (more : List ℕ) (its : Tally) → IsReportedObject t n more its → (2 ^ 64 ≤ tally.checked + its.checked) ⊎ (2 ^ 64 ≤ tally.damaged + its.damaged)
       → ReportsObjects t (written ++ more) (Ok None)
   sum_passes more its h many = (
-    told_part more (record { audit = h.audit; audited = h.audited; front = record { rest = []; joined = sym h.lines ∙ sym (append-nil more) } }),
+    reported_part more (record { audit = h.audit; audited = h.audited; front = record { rest = []; joined = sym h.lines ∙ sym (append-nil more) } }),
     inr (elim many [
       | inl checked ↦ inl (subst (λ k. 2 ^ 64 ≤ k) (sums more its h).0 checked)
       | inr damaged ↦ inr (subst (λ k. 2 ^ 64 ≤ k) (sums more its h).1 damaged)
@@ -156,11 +156,11 @@ module _ (t : Tables) (ordered : IsOrdered t.objects) (after n : ℕ) (written :
   )
 
 -- all objects were told
-pub told_all : (t : Tables) (after : ℕ) (written : List ℕ) (tally : Tally) → IsReportedTo t after written tally → IsObjectAfter after t None
+pub reported_all : (t : Tables) (after : ℕ) (written : List ℕ) (tally : Tally) → IsReportedTo t after written tally → IsObjectAfter after t None
     → IsReported t (object_rows t) written tally
-told_all t after written tally h none =
+reported_all t after written tally h none =
     let rows_are : object_rows t ≡ h.rows = h.first ∙ ap (λ l. h.rows ++ l) (no_row after t.objects (none_found (find (is_after after) t.objects) none)) ∙ append-nil h.rows in
-    subst (λ (rows : List Row). IsReported t rows written tally) (sym rows_are) h.told
+    subst (λ (rows : List Row). IsReported t rows written tally) (sym rows_are) h.reported
 
 module _ (t : Tables) (written : List ℕ) (tally : Tally) (h : IsReported t (object_rows t) written tally) where
   text_is : written ++ count_line tally.checked tally.damaged ≡ audit_text h.found
@@ -169,20 +169,20 @@ module _ (t : Tables) (written : List ℕ) (tally : Tally) (h : IsReported t (ob
   pub all_whole : (outcome : Outcome) → outcome ≡ outcome_of_audit tally.damaged → IsWhole t (written ++ count_line tally.checked tally.damaged) outcome
   all_whole outcome is = record { found = h.found; are = h.are; text = text_is; comes = is ∙ ap outcome_of_audit h.damaged }
 
-  pub all_begun : (part : List ℕ) → IsFront part (count_line tally.checked tally.damaged) → IsBegun t (written ++ part)
+  pub all_begun : (part : List ℕ) → IsPrefix part (count_line tally.checked tally.damaged) → IsBegun t (written ++ part)
   all_begun part f = record {
     rows = object_rows t;
     others = [];
     first = sym (append-nil (object_rows t));
     found = h.found;
     are = h.are;
-    front = inr (refl, subst (IsFront (written ++ part)) text_is (more_front written part _ f));
+    front = inr (refl, subst (IsPrefix (written ++ part)) text_is (more_front written part _ f));
   }
 
 -- one object
-pub told_object : (t : Tables) (object : ℕ) (a : Audit) (files written : List ℕ) (tally : Tally) → IsAudited t object a → files ≡ a.damaged.items
+pub reported_object : (t : Tables) (object : ℕ) (a : Audit) (files written : List ℕ) (tally : Tally) → IsAudited t object a → files ≡ a.damaged.items
     → written ≡ flat_map (damaged_line object) files → tally.checked ≡ a.checked → tally.damaged ≡ length a.damaged.items → IsReportedObject t object written tally
-told_object t object a files written tally audited same is checked damaged =
+reported_object t object a files written tally audited same is checked damaged =
     record { audit = a; audited = audited; lines = is ∙ ap (flat_map (damaged_line object)) same; checked = checked; damaged = damaged }
 
 -- it could not be read
@@ -191,11 +191,11 @@ none_reported t object (Ok tally) err = absurd (cc err)
 none_reported t object (Err fault) err = inl refl
 
 pub object_fails : (t : Tables) (object : ℕ) (a : Audit) (files written : List ℕ) → IsAudited t object a → files ≡ a.damaged.items
-    → IsFront written (flat_map (damaged_line object) files) → (fault : AuditFault) (result : Result Tally AuditFault) → IsErrAnd result (λ x. x ≡ fault)
+    → IsPrefix written (flat_map (damaged_line object) files) → (fault : AuditFault) (result : Result Tally AuditFault) → IsErrAnd result (λ x. x ≡ fault)
     → ReportsObject t object written result
 object_fails t object a files written audited same front fault (Ok x) err = absurd err
 object_fails t object a files written audited same front fault (Err e) err =
-    inr (record { audit = a; audited = audited; front = subst (λ (l : List ℕ). IsFront written (flat_map (damaged_line object) l)) same front })
+    inr (record { audit = a; audited = audited; front = subst (λ (l : List ℕ). IsPrefix written (flat_map (damaged_line object) l)) same front })
 
 -- what the program says
 pub is_damaged : (damaged : ℕ) → 0 < damaged → Damaged ≡ outcome_of_audit damaged

@@ -1,4 +1,4 @@
--- What a stop leaves of an opening stands for the same records.
+-- What a stop leaves of an opening represents the same records.
 use Rattle.std.proofs.Common.{[], ◌∷◌, ◌++◌, sym, subst}
 use Rattle.sqlite.specs.State as db
 use Rattle.dep_types.specs.State.{State}

@@ -5,7 +5,7 @@ use Rattle.sqlite.specs.Order.{Row}
 use Rattle.sqlite_trees.specs.Tree.{rowid}
 use Rattle.dep_statements.specs.Rows.{is_after}
 use Rattle.dep_tables.specs.Tables.{Tables}
-use Rattle.dep_types.specs.Sinks.{IsFront}
+use Rattle.dep_types.specs.Sinks.{IsPrefix}
 use Rattle.dep_files.specs.declared.auditing.Audit.{Audit}
 use Rattle.dep_files.specs.Fixity.{IsAudited}
 use Rattle.dep_program.specs.declared.outcome.Outcome.{Outcome}
@@ -71,7 +71,7 @@ pub record IsBegun (t : Tables) (written : List ℕ) : Type 0 where
   pub first : object_rows t ≡ rows ++ others
   pub found : List Audited
   pub are : AreAudits t rows found
-  pub front : IsFront written (lines_of found) ⊎ ((others ≡ []) × IsFront written (audit_text found))
+  pub front : IsPrefix written (lines_of found) ⊎ ((others ≡ []) × IsPrefix written (audit_text found))
 
 -- what an audit writes of these tables, by how it ends
 abbrev pub Audits : Tables → (written : List ℕ) → Outcome → Type 0

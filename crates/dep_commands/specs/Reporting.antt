@@ -5,8 +5,8 @@ use Rattle.sqlite.specs.State as db
 use Rattle.sqlite.specs.Order.{Row}
 use Rattle.dep_statements.specs.Rows.{is_after}
 use Rattle.dep_tables.specs.Tables.{Tables}
-use Rattle.dep_types.specs.Sinks.{IsFront}
-use Rattle.dep_schema.specs.Standing.{Stands}
+use Rattle.dep_types.specs.Sinks.{IsPrefix}
+use Rattle.dep_schema.specs.OpenTables.{StaysFile}
 use Rattle.dep_types.specs.Writing.{HasRisen}
 use Rattle.dep_files.specs.Faults.{BlamesOutlet}
 use Rattle.dep_files.specs.Fixity.{IsAudited}
@@ -22,7 +22,7 @@ use Rattle.dep_commands.specs.declared.tally.Tally.{Tally}
 -- all of a text was written, or after a fault a front of it
 abbrev pub IsWritten : {X : Type 0} → (whole written : List ℕ) → Result X AuditFault → Type 0
 IsWritten whole written (Ok x) = written ≡ whole
-IsWritten whole written (Err fault) = IsFront written whole
+IsWritten whole written (Err fault) = IsPrefix written whole
 
 -- what the program says of it
 abbrev pub outcome_of_fault : AuditFault → Outcome
@@ -35,11 +35,11 @@ abbrev pub Writes : {X : Type 0} → (taken takes : Option (List ℕ)) → (whol
 Writes taken takes whole result =
     (written : List ℕ) × Appends taken takes written × IsWritten whole written result
 
--- this was written of each tables that the store has, whether they stand for a state or not
+-- this was written of each tables that the store has, whether they represent a state or not
 abbrev pub WritesOf : (old new : db.State) → (taken takes : Option (List ℕ))
     → (Tables → (written : List ℕ) → Type 0) → Type 0
-WritesOf old new taken takes told = (written : List ℕ) × Appends taken takes written
-    × (db.HasCleanDisk new → (t : Tables) → Stands old t → told t written)
+WritesOf old new taken takes reported = (written : List ℕ) × Appends taken takes written
+    × (db.HasCleanDisk new → (t : Tables) → StaysFile old t → reported t written)
 
 -- a text was written so far as the result says, and the writer failed where that is returned, and nowhere else
 pub record WritesTo {W X : Type 0} (taken : W → Option (List ℕ)) (failures : W → ℕ) (before after : W)
@@ -50,8 +50,8 @@ pub record WritesTo {W X : Type 0} (taken : W → Option (List ℕ)) (failures :
 -- so is what was written of the tables that the store has, which stay
 pub record Reports {W X : Type 0} (old new : db.State) (taken : W → Option (List ℕ))
     (failures : W → ℕ) (before after : W) (result : Result X AuditFault)
-    (told : Tables → (written : List ℕ) → Result X AuditFault → Type 0) : Type 0 where
-  pub writes : WritesOf old new (taken before) (taken after) (λ t written. told t written result)
+    (reported : Tables → (written : List ℕ) → Result X AuditFault → Type 0) : Type 0 where
+  pub writes : WritesOf old new (taken before) (taken after) (λ t written. reported t written result)
   pub stays : KeepsTables old new
   pub blames : BlamesOutlet Writer (failures before) (failures after) result
 
@@ -72,7 +72,7 @@ pub record IsReportedObject (t : Tables) (object : ℕ) (written : List ℕ) (ta
 pub record IsPartOfObject (t : Tables) (object : ℕ) (written : List ℕ) : Type 0 where
   pub audit : Audit
   pub audited : IsAudited t object audit
-  pub front : IsFront written (damaged_lines (record { object = object; audit = audit }))
+  pub front : IsPrefix written (damaged_lines (record { object = object; audit = audit }))
 
 abbrev pub ReportsObject : Tables → (object : ℕ) → (written : List ℕ) → Result Tally AuditFault → Type 0
 ReportsObject t object written (Ok tally) = IsReportedObject t object written tally
@@ -89,7 +89,7 @@ pub record IsReported (t : Tables) (rows : List Row) (written : List ℕ) (tally
 pub record IsReportedTo (t : Tables) (after : ℕ) (written : List ℕ) (tally : Tally) : Type 0 where
   pub rows : List Row
   pub first : object_rows t ≡ rows ++ filter (is_after after) t.objects
-  pub told : IsReported t rows written tally
+  pub reported : IsReported t rows written tally
 
 -- so many objects, or files of them, that 64 bits don't count them
 abbrev pub IsUncounted : {t : Tables} {written : List ℕ} → IsBegun t written → Type 0

@@ -7,11 +7,11 @@ use Rattle.sqlite.specs.Tree.{Trees}
 use Rattle.dep_types.specs.State.{State, empty_state}
 use Rattle.dep_types.specs.Config.{IsChecked}
 use Rattle.dep_types.specs.declared.config.Config.{Config}
-use Rattle.dep_schema.specs.Standing.{HoldsNone}
+use Rattle.dep_schema.specs.OpenTables.{HoldsNone}
 use Rattle.sqlite_trees.specs.declared.store.Store.{Ghosts}
-use Rattle.dep_schema.specs.States.{IsLeftAs, StandsFor, Leaves}
+use Rattle.dep_schema.specs.States.{IsLeftAs, Represents, Leaves}
 use Rattle.dep_hub.specs.Records.{Record, Run, first_world, stopped}
-use Rattle.dep_hub.specs.Standing.{StandsAfter, IsHonest}
+use Rattle.dep_hub.specs.OpenTables.{RepresentsAfter, IsHonest}
 use Rattle.dep_hub.specs.declared.hub.Hub.{Hub}
 use Rattle.dep_store.specs.HashingStores.{condition_of}
 use Rattle.dep_store.specs.declared.archive.HashingStore.{HashingStore}
@@ -39,7 +39,7 @@ abbrev pub GoesOnFromStop : {S : Type 0} → (g : Ghosts S) → Config → (old 
 GoesOnFromStop g config old hub = IsHonest (condition_of g) hub
     → (found : State) → IsLeftAs old.now.trees found
     → (first : State) (records : List Record) → Run config first records (first_world found)
-    → StandsAfter (condition_of g) hub first records
+    → RepresentsAfter (condition_of g) hub first records
 
 -- The configuration breaks a rule, which was found before the database was opened.
 abbrev pub RefusesConfig : {S : Type 0} → Config → (given : Held S) → StartFault × Held S → Type 0
@@ -48,8 +48,8 @@ RefusesConfig config given e =
 
 -- the database is one of a store: a new one where it had no table, and else of what a stop left
 abbrev pub IsStore : (old new : db.State) → Type 0
-IsStore old new = HasCleanDisk new → (HoldsNone old.now.trees → StandsFor new empty_state)
-    × ((found : State) → IsLeftAs old.now.trees found → StandsFor new found)
+IsStore old new = HasCleanDisk new → (HoldsNone old.now.trees → Represents new empty_state)
+    × ((found : State) → IsLeftAs old.now.trees found → Represents new found)
 
 -- There was no memory for a hub. The database is as it was given, or, where the configuration was checked, one of a store.
 abbrev pub IsGivenOrStore : {S : Type 0} → (g : Ghosts S) → Config → (given back : Held S) → Type 0

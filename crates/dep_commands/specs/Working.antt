@@ -16,15 +16,15 @@ use Rattle.dep_program.specs.declared.outcome.Outcome.{Outcome}
 use Rattle.dep_program.specs.declared.outcome.Outcome.TheVariants.{Done, StoreFault}
 
 -- how work ends, by the database that it was given and the one that it hands back
-abbrev pub Work : Type 1
-Work = (S : Type 0) → Ghosts S → (given back : Held S) → Outcome → Type 0
+abbrev pub DatabaseWork : Type 1
+DatabaseWork = (S : Type 0) → Ghosts S → (given back : Held S) → Outcome → Type 0
 
 -- where all was done, the database has to be closed too
 abbrev pub outcome_unclosed : Outcome → Outcome
 outcome_unclosed Done = StoreFault
 outcome_unclosed outcome = outcome
 
-module _ {D : Type 0} (g : disk.Ghosts D) (work : Work) where
+module _ {D : Type 0} (g : disk.Ghosts D) (work : DatabaseWork) where
   -- It ended so on this database, and then that was closed: its last commit is in its file. Or it couldn't be.
   pub data EndsWork (given : Held (FileStore D g)) : Outcome → Type 0 where
     closed : {outcome : Outcome} (back : Held (FileStore D g)) (files : Files D)

@@ -2,7 +2,7 @@
 ghost use Rattle.std.specs.Prelude.{◌≡◌, ℕ, List};
 ghost use Rattle.std.specs.Io.KnownBytes.{Appends, Keeps};
 ghost use Rattle.dep_types.specs.State.{State};
-ghost use Rattle.dep_types.specs.Conditions.{StandsFor, HasCleanDisk};
+ghost use Rattle.dep_types.specs.Conditions.{Represents, HasCleanDisk};
 ghost use Rattle.dep_bag.specs.Source.{StandsStill};
 ghost use Rattle.dep_commands.specs.Exports.{Exports, outcome_of_export};
 ghost use Rattle.dep_commands.specs.Reporting.{BlamesTransfer};
@@ -22,12 +22,12 @@ pub fn export_object<S: BagSource, K: BagSink>(
 ) -> Outcome
     ensures gives { (given : List ℕ) × Appends (K.taken sink.old) (K.taken sink.new) given
         × (HasCleanDisk (S.condition source.new)
-        → (s : State) → StandsFor (S.condition source.old) s
+        → (s : State) → Represents (S.condition source.old) s
         → Exports s object given result) }
     ensures absent { result ≡ Outcome.NoSuchObject → Keeps (K.taken sink.old) (K.taken sink.new) }
     ensures blames { BlamesTransfer (K.failures sink.old) (K.failures sink.new) result }
     ensures kept { result ≡ Outcome.Done → HasCleanDisk (S.condition source.new)
-        → (s : State) → StandsFor (S.condition source.old) s → StandsFor (S.condition source.new) s }
+        → (s : State) → Represents (S.condition source.old) s → Represents (S.condition source.new) s }
     ensures still { StandsStill (S.condition source.old) (S.condition source.new) }
 {
     match export(alloc, source, object, sink) {

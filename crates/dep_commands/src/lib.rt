@@ -14,4 +14,4 @@ mod working;
 pub use exporting::export_object;
 pub use reporting::audit_all;
 pub use starting::{StartFault, check_config, close_hub, open_hub};
-pub use working::{Work, work_on_file};
+pub use working::{DatabaseWork, work_on_file};

@@ -3,7 +3,7 @@ ghost use Rattle.std.specs.Prelude.{◌≡◌, OnOk};
 ghost use Rattle.sqlite.specs.State.{HasCleanDisk};
 ghost use Rattle.sqlite.specs.Held.{state};
 ghost use Rattle.dep_tables.specs.Tables.{Tables};
-ghost use Rattle.dep_schema.specs.Standing.{Stands};
+ghost use Rattle.dep_schema.specs.OpenTables.{StaysFile};
 ghost use Rattle.dep_commands.specs.Audits.{Audits};
 ghost use Rattle.dep_store.specs.Staying.{KeepsTables};
 ghost use Rattle.dep_commands.specs.Reporting.{ReportsObject, ReportsObjects, Reports, WritesOf, BlamesTransfer, outcome_of_fault};
@@ -93,7 +93,7 @@ fn report_object<S: Alter, W: Outlet, P: Watch>(
     ensures reports { Reports (state S.Store store.old) (state S.Store store.new)
         W.taken W.failures out.old out.new result (λ t. ReportsObject t object) }
     ensures kept { HasCleanDisk (state S.Store store.new) → (t : Tables)
-        → Stands (state S.Store store.old) t → OnOk result (Stands (state S.Store store.new) t) }
+        → StaysFile (state S.Store store.old) t → OnOk result (StaysFile (state S.Store store.new) t) }
 {
     let audit = store.audit(object, watch)?;
     write_damaged(alloc, object, audit.damaged.as_slice(), out)?;

@@ -4,11 +4,11 @@ ghost use Rattle.sqlite.specs.Held.{state};
 ghost use Rattle.sqlite.specs.State.{HasCleanDisk};
 ghost use Rattle.dep_types.specs.State.{empty_state};
 ghost use Rattle.dep_types.specs.Config.{IsChecked};
-ghost use Rattle.dep_schema.specs.Standing.{HoldsNone, IsOpenable};
+ghost use Rattle.dep_schema.specs.OpenTables.{HoldsNone, IsOpenable};
 ghost use Rattle.dep_store.specs.Causes.{FailsToOpenTables};
 ghost use Rattle.dep_store.specs.Migrating.{Keeps};
 ghost use Rattle.dep_commands.specs.Starting.{GoesOnFromStop, IsGivenOrStore, OpeningLeaves, RefusesConfig, outcome_of_start};
-ghost use Rattle.dep_hub.specs.Standing.{StandsAfter, IsClean, IsHonest};
+ghost use Rattle.dep_hub.specs.OpenTables.{RepresentsAfter, IsClean, IsHonest};
 ghost use Rattle.dep_store.specs.HashingStores.{condition_of};
 
 use dep_files::Watch;
@@ -78,7 +78,7 @@ pub fn open_hub<S: Alter, W: Watch>(
     requires settled { (state S.Store connection).in_transaction ≡ false }
     ensures fresh { IfOk result (λ hub. IsHonest (condition_of S.Store) hub
         → HoldsNone (state S.Store connection).now.trees
-        → StandsAfter (condition_of S.Store) hub empty_state []) }
+        → RepresentsAfter (condition_of S.Store) hub empty_state []) }
     // Over what a stop left it goes on from the records before it, for each state that the stop
     // may have left.
     ensures again { IfOk result (GoesOnFromStop S.Store config (state S.Store connection)) }
@@ -93,7 +93,7 @@ pub fn open_hub<S: Alter, W: Watch>(
         → IsTrue (state S.Store e.1).is_open
         → Keeps (state S.Store connection) (state S.Store e.1)) }
     // It says why the database was not opened.
-    ensures told { IfErr result (λ e. (fault : OpenFault) → e.0 ≡ StartFault.Open fault
+    ensures reported { IfErr result (λ e. (fault : OpenFault) → e.0 ≡ StartFault.Open fault
         → HasCleanDisk (state S.Store e.1)
         → FailsToOpenTables S.Store connection e.1 fault) }
     // What a store left is opened, and never refused as of a version that is not known.

@@ -9,9 +9,9 @@ use sqlite::{Alter, Connection, File, FileStore};
 use sqlite_disk::Disk;
 
 /// What is done with a database, over whatever store of SQLite's.
-pub trait Work: Drop {
+pub trait DatabaseWork: Drop {
     /// What it makes of the database, and how it ends.
-    ghost does: { Self → working.Work };
+    ghost does: { Self → working.DatabaseWork };
 
     /// Does it, and hands the database back.
     fn work<S: Alter>(self, connection: Connection<S>) -> (Outcome, Connection<S>)
@@ -22,7 +22,7 @@ pub trait Work: Drop {
 /// Opens the database in the file, which is made where it isn't there, and works on it. Then the log of the database is
 /// copied into its file: where that fails, what was done is a fault of the store. Nothing is done, and nothing returned,
 /// where the file can't be opened.
-pub fn work_on_file<W: Work>(rt: &HostRuntime, file: &str, work: W) -> Option<Outcome>
+pub fn work_on_file<W: DatabaseWork>(rt: &HostRuntime, file: &str, work: W) -> Option<Outcome>
     ensures { EndsWorkOnFile ⟦<File as Disk>⟧ (W.does work) result }
 {
     match Connection::open(rt, file) {
@@ -33,7 +33,10 @@ pub fn work_on_file<W: Work>(rt: &HostRuntime, file: &str, work: W) -> Option<Ou
 
 /// Works on the database of whatever files, and closes it.
 // A call, at a store over files, of a function that is generic in the store is dear to prove: it stands here alone.
-fn work_over<D: Disk + Drop, W: Work>(connection: Connection<FileStore<D>>, work: W) -> Outcome
+fn work_over<D: Disk + Drop, W: DatabaseWork>(
+    connection: Connection<FileStore<D>>,
+    work: W,
+) -> Outcome
     requires settled { connection.in_transaction ≡ false }
     ensures { EndsWork D.Disk (W.does work) connection result }
 {

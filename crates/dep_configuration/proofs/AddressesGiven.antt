@@ -9,7 +9,7 @@ use Rattle.dep_types.specs.Maps.{◌>>=◌}
 use Rattle.dep_configuration.specs.Faults.{AreReadable, Suits}
 use Rattle.dep_configuration.specs.Fields.{wanted_of}
 use Rattle.dep_configuration.specs.Readings.{given, given_text}
-use Rattle.dep_configuration.specs.declared.field.Field.TheVariants as Name
+use Rattle.dep_configuration.specs.declared.field.ConfigurationField.TheVariants as Name
 use Rattle.dep_configuration.specs.declared.field.Wanted.TheVariants as Kind
 
 -- a value is the text of an address

@@ -4,12 +4,12 @@ use Rattle.std.proofs.lemmas.List.{take-append-drop, drop_more, take_all}
 use Rattle.json.specs.Json.{Json}
 use Rattle.dep_configuration.specs.Faults.{AreReadable, IsFaultOf, IsFirstOfFields, IsReadable}
 use Rattle.dep_configuration.specs.declared.field.TheConstants.{FIELDS}
-use Rattle.dep_configuration.specs.declared.field.Field.{Field}
-use Rattle.dep_configuration.specs.declared.field.Field.TheVariants.{Address, Port, Database, SpoolFolder, StopFile, Base, Title, Abstract, Depositor, OnBehalfOf, RequireIfMatch, MaxUpload, MaxAssembled, MaxSegments, StagingMaxIdle, IdleSeconds, LeastRate, Connections, AddressConnections, SpoolBytes, UnfinishedBytes, ReserveBytes}
+use Rattle.dep_configuration.specs.declared.field.ConfigurationField.{ConfigurationField}
+use Rattle.dep_configuration.specs.declared.field.ConfigurationField.TheVariants.{Address, Port, Database, SpoolFolder, StopFile, Base, Title, Abstract, Depositor, OnBehalfOf, RequireIfMatch, MaxUpload, MaxAssembled, MaxSegments, StagingMaxIdle, IdleSeconds, LeastRate, Connections, AddressConnections, SpoolBytes, UnfinishedBytes, ReserveBytes}
 use Rattle.dep_configuration.specs.declared.fault.ConfigurationFault.{ConfigurationFault}
 
 -- what holds of all of `FIELDS` holds of each field
-pub each-field : (P : Field → Type 0) → All P FIELDS → (field : Field) → P field
+pub each-field : (P : ConfigurationField → Type 0) → All P FIELDS → (field : ConfigurationField) → P field
 each-field P all Address = all 0 Address (omega arith)
 each-field P all Port = all 1 Port (omega arith)
 each-field P all Database = all 2 Database (omega arith)
@@ -36,7 +36,7 @@ each-field P all ReserveBytes = all 21 ReserveBytes (omega arith)
 pub all-readable : (j : Json) (i : ℕ) → length FIELDS ≤ i → All (λ f. IsReadable f j) (take i FIELDS) → AreReadable j
 all-readable j i past all = each-field (λ f. IsReadable f j) (subst (All (λ f. IsReadable f j)) (take_all i FIELDS past) all)
 
-pub first-of-fields : (j : Json) (i : ℕ) (d : Field) (e : ConfigurationFault) → i < length FIELDS → All (λ f. IsReadable f j) (take i FIELDS) → IsFaultOf (get_or FIELDS i d) e j → IsFirstOfFields e j
+pub first-of-fields : (j : Json) (i : ℕ) (d : ConfigurationField) (e : ConfigurationFault) → i < length FIELDS → All (λ f. IsReadable f j) (take i FIELDS) → IsFaultOf (get_or FIELDS i d) e j → IsFirstOfFields e j
 first-of-fields j i d e within was fault = record {
   front = take i FIELDS;
   field = get_or FIELDS i d;

@@ -8,7 +8,7 @@ use Rattle.dep_types.specs.declared.config.Config.{Config}
 use Rattle.dep_configuration.specs.Configured.{HasConfig}
 use Rattle.dep_configuration.specs.Faults.{AreReadable, IsFirstFault, IsFirstOfFields}
 use Rattle.dep_configuration.specs.Names.{GivesFields, IsFaultOfNames}
-use Rattle.dep_configuration.specs.declared.field.Field.TheVariants.{Base}
+use Rattle.dep_configuration.specs.declared.field.ConfigurationField.TheVariants.{Base}
 use Rattle.dep_configuration.specs.declared.fault.ConfigurationFault.{ConfigurationFault}
 use Rattle.dep_configuration.specs.declared.fault.ConfigurationFault.TheVariants.{Invalid, Memory, NotObject}
 
@@ -25,7 +25,7 @@ last-of-base e j config named readable gives (inr fault) =
     inr (inr (
       named,
       inr (record {
-        told = fault.0;
+        reported = fault.0;
         readable = readable;
         cause = subst (λ o. IsSomeAnd o (λ text. ¬ IsBase text)) (sym gives.base) fault.1;
       }),

@@ -63,13 +63,13 @@ name-at (n ∷ ms) (suc i) m within e =
     let r = name-at ms i m (omega (arith, within)) e in
     (omega (arith, r.0), r.1)
 
-pub unknown-first : (names : List (List ℕ)) (i : ℕ) (name told : List ℕ) → told ≡ name → i < length names → get_or names i name ≡ name → AreFieldNames (take i names) → is_field_name name ≡ false → ((front : List (List ℕ)) × StandsBehind front told names) × (is_field_name told ≡ false)
-unknown-first names i name told same within at was alien =
+pub unknown-first : (names : List (List ℕ)) (i : ℕ) (name reported : List ℕ) → reported ≡ name → i < length names → get_or names i name ≡ name → AreFieldNames (take i names) → is_field_name name ≡ false → ((front : List (List ℕ)) × StandsBehind front reported names) × (is_field_name reported ≡ false)
+unknown-first names i name reported same within at was alien =
     subst (λ t. ((front : List (List ℕ)) × StandsBehind front t names) × (is_field_name t ≡ false)) (sym same)
     ((take i names, stands-behind names i name within at was), alien)
 
-pub repeated-first : (names : List (List ℕ)) (i : ℕ) (name told : List ℕ) → told ≡ name → i < length names → get_or names i name ≡ name → AreFieldNames (take i names) → Contains (take i names) name → (front : List (List ℕ)) × StandsBehind front told names × Contains front told
-repeated-first names i name told same within at was again =
+pub repeated-first : (names : List (List ℕ)) (i : ℕ) (name reported : List ℕ) → reported ≡ name → i < length names → get_or names i name ≡ name → AreFieldNames (take i names) → Contains (take i names) name → (front : List (List ℕ)) × StandsBehind front reported names × Contains front reported
+repeated-first names i name reported same within at was again =
     subst (λ t. (front : List (List ℕ)) × StandsBehind front t names × Contains front t) (sym same)
     (take i names, stands-behind names i name within at was, again)
 

@@ -10,7 +10,7 @@ use Rattle.dep_octets.specs.declared.numbers.Number.TheVariants.{NotDigits, Abov
 use Rattle.std.proofs.lemmas.Option.{same_Some}
 use Rattle.std.specs.Str.Parse.{digits_value}
 use Rattle.dep_types.specs.Maps.{◌>>=◌}
-use Rattle.dep_types.specs.Limits.{IsLimit}
+use Rattle.dep_types.specs.ServerLimits.{IsLimit}
 use Rattle.dep_types.specs.Config as set_up
 use Rattle.dep_types.specs.declared.config.Config.{Config}
 use Rattle.dep_configuration.specs.Configured.{HasConfig}
@@ -18,8 +18,8 @@ use Rattle.dep_configuration.specs.Faults.{is_required, AreReadable, Suits}
 use Rattle.dep_configuration.specs.Fields.{bounds, bounds_of, wanted_of}
 use Rattle.dep_configuration.specs.Readings.{at_least, filled, filled_text_of, flag_of, given, given_text, number_of, number_within, optional, optional_number_of, text_of}
 use Rattle.dep_configuration.specs.declared.field.Bounds.{Bounds}
-use Rattle.dep_configuration.specs.declared.field.Field.{Field}
-use Rattle.dep_configuration.specs.declared.field.Field.TheVariants.{Port, MaxUpload, MaxAssembled, MaxSegments, StagingMaxIdle}
+use Rattle.dep_configuration.specs.declared.field.ConfigurationField.{ConfigurationField}
+use Rattle.dep_configuration.specs.declared.field.ConfigurationField.TheVariants.{Port, MaxUpload, MaxAssembled, MaxSegments, StagingMaxIdle}
 use Rattle.dep_configuration.specs.declared.field.Wanted.{Wanted}
 use Rattle.dep_configuration.specs.declared.field.Wanted.TheVariants.{AnyText, FilledText, Flag, Base, WholeNumber}
 
@@ -41,26 +41,26 @@ read-optional P read None h = refl
 read-optional P read (Some v) h = some-mapped (read v) h
 
 -- a field that can be read suits what it is known to want
-suited : (field : Field) (w : Wanted) (j : Json) → AreReadable j → wanted_of field ≡ w → MatchOption (given field j) (is_required w ≡ false) (Suits w)
+suited : (field : ConfigurationField) (w : Wanted) (j : Json) → AreReadable j → wanted_of field ≡ w → MatchOption (given field j) (is_required w ≡ false) (Suits w)
 suited field w j readable e = subst (λ w. MatchOption (given field j) (is_required w ≡ false) (Suits w)) e (readable field)
 
-pub text-or : (field : Field) (default : List ℕ) (j : Json) → AreReadable j → wanted_of field ≡ AnyText → text_of field default j ≡ Some (unwrap_or (given_text field j) default)
+pub text-or : (field : ConfigurationField) (default : List ℕ) (j : Json) → AreReadable j → wanted_of field ≡ AnyText → text_of field default j ≡ Some (unwrap_or (given_text field j) default)
 text-or field default j readable e = read-or (false ≡ false) as_str (given field j) default (suited field AnyText j readable e)
 
-flag-or : (field : Field) (j : Json) → AreReadable j → wanted_of field ≡ Flag → flag_of field j ≡ Some (unwrap_or (given field j >>= as_bool) false)
+flag-or : (field : ConfigurationField) (j : Json) → AreReadable j → wanted_of field ≡ Flag → flag_of field j ≡ Some (unwrap_or (given field j >>= as_bool) false)
 flag-or field j readable e = read-or (false ≡ false) as_bool (given field j) false (suited field Flag j readable e)
 
-pub flag-given : (field : Field) (j v : Json) (b : Bool) → AreReadable j → wanted_of field ≡ Flag → Some v ≡ given field j → b ≡ unwrap_or (as_bool v) false → flag_of field j ≡ Some b
+pub flag-given : (field : ConfigurationField) (j v : Json) (b : Bool) → AreReadable j → wanted_of field ≡ Flag → Some v ≡ given field j → b ≡ unwrap_or (as_bool v) false → flag_of field j ≡ Some b
 flag-given field j v b readable e given same =
     flag-or field j readable e ∙ ap (λ o. Some (unwrap_or (o >>= as_bool) false)) (sym given) ∙ ap (λ b. Some b) (sym same)
 
-pub flag-absent : (field : Field) (j : Json) → AreReadable j → wanted_of field ≡ Flag → None ≡ given field j → flag_of field j ≡ Some false
+pub flag-absent : (field : ConfigurationField) (j : Json) → AreReadable j → wanted_of field ≡ Flag → None ≡ given field j → flag_of field j ≡ Some false
 flag-absent field j readable e given = flag-or field j readable e ∙ ap (λ o. Some (unwrap_or (o >>= as_bool) false)) (sym given)
 
-pub number-or : (field : Field) (default : ℕ) (j : Json) → AreReadable j → wanted_of field ≡ WholeNumber (bounds_of field) → number_of field default j ≡ Some (unwrap_or (given field j >>= number_within (bounds_of field)) default)
+pub number-or : (field : ConfigurationField) (default : ℕ) (j : Json) → AreReadable j → wanted_of field ≡ WholeNumber (bounds_of field) → number_of field default j ≡ Some (unwrap_or (given field j >>= number_within (bounds_of field)) default)
 number-or field default j readable e = read-or (false ≡ false) (number_within (bounds_of field)) (given field j) default (suited field (WholeNumber (bounds_of field)) j readable e)
 
-pub number-optional : (field : Field) (j : Json) → AreReadable j → wanted_of field ≡ WholeNumber (bounds_of field) → optional_number_of field j ≡ Some (given field j >>= number_within (bounds_of field))
+pub number-optional : (field : ConfigurationField) (j : Json) → AreReadable j → wanted_of field ≡ WholeNumber (bounds_of field) → optional_number_of field j ≡ Some (given field j >>= number_within (bounds_of field))
 number-optional field j readable e = read-optional (false ≡ false) (number_within (bounds_of field)) (given field j) (suited field (WholeNumber (bounds_of field)) j readable e)
 
 -- a text that has to be given is there, and isn't empty where it must not be
@@ -77,12 +77,12 @@ filled-same None h = cc
 filled-same (Some []) h = cc
 filled-same (Some (b ∷ text)) h = refl
 
-pub filled-text : (field : Field) (j : Json) → AreReadable j → wanted_of field ≡ FilledText → (filled_text_of field j ≡ given_text field j) × IsSome (filled_text_of field j)
+pub filled-text : (field : ConfigurationField) (j : Json) → AreReadable j → wanted_of field ≡ FilledText → (filled_text_of field j ≡ given_text field j) × IsSome (filled_text_of field j)
 filled-text field j readable e =
     let h = both-there (given field j) (suited field FilledText j readable e) in
     (filled-same (given_text field j) h, h)
 
-pub base-text : (field : Field) (j : Json) → AreReadable j → wanted_of field ≡ Base → IsSome (given_text field j)
+pub base-text : (field : ConfigurationField) (j : Json) → AreReadable j → wanted_of field ≡ Base → IsSome (given_text field j)
 base-text field j readable e = there as_str (given field j) (suited field Base j readable e)
 
 -- a number that is read is within its bounds
@@ -105,7 +105,7 @@ pub port-fits : (j : Json) (n : ℕ) → number_of Port 8080 j ≡ Some n → n 
 unfolding bounds_of
 port-fits j n h = (number-of (bounds_of Port) (given Port j) 8080 n (omega arith, omega arith) h).1
 
-limit : (field : Field) (greatest default : ℕ) (j : Json) (n : ℕ) → bounds_of field ≡ bounds 1 greatest → (1 ≤ default) × (default ≤ greatest) → number_of field default j ≡ Some n → IsLimit n greatest
+limit : (field : ConfigurationField) (greatest default : ℕ) (j : Json) (n : ℕ) → bounds_of field ≡ bounds 1 greatest → (1 ≤ default) × (default ≤ greatest) → number_of field default j ≡ Some n → IsLimit n greatest
 limit field greatest default j n e fits h =
     let r = subst (λ (b : Bounds). (b.least ≤ n) × (n ≤ b.most)) e (number-of (bounds_of field) (given field j) default n (subst (λ (b : Bounds). (b.least ≤ default) × (default ≤ b.most)) (sym e) fits) h) in
     record { least = r.0; most = r.1 }

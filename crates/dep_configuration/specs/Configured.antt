@@ -6,11 +6,11 @@ use Rattle.dep_types.specs.declared.config.Config.{Config}
 use Rattle.dep_configuration.specs.Names.{GivesFields}
 use Rattle.dep_configuration.specs.Readings.{filled_text_of, flag_of, given_text, number_of, optional_number_of, text_of, IsAddressOf}
 use Rattle.dep_configuration.specs.declared.configuration.Configuration.{Configuration}
-use Rattle.dep_configuration.specs.declared.configuration.Limits.{Limits}
-use Rattle.dep_configuration.specs.declared.field.Field.TheVariants.{Port, Database, SpoolFolder, StopFile, Base, Title, Abstract, Depositor, OnBehalfOf, RequireIfMatch, MaxUpload, MaxAssembled, MaxSegments, StagingMaxIdle, IdleSeconds, LeastRate, Connections, AddressConnections, SpoolBytes, UnfinishedBytes, ReserveBytes}
+use Rattle.dep_configuration.specs.declared.configuration.ServerLimits.{ServerLimits}
+use Rattle.dep_configuration.specs.declared.field.ConfigurationField.TheVariants.{Port, Database, SpoolFolder, StopFile, Base, Title, Abstract, Depositor, OnBehalfOf, RequireIfMatch, MaxUpload, MaxAssembled, MaxSegments, StagingMaxIdle, IdleSeconds, LeastRate, Connections, AddressConnections, SpoolBytes, UnfinishedBytes, ReserveBytes}
 
 -- a value gives these limits
-pub record HasLimits (limits : Limits) (j : Json) : Type 0 where
+pub record HasLimits (limits : ServerLimits) (j : Json) : Type 0 where
   pub idle : number_of IdleSeconds 60 j ≡ Some limits.idle_seconds
   pub rate : number_of LeastRate 4096 j ≡ Some limits.least_rate
   pub all : optional_number_of Connections j ≡ Some limits.connections

@@ -3,7 +3,7 @@ use Rattle.std.specs.Prelude.{[], ◌∷◌, None, false, codes}
 use Rattle.std.specs.declared.net.ip_addr.IpAddr.TheVariants.{V4}
 use Rattle.dep_types.specs.declared.config.Config.{Config}
 use Rattle.dep_configuration.specs.declared.configuration.Configuration.{Configuration}
-use Rattle.dep_configuration.specs.declared.configuration.Limits.{Limits}
+use Rattle.dep_configuration.specs.declared.configuration.ServerLimits.{ServerLimits}
 
 abbrev pub example_config : Config
 example_config = record {
@@ -19,7 +19,7 @@ example_config = record {
   staging_max_idle = 3600;
 }
 
-abbrev pub example_limits : Limits
+abbrev pub example_limits : ServerLimits
 example_limits = record {
   idle_seconds = 60;
   least_rate = 4096;

@@ -13,8 +13,8 @@ use Rattle.dep_configuration.specs.Fields.{wanted_of}
 use Rattle.dep_configuration.specs.Names.{GivesFields, IsFaultOfNames}
 use Rattle.dep_configuration.specs.Readings.{filled, given, given_text, number_within}
 use Rattle.dep_configuration.specs.declared.field.TheConstants.{FIELDS}
-use Rattle.dep_configuration.specs.declared.field.Field.{Field}
-use Rattle.dep_configuration.specs.declared.field.Field.TheVariants as Name
+use Rattle.dep_configuration.specs.declared.field.ConfigurationField.{ConfigurationField}
+use Rattle.dep_configuration.specs.declared.field.ConfigurationField.TheVariants as Name
 use Rattle.dep_configuration.specs.declared.field.Wanted.{Wanted}
 use Rattle.dep_configuration.specs.declared.field.Wanted.TheVariants.{AnyText, FilledText, Flag, Address, Base, WholeNumber}
 use Rattle.dep_configuration.specs.declared.fault.ConfigurationFault.{ConfigurationFault}
@@ -39,42 +39,42 @@ Suits Base v = IsSome (as_str v)
 Suits (WholeNumber b) v = IsSome (number_within b v)
 
 -- a field is given as what is wanted, or isn't given and need not be
-abbrev pub IsReadable : Field → Json → Type 0
+abbrev pub IsReadable : ConfigurationField → Json → Type 0
 IsReadable field j =
     MatchOption (given field j) (is_required (wanted_of field) ≡ false) (Suits (wanted_of field))
 
 abbrev pub AreReadable : Json → Type 0
-AreReadable j = (field : Field) → IsReadable field j
+AreReadable j = (field : ConfigurationField) → IsReadable field j
 
 -- all fields are readable, and this one is one of which that is wanted
-pub record Gives (field : Field) (wants : Wanted) (j : Json) : Type 0 where
+pub record Gives (field : ConfigurationField) (wants : Wanted) (j : Json) : Type 0 where
   pub readable : AreReadable j
   pub wanted : wanted_of field ≡ wants
 
 -- a fault is this field's: it isn't given and has to be, or is given as something else
-abbrev pub IsFaultOf : Field → ConfigurationFault → Json → Type 0
+abbrev pub IsFaultOf : ConfigurationField → ConfigurationFault → Json → Type 0
 IsFaultOf field Malformed j = ⊥
 IsFaultOf field NotObject j = ⊥
 IsFaultOf field (Unknown name) j = ⊥
 IsFaultOf field (Repeated name) j = ⊥
-IsFaultOf field (Missing told) j =
-    (told ≡ field) × (given field j ≡ None) × IsTrue (is_required (wanted_of field))
-IsFaultOf field (Invalid told) j =
-    (told ≡ field) × IsSomeAnd (given field j) (λ v. ¬ Suits (wanted_of field) v)
+IsFaultOf field (Missing reported) j =
+    (reported ≡ field) × (given field j ≡ None) × IsTrue (is_required (wanted_of field))
+IsFaultOf field (Invalid reported) j =
+    (reported ≡ field) × IsSomeAnd (given field j) (λ v. ¬ Suits (wanted_of field) v)
 IsFaultOf field Memory j = ⊥
 
 -- a fault is that of the first field which can't be read, as the example has them
 pub record IsFirstOfFields (e : ConfigurationFault) (j : Json) : Type 0 where
-  pub front : List Field
-  pub field : Field
-  pub behind : List Field
+  pub front : List ConfigurationField
+  pub field : ConfigurationField
+  pub behind : List ConfigurationField
   pub stands : FIELDS ≡ front ++ field ∷ behind
   pub before : All (λ f. IsReadable f j) front
   pub fault : IsFaultOf field e j
 
 -- whether the text of the base is a base is looked at when all fields can be read
 pub record IsFaultOfBase (e : ConfigurationFault) (j : Json) : Type 0 where
-  pub told : e ≡ Invalid Name.Base
+  pub reported : e ≡ Invalid Name.Base
   pub readable : AreReadable j
   pub cause : IsSomeAnd (given_text Name.Base j) (λ text. ¬ IsBase text)
 

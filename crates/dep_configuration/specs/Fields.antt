@@ -1,13 +1,13 @@
 -- The fields of a configuration: what each is called, and what it has to be.
 use Rattle.std.specs.Prelude.{ℕ, List, codes}
-use Rattle.dep_configuration.specs.declared.field.Field.{Field}
-use Rattle.dep_configuration.specs.declared.field.Field.TheVariants.{Address, Port, Database, SpoolFolder, StopFile, Base, Title, Abstract, Depositor, OnBehalfOf, RequireIfMatch, MaxUpload, MaxAssembled, MaxSegments, StagingMaxIdle, IdleSeconds, LeastRate, Connections, AddressConnections, SpoolBytes, UnfinishedBytes, ReserveBytes}
+use Rattle.dep_configuration.specs.declared.field.ConfigurationField.{ConfigurationField}
+use Rattle.dep_configuration.specs.declared.field.ConfigurationField.TheVariants.{Address, Port, Database, SpoolFolder, StopFile, Base, Title, Abstract, Depositor, OnBehalfOf, RequireIfMatch, MaxUpload, MaxAssembled, MaxSegments, StagingMaxIdle, IdleSeconds, LeastRate, Connections, AddressConnections, SpoolBytes, UnfinishedBytes, ReserveBytes}
 use Rattle.dep_configuration.specs.declared.field.Bounds.{Bounds}
 use Rattle.dep_configuration.specs.declared.field.Wanted.{Wanted}
 use Rattle.dep_configuration.specs.declared.field.Wanted.TheVariants as Kind
 
 -- the key that a configuration file gives the value under
-unfoldable pub name_of : Field → List ℕ
+unfoldable pub name_of : ConfigurationField → List ℕ
 name_of Address = codes "address"
 name_of Port = codes "port"
 name_of Database = codes "database"
@@ -35,7 +35,7 @@ abbrev pub bounds : (least most : ℕ) → Bounds
 bounds least most = record { least = least; most = most }
 
 -- what a whole number may be; of any other field, 0 alone
-unfoldable pub bounds_of : Field → Bounds
+unfoldable pub bounds_of : ConfigurationField → Bounds
 bounds_of Port = bounds 1 65535
 bounds_of MaxUpload = bounds 1 16777216
 bounds_of MaxAssembled = bounds 1 17179869184
@@ -51,7 +51,7 @@ bounds_of ReserveBytes = bounds 0 67108864
 bounds_of f = bounds 0 0
 
 -- what a field takes; numbers are bytes, seconds, bytes per second or counts
-unfoldable pub wanted_of : Field → Wanted
+unfoldable pub wanted_of : ConfigurationField → Wanted
 wanted_of Address = Kind.Address
 wanted_of Database = Kind.FilledText
 wanted_of SpoolFolder = Kind.FilledText

@@ -11,16 +11,16 @@ use Rattle.dep_octets.specs.declared.numbers.Number.{Number}
 use Rattle.dep_octets.specs.declared.numbers.Number.TheVariants.{NotDigits, Above, Value}
 use Rattle.dep_types.specs.Maps.{◌>>=◌}
 use Rattle.dep_configuration.specs.Fields.{name_of, bounds_of}
-use Rattle.dep_configuration.specs.declared.field.Field.{Field}
-use Rattle.dep_configuration.specs.declared.field.Field.TheVariants as Name
+use Rattle.dep_configuration.specs.declared.field.ConfigurationField.{ConfigurationField}
+use Rattle.dep_configuration.specs.declared.field.ConfigurationField.TheVariants as Name
 use Rattle.dep_configuration.specs.declared.field.Bounds.{Bounds}
 
 -- what a field is given as
-abbrev pub given : Field → Json → Option Json
+abbrev pub given : ConfigurationField → Json → Option Json
 given field j = get (name_of field) j
 
 -- the text that it is given as
-abbrev pub given_text : Field → Json → Option (List ℕ)
+abbrev pub given_text : ConfigurationField → Json → Option (List ℕ)
 given_text field j = given field j >>= as_str
 
 -- a text that isn't empty
@@ -39,10 +39,10 @@ unfoldable pub number_within : Bounds → Json → Option ℕ
 number_within b v = as_number v >>= (λ text. at_least b.least (decimal_number text b.most))
 
 -- the truth value and the number that a field is given as
-abbrev pub given_flag : Field → Json → Option Bool
+abbrev pub given_flag : ConfigurationField → Json → Option Bool
 given_flag field j = given field j >>= as_bool
 
-abbrev pub given_number : Field → Json → Option ℕ
+abbrev pub given_number : ConfigurationField → Json → Option ℕ
 given_number field j = given field j >>= number_within (bounds_of field)
 
 -- where a field is given it has to be read
@@ -51,22 +51,22 @@ optional read None = Some None
 optional read (Some v) = option_map (λ x. Some x) (read v)
 
 -- a field with a default
-abbrev pub text_of : Field → List ℕ → Json → Option (List ℕ)
+abbrev pub text_of : ConfigurationField → List ℕ → Json → Option (List ℕ)
 text_of field default j = option_map_or as_str (given field j) (Some default)
 
-abbrev pub flag_of : Field → Json → Option Bool
+abbrev pub flag_of : ConfigurationField → Json → Option Bool
 flag_of field j = option_map_or as_bool (given field j) (Some false)
 
-abbrev pub number_of : Field → ℕ → Json → Option ℕ
+abbrev pub number_of : ConfigurationField → ℕ → Json → Option ℕ
 number_of field default j =
     option_map_or (number_within (bounds_of field)) (given field j) (Some default)
 
 -- a number without a default
-abbrev pub optional_number_of : Field → Json → Option (Option ℕ)
+abbrev pub optional_number_of : ConfigurationField → Json → Option (Option ℕ)
 optional_number_of field j = optional (number_within (bounds_of field)) (given field j)
 
 -- a field that has to be given, and not to be empty
-abbrev pub filled_text_of : Field → Json → Option (List ℕ)
+abbrev pub filled_text_of : ConfigurationField → Json → Option (List ℕ)
 filled_text_of field j = given_text field j >>= filled
 
 -- the address that is given, or 127.0.0.1

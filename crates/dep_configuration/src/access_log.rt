@@ -2,7 +2,7 @@
 ghost use Rattle.std.specs.Prelude.{◌≡◌};
 ghost use Rattle.dep_configuration.specs.AccessLog.{reason_name, reserve_state_name};
 
-use crate::configuration::Limits;
+use crate::configuration::ServerLimits;
 use dep_types::Refusal;
 use json::Writer;
 use std::alloc::{AllocError, Global};
@@ -12,7 +12,7 @@ pub const GREATEST_PATH: usize = 1_024;
 
 /// A request and its reply.
 #[derive(Clone, Copy)]
-pub struct Exchange<'a> {
+pub struct LoggedExchange<'a> {
     /// The whole seconds since 1970.
     pub moment: u64,
     /// The number of the connection.
@@ -35,7 +35,7 @@ pub struct Exchange<'a> {
     pub microseconds: u64,
 }
 
-/// Why a connection was closed before its client ended it, or a client was turned away.
+/// Why a connection was closed before its client ended it, or a client was rejected.
 #[derive(Clone, Copy)]
 pub enum Reason {
     /// It was silent for the idle time.
@@ -77,12 +77,12 @@ impl Reason {
     }
 }
 
-/// A connection that the server closed, or a client that it turned away.
+/// A connection that the server closed, or a client that it rejected.
 #[derive(Clone, Copy)]
-pub struct Closing<'a> {
+pub struct ClosedConnection<'a> {
     /// The whole seconds since 1970.
     pub moment: u64,
-    /// The number of the connection; a client that was turned away has none.
+    /// The number of the connection; a client that was rejected has none.
     pub connection: Option<u64>,
     /// The client's address.
     pub peer: &'a str,
@@ -123,13 +123,13 @@ pub struct Start<'a> {
     /// The address and port that it listens at.
     pub address: &'a str,
     /// What bounds its connections.
-    pub limits: Limits,
+    pub limits: ServerLimits,
     /// The time that opening the database took.
     pub open_microseconds: u64,
 }
 
-/// Returns the line of a request that was answered. An `Err` is want of memory.
-pub fn exchange_line(alloc: Global, exchange: &Exchange<'_>) -> Result<Vec<u8>, AllocError> {
+/// Returns the line of a request that was answered. An `Err` is lack of memory.
+pub fn exchange_line(alloc: Global, exchange: &LoggedExchange<'_>) -> Result<Vec<u8>, AllocError> {
     let end = exchange.path.floor_char_boundary(GREATEST_PATH);
     let refusal = match exchange.refusal {
         Some(refusal) => Member::Text("refusal", refusal.name()),
@@ -153,9 +153,9 @@ pub fn exchange_line(alloc: Global, exchange: &Exchange<'_>) -> Result<Vec<u8>, 
     )
 }
 
-/// Returns the line of a connection that the server closed, or of a client that it turned away. An `Err` is want of
+/// Returns the line of a connection that the server closed, or of a client that it rejected. An `Err` is want of
 /// memory.
-pub fn closing_line(alloc: Global, closing: &Closing<'_>) -> Result<Vec<u8>, AllocError> {
+pub fn closing_line(alloc: Global, closing: &ClosedConnection<'_>) -> Result<Vec<u8>, AllocError> {
     let (event, connection) = match closing.connection {
         Some(connection) => ("closed", Member::Number("connection", connection)),
         None => ("refused", Member::LeftOut),
@@ -189,7 +189,7 @@ pub fn reserve_line(
     )
 }
 
-/// Returns the line of a server that starts. An `Err` is want of memory.
+/// Returns the line of a server that starts. An `Err` is lack of memory.
 pub fn start_line(alloc: Global, start: &Start<'_>) -> Result<Vec<u8>, AllocError> {
     let limits = &start.limits;
     let connections = match limits.connections {

@@ -4,7 +4,7 @@ ghost use Rattle.json.specs.Value.{value_view};
 ghost use Rattle.dep_configuration.specs.Faults.{is_required, AreReadable, IsFaultOf, IsFirstOfFields, IsReadable, Suits};
 
 use crate::fault::ConfigurationFault;
-use crate::field::{FIELDS, Field, Wanted};
+use crate::field::{ConfigurationField, FIELDS, Wanted};
 use crate::values::whole_number;
 use json::Value;
 use std::net::IpAddr;
@@ -21,7 +21,7 @@ pub(crate) fn check_fields(value: &Value<'_>) -> Result<(), ConfigurationFault>
     Ok(())
 }
 
-fn check_field(value: &Value<'_>, field: Field) -> Result<(), ConfigurationFault>
+fn check_field(value: &Value<'_>, field: ConfigurationField) -> Result<(), ConfigurationFault>
     ensures readable { OnOk result (IsReadable field (value_view value.now)) }
     ensures refused { IfErr result (λ e. IsFaultOf field e (value_view value.now)) }
 {

@@ -10,7 +10,7 @@ ghost use Rattle.dep_configuration.specs.Faults.{AreReadable, IsFirstFault, IsRe
 
 use crate::checks::check_fields;
 use crate::fault::ConfigurationFault;
-use crate::field::Field;
+use crate::field::ConfigurationField;
 use crate::names::check_names;
 use crate::values::{address, base, filled_text, flag, number, optional_number, text};
 use dep_types::{
@@ -36,14 +36,14 @@ pub struct Configuration {
     /// What the server itself is set up with.
     pub config: Config,
     /// What bounds its connections.
-    pub limits: Limits,
+    pub limits: ServerLimits,
     /// The bytes of the file that is kept beside the database, and given up where its disk is full; 0 for none.
     pub reserve_bytes: u64,
 }
 
 /// What bounds the connections of a server.
 #[derive(Clone, Copy)]
-pub struct Limits {
+pub struct ServerLimits {
     /// The seconds for which a connection may be silent.
     pub idle_seconds: u64,
     /// The bytes that a connection has to move in each idle time, as long as a request or a reply is under
@@ -96,11 +96,11 @@ fn check_config(alloc: Global, config: &Config) -> Result<(), ConfigurationFault
     requires { IsLimited config.now }
     ensures checked { OnOk result (IsChecked config.now) }
     ensures refused { IfErr result (λ e. (e ≡ Memory)
-        ⊎ ((e ≡ Invalid Field.Base) × (¬ IsBase config.now.base))) }
+        ⊎ ((e ≡ Invalid ConfigurationField.Base) × (¬ IsBase config.now.base))) }
 {
     match config.check(alloc) {
         Ok(()) => Ok(()),
-        Err(ConfigFault::Base) => Err(ConfigurationFault::Invalid(Field::Base)),
+        Err(ConfigFault::Base) => Err(ConfigurationFault::Invalid(ConfigurationField::Base)),
         Err(ConfigFault::Limit) => unreachable!(),
         Err(ConfigFault::Memory) => Err(ConfigurationFault::Memory),
     }
@@ -111,19 +111,19 @@ fn configuration_in(alloc: Global, value: &Value<'_>) -> Result<Configuration, A
     requires { AreReadable (value_view value.now) }
     ensures { IfOk result (λ c. HasConfiguration c (value_view value.now)) }
 {
-    let database = filled_text(alloc, value, Field::Database)?;
-    let spool_folder = filled_text(alloc, value, Field::SpoolFolder)?;
-    let stop_file = text(alloc, value, Field::StopFile, "")?;
+    let database = filled_text(alloc, value, ConfigurationField::Database)?;
+    let spool_folder = filled_text(alloc, value, ConfigurationField::SpoolFolder)?;
+    let stop_file = text(alloc, value, ConfigurationField::StopFile, "")?;
     let config = config_in(alloc, value)?;
     Ok(Configuration {
         address: address(value),
-        port: number(value, Field::Port, 8_080) as u16,
+        port: number(value, ConfigurationField::Port, 8_080) as u16,
         database,
         spool_folder,
         stop_file,
         config,
         limits: limits_in(value),
-        reserve_bytes: number(value, Field::ReserveBytes, 33_554_432),
+        reserve_bytes: number(value, ConfigurationField::ReserveBytes, 33_554_432),
     })
 }
 
@@ -133,34 +133,47 @@ fn config_in(alloc: Global, value: &Value<'_>) -> Result<Config, AllocError>
     ensures { IfOk result (λ c. HasConfig c (value_view value.now)) }
 {
     let base = base(alloc, value)?;
-    let title = text(alloc, value, Field::Title, "swordd")?;
-    let abstract_text = text(alloc, value, Field::Abstract, "Deposit service")?;
-    let depositor = text(alloc, value, Field::Depositor, "depositor")?;
+    let title = text(alloc, value, ConfigurationField::Title, "swordd")?;
+    let abstract_text = text(
+        alloc,
+        value,
+        ConfigurationField::Abstract,
+        "Deposit service",
+    )?;
+    let depositor = text(alloc, value, ConfigurationField::Depositor, "depositor")?;
     Ok(Config {
         base,
         title,
         abstract_text,
         depositor,
-        on_behalf_of: flag(value, Field::OnBehalfOf),
-        require_if_match: flag(value, Field::RequireIfMatch),
-        max_upload: number(value, Field::MaxUpload, GREATEST_MAX_UPLOAD),
-        max_assembled: number(value, Field::MaxAssembled, GREATEST_MAX_ASSEMBLED),
-        max_segments: number(value, Field::MaxSegments, GREATEST_MAX_SEGMENTS),
-        staging_max_idle: number(value, Field::StagingMaxIdle, 3_600),
+        on_behalf_of: flag(value, ConfigurationField::OnBehalfOf),
+        require_if_match: flag(value, ConfigurationField::RequireIfMatch),
+        max_upload: number(value, ConfigurationField::MaxUpload, GREATEST_MAX_UPLOAD),
+        max_assembled: number(
+            value,
+            ConfigurationField::MaxAssembled,
+            GREATEST_MAX_ASSEMBLED,
+        ),
+        max_segments: number(
+            value,
+            ConfigurationField::MaxSegments,
+            GREATEST_MAX_SEGMENTS,
+        ),
+        staging_max_idle: number(value, ConfigurationField::StagingMaxIdle, 3_600),
     })
 }
 
 #[tactic(auto, unfolding(crate::specs::Fields::wanted_of, crate::specs::Fields::bounds_of))]
-fn limits_in(value: &Value<'_>) -> Limits
+fn limits_in(value: &Value<'_>) -> ServerLimits
     requires { AreReadable (value_view value.now) }
     ensures { HasLimits result (value_view value.now) }
 {
-    Limits {
-        idle_seconds: number(value, Field::IdleSeconds, 60),
-        least_rate: number(value, Field::LeastRate, 4_096),
-        connections: optional_number(value, Field::Connections),
-        address_connections: number(value, Field::AddressConnections, 1_024),
-        spool_bytes: number(value, Field::SpoolBytes, 68_719_476_736),
-        unfinished_bytes: number(value, Field::UnfinishedBytes, 1_073_741_824),
+    ServerLimits {
+        idle_seconds: number(value, ConfigurationField::IdleSeconds, 60),
+        least_rate: number(value, ConfigurationField::LeastRate, 4_096),
+        connections: optional_number(value, ConfigurationField::Connections),
+        address_connections: number(value, ConfigurationField::AddressConnections, 1_024),
+        spool_bytes: number(value, ConfigurationField::SpoolBytes, 68_719_476_736),
+        unfinished_bytes: number(value, ConfigurationField::UnfinishedBytes, 1_073_741_824),
     }
 }

@@ -1,5 +1,5 @@
 //! The example of a configuration, and what its fields are for.
-use crate::field::{FIELDS, Field};
+use crate::field::{ConfigurationField, FIELDS};
 use std::fmt;
 
 /// A configuration in which each field stands with its default, but for `connections`, which has none, and
@@ -30,47 +30,56 @@ pub const EXAMPLE: &str = "{
 }
 ";
 
-impl Field {
+impl ConfigurationField {
     /// What the field is for, and what is taken where it isn't given.
     pub fn explanation(self) -> &'static str {
         match self {
-            Field::Address => "the IP address to listen at; 127.0.0.1 by default",
-            Field::Port => "the TCP port to listen at; 8080 by default",
-            Field::Database => "the file of the database, which is made where it isn't there",
-            Field::SpoolFolder => "the folder for what is to be sent to slow clients",
-            Field::StopFile => {
+            ConfigurationField::Address => "the IP address to listen at; 127.0.0.1 by default",
+            ConfigurationField::Port => "the TCP port to listen at; 8080 by default",
+            ConfigurationField::Database =>
+                "the file of the database, which is made where it isn't there",
+            ConfigurationField::SpoolFolder => "the folder for what is to be sent to slow clients",
+            ConfigurationField::StopFile => {
                 "the file whose being there tells the server to stop; empty for none, as by default"
             }
-            Field::Base => "what all URLs of the server begin with, as clients see them",
-            Field::Title => "the title in the service document; swordd by default",
-            Field::Abstract => "the abstract in the service document; Deposit service by default",
-            Field::Depositor => "the name under which files are deposited; depositor by default",
-            Field::OnBehalfOf =>
+            ConfigurationField::Base =>
+                "what all URLs of the server begin with, as clients see them",
+            ConfigurationField::Title => "the title in the service document; swordd by default",
+            ConfigurationField::Abstract =>
+                "the abstract in the service document; Deposit service by default",
+            ConfigurationField::Depositor =>
+                "the name under which files are deposited; depositor by default",
+            ConfigurationField::OnBehalfOf =>
                 "whether requests may be made on behalf of others; false by default",
-            Field::RequireIfMatch => "whether changes have to send If-Match; false by default",
-            Field::MaxUpload => "the greatest content of a request, in bytes; 16777216 by default",
-            Field::MaxAssembled => {
+            ConfigurationField::RequireIfMatch =>
+                "whether changes have to send If-Match; false by default",
+            ConfigurationField::MaxUpload =>
+                "the greatest content of a request, in bytes; 16777216 by default",
+            ConfigurationField::MaxAssembled => {
                 "the greatest file assembled from segments, in bytes; 17179869184 by default"
             }
-            Field::MaxSegments => "the greatest number of segments of an upload; 10000 by default",
-            Field::StagingMaxIdle => {
+            ConfigurationField::MaxSegments =>
+                "the greatest number of segments of an upload; 10000 by default",
+            ConfigurationField::StagingMaxIdle => {
                 "the seconds after which an upload left alone expires; 3600 by default"
             }
-            Field::IdleSeconds => "the seconds for which a client may be silent; 60 by default",
-            Field::LeastRate => {
+            ConfigurationField::IdleSeconds =>
+                "the seconds for which a client may be silent; 60 by default",
+            ConfigurationField::LeastRate => {
                 "the bytes that a busy connection has to move in each idle time, 0 for none; 4096 by default"
             }
-            Field::Connections => "the connections after which the server ends; none by default",
-            Field::AddressConnections => {
+            ConfigurationField::Connections =>
+                "the connections after which the server ends; none by default",
+            ConfigurationField::AddressConnections => {
                 "the connections that one address may have at once; 1024 by default, which behind a proxy is needed"
             }
-            Field::SpoolBytes => {
+            ConfigurationField::SpoolBytes => {
                 "the bytes that the spool folder may hold in all; 68719476736 by default"
             }
-            Field::UnfinishedBytes => {
+            ConfigurationField::UnfinishedBytes => {
                 "the bytes that unfinished requests may hold in all; 1073741824 by default"
             }
-            Field::ReserveBytes =>
+            ConfigurationField::ReserveBytes =>
                 "the bytes kept for a full disk, 0 for none; 33554432 by default",
         }
     }

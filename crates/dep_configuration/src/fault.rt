@@ -1,7 +1,7 @@
 //! Why a configuration is refused.
 ghost use Rattle.std.specs.Prelude.{◌≡◌};
 
-use crate::field::Field;
+use crate::field::ConfigurationField;
 use std::alloc::AllocError;
 use std::error::Error;
 use std::fmt;
@@ -18,9 +18,9 @@ pub enum ConfigurationFault {
     /// The field of this name is given twice.
     Repeated(String),
     /// This field has to be given.
-    Missing(Field),
+    Missing(ConfigurationField),
     /// This field is given, and isn't what it has to be.
-    Invalid(Field),
+    Invalid(ConfigurationField),
     /// There was no memory.
     Memory,
 }

@@ -9,7 +9,7 @@ use std::fmt;
 
 /// A field of a configuration.
 #[derive(Clone, Copy, Debug)]
-pub enum Field {
+pub enum ConfigurationField {
     /// The IP address to listen at.
     Address,
     /// The TCP port to listen at.
@@ -57,29 +57,29 @@ pub enum Field {
 }
 
 /// All fields, in the order in which the example has them.
-pub const FIELDS: [Field; 22] = [
-    Field::Address,
-    Field::Port,
-    Field::Database,
-    Field::SpoolFolder,
-    Field::StopFile,
-    Field::Base,
-    Field::Title,
-    Field::Abstract,
-    Field::Depositor,
-    Field::OnBehalfOf,
-    Field::RequireIfMatch,
-    Field::MaxUpload,
-    Field::MaxAssembled,
-    Field::MaxSegments,
-    Field::StagingMaxIdle,
-    Field::IdleSeconds,
-    Field::LeastRate,
-    Field::Connections,
-    Field::AddressConnections,
-    Field::SpoolBytes,
-    Field::UnfinishedBytes,
-    Field::ReserveBytes,
+pub const FIELDS: [ConfigurationField; 22] = [
+    ConfigurationField::Address,
+    ConfigurationField::Port,
+    ConfigurationField::Database,
+    ConfigurationField::SpoolFolder,
+    ConfigurationField::StopFile,
+    ConfigurationField::Base,
+    ConfigurationField::Title,
+    ConfigurationField::Abstract,
+    ConfigurationField::Depositor,
+    ConfigurationField::OnBehalfOf,
+    ConfigurationField::RequireIfMatch,
+    ConfigurationField::MaxUpload,
+    ConfigurationField::MaxAssembled,
+    ConfigurationField::MaxSegments,
+    ConfigurationField::StagingMaxIdle,
+    ConfigurationField::IdleSeconds,
+    ConfigurationField::LeastRate,
+    ConfigurationField::Connections,
+    ConfigurationField::AddressConnections,
+    ConfigurationField::SpoolBytes,
+    ConfigurationField::UnfinishedBytes,
+    ConfigurationField::ReserveBytes,
 ];
 
 /// What a whole number may be.
@@ -124,35 +124,35 @@ impl fmt::Display for Wanted {
     }
 }
 
-impl Field {
+impl ConfigurationField {
     /// The name of the field in a configuration.
     #[tactic(auto, unfolding(crate::specs::Fields::name_of))]
     pub fn name(self) -> &'static str
         ensures { result.now ≡ name_of self }
     {
         match self {
-            Field::Address => "address",
-            Field::Port => "port",
-            Field::Database => "database",
-            Field::SpoolFolder => "spool_folder",
-            Field::StopFile => "stop_file",
-            Field::Base => "base",
-            Field::Title => "title",
-            Field::Abstract => "abstract",
-            Field::Depositor => "depositor",
-            Field::OnBehalfOf => "on_behalf_of",
-            Field::RequireIfMatch => "require_if_match",
-            Field::MaxUpload => "max_upload",
-            Field::MaxAssembled => "max_assembled",
-            Field::MaxSegments => "max_segments",
-            Field::StagingMaxIdle => "staging_max_idle",
-            Field::IdleSeconds => "idle_seconds",
-            Field::LeastRate => "least_rate",
-            Field::Connections => "connections",
-            Field::AddressConnections => "address_connections",
-            Field::SpoolBytes => "spool_bytes",
-            Field::UnfinishedBytes => "unfinished_bytes",
-            Field::ReserveBytes => "reserve_bytes",
+            ConfigurationField::Address => "address",
+            ConfigurationField::Port => "port",
+            ConfigurationField::Database => "database",
+            ConfigurationField::SpoolFolder => "spool_folder",
+            ConfigurationField::StopFile => "stop_file",
+            ConfigurationField::Base => "base",
+            ConfigurationField::Title => "title",
+            ConfigurationField::Abstract => "abstract",
+            ConfigurationField::Depositor => "depositor",
+            ConfigurationField::OnBehalfOf => "on_behalf_of",
+            ConfigurationField::RequireIfMatch => "require_if_match",
+            ConfigurationField::MaxUpload => "max_upload",
+            ConfigurationField::MaxAssembled => "max_assembled",
+            ConfigurationField::MaxSegments => "max_segments",
+            ConfigurationField::StagingMaxIdle => "staging_max_idle",
+            ConfigurationField::IdleSeconds => "idle_seconds",
+            ConfigurationField::LeastRate => "least_rate",
+            ConfigurationField::Connections => "connections",
+            ConfigurationField::AddressConnections => "address_connections",
+            ConfigurationField::SpoolBytes => "spool_bytes",
+            ConfigurationField::UnfinishedBytes => "unfinished_bytes",
+            ConfigurationField::ReserveBytes => "reserve_bytes",
         }
     }
 
@@ -162,11 +162,14 @@ impl Field {
         ensures { result ≡ wanted_of self }
     {
         match self {
-            Field::Address => Wanted::Address,
-            Field::Base => Wanted::Base,
-            Field::Database | Field::SpoolFolder => Wanted::FilledText,
-            Field::StopFile | Field::Title | Field::Abstract | Field::Depositor => Wanted::AnyText,
-            Field::OnBehalfOf | Field::RequireIfMatch => Wanted::Flag,
+            ConfigurationField::Address => Wanted::Address,
+            ConfigurationField::Base => Wanted::Base,
+            ConfigurationField::Database | ConfigurationField::SpoolFolder => Wanted::FilledText,
+            ConfigurationField::StopFile
+            | ConfigurationField::Title
+            | ConfigurationField::Abstract
+            | ConfigurationField::Depositor => Wanted::AnyText,
+            ConfigurationField::OnBehalfOf | ConfigurationField::RequireIfMatch => Wanted::Flag,
             _ => Wanted::WholeNumber(self.bounds()),
         }
     }
@@ -177,18 +180,18 @@ impl Field {
         ensures { result ≡ bounds_of self }
     {
         match self {
-            Field::Port => within(1, 65_535),
-            Field::MaxUpload => within(1, GREATEST_MAX_UPLOAD),
-            Field::MaxAssembled => within(1, GREATEST_MAX_ASSEMBLED),
-            Field::MaxSegments => within(1, GREATEST_MAX_SEGMENTS),
-            Field::StagingMaxIdle => within(1, GREATEST_STAGING_MAX_IDLE),
-            Field::IdleSeconds => within(1, 86_400),
-            Field::LeastRate => within(0, 1_000_000_000),
-            Field::Connections => within(1, 1_000_000_000),
-            Field::AddressConnections => within(1, 1_024),
-            Field::SpoolBytes => within(1_048_576, 1_125_899_906_842_624),
-            Field::UnfinishedBytes => within(33_554_432, 1_099_511_627_776),
-            Field::ReserveBytes => within(0, 67_108_864),
+            ConfigurationField::Port => within(1, 65_535),
+            ConfigurationField::MaxUpload => within(1, GREATEST_MAX_UPLOAD),
+            ConfigurationField::MaxAssembled => within(1, GREATEST_MAX_ASSEMBLED),
+            ConfigurationField::MaxSegments => within(1, GREATEST_MAX_SEGMENTS),
+            ConfigurationField::StagingMaxIdle => within(1, GREATEST_STAGING_MAX_IDLE),
+            ConfigurationField::IdleSeconds => within(1, 86_400),
+            ConfigurationField::LeastRate => within(0, 1_000_000_000),
+            ConfigurationField::Connections => within(1, 1_000_000_000),
+            ConfigurationField::AddressConnections => within(1, 1_024),
+            ConfigurationField::SpoolBytes => within(1_048_576, 1_125_899_906_842_624),
+            ConfigurationField::UnfinishedBytes => within(33_554_432, 1_099_511_627_776),
+            ConfigurationField::ReserveBytes => within(0, 67_108_864),
             _ => within(0, 0),
         }
     }

@@ -13,11 +13,11 @@ mod report;
 mod values;
 
 pub use access_log::{
-    Closing, Exchange, GREATEST_PATH, Reason, ReserveState, Start, closing_line, exchange_line,
-    reserve_line, start_line,
+    ClosedConnection, GREATEST_PATH, LoggedExchange, Reason, ReserveState, Start, closing_line,
+    exchange_line, reserve_line, start_line,
 };
-pub use configuration::{Configuration, Limits};
+pub use configuration::{Configuration, ServerLimits};
 pub use example::{EXAMPLE, explain};
 pub use fault::ConfigurationFault;
-pub use field::{Bounds, FIELDS, Field, Wanted};
+pub use field::{Bounds, ConfigurationField, FIELDS, Wanted};
 pub use report::print_configuration;

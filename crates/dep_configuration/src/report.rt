@@ -1,7 +1,7 @@
 //! What a configuration asks for, field by field.
 
 use crate::configuration::Configuration;
-use crate::field::{FIELDS, Field};
+use crate::field::{ConfigurationField, FIELDS};
 use std::fmt;
 use std::io::{self, Write};
 use std::net::IpAddr;
@@ -34,34 +34,34 @@ pub fn print_configuration<W: Write>(out: &mut W, configuration: &Configuration)
     Ok(())
 }
 
-fn value_of<'a>(configuration: &'a Configuration, field: Field) -> Given<'a> {
+fn value_of<'a>(configuration: &'a Configuration, field: ConfigurationField) -> Given<'a> {
     let config = &configuration.config;
     let limits = &configuration.limits;
     match field {
-        Field::Address => Given::Address(configuration.address),
-        Field::Port => Given::Number(u64::from(configuration.port)),
-        Field::Database => Given::Text(configuration.database.as_str()),
-        Field::SpoolFolder => Given::Text(configuration.spool_folder.as_str()),
-        Field::StopFile => Given::Text(configuration.stop_file.as_str()),
-        Field::Base => Given::Text(config.base.as_str()),
-        Field::Title => Given::Text(config.title.as_str()),
-        Field::Abstract => Given::Text(config.abstract_text.as_str()),
-        Field::Depositor => Given::Text(config.depositor.as_str()),
-        Field::OnBehalfOf => Given::Flag(config.on_behalf_of),
-        Field::RequireIfMatch => Given::Flag(config.require_if_match),
-        Field::MaxUpload => Given::Number(config.max_upload),
-        Field::MaxAssembled => Given::Number(config.max_assembled),
-        Field::MaxSegments => Given::Number(config.max_segments),
-        Field::StagingMaxIdle => Given::Number(config.staging_max_idle),
-        Field::IdleSeconds => Given::Number(limits.idle_seconds),
-        Field::LeastRate => Given::Number(limits.least_rate),
-        Field::Connections => match limits.connections {
+        ConfigurationField::Address => Given::Address(configuration.address),
+        ConfigurationField::Port => Given::Number(u64::from(configuration.port)),
+        ConfigurationField::Database => Given::Text(configuration.database.as_str()),
+        ConfigurationField::SpoolFolder => Given::Text(configuration.spool_folder.as_str()),
+        ConfigurationField::StopFile => Given::Text(configuration.stop_file.as_str()),
+        ConfigurationField::Base => Given::Text(config.base.as_str()),
+        ConfigurationField::Title => Given::Text(config.title.as_str()),
+        ConfigurationField::Abstract => Given::Text(config.abstract_text.as_str()),
+        ConfigurationField::Depositor => Given::Text(config.depositor.as_str()),
+        ConfigurationField::OnBehalfOf => Given::Flag(config.on_behalf_of),
+        ConfigurationField::RequireIfMatch => Given::Flag(config.require_if_match),
+        ConfigurationField::MaxUpload => Given::Number(config.max_upload),
+        ConfigurationField::MaxAssembled => Given::Number(config.max_assembled),
+        ConfigurationField::MaxSegments => Given::Number(config.max_segments),
+        ConfigurationField::StagingMaxIdle => Given::Number(config.staging_max_idle),
+        ConfigurationField::IdleSeconds => Given::Number(limits.idle_seconds),
+        ConfigurationField::LeastRate => Given::Number(limits.least_rate),
+        ConfigurationField::Connections => match limits.connections {
             Some(connections) => Given::Number(connections),
             None => Given::Text("without end"),
         },
-        Field::AddressConnections => Given::Number(limits.address_connections),
-        Field::SpoolBytes => Given::Number(limits.spool_bytes),
-        Field::UnfinishedBytes => Given::Number(limits.unfinished_bytes),
-        Field::ReserveBytes => Given::Number(configuration.reserve_bytes),
+        ConfigurationField::AddressConnections => Given::Number(limits.address_connections),
+        ConfigurationField::SpoolBytes => Given::Number(limits.spool_bytes),
+        ConfigurationField::UnfinishedBytes => Given::Number(limits.unfinished_bytes),
+        ConfigurationField::ReserveBytes => Given::Number(configuration.reserve_bytes),
     }
 }

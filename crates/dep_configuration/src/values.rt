@@ -7,7 +7,7 @@ ghost use Rattle.dep_configuration.specs.declared.field.Wanted.TheVariants as Ki
 ghost use Rattle.dep_configuration.specs.Faults.{Gives};
 ghost use Rattle.dep_configuration.specs.Readings.{filled_text_of, flag_of, given_number, given_text, number_of, number_within, optional_number_of, text_of, IsAddressOf};
 
-use crate::field::{Bounds, Field};
+use crate::field::{Bounds, ConfigurationField};
 use dep_octets::{Number, decimal};
 use dep_types::Text;
 use json::Value;
@@ -18,7 +18,7 @@ use std::net::{IpAddr, Ipv4Addr};
 pub(crate) fn text(
     alloc: Global,
     value: &Value<'_>,
-    field: Field,
+    field: ConfigurationField,
     default: &'static str,
 ) -> Result<Text, AllocError>
     requires { Gives field AnyText (value_view value.now) }
@@ -31,7 +31,7 @@ pub(crate) fn text(
 pub(crate) fn filled_text(
     alloc: Global,
     value: &Value<'_>,
-    field: Field,
+    field: ConfigurationField,
 ) -> Result<Text, AllocError>
     requires { Gives field FilledText (value_view value.now) }
     ensures { IfOk result (λ text. filled_text_of field (value_view value.now) ≡ Some text) }
@@ -41,14 +41,14 @@ pub(crate) fn filled_text(
 
 /// A copy of the text of the base, which has to be given.
 pub(crate) fn base(alloc: Global, value: &Value<'_>) -> Result<Text, AllocError>
-    requires { Gives Field.Base Kind.Base (value_view value.now) }
-    ensures { IfOk result (λ text. given_text Field.Base (value_view value.now) ≡ Some text) }
+    requires { Gives ConfigurationField.Base Kind.Base (value_view value.now) }
+    ensures { IfOk result (λ text. given_text ConfigurationField.Base (value_view value.now) ≡ Some text) }
 {
-    Text::copied(alloc, given_text(value, Field::Base).unwrap())
+    Text::copied(alloc, given_text(value, ConfigurationField::Base).unwrap())
 }
 
 /// The truth value of a field, which is false where it isn't given.
-pub(crate) fn flag(value: &Value<'_>, field: Field) -> bool
+pub(crate) fn flag(value: &Value<'_>, field: ConfigurationField) -> bool
     requires { Gives field Flag (value_view value.now) }
     ensures { flag_of field (value_view value.now) ≡ Some result }
 {
@@ -60,10 +60,10 @@ pub(crate) fn flag(value: &Value<'_>, field: Field) -> bool
 
 /// The IP address to listen at: 127.0.0.1 where none is given.
 pub(crate) fn address(value: &Value<'_>) -> IpAddr
-    requires { Gives Field.Address Kind.Address (value_view value.now) }
+    requires { Gives ConfigurationField.Address Kind.Address (value_view value.now) }
     ensures { IsAddressOf (value_view value.now) result }
 {
-    let Some(text) = given_text(value, Field::Address) else {
+    let Some(text) = given_text(value, ConfigurationField::Address) else {
         return IpAddr::V4(Ipv4Addr::LOCALHOST);
     };
     match text.parse::<IpAddr>() {
@@ -73,7 +73,7 @@ pub(crate) fn address(value: &Value<'_>) -> IpAddr
 }
 
 /// The number of a field, or the default, which has to be within its bounds.
-pub(crate) fn number(value: &Value<'_>, field: Field, default: u64) -> u64
+pub(crate) fn number(value: &Value<'_>, field: ConfigurationField, default: u64) -> u64
     requires { Gives field (WholeNumber (bounds_of field)) (value_view value.now) }
     ensures { number_of field default (value_view value.now) ≡ Some result }
 {
@@ -81,7 +81,7 @@ pub(crate) fn number(value: &Value<'_>, field: Field, default: u64) -> u64
 }
 
 /// The number of a field, where it is given.
-pub(crate) fn optional_number(value: &Value<'_>, field: Field) -> Option<u64>
+pub(crate) fn optional_number(value: &Value<'_>, field: ConfigurationField) -> Option<u64>
     requires { Gives field (WholeNumber (bounds_of field)) (value_view value.now) }
     ensures { optional_number_of field (value_view value.now) ≡ Some result }
 {
@@ -101,14 +101,14 @@ pub(crate) fn whole_number(value: &Value<'_>, bounds: Bounds) -> Option<u64>
 }
 
 // The text that a field is given as.
-fn given_text<'a>(value: &Value<'a>, field: Field) -> Option<&'a str>
+fn given_text<'a>(value: &Value<'a>, field: ConfigurationField) -> Option<&'a str>
     ensures { option_map (λ text. text.now) result ≡ given_text field (value_view value.now) }
 {
     value.get(field.name())?.as_str()
 }
 
 // The number that a field is given as.
-fn given_number(value: &Value<'_>, field: Field) -> Option<u64>
+fn given_number(value: &Value<'_>, field: ConfigurationField) -> Option<u64>
     ensures { result ≡ given_number field (value_view value.now) }
 {
     whole_number(value.get(field.name())?, field.bounds())

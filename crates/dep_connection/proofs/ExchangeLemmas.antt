@@ -10,7 +10,7 @@ use Rattle.dep_message.specs.Stream.{Item}
 use Rattle.dep_hub.specs.Machine.{answer_at_place, Fails, given_up, cut_short, Serves, serves_all, step_fails, gives_up}
 use Rattle.dep_hub.specs.Stops.{LeftByFailure, LeftByServing}
 use Rattle.dep_hub.specs.Records.{World, Line, with_line, Record, stopped, first_world, Run, goes_on, stops, Arrives, at_live, at_shut_line, LeftByArrival, arrives}
-use Rattle.dep_hub.specs.Standing.{IsKeptAs, IsArrival, KeepsLines, StandsAt, IsClean, IsHonest, intake_of, store_of}
+use Rattle.dep_hub.specs.Representing.{IsKeptAs, IsArrival, KeepsLines, RepresentsAt, IsClean, IsHonest, intake_of, store_of}
 use Rattle.dep_connection.specs.Turns.{Turn, record_of, last_answer, Exchanges, none_yet, one_more, LeftByExchanges}
 use Rattle.dep_connection.specs.Conversation.{Outflow, Talks, WorksAhead, silent, turn, ahead}
 use Rattle.dep_hub.specs.declared.hub.Hub.{Hub}
@@ -123,7 +123,7 @@ module _ {A : Type 0} (condition : A → Condition) where
     pub exchanges : Exchanges config n w turns talked
     pub kept : last_answer turns ≡ StaysOpen → KeepsLines condition new talked.line
     pub stays : last_answer turns ≡ StaysOpen → Leaves (store_of condition new) (λ found. found ≡ talked.state)
-    pub at : IsClean condition new → StandsAt condition new talked
+    pub at : IsClean condition new → RepresentsAt condition new talked
     pub rests : IsClean condition new → Leaves (store_of condition new) (λ found. found ≡ talked.state)
     pub stop : Leaves (store_of condition new) (LeftByExchanges exchanges)
 
@@ -137,9 +137,9 @@ module _ {A : Type 0} (condition : A → Condition) where
       record {
         talked = record { state = b.left; line = with_line n b.line h.talked.line };
         exchanges = one_more t h.exchanges stays (subst (λ (x : Config). Arrives x t.piece t.moment (h.talked.line n) h.talked.state t.sent b.left b.line t.answer) same b.arrives);
-        kept = λ e. (b.stands (clean e)).kept;
+        kept = λ e. (b.represents (clean e)).kept;
         stays = λ e. b.rests (clean e);
-        at = b.stands;
+        at = b.represents;
         rests = b.rests;
         stop = leaves_wider (store_of condition new) _ _ (λ c l. left_along mid.config config same b.arrives c l) b.stop;
       }
@@ -166,7 +166,7 @@ module _ {A : Type 0} (condition : A → Condition) where
   -- what the hub answered is what the machine answers
   pub talks_exchange : (may_commit : A → Bool) (shown : Outflow → Type 0) (n : ℕ) (old new : Hub A) (first last : Outflow) (turns : List Turn) → Settles (store_of condition old)
       → Talks condition may_commit shown n old first turns new last
-      → IsHonest condition new → (w : World) → StandsAt condition old w → Exchanged old.config n new turns w
+      → IsHonest condition new → (w : World) → RepresentsAt condition old w → Exchanged old.config n new turns w
   talks_exchange may_commit shown n old new first last turns settles silent honest w at = record {
     talked = w;
     exchanges = none_yet;
@@ -203,7 +203,7 @@ module _ {A : Type 0} (condition : A → Condition) where
   -- what a stop now leaves goes on from the turns
   pub talks_stop : (may_commit : A → Bool) (shown : Outflow → Type 0) (n : ℕ) (old new : Hub A) (out last : Outflow) (turns : List Turn) → Settles (store_of condition old)
       → Talks condition may_commit shown n old out turns new last
-      → IsHonest condition new → (first : State) (records : List Record) (w : World) → Run old.config first records w → StandsAt condition old w
+      → IsHonest condition new → (first : State) (records : List Record) (w : World) → Run old.config first records w → RepresentsAt condition old w
       → Leaves (store_of condition new) (λ found. Run old.config first ((records ++ map (record_of n) turns) ++ stopped ∷ []) (first_world found))
   talks_stop may_commit shown n old new out last turns settles talks honest first records w run at =
       let h = talks_exchange may_commit shown n old new out last turns settles talks honest w at in

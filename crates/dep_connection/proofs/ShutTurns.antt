@@ -2,7 +2,7 @@
 use Rattle.std.proofs.Common.{Bool, ◌≡◌, ℕ, List, [], ◌∷◌, ◌++◌, sym, subst}
 use Rattle.dep_types.specs.Conditions.{Condition}
 use Rattle.dep_hub.specs.Shut.{LeavesNoMore, IfShut, SendsFixed}
-use Rattle.dep_hub.specs.Standing.{IsClean, store_of}
+use Rattle.dep_hub.specs.Representing.{IsClean, store_of}
 use Rattle.dep_hub.specs.declared.hub.Hub.{Hub}
 use Rattle.dep_hub.proofs.ShutLemmas.{leaves_same, leaves_both}
 use Rattle.dep_connection.specs.Turns.{Turn}

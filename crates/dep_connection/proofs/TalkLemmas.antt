@@ -8,7 +8,7 @@ use Rattle.dep_types.specs.Conditions.{Condition, HasCleanDisk, Leaves}
 use Rattle.dep_types.specs.Writing.{next_count}
 use Rattle.dep_types.specs.declared.inlet.LastRead.TheVariants.{Bytes}
 use Rattle.dep_hub.specs.Records.{World, Connect, Close, Record, stopped, first_world, Run, goes_on, Happens, connects, closes}
-use Rattle.dep_hub.specs.Standing.{StandsAt, StandsAfter, IsClean, IsHonest, Moves, GoesOnAs, intake_of, store_of}
+use Rattle.dep_hub.specs.Representing.{RepresentsAt, RepresentsAfter, IsClean, IsHonest, Transition, GoesOnAs, intake_of, store_of}
 use Rattle.dep_hub.specs.declared.hub.Hub.{Hub}
 use Rattle.dep_hub.specs.declared.arrived.Arrived.{Arrived}
 use Rattle.dep_hub.specs.declared.arrived.Arrived.TheVariants.{Open as StaysOpen, Closed as HasClosed, Cut, NoSuch}
@@ -322,9 +322,9 @@ ended_at unread has_failed before t [] end o there ends =
 ended_at unread has_failed before t (u ∷ behind) end o there ends =
     subst (λ b. IsEndedBy b has_failed (u ∷ behind) end) (sym o.0) (λ failed last. absurd (not_last u behind last))
 
-pub last_tells : (config : Config) (n : ℕ) (w v : World) (before behind : List Turn) (t : Turn) (unread : Option (List ℕ)) (has_failed : Bool) (end : Served)
+pub last_reports : (config : Config) (n : ℕ) (w v : World) (before behind : List Turn) (t : Turn) (unread : Option (List ℕ)) (has_failed : Bool) (end : Served)
     → Exchanges config n w (before ++ t ∷ behind) v → EndsAs unread has_failed (before ++ t ∷ behind) end → IsEndedBy t.answer has_failed behind end
-last_tells config n w v before behind t unread has_failed end x ends =
+last_reports config n w v before behind t unread has_failed end x ends =
     ended_at unread has_failed before t behind end (open_behind before t behind (open_before config n w v (before ++ t ∷ behind) x))
     (never_lost config n w v (before ++ t ∷ behind) x) ends
 
@@ -338,7 +338,7 @@ closed_is closes = refl
 
 module _ {A : Type 0} (condition : A → Condition) where
   module _ (may_commit : A → Bool) (shown : Outflow → Type 0) (n : ℕ) (old opened talked new : Hub A) (out out_after : Outflow) (turns : List Turn)
-      (opens : Moves condition old opened (Connect n) []) (closes : Moves condition talked new (Close n) []) (settles : Settles (store_of condition opened))
+      (opens : Transition condition old opened (Connect n) []) (closes : Transition condition talked new (Close n) []) (settles : Settles (store_of condition opened))
       (same_opened : opened.config ≡ old.config) (same_new : new.config ≡ old.config) (same_store : new.store ≡ talked.store) (talks : Talks condition may_commit shown n opened out turns talked out_after) where
     to_talked : (P : Condition → Type 0) → P (store_of condition new) → P (store_of condition talked)
     to_talked P h = subst (λ (x : A). P (condition x)) same_store h
@@ -346,16 +346,16 @@ module _ {A : Type 0} (condition : A → Condition) where
     from_talked : (P : Condition → Type 0) → P (store_of condition talked) → P (store_of condition new)
     from_talked P h = subst (λ (x : A). P (condition x)) (sym same_store) h
 
-    answered : IsHonest condition new → (w : World) → StandsAt condition old w → IsAnswered condition old new n turns w
+    answered : IsHonest condition new → (w : World) → RepresentsAt condition old w → IsAnswered condition old new n turns w
     answered honest w at =
         let o = opens w at in
-        let t = talks_exchange condition may_commit shown n opened talked out out_after turns settles talks (to_talked HasCleanDisk honest) (with_opened n w) (subst (λ v. StandsAt condition opened v) (opened_is o.1) o.2) in
+        let t = talks_exchange condition may_commit shown n opened talked out out_after turns settles talks (to_talked HasCleanDisk honest) (with_opened n w) (subst (λ v. RepresentsAt condition opened v) (opened_is o.1) o.2) in
         record {
           talked = t.talked;
           exchanges = subst (λ (x : Config). Exchanges x n (with_opened n w) turns t.talked) same_opened t.exchanges;
           at = λ clean.
               let c = closes t.talked (t.at (to_talked (λ d. IsTrue d.is_open) clean)) in
-              subst (λ v. StandsAt condition new v) (closed_is c.1) c.2;
+              subst (λ v. RepresentsAt condition new v) (closed_is c.1) c.2;
           rests = λ clean. from_talked (λ d. Leaves d (λ found. found ≡ t.talked.state)) (t.rests (to_talked (λ d. IsTrue d.is_open) clean));
           stop = from_talked (λ d. Leaves d (LeftByExchanges (subst (λ (x : Config). Exchanges x n (with_opened n w) turns t.talked) same_opened t.exchanges)))
               (leaves_wider (store_of condition talked) _ _ (λ c l. exchanged_along opened.config old.config same_opened t.exchanges c l) t.stop);
@@ -384,7 +384,7 @@ module _ {A : Type 0} (condition : A → Condition) where
 
   module _ (may_commit : A → Bool) (shown : Outflow → Type 0) {C : Type 0} (ticks : C → ℕ → C → Type 0) (n : ℕ) (old : Session A C) (opened talked new : Hub A) (wire : Wire) (now : C)
       (is_next : n ≡ old.hub.next) (fresh : intake_of old.hub.connections.items n ≡ None)
-      (opens : Moves condition old.hub opened (Connect n) []) (closes : Moves condition talked new (Close n) []) (settles : Settles (store_of condition opened)) (law : IsClean condition new → IsHonest condition new)
+      (opens : Transition condition old.hub opened (Connect n) []) (closes : Transition condition talked new (Close n) []) (settles : Settles (store_of condition opened)) (law : IsClean condition new → IsHonest condition new)
       (same_opened : opened.config ≡ old.hub.config) (same_new : new.config ≡ old.hub.config) (same_store : new.store ≡ talked.store) (same_first : opened.store ≡ old.hub.store)
       (gone : intake_of new.connections.items n ≡ None) where
     converses : (end : Served) → TalksUntil condition may_commit shown ticks n (session opened old.wire old.clock) (session talked wire now) end
@@ -425,15 +425,15 @@ module _ {A : Type 0} (condition : A → Condition) where
     serves_whole Unserved t = absurd t.ends
 
   -- not opened
-  pub unserved : {C : Type 0} (clock : C) (old new : Hub A) (wire : Wire) → ((w : World) → StandsAt condition old w → StandsAt condition new w) → new.store ≡ old.store
-      → ((w : World) → StandsAt condition old w → Leaves (store_of condition new) (λ found. found ≡ w.state))
-      → ((first : State) (records : List Record) → StandsAfter condition old first records → StandsAfter condition new first records)
+  pub unserved : {C : Type 0} (clock : C) (old new : Hub A) (wire : Wire) → ((w : World) → RepresentsAt condition old w → RepresentsAt condition new w) → new.store ≡ old.store
+      → ((w : World) → RepresentsAt condition old w → Leaves (store_of condition new) (λ found. found ≡ w.state))
+      → ((first : State) (records : List Record) → RepresentsAfter condition old first records → RepresentsAfter condition new first records)
       → IsUnserved condition (session old wire clock) (session new wire clock)
   unserved clock old new wire at store stays same = record {
     same = at;
     same_store = store;
     stays = stays;
-    adds = λ clean first records h. subst (λ rs. StandsAfter condition new first rs) (sym (append-nil records)) (same first records h);
+    adds = λ clean first records h. subst (λ rs. RepresentsAfter condition new first rs) (sym (append-nil records)) (same first records h);
     rests = record { pieces = Keeps-refl wire.unread; reads = refl; last = refl; out = refl };
     same_clock = refl;
   }

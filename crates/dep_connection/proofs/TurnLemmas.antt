@@ -9,7 +9,7 @@ use Rattle.dep_types.specs.declared.inlet.ReadFailed.{ReadFailed}
 use Rattle.dep_types.specs.declared.inlet.LastRead.TheVariants.{Bytes, Nothing}
 use Rattle.dep_hub.specs.Numbers.{most_read}
 use Rattle.std.specs.Prelude.{IsSome}
-use Rattle.dep_hub.specs.Standing.{ArrivesOver, ComesTo, IsArrival, GoesOnAs, intake_of}
+use Rattle.dep_hub.specs.Representing.{ArrivesOver, ComesTo, IsArrival, GoesOnAs, intake_of}
 use Rattle.dep_hub.proofs.HubLemmas.{none_there}
 use Rattle.dep_hub.specs.declared.arrived.Arrived.TheVariants.{Open as StaysOpen, Closed as HasClosed, Cut, NoSuch}
 use Rattle.dep_hub.specs.WorkingAhead.{RestsAhead}

@@ -11,7 +11,7 @@ use Rattle.dep_types.specs.declared.inlet.LastRead.TheVariants as read
 use Rattle.dep_types.specs.declared.outlet.Outlet as outlet
 use Rattle.dep_hub.specs.Records.{World, Connect, Close, Record, stopped, Run, first_world}
 use Rattle.dep_hub.specs.Numbers.{most_read}
-use Rattle.dep_hub.specs.Standing.{StandsAt, StandsAfter, IsClean, IsHonest, Moves, IsArrival, GoesOnAs, intake_of, store_of}
+use Rattle.dep_hub.specs.Representing.{RepresentsAt, RepresentsAfter, IsClean, IsHonest, Transition, IsArrival, GoesOnAs, intake_of, store_of}
 use Rattle.dep_connection.specs.Turns.{Turn, pieces_of, replies_of, record_of, records_of, most_reads, reads_made, reads_after, HasLastRead, ArePieces, last_answer, HasGoneOut, with_opened, with_closed, Exchanges, LeftByExchanges, EndsAs}
 use Rattle.dep_hub.specs.Archives.{KeepsEachState, CommitsIfDue}
 use Rattle.dep_hub.specs.Shut.{LeavesNoMore, IfShut, SendsFixed}
@@ -119,22 +119,22 @@ pub record CanGoOn {A C : Type 0} (callable : C → Type 0) (number : ℕ) (hub 
   pub call : callable clock
 
 module _ {A : Type 0} (condition : A → Condition) where
-  -- for all records that it stood for, the hub stands for them with these after them, if its store
+  -- for all records that it represented, the hub represents them with these after them, if its store
   -- is open
   abbrev pub AddsAll : Hub A → Hub A → List Record → Type 0
   AddsAll old new more = IsClean condition new → (first : State) (records : List Record)
-      → StandsAfter condition old first records
-      → StandsAfter condition new first (records ++ more)
+      → RepresentsAfter condition old first records
+      → RepresentsAfter condition new first (records ++ more)
 
-  -- what a stop now leaves stands for all records that the hub stood for, with these after them and
+  -- what a stop now leaves represents all records that the hub represented, with these after them and
   -- a stop
   abbrev pub StopsAll : Hub A → Hub A → List Record → Type 0
   StopsAll old new more = IsHonest condition new → (first : State) (records : List Record)
-      → StandsAfter condition old first records
+      → RepresentsAfter condition old first records
       → Leaves (store_of condition new)
       (λ found. Run old.config first ((records ++ more) ++ stopped ∷ []) (first_world found))
 
-  -- between two calls the store did a part of its later work, once: the hub stands for what it stood
+  -- between two calls the store did a part of its later work, once: the hub represents what it stood
   -- for, and a crash leaves just that; only what was due was committed, and nothing of a connection
   -- changes but for one whose next request is prepared
   pub record WorksAhead (may_commit : A → Bool) (old new : Hub A) : Type 0 where
@@ -159,16 +159,16 @@ module _ {A : Type 0} (condition : A → Condition) where
       (w : World) : Type 0 where
     pub talked : World
     pub exchanges : Exchanges old.config number (with_opened number w) turns talked
-    pub at : IsClean condition new → StandsAt condition new (with_closed number talked)
+    pub at : IsClean condition new → RepresentsAt condition new (with_closed number talked)
     pub rests : IsClean condition new
         → Leaves (store_of condition new) (λ found. found ≡ talked.state)
     pub stop : Leaves (store_of condition new) (LeftByExchanges exchanges)
 
-  -- nothing is read or written, and the hub stands for what it did
+  -- nothing is read or written, and the hub represents what it did
   pub record IsUnserved {C : Type 0} (before after : Session A C) : Type 0 where
-    pub same : (w : World) → StandsAt condition before.hub w → StandsAt condition after.hub w
+    pub same : (w : World) → RepresentsAt condition before.hub w → RepresentsAt condition after.hub w
     pub same_store : after.hub.store ≡ before.hub.store
-    pub stays : (w : World) → StandsAt condition before.hub w
+    pub stays : (w : World) → RepresentsAt condition before.hub w
         → Leaves (store_of condition after.hub) (λ found. found ≡ w.state)
     pub adds : AddsAll before.hub after.hub []
     pub rests : Rests before.wire after.wire
@@ -278,12 +278,12 @@ module _ {A : Type 0} (condition : A → Condition) (may_commit : A → Bool) (s
     pub is_next : number ≡ before.hub.next
     pub fresh : intake_of before.hub.connections.items number ≡ None
     pub opened : Hub A
-    pub opens : Moves condition before.hub opened (Connect number) []
+    pub opens : Transition condition before.hub opened (Connect number) []
     pub talked : Hub A
     pub talks : Talks number opened before.wire.out turns talked after.wire.out
-    pub closes : Moves condition talked after.hub (Close number) []
+    pub closes : Transition condition talked after.hub (Close number) []
     pub gone : intake_of after.hub.connections.items number ≡ None
-    pub answers : IsHonest condition after.hub → (w : World) → StandsAt condition before.hub w
+    pub answers : IsHonest condition after.hub → (w : World) → RepresentsAt condition before.hub w
         → IsAnswered condition before.hub after.hub number turns w
     pub adds : AddsAll condition before.hub after.hub (records_of number turns)
     pub stops : StopsAll condition before.hub after.hub

@@ -1,6 +1,6 @@
 //! One connection over an inlet and an outlet.
 ghost use Rattle.std.specs.Prelude.{◌≡◌, ◌<◌, IsSome, length};
-ghost use Rattle.dep_hub.specs.Standing.{intake_of, ServesAs};
+ghost use Rattle.dep_hub.specs.Representing.{intake_of, ServesAs};
 ghost use Rattle.dep_hub.specs.Numbers.{most_read};
 ghost use Rattle.dep_connection.specs.Conversation.{standing, MayShow, ConversesOver, CanGoOn, TalksUntil, TurnsTo, next_after};
 ghost use Rattle.dep_connection.specs.Flushing.{IsFlushed};

@@ -14,7 +14,7 @@ use Rattle.dep_decisions.specs.Decisions.{upload_number}
 use Rattle.dep_decisions.specs.Kinds.{kind_of}
 use Rattle.dep_decisions.specs.Laws.{refusal_before_room}
 use Rattle.dep_decisions.specs.LookUps.{Entry, LookUps, without_digests, without_entries}
-use Rattle.dep_decisions.specs.Rules.{access_refusal, content_by, content_refusal, digest_rule, digests_refusal, document_refusal, document_rule, each, entries_refusal, fields_refusal, has_content, is_binary, length_refusal, presence_rule, references_refusal, refusal_by, room_rule, size_refusal, size_rule, stands_twice, tag_rule, there_refusal, unless, when, whole_refusal}
+use Rattle.dep_decisions.specs.Rules.{access_refusal, content_by, content_refusal, digest_rule, digests_refusal, document_refusal, document_rule, each, entries_refusal, fields_refusal, has_content, is_binary, length_refusal, presence_rule, references_refusal, refusal_by, room_rule, size_refusal, size_rule, occurs_twice, tag_rule, there_refusal, unless, when, whole_refusal}
 use Rattle.dep_decisions.specs.declared.operation.Operation.{Operation}
 
 -- ---- rows that are any
@@ -96,7 +96,7 @@ module _ {U : Type 0} (config : Config) (l : LookUps U) (op : Operation) where
   first_three refs =
       each (λ (r : Reference). unless (is_some (upload_number r.target)) ByReferenceNotAllowed) refs
       ∷ each (λ (r : Reference). unless (is_binary r.packaging) PackagingFormatNotAcceptable) refs
-      ∷ when (stands_twice (filter_map (λ r. upload_number r.target) refs)) BadRequest
+      ∷ when (occurs_twice (filter_map (λ r. upload_number r.target) refs)) BadRequest
       ∷ []
 
   abbrev first_six : List Reference → List (Option Refusal)

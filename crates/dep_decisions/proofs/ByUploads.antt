@@ -38,13 +38,13 @@ first_same a b xs ys e f = ap (λ x. first_of (x ∷ xs)) e ∙ under b
 
 -- ---- the rules by entries, and by the uploads that they name
 
-module _ (s : State) (rule : Entry Upload → Option Refusal) (told : ℕ → Option Refusal) (same : (r : Reference) (u : ℕ) → rule (entry_at s r u) ≡ told u) where
-  by_name : (refs : List Reference) → each rule ((in_state s).entries refs) ≡ each told (filter_map (λ (r : Reference). upload_number r.target) refs)
+module _ (s : State) (rule : Entry Upload → Option Refusal) (reported : ℕ → Option Refusal) (same : (r : Reference) (u : ℕ) → rule (entry_at s r u) ≡ reported u) where
+  by_name : (refs : List Reference) → each rule ((in_state s).entries refs) ≡ each reported (filter_map (λ (r : Reference). upload_number r.target) refs)
   by_name [] = refl
   by_name (r ∷ refs) = one_more r.target (by_name refs)
     where
-      one_more : (t : Pointed) → each rule ((in_state s).entries refs) ≡ each told (filter_map (λ (r : Reference). upload_number r.target) refs)
-          → each rule (cons_option (option_map (entry_at s r) (upload_number t)) ((in_state s).entries refs)) ≡ each told (cons_option (upload_number t) (filter_map (λ (r : Reference). upload_number r.target) refs))
+      one_more : (t : Pointed) → each rule ((in_state s).entries refs) ≡ each reported (filter_map (λ (r : Reference). upload_number r.target) refs)
+          → each rule (cons_option (option_map (entry_at s r) (upload_number t)) ((in_state s).entries refs)) ≡ each reported (cons_option (upload_number t) (filter_map (λ (r : Reference). upload_number r.target) refs))
       one_more Elsewhere later = later
       one_more (AnUpload u) later = first_same _ _ _ _ (same r u) later
 

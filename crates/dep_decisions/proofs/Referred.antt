@@ -17,7 +17,7 @@ use Rattle.dep_docs_in.specs.declared.reference.Pointed.{Pointed}
 use Rattle.dep_docs_in.specs.declared.reference.Pointed.TheVariants.{Upload as AnUpload, Elsewhere}
 use Rattle.dep_decisions.specs.Decisions.{assembled_file, referred_files, upload_number}
 use Rattle.dep_decisions.specs.LookUps.{Entry, assembled_digests, entry_at, in_state, known_of, promised_of}
-use Rattle.dep_decisions.specs.Rules.{digests_refusal, each, entries_refusal, has_digests, has_length, is_binary, length_refusal, stands_twice, there_refusal, unless, upload_refusal, when, whole_refusal}
+use Rattle.dep_decisions.specs.Rules.{digests_refusal, each, entries_refusal, has_digests, has_length, is_binary, length_refusal, occurs_twice, there_refusal, unless, upload_refusal, when, whole_refusal}
 use Rattle.dep_decisions.specs.Effects.{upload_of, uploads_of, without}
 use Rattle.dep_decisions.specs.declared.operation.Operation.{Operation}
 use Rattle.dep_decisions.specs.declared.decision.NewFile.{NewFile}
@@ -87,7 +87,7 @@ rules_on : (s : State) (refs : List Reference) → List (Option Refusal)
 rules_on s refs =
     each (λ (r : Reference). unless (is_some (upload_number r.target)) ByReferenceNotAllowed) refs
     ∷ each (λ (r : Reference). unless (is_binary r.packaging) PackagingFormatNotAcceptable) refs
-    ∷ when (stands_twice (filter_map (λ r. upload_number r.target) refs)) BadRequest
+    ∷ when (occurs_twice (filter_map (λ r. upload_number r.target) refs)) BadRequest
     ∷ each there_refusal ((in_state s).entries refs)
     ∷ each (whole_refusal known_of) ((in_state s).entries refs)
     ∷ each (length_refusal known_of) ((in_state s).entries refs)
@@ -98,7 +98,7 @@ pub all_known : (s : State) (refs : List Reference) → entries_refusal (in_stat
 unfolding entries_refusal rules_on
 all_known s refs e = (all_passed (rules_on s refs) e).0
 
-pub not_twice : (s : State) (refs : List Reference) → entries_refusal (in_state s) refs ≡ None → when (stands_twice (filter_map (λ r. upload_number r.target) refs)) BadRequest ≡ None
+pub not_twice : (s : State) (refs : List Reference) → entries_refusal (in_state s) refs ≡ None → when (occurs_twice (filter_map (λ r. upload_number r.target) refs)) BadRequest ≡ None
 unfolding entries_refusal rules_on
 not_twice s refs e = (all_passed (rules_on s refs) e).1.1.0
 

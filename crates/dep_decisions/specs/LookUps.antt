@@ -1,4 +1,4 @@
--- What the rules look up in an archive: a state gives it, and so does what was read of the tables. What stands for an
+-- What the rules look up in an archive: a state gives it, and so does what was read of the tables. What represents an
 -- upload is of any type.
 use Rattle.std.specs.Prelude.{ℕ, Bool, false, List, [], is_some, Option, None, Some, bytes_eq, option_map, if◌then◌else◌}
 use Rattle.std.specs.List.{filter_map, list_any}

@@ -55,7 +55,7 @@ impl NewFiles {
         }
     }
 
-    /// One file. An `Err` is want of memory.
+    /// One file. An `Err` is lack of memory.
     pub fn one(alloc: Global, file: NewFile) -> Result<NewFiles, AllocError>
         ensures { IfOk result (λ files. files ≡ file ∷ []) }
     {

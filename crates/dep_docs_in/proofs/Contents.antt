@@ -28,4 +28,4 @@ fails_by json.Memory found none = tt
 fails_by _ found none = none (grind arith)
 
 pub unread : (content : List ℕ) (e : Error) → (¬ IsMemory e → IsUtf8 content → read content ≡ None) → Fails (fault_of_json (category e)) (document content)
-unread content e none = fails_by (category e) (document content) (λ told. no_document content (none (λ memory. told (rw memory refl))))
+unread content e none = fails_by (category e) (document content) (λ reported. no_document content (none (λ memory. reported (rw memory refl))))

@@ -12,9 +12,9 @@ use Rattle.dep_types.specs.State.{Texts}
 use Rattle.dep_types.specs.Names.{if_passes, is_good_name, is_kept_name, is_media}
 use Rattle.dep_types.specs.declared.config.Config.{Config}
 use Rattle.dep_params.specs.Grammar.{DispositionValue, names_of}
-use Rattle.dep_params.specs.Told.{file_name_of, is_each_once, disposition_of}
+use Rattle.dep_params.specs.Reported.{file_name_of, is_each_once, disposition_of}
 use Rattle.dep_params.proofs.Runs.{chosen}
-use Rattle.dep_params.proofs.ToldNames.{file_name-sound}
+use Rattle.dep_params.proofs.ReportedNames.{file_name-sound}
 use Rattle.dep_docs_in.specs.Documents.{attachment_name, default_media, digest_of, document, each_read, form_name, has_type, keep, kept_texts, length_of, media_in, media_of, metadata_read, name_of, not_empty, packaging_of, reference_in, references_read, target_of, text_under, texts_in}
 use Rattle.dep_docs_in.specs.Fit.{IsKept, AreKept, IsFitMetadata, IsFitReference}
 use Rattle.dep_docs_in.specs.declared.reference.Reference.{Reference}
@@ -105,13 +105,13 @@ media_in-fit d media h =
       | inr bad ↦ cc (bad.1)
     ]
 
-told-media : (o : Option Data) (media : List ℕ) → option_map_or media_in o (Some default_media) ≡ Some media → IsTrue (is_media media)
-told-media None media h = subst (λ (t : List ℕ). IsTrue (is_media t)) (same_some default_media media h) refl
-told-media (Some d) media h = media_in-fit d media h
+reported-media : (o : Option Data) (media : List ℕ) → option_map_or media_in o (Some default_media) ≡ Some media → IsTrue (is_media media)
+reported-media None media h = subst (λ (t : List ℕ). IsTrue (is_media t)) (same_some default_media media h) refl
+reported-media (Some d) media h = media_in-fit d media h
 
 media_of-fit : (d : Data) (media : List ℕ) → media_of d ≡ Some media → IsTrue (is_media media)
 unfolding media_of
-media_of-fit d media h = told-media (get (codes "contentType") d) media h
+media_of-fit d media h = reported-media (get (codes "contentType") d) media h
 
 reference-fit : (config : Config) (d : Data) (r : Reference) → reference_in config d ≡ Some r → IsFitReference r
 unfolding reference_in

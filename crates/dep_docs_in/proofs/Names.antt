@@ -4,9 +4,9 @@ use Rattle.std.specs.List.{IsDistinct}
 use Rattle.dep_types.specs.Maps.{◌>>=◌, provided}
 use Rattle.dep_params.specs.Grammar.{IsDisposition, DispositionValue, HasDistinctNames, names_of}
 use Rattle.dep_params.specs.Names.{IsFileName, IsNameFault}
-use Rattle.dep_params.specs.Told.{file_name_of, disposition_of}
-use Rattle.dep_params.proofs.ToldReadings.{reading-sound, reading-complete, once-sound, once-complete}
-use Rattle.dep_params.proofs.ToldNames.{file_name-sound, file_name-complete}
+use Rattle.dep_params.specs.Reported.{file_name_of, disposition_of}
+use Rattle.dep_params.proofs.ReportedReadings.{reading-sound, reading-complete, once-sound, once-complete}
+use Rattle.dep_params.proofs.ReportedNames.{file_name-sound, file_name-complete}
 use Rattle.dep_params.specs.declared.disposition.ParamFault.{ParamFault}
 use Rattle.dep_params.specs.declared.disposition.ParamFault.TheVariants.{Malformed, Repeated, NoName, Memory}
 use Rattle.dep_docs_in.specs.Documents.{attachment_name, form_name}

@@ -30,16 +30,16 @@ members_of entries = map (λ e. (e.0, texts_data e.1)) entries
 
 -- ---- the texts under a name
 
-list_told : (ts : List (List ℕ)) → each_read as_str (items (map text ts)) ≡ Some ts
+list_reported : (ts : List (List ℕ)) → each_read as_str (items (map text ts)) ≡ Some ts
 unfolding each_read
-list_told [] = refl
-list_told (t ∷ ts) = ap (λ o. o >>= (λ us. Some (t ∷ us))) (list_told ts)
+list_reported [] = refl
+list_reported (t ∷ ts) = ap (λ o. o >>= (λ us. Some (t ∷ us))) (list_reported ts)
 
-texts_told : (ts : List (List ℕ)) → texts_in (texts_data ts) ≡ Some ts
+texts_reported : (ts : List (List ℕ)) → texts_in (texts_data ts) ≡ Some ts
 unfolding each_read
-texts_told [] = refl
-texts_told (t ∷ []) = refl
-texts_told (t ∷ u ∷ ts) = list_told (t ∷ u ∷ ts)
+texts_reported [] = refl
+texts_reported (t ∷ []) = refl
+texts_reported (t ∷ u ∷ ts) = list_reported (t ∷ u ∷ ts)
 
 keep_some : (name : List ℕ) (ts : List (List ℕ)) (old : Texts) → ts ≢ [] → keep name ts old ≡ finmap.insert old name ts
 keep_some name [] old some = absurd (some refl)
@@ -79,7 +79,7 @@ kept_more old (e ∷ entries) kept sorted =
     finmap.entries-insert nat_list_cmp_total old e.0 e.1 ∙ put_last (finmap.entries old) e entries sorted in
     let whole : finmap.entries next ++ entries ≡ finmap.entries old ++ e ∷ entries = ap (λ es. es ++ entries) put_is ∙ append_assoc (finmap.entries old) (e ∷ []) entries in
     let rest = kept_more next entries kept.1 (subst (λ es. T (is_sorted (slice_cmp nat_cmp) es)) (sym whole) sorted) in
-    let read = ap (λ o. option_map (λ ts. keep e.0 ts old) o) (texts_told e.1) ∙ ap Some (keep_some e.0 e.1 old kept.0.1) in
+    let read = ap (λ o. option_map (λ ts. keep e.0 ts old) o) (texts_reported e.1) ∙ ap Some (keep_some e.0 e.1 old kept.0.1) in
     (rest.0, member_kept e.0 (texts_data e.1) old next (members (members_of entries)) kept.0.0 read ∙ rest.1, rest.2 ∙ whole)
 
 none_yet : finmap.entries (finmap.empty {X = List (List ℕ)} {R = slice_cmp nat_cmp}) ≡ []
@@ -106,8 +106,8 @@ read_of content d reads = ap (λ o. o >>= meaning) (document-is content d reads.
 pub shown : (config : Config) (n : ℕ) (texts : Texts) → HasTexts config → IsFitMetadata texts → MetadataHasTexts texts
     → metadata_read (metadata_document config n texts) ≡ Some texts
 unfolding metadata_data kept_texts serde_json_on_literals
-shown config n texts told kept utf8 =
-    read_of (metadata_document config n texts) (metadata_data config n texts) (metadata_reads config n texts told (names_kept (finmap.entries texts) kept) utf8)
+shown config n texts reported kept utf8 =
+    read_of (metadata_document config n texts) (metadata_data config n texts) (metadata_reads config n texts reported (names_kept (finmap.entries texts) kept) utf8)
     ∙ kept_again texts kept
 
 pub shown_in_bag : (texts : Texts) → IsFitMetadata texts → MetadataHasTexts texts → metadata_read (bag_metadata_document texts) ≡ Some texts

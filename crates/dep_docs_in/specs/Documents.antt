@@ -16,7 +16,7 @@ use Rattle.dep_types.specs.Names.{if_passes, is_kept_name, is_media}
 use Rattle.dep_types.specs.Numbers.{number_in}
 use Rattle.dep_types.specs.declared.config.Config.{Config}
 use Rattle.dep_params.specs.Grammar.{DispositionValue, names_of}
-use Rattle.dep_params.specs.Told.{file_name_of, is_each_once, disposition_of}
+use Rattle.dep_params.specs.Reported.{file_name_of, is_each_once, disposition_of}
 use Rattle.dep_fixity.specs.Fixity.{digest_field, none_promised}
 use Rattle.dep_fixity.specs.declared.field.DigestList.{DigestList}
 use Rattle.dep_docs_in.specs.declared.reference.Reference.{Reference}

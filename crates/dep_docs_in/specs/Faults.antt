@@ -19,7 +19,7 @@ abbrev pub fault_of_json : Category → DocFault
 fault_of_json json.Memory = Memory
 fault_of_json _ = Malformed
 
--- an error of a URL; one whose length would be 4 GB counts as want of memory
+-- an error of a URL; one whose length would be 4 GB counts as lack of memory
 abbrev pub fault_of_url : ParseError → DocFault
 fault_of_url url.OutOfMemory = Memory
 fault_of_url url.Overflow = Memory

@@ -90,8 +90,8 @@ metadata_plain config n texts kept = rw (entries_plain (finmap.entries texts) (f
 pub metadata_reads : (config : Config) (n : ℕ) (texts : Texts) → HasTexts config → HasKeptNames texts → MetadataHasTexts texts
     → ReadsAs (metadata_document config n texts) (metadata_data config n texts)
 unfolding metadata_data
-metadata_reads config n texts told kept utf8 =
-    let place = is_text (metadata_url config n) (metadata_url_utf8 config n told.base) in
+metadata_reads config n texts reported kept utf8 =
+    let place = is_text (metadata_url config n) (metadata_url_utf8 config n reported.base) in
     reads (metadata_data config n texts) 2 (omega arith) (metadata_plain config n texts kept)
     (tt, tt, (tt, place, (tt, tt, entries_utf8 (finmap.entries texts) utf8)))
 

@@ -10,7 +10,7 @@ use Rattle.dep_types.specs.declared.rows.FileRow.{FileRow}
 use Rattle.dep_types.specs.declared.rows.ObjectView.{ObjectView}
 use Rattle.dep_docs_out.specs.Documents.{file_url, status_data, status_document, object_members, links_data, state_members, actions_data, part_data, states_data, link_data, deposit_members, behalf_members, kept_members, relations_data}
 use Rattle.dep_docs_out.specs.Json.{document, items}
-use Rattle.dep_docs_out.specs.ReadBack.{text_at, TellsFile, TellsFiles, TellsObject}
+use Rattle.dep_docs_out.specs.ReadBack.{text_at, ReportsFile, ReportsFiles, ReportsObject}
 use Rattle.dep_docs_out.proofs.ReadingBack.{is_plain, read_back}
 use Rattle.dep_docs_out.proofs.LinksReadBack.{links_plain}
 
@@ -21,9 +21,9 @@ status_plain config view = rw (links_plain config view.object.object view.files)
 abbrev link_of : Config → ℕ → FileRow → Option (List ℕ) → Data
 link_of config n file behalf = document (deposit_members config (file_url config n file.file) file ++ behalf_members behalf ++ kept_members file)
 
-link_tells : (config : Config) (n : ℕ) (file : FileRow) → TellsFile config n file (link_data config n file)
+link_reports : (config : Config) (n : ℕ) (file : FileRow) → ReportsFile config n file (link_data config n file)
 unfolding link_data deposit_members kept_members relations_data serde_json_on_literals
-link_tells config n file =
+link_reports config n file =
     let behalf = file.behalf in
     record {
       place = elim behalf as (λ b. text_at (codes "@id") (link_of config n file b) ≡ Some (file_url config n file.file)) [ None ↦ refl | Some name ↦ refl ];
@@ -33,26 +33,26 @@ link_tells config n file =
       behalf = elim behalf as (λ b. text_at (codes "depositedOnBehalfOf") (link_of config n file b) ≡ b) [ None ↦ refl | Some name ↦ refl ];
     }
 
-links_tell : (config : Config) (n : ℕ) (files : List FileRow) → TellsFiles config n files (items (map (link_data config n) files))
-links_tell config n [] = tt
-links_tell config n (file ∷ files) = (link_tells config n file, links_tell config n files)
+links_report : (config : Config) (n : ℕ) (files : List FileRow) → ReportsFiles config n files (items (map (link_data config n) files))
+links_report config n [] = tt
+links_report config n (file ∷ files) = (link_reports config n file, links_report config n files)
 
-status_tells : (config : Config) (view : ObjectView) → TellsObject config view (status_data config view)
+status_reports : (config : Config) (view : ObjectView) → ReportsObject config view (status_data config view)
 unfolding status_data object_members links_data state_members actions_data part_data states_data serde_json_on_literals
-status_tells config view = record {
+status_reports config view = record {
   place = refl;
   tag = refl;
   metadata_tag = refl;
   files_tag = refl;
   links = items (map (link_data config view.object.object) view.files);
   listed = refl;
-  told = links_tell config view.object.object view.files;
+  reported = links_report config view.object.object view.files;
 }
 
 same : (d e : Data) → Some d ≡ Some e → d ≡ e
 same d e h = cc h
 
-pub tells : (config : Config) (view : ObjectView) (d : Data) → read (status_document config view) ≡ Some d → TellsObject config view d
-tells config view d h =
+pub reports : (config : Config) (view : ObjectView) (d : Data) → read (status_document config view) ≡ Some d → ReportsObject config view d
+reports config view d h =
     let back = read_back (status_data config view) 4 (omega arith) (status_plain config view) in
-    subst (TellsObject config view) (same (status_data config view) d (sym back ∙ h)) (status_tells config view)
+    subst (ReportsObject config view) (same (status_data config view) d (sym back ∙ h)) (status_reports config view)

@@ -36,12 +36,12 @@ then {old} {between} {new} {first} {second} g h = record {
       (early.0, late.1 ∙ ap (λ ts. ts ++ second) early.1 ∙ append_assoc old.tokens first second);
 }
 
-told_as : {old new : Draft} {first second : List Token} → first ≡ second → Adds old new first → Adds old new second
-told_as {old} {new} {first} {second} e g = subst (λ (ts : List Token). Adds old new ts) e g
+reported_as : {old new : Draft} {first second : List Token} → first ≡ second → Adds old new first → Adds old new second
+reported_as {old} {new} {first} {second} e g = subst (λ (ts : List Token). Adds old new ts) e g
 
 -- members written after members
 pub ◌⨾◌ : {old between new : Draft} {a b : List (List ℕ × Data)} → AddsMembers old between a → AddsMembers between new b → AddsMembers old new (a ++ b)
-◌⨾◌ {old} {between} {new} {a} {b} g h = record { is = told_as (sym (member_tokens-append a b)) (then g.is h.is) }
+◌⨾◌ {old} {between} {new} {a} {b} g h = record { is = reported_as (sym (member_tokens-append a b)) (then g.is h.is) }
 
 pub no_members_more : (d : Draft) → AddsMembers d d []
 no_members_more d = record { is = record { is = λ fine. (fine, sym (append-nil d.tokens)) } }
@@ -51,26 +51,26 @@ no_items_more d = record { is = record { is = λ fine. (fine, sym (append-nil d.
 
 -- items written after items
 pub more_items : {old between new : Draft} {a b : List Data} → AddsItems old between a → AddsItems between new b → AddsItems old new (a ++ b)
-more_items {old} {between} {new} {a} {b} g h = record { is = told_as (sym (item_tokens-append a b)) (then g.is h.is) }
+more_items {old} {between} {new} {a} {b} g h = record { is = reported_as (sym (item_tokens-append a b)) (then g.is h.is) }
 
 -- an object, between its braces
 object_between : {old opened between new : Draft} {ms : List (List ℕ × Data)}
     → Adds old opened (Token.begin_object ∷ []) → AddsMembers opened between ms → Adds between new (Token.end_object ∷ []) → Adds old new (value_tokens (document ms))
 object_between {old} {opened} {between} {new} {ms} b m e =
     let all : Adds old new (Token.begin_object ∷ (member_tokens ms ++ Token.end_object ∷ [])) = then (then b m.is) e in
-    told_as (ap (λ ts. Token.begin_object ∷ ts) (sym (members_closed ms))) all
+    reported_as (ap (λ ts. Token.begin_object ∷ ts) (sym (members_closed ms))) all
 
 -- a list, between its brackets
 list_between : {old opened between new : Draft} {ds : List Data}
     → Adds old opened (Token.begin_array ∷ []) → AddsItems opened between ds → Adds between new (Token.end_array ∷ []) → Adds old new (value_tokens (list ds))
 list_between {old} {opened} {between} {new} {ds} b m e =
     let all : Adds old new (Token.begin_array ∷ (item_tokens ds ++ Token.end_array ∷ [])) = then (then b m.is) e in
-    told_as (ap (λ ts. Token.begin_array ∷ ts) (sym (items_closed ds))) all
+    reported_as (ap (λ ts. Token.begin_array ∷ ts) (sym (items_closed ds))) all
 
 -- a member, by its name and its value
 named : {old opened new : Draft} {name : List ℕ} {d : Data} → Adds old opened (Token.key name ∷ []) → Adds opened new (value_tokens d) → AddsMembers old new ((name, d) ∷ [])
 named {old} {opened} {new} {name} {d} k v =
-    record { is = told_as (ap (λ ts. Token.key name ∷ ts) (sym (append-nil (value_tokens d)))) (then k v) }
+    record { is = reported_as (ap (λ ts. Token.key name ∷ ts) (sym (append-nil (value_tokens d)))) (then k v) }
 
 -- a member that is an object
 pub object_member : {old named_at opened between new : Draft} {name : List ℕ} {ms : List (List ℕ × Data)} → Adds old named_at (Token.key name ∷ [])
@@ -86,7 +86,7 @@ list_member k b m e = named k (list_between b m e)
 pub object_item : {old opened between new : Draft} {ms : List (List ℕ × Data)}
     → Adds old opened (Token.begin_object ∷ []) → AddsMembers opened between ms → Adds between new (Token.end_object ∷ []) → AddsItems old new (document ms ∷ [])
 object_item {old} {opened} {between} {new} {ms} b m e =
-    record { is = told_as (sym (append-nil (value_tokens (document ms)))) (object_between b m e) }
+    record { is = reported_as (sym (append-nil (value_tokens (document ms)))) (object_between b m e) }
 
 -- the text of a whole document, of which nothing has failed
 pub whole_text : {opened between : Draft} {ms : List (List ℕ × Data)}

@@ -69,7 +69,7 @@ abbrev pub text_within : (part name : List ℕ) → Data → Option (List ℕ)
 text_within part name d = option_and_then (text_at name) (get part d)
 
 -- of a file: where it is, its media type, its tag, when it was deposited and on whose behalf
-pub record TellsFile (config : Config) (n : ℕ) (file : FileRow) (d : Data) : Type 0 where
+pub record ReportsFile (config : Config) (n : ℕ) (file : FileRow) (d : Data) : Type 0 where
   pub place : text_at (codes "@id") d ≡ Some (file_url config n file.file)
   pub media : text_at (codes "contentType") d ≡ Some file.media
   pub tag : text_at (codes "eTag") d ≡ Some (decimal file.tag)
@@ -78,15 +78,15 @@ pub record TellsFile (config : Config) (n : ℕ) (file : FileRow) (d : Data) : T
   pub behalf : text_at (codes "depositedOnBehalfOf") d ≡ file.behalf
 
 -- of all files, in their order
-abbrev pub TellsFiles : Config → (n : ℕ) → List FileRow → Items → Type 0
-TellsFiles config n [] no_items = ⊤
-TellsFiles config n [] (item d ds) = ⊥
-TellsFiles config n (file ∷ files) no_items = ⊥
-TellsFiles config n (file ∷ files) (item d ds) =
-    TellsFile config n file d × TellsFiles config n files ds
+abbrev pub ReportsFiles : Config → (n : ℕ) → List FileRow → Items → Type 0
+ReportsFiles config n [] no_items = ⊤
+ReportsFiles config n [] (item d ds) = ⊥
+ReportsFiles config n (file ∷ files) no_items = ⊥
+ReportsFiles config n (file ∷ files) (item d ds) =
+    ReportsFile config n file d × ReportsFiles config n files ds
 
 -- of an object: where it is, its three tags, and its files
-pub record TellsObject (config : Config) (view : ObjectView) (d : Data) : Type 0 where
+pub record ReportsObject (config : Config) (view : ObjectView) (d : Data) : Type 0 where
   pub place : text_at (codes "@id") d ≡ Some (object_url config view.object.object)
   pub tag : text_at (codes "eTag") d ≡ Some (decimal view.object.object_tag)
   pub metadata_tag : text_within (codes "metadata") (codes "eTag") d
@@ -95,4 +95,4 @@ pub record TellsObject (config : Config) (view : ObjectView) (d : Data) : Type 0
       ≡ Some (decimal view.object.files_tag)
   pub links : Items
   pub listed : get (codes "links") d ≡ Some (array links)
-  pub told : TellsFiles config view.object.object view.files links
+  pub reported : ReportsFiles config view.object.object view.files links

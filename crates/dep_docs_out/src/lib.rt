@@ -1,5 +1,5 @@
 //! The documents that the server writes: compact JSON (RFC 8259) with the members in the order of their names' bytes.
-//! Each function that can fail fails for want of memory alone.
+//! Each function that can fail fails for lack of memory alone.
 #![tactic(auto)]
 
 mod document;

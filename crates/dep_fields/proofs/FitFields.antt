@@ -9,7 +9,7 @@ use Rattle.dep_fixity.specs.declared.field.DigestList.{DigestList}
 use Rattle.dep_fixity.proofs.Lengths.{IsLong, field-long}
 use Rattle.dep_fields.specs.Fit.{AreFit, IfValue, IsFitKind}
 use Rattle.dep_fields.specs.Kinds.{IsKind, number, opening_by, promised}
-use Rattle.dep_fields.specs.Told.{fields_of, kind_read}
+use Rattle.dep_fields.specs.Reported.{fields_of, kind_read}
 use Rattle.dep_head.specs.Head.{values_of}
 use Rattle.dep_fields.specs.Values.{or_bad, read_from, single}
 use Rattle.dep_fields.specs.declared.field.Field.{Field}
@@ -17,7 +17,7 @@ use Rattle.dep_fields.specs.declared.field.Field.TheVariants.{Absent, Bad, Value
 use Rattle.dep_fields.specs.declared.kind.Kind.{Kind}
 use Rattle.dep_fields.specs.declared.kind.Kind.TheVariants.{File, Metadata, References, Opening as Opens, Segment}
 use Rattle.dep_fields.specs.declared.kind.Opening.{Opening}
-use Rattle.dep_fields.proofs.ToldFields.{text-sound}
+use Rattle.dep_fields.proofs.ReportedFields.{text-sound}
 
 -- ---- openings
 

@@ -2,15 +2,15 @@
 use Rattle.std.proofs.Common.{ℕ, List, bytes_eq, subst}
 use Rattle.std.specs.List.{IsDistinct}
 use Rattle.dep_params.specs.Grammar.{IsDisposition, DispositionValue, names_of}
-use Rattle.dep_params.proofs.ToldReadings.{same_reading}
+use Rattle.dep_params.proofs.ReportedReadings.{same_reading}
 use Rattle.dep_fields.specs.Kinds.{IsKind, IsKindOf}
 use Rattle.dep_fields.specs.Values.{IsRead}
 use Rattle.dep_fields.specs.declared.field.Field.{Field}
 use Rattle.dep_fields.specs.declared.field.Field.TheVariants.{Absent, Bad, Value}
 use Rattle.dep_fields.specs.declared.kind.Kind.{Kind}
 
-pub kind_read : (text : List ℕ) (reading : DispositionValue) (told : Field Kind) → IsDisposition text reading → IsDistinct bytes_eq (names_of reading)
-    → IsRead (IsKindOf reading) told → IsRead (IsKind text) told
+pub kind_read : (text : List ℕ) (reading : DispositionValue) (reported : Field Kind) → IsDisposition text reading → IsDistinct bytes_eq (names_of reading)
+    → IsRead (IsKindOf reading) reported → IsRead (IsKind text) reported
 kind_read text reading Absent is distinct h = h
 kind_read text reading Bad is distinct h = λ kind has.
     h kind (subst (λ (r : DispositionValue). IsKindOf r kind) (same_reading text has.reading reading has.read is) has.kind_is)

@@ -23,20 +23,20 @@ abbrev pub field_in : List (List ℕ × List ℕ) → (name : List ℕ) → Fiel
 field_in fields name = single (values_of fields name)
 
 -- what the fields of a head say
-pub record AreFields (fields : List (List ℕ × List ℕ)) (told : SwordFields) : Type 0 where
-  pub on_behalf_of : told.on_behalf_of
+pub record AreFields (fields : List (List ℕ × List ℕ)) (reported : SwordFields) : Type 0 where
+  pub on_behalf_of : reported.on_behalf_of
       ≡ read_from (if_passes is_behalf) (field_in fields (codes "On-Behalf-Of"))
   pub disposition :
-      IsReadFrom IsKind (field_in fields (codes "Content-Disposition")) told.disposition
-  pub in_progress : told.in_progress ≡ read_from truth (field_in fields (codes "In-Progress"))
-  pub packaging : told.packaging ≡ read_from as_it_stands (field_in fields (codes "Packaging"))
-  pub metadata_format : told.metadata_format
+      IsReadFrom IsKind (field_in fields (codes "Content-Disposition")) reported.disposition
+  pub in_progress : reported.in_progress ≡ read_from truth (field_in fields (codes "In-Progress"))
+  pub packaging : reported.packaging ≡ read_from as_it_stands (field_in fields (codes "Packaging"))
+  pub metadata_format : reported.metadata_format
       ≡ read_from as_it_stands (field_in fields (codes "Metadata-Format"))
-  pub content_type : told.content_type
+  pub content_type : reported.content_type
       ≡ read_from (if_passes is_media) (field_in fields (codes "Content-Type"))
-  pub content_encoding : told.content_encoding
+  pub content_encoding : reported.content_encoding
       ≡ read_from as_it_stands (field_in fields (codes "Content-Encoding"))
-  pub digest : told.digest ≡ read_from digest_field (joined (values_of fields (codes "Digest")))
+  pub digest : reported.digest ≡ read_from digest_field (joined (values_of fields (codes "Digest")))
 
 -- a text that is copied stands in the head: a value, a disposition, or digests in more than one field
 pub data IsCopied (fields : List (List ℕ × List ℕ)) : Type 0 where

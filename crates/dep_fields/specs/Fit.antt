@@ -25,6 +25,6 @@ IfValue Absent P = Unit {0}
 IfValue Bad P = Unit {0}
 
 -- what the head says of a content may be kept
-pub record AreFit (told : SwordFields) : Type 0 where
-  pub kind : IfValue told.disposition IsFitKind
-  pub media : IfValue told.content_type (λ text. IsTrue (is_media text))
+pub record AreFit (reported : SwordFields) : Type 0 where
+  pub kind : IfValue reported.disposition IsFitKind
+  pub media : IfValue reported.content_type (λ text. IsTrue (is_media text))

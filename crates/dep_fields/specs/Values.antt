@@ -42,9 +42,9 @@ IsRead Reads (Value x) = Reads x
 -- what a relation of texts and values makes of a field's text
 abbrev pub IsReadFrom : {X : Type 0} → (List ℕ → X → Type 0) → Field (List ℕ) → Field X
     → Type 0
-IsReadFrom Reads Absent told = told ≡ Absent
-IsReadFrom Reads Bad told = told ≡ Bad
-IsReadFrom Reads (Value text) told = IsRead (Reads text) told
+IsReadFrom Reads Absent reported = reported ≡ Absent
+IsReadFrom Reads Bad reported = reported ≡ Bad
+IsReadFrom Reads (Value text) reported = IsRead (Reads text) reported
 
 -- a field whose text is borrowed
 abbrev pub texts : Field (Bor (List ℕ)) → Field (List ℕ)

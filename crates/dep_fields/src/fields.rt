@@ -4,7 +4,7 @@ ghost use Rattle.dep_head.specs.Head.{values_of};
 ghost use Rattle.dep_types.specs.Names.{if_passes, is_media};
 ghost use Rattle.dep_fixity.specs.Fixity.{digest_field};
 ghost use Rattle.dep_fields.specs.Fields.{AreFields, IsCopied, as_it_stands, field_in, is_behalf};
-ghost use Rattle.dep_fields.specs.Told.{fields_of};
+ghost use Rattle.dep_fields.specs.Reported.{fields_of};
 ghost use Rattle.dep_fields.specs.Kinds.{IsKind, truth};
 ghost use Rattle.dep_fields.specs.Values.{HasValue, IsReadFrom, joined, or_bad, read_from, texts};
 
@@ -38,7 +38,7 @@ pub struct SwordFields {
 }
 
 impl SwordFields {
-    /// Reads the fields of a head. An `Err` is want of memory, and nothing else.
+    /// Reads the fields of a head. An `Err` is lack of memory, and nothing else.
     pub fn read(alloc: Global, head: &Head) -> Result<SwordFields, AllocError>
         ensures fields { IfOk result (AreFields head.now.fields) }
         ensures one { IfOk result (λ read. read ≡ fields_of head.now.fields) }

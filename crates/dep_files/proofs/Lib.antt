@@ -6,8 +6,8 @@ pub mod SizeFound
 pub mod SendingLemmas
 pub mod NextRow
 pub mod RowsSent
-pub mod FaultsTold
-pub mod Told
+pub mod FaultsReported
+pub mod Reported
 pub mod OrderedBlocks
 pub mod Streams
 pub mod KnownTables

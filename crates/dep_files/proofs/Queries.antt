@@ -50,7 +50,7 @@ planned_quiet schema p s selects untimed c is =
     let compiled_is : with_command p made.0 ≡ c = cc in
     let plan_is : (formats, meant.0) ≡ made.0 = cc in
     let found_is : (run.0, shown.0) ≡ meant.0 = cc in
-    let none : shown.0 ≡ None = let told = sym shown.1 ∙ returns_none schema base p.statement s selects in cc in
+    let none : shown.0 ≡ None = let reported = sym shown.1 ∙ returns_none schema base p.statement s selects in cc in
     let no_formats : formats ≡ [] = rw selects untimed in (
       ap (λ x. x.returning) (sym compiled_is) ∙ ap (λ plan. plan.1.1) (sym plan_is) ∙ ap (λ found. found.1) (sym found_is) ∙ none,
       ap (λ x. x.formats) (sym compiled_is) ∙ ap (λ plan. plan.0) (sym plan_is) ∙ no_formats,
@@ -71,16 +71,16 @@ unfolding understood
 understood_quiet schema sql query c is = either (reads_listing schema sql) is
   where
     listed : (r : Checked Compiled) → ((k : Compiled) → r ≡ Ok k → IsQuiet k) → if_select r ≡ Ok c → IsQuiet c
-    listed (Ok k) quiet told = chosen (is_select k.command) told
+    listed (Ok k) quiet reported = chosen (is_select k.command) reported
       where
         chosen : (b : Bool) → (if b then Ok k else Err NoSuchTable) ≡ Ok c → IsQuiet c
-        chosen true told = let same : k ≡ c = cc in subst IsQuiet same (quiet k refl)
-        chosen false told = absurd (cc)
-    listed (Err e) quiet told = absurd (cc)
+        chosen true reported = let same : k ≡ c = cc in subst IsQuiet same (quiet k refl)
+        chosen false reported = absurd (cc)
+    listed (Err e) quiet reported = absurd (cc)
 
     either : (lists : Bool) → (if lists then if_select (compiled listing_schema sql) else compiled schema sql) ≡ Ok c → IsQuiet c
-    either true told = listed (compiled listing_schema sql) (compiled_quiet listing_schema sql query) told
-    either false told = compiled_quiet schema sql query c told
+    either true reported = listed (compiled listing_schema sql) (compiled_quiet listing_schema sql query) reported
+    either false reported = compiled_quiet schema sql query c reported
 
 blocks_query : IsQuery blocks_of_text
 unfolding first everything

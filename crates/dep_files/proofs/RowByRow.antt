@@ -14,7 +14,7 @@ use Rattle.sqlite.specs.declared.error.Error.{Error}
 use Rattle.sqlite.specs.declared.rows.stream.Rows.{Rows}
 use Rattle.sqlite_trees.specs.declared.store.Store.{Ghosts}
 use Rattle.dep_files.specs.Sent.{blob_of, joined}
-use Rattle.dep_files.specs.Clauses.{OnlyReads, OnlyShows, StaysOver, TellsSeen, ReadsOver, FailsOver}
+use Rattle.dep_files.specs.Clauses.{OnlyReads, OnlyShows, StaysOver, ReportsSeen, ReadsOver, FailsOver}
 use Rattle.dep_files.proofs.NextRow.{clean_before, refused_stays, stays_on, unchanged_on}
 use Rattle.dep_files.proofs.SendingLemmas.{begins_from, fails_from, joined_push}
 use Rattle.dep_types.specs.declared.store_fault.StoreFault.{StoreFault}
@@ -34,7 +34,7 @@ Hashed g sql params first now count hasher =
 
 -- what the hashing of a query's rows leaves, by what it answers
 pub record EndsHashing {S : Type 0} (g : Ghosts S) (sql : List ℕ) (params : Row) (first new : Held S) (result : Result Digests StoreFault) : Type 0 where
-  pub hashes : TellsSeen (OnlyShows sql) g first new result (HashesShown sql params)
+  pub hashes : ReportsSeen (OnlyShows sql) g first new result (HashesShown sql params)
   pub cause : FailsOver (OnlyShows sql) g first new result (FailsToGive sql params None)
   pub reads : ReadsOver g first new result
 

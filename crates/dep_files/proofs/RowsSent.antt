@@ -29,7 +29,7 @@ use Rattle.dep_files.proofs.NextRow as row
 use Rattle.dep_files.proofs.NextRow.{begun_stays, refused_stays}
 use Rattle.dep_files.proofs.Stills.{begun_reads}
 use Rattle.dep_files.proofs.ShownFrom.{shown_from}
-use Rattle.dep_files.proofs.FaultsTold.{asked_failed, asked_there, stopped_for}
+use Rattle.dep_files.proofs.FaultsReported.{asked_failed, asked_there, stopped_for}
 use Rattle.dep_files.proofs.SendingLemmas.{all_sent, begins_from, cut_sized, fails_from, joined_more, less_left, some_left, stops_sized}
 
 -- what the sending of a query's rows leaves, by what it answers

@@ -23,7 +23,7 @@ use Rattle.dep_files.specs.Reading.{IsKept}
 -- ---- one query
 
 never_some : (r : Result Compiled CompileError) → ShowsNoWrite r → Returns r → ⊥
-never_some (Ok c) none some = let told = rw none at some in cc
+never_some (Ok c) none some = let reported = rw none at some in cc
 never_some (Err e) none some = some
 
 -- a text that shows no rows of a write changes nothing, whatever the schema is

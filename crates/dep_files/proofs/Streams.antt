@@ -70,12 +70,12 @@ pub record IsSized (s : State) (f : ℕ) (size : ℕ) : Type 0 where
   pub held : file_at s object f ≡ Some file
   pub sized : size ≡ length file.content
 
-abbrev pub SizeTold : State → ℕ → Option FileSize → Type 0
-SizeTold s f (Some found) = IsSized s f found.size
-SizeTold s f None = HasNoFile s f
+abbrev pub SizeReported : State → ℕ → Option FileSize → Type 0
+SizeReported s f (Some found) = IsSized s f found.size
+SizeReported s f None = HasNoFile s f
 
-pub size_told : (t : Tables) (s : State) (f : ℕ) (found : Option FileSize) → TablesAre t s → IsOrdered t.files → option_map size_values found ≡ option_map shown_size (row_at t.files f) → SizeTold s f found
-size_told t s f found h up read = go found (row_at t.files f) refl read
+pub size_reported : (t : Tables) (s : State) (f : ℕ) (found : Option FileSize) → TablesAre t s → IsOrdered t.files → option_map size_values found ≡ option_map shown_size (row_at t.files f) → SizeReported s f found
+size_reported t s f found h up read = go found (row_at t.files f) refl read
   where
     of_row : (n size : ℕ) (row : Row) (x : Option File) → size_values (record { object = n; size = size }) ≡ shown_size row → Some row ≡ option_map (file_stored n f) x → (file : File) × (x ≡ Some file) × (size ≡ length file.content)
     of_row n size row None shown e = absurd (cc)
@@ -84,7 +84,7 @@ size_told t s f found h up read = go found (row_at t.files f) refl read
         let both : size_values (record { object = n; size = size }) ≡ shown_size (file_stored n f file) = shown ∙ ap shown_size it in
         let same : size ≡ length file.content = cc in (file, refl, same)
 
-    go : (found : Option FileSize) (there : Option Row) → row_at t.files f ≡ there → option_map size_values found ≡ option_map shown_size there → SizeTold s f found
+    go : (found : Option FileSize) (there : Option Row) → row_at t.files f ≡ there → option_map size_values found ≡ option_map shown_size there → SizeReported s f found
     go None None is e = λ n. sym (file_is s n f) ∙ free_file t.files (files_at s.objects) (files_at s.objects) h.common.files up n f is
     go None (Some row) is e = absurd (cc)
     go (Some z) None is e = absurd (cc)
@@ -93,9 +93,9 @@ size_told t s f found h up read = go found (row_at t.files f) refl read
         let number : column row 2 ≡ Int (pos z.object) = sym (ap (λ (r : Row). column r 0) shown) in
         let its : is_file_of z.object row ≡ true = ap (λ v. is_eq (value_cmp v (Int (pos z.object)))) number ∙ number_itself z.object in
         let found = file_found_at t s h up z.object f in
-        let told : Some row ≡ option_map (file_stored z.object f) (finmap.get (files_at s.objects z.object) f) =
+        let reported : Some row ≡ option_map (file_stored z.object f) (finmap.get (files_at s.objects z.object) f) =
         sym (ap (λ b. cond b (Some row) None) its) ∙ ap (option_and_then (if_passes (is_file_of z.object))) (sym is) ∙ found in
-        let it = of_row z.object z.size row (finmap.get (files_at s.objects z.object) f) shown told in
+        let it = of_row z.object z.size row (finmap.get (files_at s.objects z.object) f) shown reported in
         record { object = z.object; file = it.0; held = sym (file_is s z.object f) ∙ it.1; sized = it.2 }
 
 -- ---- what was sent

@@ -1,4 +1,4 @@
--- Tables of version 1 that gained the values of their files stand for the same state.
+-- Tables of version 1 that gained the values of their files represent the same state.
 use Rattle.std.proofs.Common.{◌≡◌, ℕ, List, Some, ap, ◌∙◌}
 use Rattle.std.specs.FinMap as finmap
 use Rattle.sha2.specs.Sha512.{sha512}

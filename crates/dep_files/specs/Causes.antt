@@ -62,7 +62,7 @@ FailsToSendBlocks o size old new = IsStoppedBy (FailsToGiveBlocks o (Some size) 
 -- why the size of a file was not found
 pub data FailsToFindSize (file : ℕ) (old new : State) (fault : StoreFault) : Type 0 where
   no_number : ¬ (file < 2 ^ 63) → fault ≡ Store → FailsToFindSize file old new fault
-  not_told : FailsToReadNumbers (AtMostOne IsSizeRow) find_size_text (Int (pos file) ∷ []) old new
+  not_reported : FailsToReadNumbers (AtMostOne IsSizeRow) find_size_text (Int (pos file) ∷ []) old new
       fault → FailsToFindSize file old new fault
 
 -- why the content of a file that is there was not sent, by an outlet that did not fail
@@ -77,7 +77,7 @@ pub data FailsToStream (file : ℕ) (old new : State) (fault : StoreFault) : Typ
 abbrev pub FailsToSendFile : ℕ → State → State → StreamFault → Type 0
 FailsToSendFile file old new = IsStreamStoppedBy (FailsToStream file old new)
 
--- why a content was not loaded; behind a part of it, for want of memory to keep it
+-- why a content was not loaded; behind a part of it, for lack of memory to keep it
 pub data FailsToLoad (file : ℕ) (old new : State) (fault : StoreFault) : Type 0 where
   not_streamed : FailsToStream file old new fault → FailsToLoad file old new fault
   not_kept : ((s : types.State) → TablesAre (tables_of old) s
@@ -87,12 +87,12 @@ pub data FailsToLoad (file : ℕ) (old new : State) (fault : StoreFault) : Type 
 -- why the SHA-512 that is kept of an owner was not found
 pub data FailsToFindSha512 (o : BlockOwner) (old new : State) (fault : StoreFault) : Type 0 where
   no_owner : ¬ (IsStorableOwner o) → fault ≡ Store → FailsToFindSha512 o old new fault
-  not_told : FailsToAsk find_sha512_text (owner_values o) old new fault → FailsToFindSha512 o old new fault
+  not_reported : FailsToAsk find_sha512_text (owner_values o) old new fault → FailsToFindSha512 o old new fault
 
 -- why the files of an object were not listed
 pub data FailsToListSha256s (object : ℕ) (old new : State) (fault : StoreFault) : Type 0 where
   no_number : ¬ (object < 2 ^ 63) → fault ≡ Store → FailsToListSha256s object old new fault
-  not_told : FailsToAsk sha256s_of_text (Int (pos object) ∷ []) old new fault
+  not_reported : FailsToAsk sha256s_of_text (Int (pos object) ∷ []) old new fault
       → FailsToListSha256s object old new fault
 
 -- why the digests of a file in the list were not found
@@ -103,7 +103,7 @@ pub data FailsToFindFixity (row : Row) (old new : State) (fault : StoreFault) : 
   no_blocks : (file : ℕ) → column row 0 ≡ Int (pos file)
       → FailsToGiveBlocks (owner.File file) None old new fault → FailsToFindFixity row old new fault
 
--- why a file was not checked; where it is damaged, for want of memory to note it
+-- why a file was not checked; where it is damaged, for lack of memory to note it
 pub data FailsToCheck (row : Row) (old new : State) (fault : StoreFault) : Type 0 where
   not_found : FailsToFindFixity row old new fault → FailsToCheck row old new fault
   not_noted : (found : FileFixity) → HasFixity (tables_of old) row found
@@ -119,7 +119,7 @@ FailsToAudit {T} state object old new fault =
 -- why the next file behind a number was not found
 pub data FailsToFindFile (after : ℕ) (old new : State) (fault : StoreFault) : Type 0 where
   no_number : ¬ (after < 2 ^ 63) → fault ≡ Store → FailsToFindFile after old new fault
-  not_told : FailsToReadNumbers (AtMostOne IsNumberRow) next_file_text (Int (pos after) ∷ []) old new
+  not_reported : FailsToReadNumbers (AtMostOne IsNumberRow) next_file_text (Int (pos after) ∷ []) old new
       fault → FailsToFindFile after old new fault
 
 -- why its value was not computed

@@ -54,13 +54,13 @@ module _ {S A E : Type 0} (g : Ghosts S) (old new : Held S) (result : Result A E
 module _ {S A E : Type 0} (are_ours : State → Type 0) (g : Ghosts S) (old new : Held S)
     (result : Result A E) where
   -- where the tables are ours, an Ok says this of what the connection sees
-  abbrev pub TellsSeen : (State → A → Type 0) → Type 0
-  TellsSeen told = HasCleanDisk (state g new) → are_ours (state g old)
-      → IfOk result (told (state g old))
+  abbrev pub ReportsSeen : (State → A → Type 0) → Type 0
+  ReportsSeen reported = HasCleanDisk (state g new) → are_ours (state g old)
+      → IfOk result (reported (state g old))
 
   -- the same of the tables
-  abbrev pub TellsOver : (Tables → A → Type 0) → Type 0
-  TellsOver told = TellsSeen (λ s. told (tables_of s))
+  abbrev pub ReportsOver : (Tables → A → Type 0) → Type 0
+  ReportsOver reported = ReportsSeen (λ s. reported (tables_of s))
 
   -- there a failure has this cause
   abbrev pub FailsOver : (State → State → E → Type 0) → Type 0
@@ -76,6 +76,6 @@ FailsFor g old new result why =
 -- bytes were written to the outlet, and where the tables are ours this holds of them
 abbrev pub GivesOver : {S : Type 0} → (State → Type 0) → (g : Ghosts S) (old new : Held S)
     (taken taken_after : Option (List ℕ)) → (State → List ℕ → Type 0) → Type 0
-GivesOver are_ours g old new taken taken_after told =
+GivesOver are_ours g old new taken taken_after reported =
     (sent : List ℕ) × Appends taken taken_after sent
-    × (HasCleanDisk (state g new) → are_ours (state g old) → told (state g old) sent)
+    × (HasCleanDisk (state g new) → are_ours (state g old) → reported (state g old) sent)

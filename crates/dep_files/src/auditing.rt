@@ -8,7 +8,7 @@ ghost use Rattle.dep_types.specs.declared.store_fault.StoreFault.TheVariants.{St
 ghost use Rattle.dep_manifest.specs.Growing.{Grows};
 ghost use Rattle.dep_tables.specs.Rows.{HasAt, IsNumberValue};
 ghost use Rattle.dep_tables.specs.Tables.{IsOurs};
-ghost use Rattle.dep_files.specs.Clauses.{TellsOver, ReadsOver, FailsOver};
+ghost use Rattle.dep_files.specs.Clauses.{ReportsOver, ReadsOver, FailsOver};
 ghost use Rattle.dep_files.specs.Fixity.{HasFixity, IsAudited, KeepsDamaged, number_if_damaged};
 ghost use Rattle.dep_files.specs.Causes.{FailsToFindFixity, FailsToCheck, FailsToAudit};
 
@@ -46,7 +46,7 @@ struct FileFixity {
 }
 
 fn file_in(row: &Row) -> Result<u64, StoreFault>
-    ensures told { IfOk result (λ file. column row.now 0 ≡ Int (pos file)) }
+    ensures reported { IfOk result (λ file. column row.now 0 ≡ Int (pos file)) }
     ensures refused { IfErr result
         (λ fault. (¬ (HasAt IsNumberValue row.now 0)) × (fault ≡ Store)) }
 {
@@ -58,7 +58,7 @@ fn find_fixity<S: Alter, W: Watch>(
     row: &Row,
     watch: &mut W,
 ) -> Result<FileFixity, StoreFault>
-    ensures ok { TellsOver IsOurs S.Store connection.old connection.new result
+    ensures ok { ReportsOver IsOurs S.Store connection.old connection.new result
         (λ t. HasFixity t row.now) }
     ensures cause { FailsOver IsOurs S.Store connection.old connection.new result
         (FailsToFindFixity row.now) }
@@ -97,7 +97,7 @@ fn keep_damaged<S: Alter, W: Watch>(
     row: &Row,
     watch: &mut W,
 ) -> Result<(), StoreFault>
-    ensures notes { TellsOver IsOurs S.Store connection.old connection.new result
+    ensures notes { ReportsOver IsOurs S.Store connection.old connection.new result
         (λ t _. KeepsDamaged t row.now damaged.old.items damaged.new.items) }
     ensures cause { FailsOver IsOurs S.Store connection.old connection.new result
         (FailsToCheck row.now) }
@@ -119,7 +119,7 @@ pub fn audit_files<S: Alter, W: Watch>(
     object: u64,
     watch: &mut W,
 ) -> Result<Audit, StoreFault>
-    ensures audits { TellsOver IsOurs S.Store connection.old connection.new result
+    ensures audits { ReportsOver IsOurs S.Store connection.old connection.new result
         (λ t. IsAudited t object) }
     ensures cause { FailsOver IsOurs S.Store connection.old connection.new result
         (FailsToAudit (state S.Store) object) }

@@ -7,7 +7,7 @@ ghost use Rattle.dep_fixity.specs.Fixity.{Holds};
 ghost use Rattle.dep_types.specs.declared.store_fault.StoreFault.TheVariants.{Store};
 ghost use Rattle.dep_tables.specs.Rows.{IsBytesValue};
 ghost use Rattle.dep_tables.specs.Tables.{IsKnown};
-ghost use Rattle.dep_files.specs.Clauses.{OnlyReads, OnlyShows, TellsSeen, TellsOver, ReadsOver, FailsOver};
+ghost use Rattle.dep_files.specs.Clauses.{OnlyReads, OnlyShows, ReportsSeen, ReportsOver, ReadsOver, FailsOver};
 ghost use Rattle.dep_files.specs.Sent.{blob_of};
 ghost use Rattle.dep_files.specs.Fixity.{AreDigestsOf, HashesShown};
 ghost use Rattle.dep_files.specs.Causes.{FailsToGive, FailsToGiveBlocks};
@@ -44,7 +44,7 @@ fn hash_rows<S: Alter, W: Watch>(
     watch: &mut W,
 ) -> Result<Digests, StoreFault>
     requires { OnlyReads sql.now }
-    ensures hashes { TellsSeen (OnlyShows sql.now) S.Store connection.old connection.new result
+    ensures hashes { ReportsSeen (OnlyShows sql.now) S.Store connection.old connection.new result
         (HashesShown sql.now (bound params.now)) }
     ensures cause { FailsOver (OnlyShows sql.now) S.Store connection.old connection.new result
         (FailsToGive sql.now (bound params.now) None) }
@@ -75,7 +75,7 @@ pub(crate) fn hash_blocks<S: Alter, W: Watch>(
     owner: BlockOwner,
     watch: &mut W,
 ) -> Result<Digests, StoreFault>
-    ensures hashes { TellsOver IsKnown S.Store connection.old connection.new result
+    ensures hashes { ReportsOver IsKnown S.Store connection.old connection.new result
         (λ t. AreDigestsOf t owner) }
     ensures cause { FailsOver IsKnown S.Store connection.old connection.new result
         (FailsToGiveBlocks owner None) }

@@ -9,7 +9,7 @@ ghost use Rattle.dep_row_maps.specs.Clauses.{MayFind, ReadsMaps};
 ghost use Rattle.dep_row_maps.specs.TablesAre.{files_at};
 ghost use Rattle.dep_types.specs.Names.{if_passes};
 ghost use Rattle.dep_tables.specs.Tables.{IsOurs};
-ghost use Rattle.dep_files.specs.Clauses.{StaysOver, TellsOver, FailsOver};
+ghost use Rattle.dep_files.specs.Clauses.{StaysOver, ReportsOver, FailsOver};
 ghost use Rattle.dep_files.specs.Reading.{IsLoadedFrom};
 ghost use Rattle.dep_files.specs.Causes.{FailsToLoad};
 
@@ -94,7 +94,7 @@ pub fn load_content<S: Alter>(
     alloc: Global,
     file: u64,
 ) -> Result<Option<Octets>, StoreFault>
-    ensures loads { TellsOver IsOurs S.Store connection.old connection.new result
+    ensures loads { ReportsOver IsOurs S.Store connection.old connection.new result
         (IsLoadedFrom file) }
     ensures cause { FailsOver IsOurs S.Store connection.old connection.new result
         (FailsToLoad file) }

@@ -7,7 +7,7 @@ ghost use Rattle.dep_statements.specs.Rows.{columns_from};
 ghost use Rattle.dep_tables.specs.Clauses.{AtMostOne, IsFaultAt};
 ghost use Rattle.dep_tables.specs.Rows.{IsNumberRow};
 ghost use Rattle.dep_tables.specs.Tables.{IsKnown};
-ghost use Rattle.dep_files.specs.Clauses.{TellsOver, ReadsOver, FailsFor};
+ghost use Rattle.dep_files.specs.Clauses.{ReportsOver, ReadsOver, FailsFor};
 ghost use Rattle.dep_files.specs.Sha512s.{IsFileAfter};
 ghost use Rattle.dep_files.specs.Causes.{FailsToFindFile};
 
@@ -17,7 +17,7 @@ use dep_types::StoreFault;
 use sqlite::{Alter, Connection, Row};
 
 fn only(rows: &[Row]) -> Result<Option<u64>, StoreFault>
-    ensures told { IfOk result (λ found. map (λ n. Int (pos n) ∷ []) (option_to_list found)
+    ensures reported { IfOk result (λ found. map (λ n. Int (pos n) ∷ []) (option_to_list found)
         ≡ map (columns_from 0 1) rows.now) }
     ensures refused { IfErr result (IsFaultAt ⊥ (AtMostOne IsNumberRow) rows.now) }
 {
@@ -33,7 +33,7 @@ pub(crate) fn next_file<S: Alter>(
     connection: &mut Connection<S>,
     after: u64,
 ) -> Result<Option<u64>, StoreFault>
-    ensures ok { TellsOver IsKnown S.Store connection.old connection.new result
+    ensures ok { ReportsOver IsKnown S.Store connection.old connection.new result
         (λ t. IsFileAfter t after) }
     ensures cause { FailsFor S.Store connection.old connection.new result (FailsToFindFile after) }
     ensures reads { ReadsOver S.Store connection.old connection.new result }

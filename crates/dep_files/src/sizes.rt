@@ -5,7 +5,7 @@ ghost use Rattle.std.specs.Option.{option_to_list};
 ghost use Rattle.dep_statements.specs.Rows.{columns_from};
 ghost use Rattle.dep_tables.specs.Tables.{IsOurs};
 ghost use Rattle.dep_tables.specs.Clauses.{AtMostOne, IsFaultAt};
-ghost use Rattle.dep_files.specs.Clauses.{TellsOver, ReadsOver, FailsFor};
+ghost use Rattle.dep_files.specs.Clauses.{ReportsOver, ReadsOver, FailsFor};
 ghost use Rattle.dep_files.specs.Sizes.{IsSizeRow, IsSizeOf, size_values};
 ghost use Rattle.dep_files.specs.Causes.{FailsToFindSize};
 
@@ -24,7 +24,7 @@ pub(crate) struct FileSize {
 }
 
 fn size_in(row: &Row) -> Result<FileSize, Error>
-    ensures told { IfOk result (λ found. size_values found ≡ columns_from 0 2 row.now) }
+    ensures reported { IfOk result (λ found. size_values found ≡ columns_from 0 2 row.now) }
     ensures refused { IfErr result (λ _. ¬ (IsSizeRow row.now)) }
 {
     Ok(FileSize {
@@ -34,7 +34,7 @@ fn size_in(row: &Row) -> Result<FileSize, Error>
 }
 
 fn only(rows: &[Row]) -> Result<Option<FileSize>, StoreFault>
-    ensures told { IfOk result
+    ensures reported { IfOk result
         (λ found. map size_values (option_to_list found) ≡ map (columns_from 0 2) rows.now) }
     ensures refused { IfErr result (IsFaultAt ⊥ (AtMostOne IsSizeRow) rows.now) }
 {
@@ -51,7 +51,7 @@ pub(crate) fn find_size<S: Alter>(
     connection: &mut Connection<S>,
     file: u64,
 ) -> Result<Option<FileSize>, StoreFault>
-    ensures ok { TellsOver IsOurs S.Store connection.old connection.new result
+    ensures ok { ReportsOver IsOurs S.Store connection.old connection.new result
         (λ t. IsSizeOf t file) }
     ensures cause { FailsFor S.Store connection.old connection.new result (FailsToFindSize file) }
     ensures reads { ReadsOver S.Store connection.old connection.new result }

@@ -2,7 +2,7 @@
 
 ghost use Rattle.sqlite.specs.Held.{state};
 ghost use Rattle.dep_tables.specs.Tables.{IsKnown};
-ghost use Rattle.dep_files.specs.Clauses.{TellsOver, ReadsOver, FailsOver};
+ghost use Rattle.dep_files.specs.Clauses.{ReportsOver, ReadsOver, FailsOver};
 ghost use Rattle.dep_files.specs.Sha512s.{IsValueAfter, AreValuesOf};
 ghost use Rattle.dep_files.specs.Causes.{FailsToHashNext, FailsToHashFiles};
 
@@ -20,7 +20,7 @@ fn next_value<S: Alter, W: Watch>(
     after: u64,
     watch: &mut W,
 ) -> Result<Option<FileSha512>, StoreFault>
-    ensures ok { TellsOver IsKnown S.Store connection.old connection.new result
+    ensures ok { ReportsOver IsKnown S.Store connection.old connection.new result
         (λ t. IsValueAfter t after) }
     ensures cause { FailsOver IsKnown S.Store connection.old connection.new result
         (FailsToHashNext after) }
@@ -43,7 +43,7 @@ pub fn hash_files<S: Alter, W: Watch>(
     alloc: Global,
     watch: &mut W,
 ) -> Result<Vec<FileSha512>, StoreFault>
-    ensures hashes { TellsOver IsKnown S.Store connection.old connection.new result
+    ensures hashes { ReportsOver IsKnown S.Store connection.old connection.new result
         (λ t values. AreValuesOf t values.items) }
     ensures cause { FailsOver IsKnown S.Store connection.old connection.new result
         (FailsToHashFiles (state S.Store)) }

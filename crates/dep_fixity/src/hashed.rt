@@ -56,7 +56,7 @@ impl HashedOctets {
     }
 
     /// Takes the next octets, of which none is hashed. The room grows to twice as much at most, and up to
-    /// `length` octets to no more than that. An `Err` is want of memory.
+    /// `length` octets to no more than that. An `Err` is lack of memory.
     pub fn append(&mut self, piece: &[u8], length: usize) -> Result<(), AllocError>
         ensures ok { OnOk result (self.new ≡ self.old ++ piece.now) }
         ensures err { OnErr result (self.new ≡ self.old) }

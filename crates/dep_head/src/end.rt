@@ -7,7 +7,7 @@ use memchr::memmem;
 /// How many bytes a head has at most, its end included.
 pub const HEAD_LIMIT: usize = 16_384;
 
-/// The length of the shortest front of `text` that ends with CR LF CR LF. It takes no memory.
+/// The length of the shortest prefix of `text` that ends with CR LF CR LF. It takes no memory.
 pub fn find_end(text: &[u8]) -> Option<usize>
     ensures { result ≡ head_end text.now }
 {

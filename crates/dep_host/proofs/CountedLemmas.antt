@@ -3,23 +3,23 @@ use Rattle.std.proofs.Common.{◌≡◌, inl, inr, ◌+◌, ◌-◌, ◌^◌, �
 use Rattle.std.proofs.Math.Bool.{true-or}
 use Rattle.dep_types.specs.Conditions.{Condition}
 use Rattle.dep_hub.specs.declared.hub.Hub.{Hub}
-use Rattle.dep_host.specs.declared.seat.Seat.{Seat}
-use Rattle.dep_host.specs.declared.course.Course.{Course}
-use Rattle.dep_host.specs.declared.course.Duty.{Duty}
-use Rattle.dep_host.specs.declared.course.Duty.TheVariants.{Flush, Answer, Send, Read, Finish, Drain, Wait}
+use Rattle.dep_host.specs.declared.slot.Slot.{Slot}
+use Rattle.dep_host.specs.declared.connection_state.ConnectionState.{ConnectionState}
+use Rattle.dep_host.specs.declared.connection_state.NextAction.{NextAction}
+use Rattle.dep_host.specs.declared.connection_state.NextAction.TheVariants.{Flush, Answer, Send, Read, Finish, Drain, Wait}
 use Rattle.dep_host.specs.Causes.{Causes}
-use Rattle.dep_host.specs.Seats.{IsRead, MayRest, ActsOnce, TakesTurn, next_duty}
+use Rattle.dep_host.specs.Slots.{IsRead, MayRest, ActsOnce, TakesTurn, slot_action}
 
 module _ {A R K S : Type 0} (condition : A → Condition) (unread : R → Option (List ℕ)) (taken : K → Option (List ℕ)) (held : S → Option (List ℕ)) where
   -- what was sent in a turn is counted behind it
-  abbrev with_counted : Seat R K S → ℕ → Seat R K S
+  abbrev with_counted : Slot R K S → ℕ → Slot R K S
   with_counted mid bytes =
-      record mid { course = record mid.course { has_moved = mid.course.has_moved || nat_lt 0 bytes; moved = min (mid.course.moved + bytes) (2 ^ 64 - 1) } }
+      record mid { state = record mid.state { has_moved = mid.state.has_moved || nat_lt 0 bytes; moved = min (mid.state.moved + bytes) (2 ^ 64 - 1) } }
 
-  stirs_still : (mid : Seat R K S) (bytes : ℕ) → mid.course.has_moved ≡ true → (with_counted mid bytes).course.has_moved ≡ true
+  stirs_still : (mid : Slot R K S) (bytes : ℕ) → mid.state.has_moved ≡ true → (with_counted mid bytes).state.has_moved ≡ true
   stirs_still mid bytes h = ap (λ (b : Bool). b || nat_lt 0 bytes) h ∙ true-or (nat_lt 0 bytes)
 
-  read_counted : (before mid : Seat R K S) (bytes : ℕ) (piece : List ℕ) (is_full is_shut : Bool) → IsRead condition unread taken held before mid piece is_full is_shut
+  read_counted : (before mid : Slot R K S) (bytes : ℕ) (piece : List ℕ) (is_full is_shut : Bool) → IsRead condition unread taken held before mid piece is_full is_shut
       → IsRead condition unread taken held before (with_counted mid bytes) piece is_full is_shut
   read_counted before mid bytes piece is_full is_shut r = record {
     unowed = r.unowed;
@@ -34,7 +34,7 @@ module _ {A R K S : Type 0} (condition : A → Condition) (unread : R → Option
     counts = r.counts;
   }
 
-  rest_counted : (size : S → ℕ) (hub : Hub A) (before mid : Seat R K S) (bytes : ℕ) (is_full is_shut may_send : Bool) (d : Duty) → MayRest condition unread taken held size hub before mid is_full is_shut may_send d
+  rest_counted : (size : S → ℕ) (hub : Hub A) (before mid : Slot R K S) (bytes : ℕ) (is_full is_shut may_send : Bool) (d : NextAction) → MayRest condition unread taken held size hub before mid is_full is_shut may_send d
       → MayRest condition unread taken held size hub before (with_counted mid bytes) is_full is_shut may_send d
   rest_counted size hub before mid bytes is_full is_shut may_send Flush may = may
   rest_counted size hub before mid bytes is_full is_shut may_send Answer may = may
@@ -45,11 +45,11 @@ module _ {A R K S : Type 0} (condition : A → Condition) (unread : R → Option
   rest_counted size hub before mid bytes is_full is_shut may_send Drain may = may
   rest_counted size hub before mid bytes is_full is_shut may_send Wait may = may
 
-  acts_counted : (size : S → ℕ) (old new : Hub A) (before mid : Seat R K S) (bytes moment : ℕ) (is_full is_shut may_send : Bool) → ActsOnce condition unread taken held size old new before mid moment is_full is_shut may_send
+  acts_counted : (size : S → ℕ) (old new : Hub A) (before mid : Slot R K S) (bytes moment : ℕ) (is_full is_shut may_send : Bool) → ActsOnce condition unread taken held size old new before mid moment is_full is_shut may_send
       → ActsOnce condition unread taken held size old new before (with_counted mid bytes) moment is_full is_shut may_send
   acts_counted size old new before mid bytes moment is_full is_shut may_send (inl (r, may)) = inl (
     record { same = r.same; keeps = r.keeps; gives = r.gives; opens = r.opens; sends_still = r.sends_still; keeps_count = r.keeps_count },
-    rest_counted size old before mid bytes is_full is_shut may_send (next_duty size before) may,
+    rest_counted size old before mid bytes is_full is_shut may_send (slot_action size before) may,
   )
   acts_counted size old new before mid bytes moment is_full is_shut may_send (inr (inl (o, due))) = inr (inl (
     record {
@@ -117,10 +117,10 @@ module _ {A R K S : Type 0} (condition : A → Condition) (unread : R → Option
     may,
   )))))
 
-  pub counted : (size : S → ℕ) (causes : Causes R K S) (old new : Hub A) (before mid : Seat R K S) (course : Course) (bytes moment : ℕ) (is_full is_shut may_send : Bool) → TakesTurn condition unread taken held size causes old new before mid moment is_full is_shut may_send
-      → course ≡ (with_counted mid bytes).course → TakesTurn condition unread taken held size causes old new before (record mid { course = course }) moment is_full is_shut may_send
-  counted size causes old new before mid course bytes moment is_full is_shut may_send t e =
-      subst (λ (k : Course). TakesTurn condition unread taken held size causes old new before (record mid { course = k }) moment is_full is_shut may_send) (sym e) (record {
+  pub counted : (size : S → ℕ) (causes : Causes R K S) (old new : Hub A) (before mid : Slot R K S) (state : ConnectionState) (bytes moment : ℕ) (is_full is_shut may_send : Bool) → TakesTurn condition unread taken held size causes old new before mid moment is_full is_shut may_send
+      → state ≡ (with_counted mid bytes).state → TakesTurn condition unread taken held size causes old new before (record mid { state = state }) moment is_full is_shut may_send
+  counted size causes old new before mid state bytes moment is_full is_shut may_send t e =
+      subst (λ (k : ConnectionState). TakesTurn condition unread taken held size causes old new before (record mid { state = k }) moment is_full is_shut may_send) (sym e) (record {
         client = record { connection = t.client.connection; address = t.client.address };
         hub = t.hub;
         ended = t.ended;

@@ -1,14 +1,14 @@
 mod PhaseLemmas
-mod SeatLemmas
+mod SlotLemmas
 mod CountedLemmas
 mod HostLemmas
 mod ShareLemmas
-mod DeedLemmas
+mod ActionLemmas
 mod StretchLemmas
 mod ServeLemmas
 mod WholeRounds
 mod RunLemmas
-mod TellLemmas
+mod ReportLemmas
 mod ReadLemmas
 mod SendLemmas
 mod OweLemmas

@@ -6,11 +6,11 @@ use Rattle.dep_hub.specs.declared.arrived.Arrived.{Arrived}
 use Rattle.dep_hub.specs.declared.arrived.Arrived.TheVariants as came
 use Rattle.dep_hub.specs.declared.next.Next.{Next}
 use Rattle.dep_hub.specs.declared.next.Next.TheVariants.{More, Waiting, Closed, Cut, NoSuch}
-use Rattle.dep_host.specs.declared.course.Phase.{Phase}
-use Rattle.dep_host.specs.declared.course.Phase.TheVariants.{Open, Answering, Sending, SendingLast, Last, Draining, Over}
-use Rattle.dep_host.specs.declared.course.Duty.TheVariants.{Flush, Answer, Send, Read, Finish, Drain, Wait}
-use Rattle.dep_host.specs.Courses.{duty, duty_sending, is_ended, is_sending, phase_begun, SendsStill}
-use Rattle.dep_host.specs.Seats.{phase_offered, phase_answered, phase_sent}
+use Rattle.dep_host.specs.declared.connection_state.Phase.{Phase}
+use Rattle.dep_host.specs.declared.connection_state.Phase.TheVariants.{Open, Answering, Sending, SendingLast, Last, Draining, Over}
+use Rattle.dep_host.specs.declared.connection_state.NextAction.TheVariants.{Flush, Answer, Send, Read, Finish, Drain, Wait}
+use Rattle.dep_host.specs.ConnectionStates.{next_action, action_sending, is_ended, is_sending, phase_begun, SendsStill}
+use Rattle.dep_host.specs.Slots.{phase_offered, phase_answered, phase_sent}
 
 pub not_open : (after : Phase) → after ≡ Over → after ≡ Open → ⊥
 not_open after o h = absurd (let e : Over ≡ Open = sym o ∙ h in cc)
@@ -52,7 +52,7 @@ opened_still before after (inl s) h = sym s ∙ h
 opened_still before after (inr o) h = absurd (not_open after o h)
 
 -- who sends owes, and of who is drained nothing comes to the hub any more
-pub sends_owed : (p : Phase) (a owes r w : Bool) → duty p a owes r w ≡ Flush → owes ≡ true
+pub sends_owed : (p : Phase) (a owes r w : Bool) → next_action p a owes r w ≡ Flush → owes ≡ true
 sends_owed p a true r w h = refl
 sends_owed Over a false r w h = absurd (let bad : Wait ≡ Flush = h in cc)
 sends_owed Open a false true w h = absurd (let bad : Read ≡ Flush = h in cc)
@@ -66,7 +66,7 @@ sends_owed Last a false r w h = absurd (let bad : Finish ≡ Flush = h in cc)
 sends_owed Draining a false true w h = absurd (let bad : Drain ≡ Flush = h in cc)
 sends_owed Draining a false false w h = absurd (let bad : Wait ≡ Flush = h in cc)
 
-pub drains_ended : (p : Phase) (a owes r w : Bool) → duty p a owes r w ≡ Drain → is_ended p ≡ true
+pub drains_ended : (p : Phase) (a owes r w : Bool) → next_action p a owes r w ≡ Drain → is_ended p ≡ true
 drains_ended Over a owes r w h = refl
 drains_ended SendingLast a owes r w h = refl
 drains_ended Last a owes r w h = refl
@@ -84,7 +84,7 @@ drains_ended Sending false true r false h = absurd (let bad : Wait ≡ Drain = h
 drains_ended Sending false false r w h = absurd (let bad : Send ≡ Drain = h in cc)
 
 -- who is told that nothing more is sent is read no more, and sent no content
-pub finishes_last : (p : Phase) (a owes r w : Bool) → duty p a owes r w ≡ Finish → SendsStill p Draining
+pub finishes_last : (p : Phase) (a owes r w : Bool) → next_action p a owes r w ≡ Finish → SendsStill p Draining
 finishes_last Last a owes r w h = inr (refl, λ e. let bad : Last ≡ Over = e in cc)
 finishes_last Over a owes r w h = absurd (let bad : Wait ≡ Finish = h in cc)
 finishes_last Open a owes r w h = inr (refl, λ e. let bad : Open ≡ Over = e in cc)
@@ -100,7 +100,7 @@ finishes_last SendingLast false true r false h = absurd (let bad : Wait ≡ Fini
 finishes_last SendingLast false false r w h = absurd (let bad : Send ≡ Finish = h in cc)
 
 -- a content is sent on where one is sent, and where no request waits for it only where nothing is owed
-pub sends_content : (p : Phase) (a owes r w : Bool) → duty p a owes r w ≡ Send → is_sending p ≡ true
+pub sends_content : (p : Phase) (a owes r w : Bool) → next_action p a owes r w ≡ Send → is_sending p ≡ true
 sends_content Sending a owes r w h = refl
 sends_content SendingLast a owes r w h = refl
 sends_content Over a owes r w h = absurd (let bad : Wait ≡ Send = h in cc)
@@ -119,7 +119,7 @@ sends_content Draining a true r false h = absurd (let bad : Wait ≡ Send = h in
 sends_content Draining a false true w h = absurd (let bad : Drain ≡ Send = h in cc)
 sends_content Draining a false false w h = absurd (let bad : Wait ≡ Send = h in cc)
 
-pub sends_unowed : (p : Phase) (a owes r w : Bool) → duty p a owes r w ≡ Send → a ≡ false → owes ≡ false
+pub sends_unowed : (p : Phase) (a owes r w : Bool) → next_action p a owes r w ≡ Send → a ≡ false → owes ≡ false
 sends_unowed p a false r w h e = refl
 sends_unowed p true true r w h e = absurd (let bad : true ≡ false = e in cc)
 sends_unowed Over false true r w h e = absurd (let bad : Wait ≡ Send = h in cc)
@@ -215,7 +215,7 @@ sends_begun Draining is_shut = refl
 sends_begun Over is_shut = refl
 
 -- whether a request waits for a content tells only of who is sent one
-pub asks_sending : (p : Phase) (a owes r w : Bool) → duty p (is_sending p && a) owes r w ≡ duty p a owes r w
+pub asks_sending : (p : Phase) (a owes r w : Bool) → next_action p (is_sending p && a) owes r w ≡ next_action p a owes r w
 asks_sending Over a owes r w = refl
 asks_sending Open a true r w = refl
 asks_sending Open a false r w = refl
@@ -229,16 +229,16 @@ asks_sending Draining a true r w = refl
 asks_sending Draining a false r w = refl
 
 -- what a connection does next to which a content is sent
-pub sending_duty : (p : Phase) (is_shut a owes r w : Bool) → is_sending p ≡ true → duty (phase_begun p is_shut) a owes r w ≡ duty_sending a owes w
-sending_duty Open is_shut a owes r w h = absurd (let bad : false ≡ true = h in cc)
-sending_duty Answering is_shut a owes r w h = absurd (let bad : false ≡ true = h in cc)
-sending_duty Sending is_shut a owes r w h = refl
-sending_duty SendingLast is_shut a owes r w h = refl
-sending_duty Last is_shut a owes r w h = absurd (let bad : false ≡ true = h in cc)
-sending_duty Draining is_shut a owes r w h = absurd (let bad : false ≡ true = h in cc)
-sending_duty Over is_shut a owes r w h = absurd (let bad : false ≡ true = h in cc)
+pub sending_action : (p : Phase) (is_shut a owes r w : Bool) → is_sending p ≡ true → next_action (phase_begun p is_shut) a owes r w ≡ action_sending a owes w
+sending_action Open is_shut a owes r w h = absurd (let bad : false ≡ true = h in cc)
+sending_action Answering is_shut a owes r w h = absurd (let bad : false ≡ true = h in cc)
+sending_action Sending is_shut a owes r w h = refl
+sending_action SendingLast is_shut a owes r w h = refl
+sending_action Last is_shut a owes r w h = absurd (let bad : false ≡ true = h in cc)
+sending_action Draining is_shut a owes r w h = absurd (let bad : false ≡ true = h in cc)
+sending_action Over is_shut a owes r w h = absurd (let bad : false ≡ true = h in cc)
 
-pub sent_unless : (a owes w : Bool) → (duty_sending a owes w ≡ Send) ⊎ ((a ≡ false) × (owes ≡ true))
+pub sent_unless : (a owes w : Bool) → (action_sending a owes w ≡ Send) ⊎ ((a ≡ false) × (owes ≡ true))
 sent_unless true owes w = inl refl
 sent_unless false true w = inr (refl, refl)
 sent_unless false false w = inl refl

@@ -9,19 +9,19 @@ use Rattle.std.specs.List.Sorted.{IsNonDecreasing}
 use Rattle.dep_host.specs.declared.ending.Cause.{Cause}
 use Rattle.dep_host.specs.declared.ending.Shut.{Shut}
 use Rattle.dep_host.specs.declared.limits.Limits.{Limits}
-use Rattle.dep_host.specs.declared.seat.Time.{Time}
+use Rattle.dep_host.specs.declared.slot.Time.{Time}
 use Rattle.dep_host.specs.declared.events.Event.{Event}
 use Rattle.dep_host.specs.declared.events.Event.TheVariants.{Ready, Client, Round, Stop, End}
 use Rattle.dep_host.specs.declared.serving.Ended.{Ended}
 use Rattle.dep_host.specs.declared.serving.Ended.TheVariants as ended
 use Rattle.dep_host.specs.Coming.{seconds_of}
-use Rattle.dep_host.specs.Courses.{is_past, is_overdue}
-use Rattle.dep_host.specs.Rounds.{IsTold, gone_on, EndsInTime}
+use Rattle.dep_host.specs.ConnectionStates.{is_past, is_overdue}
+use Rattle.dep_host.specs.Rounds.{IsReported, gone_on, EndsInTime}
 
 -- who isn't shut isn't overdue
-pub untold_in_time : (o : Option Shut) (second : ℕ) (limits : Limits) → is_some o ≡ false → is_overdue o second limits ≡ false
-untold_in_time None second limits untold = refl
-untold_in_time (Some since) second limits untold = absurd (let bad : true ≡ false = untold in cc)
+pub unreported_in_time : (o : Option Shut) (second : ℕ) (limits : Limits) → is_some o ≡ false → is_overdue o second limits ≡ false
+unreported_in_time None second limits unreported = refl
+unreported_in_time (Some since) second limits unreported = absurd (let bad : true ≡ false = unreported in cc)
 
 pub one_second : {R K S : Type 0} (event : Event R K S) → length (seconds_of event) ≤ 1
 one_second (Ready at r w) = omega arith
@@ -46,7 +46,7 @@ none_past xs ys since limits rises at = All-from_get_or (λ second. is_past sinc
     not_past since (get_or xs i since) limits (omega (arith, le, left, right)))
 
 -- the rounds of before were in time also by when it was shut since
-earlier : (mid last : Option Shut) (limits : Limits) (xs ys : List ℕ) → IsTold mid last ys → IsNonDecreasing (xs ++ ys) → All (λ second. is_overdue mid second limits ≡ false) xs
+earlier : (mid last : Option Shut) (limits : Limits) (xs ys : List ℕ) → IsReported mid last ys → IsNonDecreasing (xs ++ ys) → All (λ second. is_overdue mid second limits ≡ false) xs
     → All (λ second. is_overdue last second limits ≡ false) xs
 earlier mid last limits xs ys (inl e) rises h = subst (λ (o : Option Shut). All (λ second. is_overdue o second limits ≡ false) xs) (sym e) h
 earlier mid None limits xs ys (inr t) rises h = All-from_get_or (λ second. is_overdue None second limits ≡ false) xs 0 (λ i lt. refl)
@@ -61,20 +61,20 @@ rises_front xs ys rises = λ i j d le lt.
     let all : get_or xs i d ≤ get_or xs j d = omega (arith, a, b, both) in
     all
 
-told_left : (o : Option Shut) (xs ys : List ℕ) → IfSome o (λ shut. Contains xs shut.second) → IfSome o (λ shut. Contains (xs ++ ys) shut.second)
-told_left None xs ys h = tt
-told_left (Some shut) xs ys h = Contains-append_left xs ys shut.second h
+reported_left : (o : Option Shut) (xs ys : List ℕ) → IfSome o (λ shut. Contains xs shut.second) → IfSome o (λ shut. Contains (xs ++ ys) shut.second)
+reported_left None xs ys h = tt
+reported_left (Some shut) xs ys h = Contains-append_left xs ys shut.second h
 
-told_right : (o : Option Shut) (xs ys : List ℕ) → IfSome o (λ shut. Contains ys shut.second) → IfSome o (λ shut. Contains (xs ++ ys) shut.second)
-told_right None xs ys h = tt
-told_right (Some shut) xs ys h = Contains-append_right xs ys shut.second h
+reported_right : (o : Option Shut) (xs ys : List ℕ) → IfSome o (λ shut. Contains ys shut.second) → IfSome o (λ shut. Contains (xs ++ ys) shut.second)
+reported_right None xs ys h = tt
+reported_right (Some shut) xs ys h = Contains-append_right xs ys shut.second h
 
 -- it was shut in the one stretch or the other
-told_on : (first mid last : Option Shut) (xs ys : List ℕ) → IsTold first mid xs → IsTold mid last ys → IsTold first last (xs ++ ys)
-told_on first mid last xs ys (inl e) (inl f) = inl (f ∙ e)
-told_on first mid last xs ys (inl e) (inr t) = inr (subst (λ (o : Option Shut). is_some o ≡ false) e t.0, told_right last xs ys t.1)
-told_on first mid last xs ys (inr s) (inl f) = inr (s.0, subst (λ (o : Option Shut). IfSome o (λ shut. Contains (xs ++ ys) shut.second)) (sym f) (told_left mid xs ys s.1))
-told_on first mid last xs ys (inr s) (inr t) = inr (s.0, told_right last xs ys t.1)
+reported_on : (first mid last : Option Shut) (xs ys : List ℕ) → IsReported first mid xs → IsReported mid last ys → IsReported first last (xs ++ ys)
+reported_on first mid last xs ys (inl e) (inl f) = inl (f ∙ e)
+reported_on first mid last xs ys (inl e) (inr t) = inr (subst (λ (o : Option Shut). is_some o ≡ false) e t.0, reported_right last xs ys t.1)
+reported_on first mid last xs ys (inr s) (inl f) = inr (s.0, subst (λ (o : Option Shut). IfSome o (λ shut. Contains (xs ++ ys) shut.second)) (sym f) (reported_left mid xs ys s.1))
+reported_on first mid last xs ys (inr s) (inr t) = inr (s.0, reported_right last xs ys t.1)
 
 -- all rounds but one that it ends in are in time
 in_time_on : (P : ℕ → Type 0) (end : Ended) (xs ys : List ℕ) → length ys ≤ 1 → All P xs → (((why : Cause) → end ≡ ended.Shut why → ⊥) → AllByRecursion P ys) → All P (gone_on end (xs ++ ys))
@@ -100,19 +100,19 @@ all_stop {R = R} {K = K} {S = S} P event second is h = subst (λ (e : Event R K 
 -- no round so far
 pub rounds_begin : (shut : Option Shut) (limits : Limits) → EndsInTime [] shut shut limits ended.Spent
 rounds_begin shut limits = record {
-  is_told = inl refl;
+  is_reported = inl refl;
   in_time = λ rises. All-nil (λ second. is_overdue shut second limits ≡ false);
 }
 
 -- an event more
 pub rounds_go_on : (xs ys : List ℕ) (first mid last : Option Shut) (was limits : Limits) (end : Ended)
-    → EndsInTime xs first mid was ended.Spent → IsTold mid last ys → length ys ≤ 1 → limits ≡ was
+    → EndsInTime xs first mid was ended.Spent → IsReported mid last ys → length ys ≤ 1 → limits ≡ was
     → (((why : Cause) → end ≡ ended.Shut why → ⊥) → AllByRecursion (λ second. is_overdue last second limits ≡ false) ys)
     → EndsInTime (xs ++ ys) first last limits end
-rounds_go_on xs ys first mid last was limits end it told short same now =
+rounds_go_on xs ys first mid last was limits end it reported short same now =
     let s : EndsInTime xs first mid limits ended.Spent = subst (λ (l : Limits). EndsInTime xs first mid l ended.Spent) (sym same) it in
     record {
-      is_told = told_on first mid last xs ys s.is_told told;
+      is_reported = reported_on first mid last xs ys s.is_reported reported;
       in_time = λ rises. in_time_on (λ second. is_overdue last second limits ≡ false) end xs ys short
-          (earlier mid last limits xs ys told rises (s.in_time (rises_front xs ys rises))) now;
+          (earlier mid last limits xs ys reported rises (s.in_time (rises_front xs ys rises))) now;
     }

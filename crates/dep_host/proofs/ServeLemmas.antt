@@ -5,28 +5,28 @@ use Rattle.std.proofs.Math.ListN.{length-set}
 use Rattle.std.specs.Prelude.{IfSome}
 use Rattle.dep_types.specs.Conditions.{Condition}
 use Rattle.dep_types.specs.Writing.{HasRisen}
-use Rattle.dep_hub.specs.StandsOwing.{KeepsBack, is_awaited_at}
+use Rattle.dep_hub.specs.RepresentsOwing.{KeepsBack, is_awaited_at}
 use Rattle.dep_hub.specs.declared.sent_on.SentOn.{SentOn}
 use Rattle.dep_outbox.specs.Sockets.{after_receive, after_send}
 use Rattle.dep_outbox.specs.declared.socket.Received.TheVariants as gives
 use Rattle.dep_outbox.specs.declared.socket.Delivered.TheVariants as takes
 use Rattle.dep_outbox.specs.declared.wire.Wire.{Wire}
-use Rattle.dep_outbox.specs.Wires.{told, owed_count}
+use Rattle.dep_outbox.specs.Wires.{reported, owed_count}
 use Rattle.dep_host.specs.declared.ending.Shut.{Shut}
-use Rattle.dep_host.specs.declared.course.Phase.{Phase}
-use Rattle.dep_host.specs.Courses.{SendsStill, StaysOrIsOver, duty, is_ended, is_held_back, is_sending, phase_begun}
+use Rattle.dep_host.specs.declared.connection_state.Phase.{Phase}
+use Rattle.dep_host.specs.ConnectionStates.{SendsStill, StaysOrIsOver, next_action, is_ended, is_held_back, is_sending, phase_begun}
 use Rattle.dep_host.specs.Causes.{Causes, HasCauses}
-use Rattle.dep_host.specs.declared.seat.Seat.{Seat}
-use Rattle.dep_host.specs.declared.seat.Time.{Time}
+use Rattle.dep_host.specs.declared.slot.Slot.{Slot}
+use Rattle.dep_host.specs.declared.slot.Time.{Time}
 use Rattle.dep_host.specs.declared.log.Closing.{Closing}
-use Rattle.dep_host.specs.declared.course.Phase.TheVariants.{Open, Over}
-use Rattle.dep_host.specs.declared.course.Duty.{Duty}
-use Rattle.dep_host.specs.declared.course.Duty.TheVariants as to
-use Rattle.dep_host.specs.Seats.{IsPutOff, IsUnknown, MayRest, ActsOnce, TakesTurn, next_duty, phase_sent}
-use Rattle.dep_host.specs.Hosting.{Position, slot, MayGo, farewell, closings_of, Deed, Takes, Replies, Sends, Declines, Closes, answers_at, pieces_at, sendings_at, sendings_in, unfinished_of, AreDoneAt, HasTurn, Goes, rests, offers, delays, sends, refuses, answers, leaves, Steps, begins, goes_on, IsOnce, IsLost, IsServed, IsServedAt, turn_duty, Serves}
+use Rattle.dep_host.specs.declared.connection_state.Phase.TheVariants.{Open, Over}
+use Rattle.dep_host.specs.declared.connection_state.NextAction.{NextAction}
+use Rattle.dep_host.specs.declared.connection_state.NextAction.TheVariants as to
+use Rattle.dep_host.specs.Slots.{IsPutOff, IsUnknown, MayRest, ActsOnce, TakesTurn, slot_action, phase_sent}
+use Rattle.dep_host.specs.Hosting.{Position, slot_at, MayGo, farewell, closings_of, HostAction, Takes, Replies, Sends, Declines, Closes, answers_at, pieces_at, sendings_at, sendings_in, unfinished_of, AreDoneAt, HasTurn, Goes, rests, offers, delays, sends, refuses, answers, leaves, Steps, begins, goes_on, IsOnce, IsLost, IsServed, IsServedAt, turn_action, Serves}
 use Rattle.dep_host.specs.Notes.{Note, LetGo, Grows}
 use Rattle.dep_host.proofs.HostLemmas.{grows_same, slot_read, steps_join, unchanged, woken}
-use Rattle.dep_host.proofs.DeedLemmas.{answers_append, pieces_append, sendings_in_append, counted_by, sendings_after, in_time_append, noted_on, one_at_most, one_here, one_sent, none_sent, none_elsewhere}
+use Rattle.dep_host.proofs.ActionLemmas.{answers_append, pieces_append, sendings_in_append, counted_by, sendings_after, in_time_append, noted_on, one_at_most, one_here, one_sent, none_sent, none_elsewhere}
 use Rattle.dep_host.proofs.PhaseLemmas.{asks_sending, begun_once, over_begun, sends_begun, still_begun}
 use Rattle.dep_host.proofs.StretchLemmas.{none_read, lost_before, kept_back_before, closed_there, at_after}
 
@@ -38,11 +38,11 @@ set_again {X = X} (z ∷ l) (suc at) x y = ap (λ (k : List X). z ∷ k) (set_ag
 
 module _ {A R K S : Type 0} (condition : A → Condition) (unread : R → Option (List ℕ)) (taken : K → Option (List ℕ)) (held : S → Option (List ℕ)) (size : S → ℕ) (causes : Causes R K S) where
   -- nothing was done at a place
-  pub served_none : (p q : Position A R K S) (at : ℕ) (time : Time) (is_full may_send : Bool) (told tells : Option (List Note)) (x : Option (Seat R K S)) → tells ≡ told → q.hub ≡ p.hub → q.limits ≡ p.limits → q.shut ≡ p.shut → q.seats ≡ set p.seats at x → at < length p.seats → x ≡ get_or p.seats at x → x ≡ None
-      → Serves condition unread taken held size causes p q at time is_full may_send false told tells
-  served_none p q at time is_full may_send told tells x same hub limits shut seats there read none = record {
-    deeds = [];
-    steps = goes_on begins (unchanged condition unread taken held p q at x hub limits shut seats there read);
+  pub served_none : (p q : Position A R K S) (at : ℕ) (time : Time) (is_full may_send : Bool) (reported reports : Option (List Note)) (x : Option (Slot R K S)) → reports ≡ reported → q.hub ≡ p.hub → q.limits ≡ p.limits → q.shut ≡ p.shut → q.slots ≡ set p.slots at x → at < length p.slots → x ≡ get_or p.slots at x → x ≡ None
+      → Serves condition unread taken held size causes p q at time is_full may_send false reported reports
+  served_none p q at time is_full may_send reported reports x same hub limits shut slots there read none = record {
+    actions = [];
+    steps = goes_on begins (unchanged condition unread taken held p q at x hub limits shut slots there read);
     once = omega arith;
     others = λ place ne. refl;
     waits = λ full some. refl;
@@ -51,58 +51,58 @@ module _ {A R K S : Type 0} (condition : A → Condition) (unread : R → Option
     unsent_others = λ place ne. refl;
     counted = refl;
     allowed = λ h. let bad : false ≡ true = h in cc;
-    served = subst (λ (o : Option (Seat R K S)). IsServedAt condition unread taken held size causes p q is_full may_send [] at o) (sym (slot_read at p.seats x there read ∙ none)) tt;
+    served = subst (λ (o : Option (Slot R K S)). IsServedAt condition unread taken held size causes p q is_full may_send [] at o) (sym (slot_read at p.slots x there read ∙ none)) tt;
     in_time = tt;
-    noted = grows_same told tells same;
+    noted = grows_same reported reports same;
   }
 
   -- what a turn did, and that it was what came next
-  record Turned (p q : Position A R K S) (at : ℕ) (time : Time) (is_full may_send : Bool) (before after : Seat R K S) : Type 0 where
-    deeds : List Deed
-    steps : Steps condition unread taken held p deeds q
-    once : answers_at at deeds ≤ 1
-    others : (place : ℕ) → (place ≡ at → ⊥) → answers_at place deeds ≡ 0
-    waits : is_full ≡ true → 0 < unfinished_of (slot at p.seats) → pieces_at at deeds ≡ 0
-    unread_others : (place : ℕ) → (place ≡ at → ⊥) → pieces_at place deeds ≡ 0
-    sends_once : length (sendings_at at deeds) ≤ 1
-    unsent_others : (place : ℕ) → (place ≡ at → ⊥) → sendings_at place deeds ≡ []
-    sends_on : next_duty size before ≡ to.Send → may_send ≡ true → sendings_in deeds ≡ 1
-    sends_none : (next_duty size before ≡ to.Send → may_send ≡ true → ⊥) → sendings_in deeds ≡ 0
-    does : IsServed condition unread taken held size causes p q deeds is_full may_send before after (answers_at at deeds) (pieces_at at deeds) (sendings_at at deeds) (next_duty size before)
-    in_time : AreDoneAt time deeds
-    quiet : closings_of deeds ≡ []
+  record Turned (p q : Position A R K S) (at : ℕ) (time : Time) (is_full may_send : Bool) (before after : Slot R K S) : Type 0 where
+    actions : List HostAction
+    steps : Steps condition unread taken held p actions q
+    once : answers_at at actions ≤ 1
+    others : (place : ℕ) → (place ≡ at → ⊥) → answers_at place actions ≡ 0
+    waits : is_full ≡ true → 0 < unfinished_of (slot_at at p.slots) → pieces_at at actions ≡ 0
+    unread_others : (place : ℕ) → (place ≡ at → ⊥) → pieces_at place actions ≡ 0
+    sends_once : length (sendings_at at actions) ≤ 1
+    unsent_others : (place : ℕ) → (place ≡ at → ⊥) → sendings_at place actions ≡ []
+    sends_on : slot_action size before ≡ to.Send → may_send ≡ true → sendings_in actions ≡ 1
+    sends_none : (slot_action size before ≡ to.Send → may_send ≡ true → ⊥) → sendings_in actions ≡ 0
+    does : IsServed condition unread taken held size causes p q actions is_full may_send before after (answers_at at actions) (pieces_at at actions) (sendings_at at actions) (slot_action size before)
+    in_time : AreDoneAt time actions
+    quiet : closings_of actions ≡ []
 
-  rest_served : (p q : Position A R K S) (is_full may_send : Bool) (before after : Seat R K S) (d : Duty) → before.course.phase ≡ phase_begun before.course.phase (is_some p.shut)
+  rest_served : (p q : Position A R K S) (is_full may_send : Bool) (before after : Slot R K S) (d : NextAction) → before.state.phase ≡ phase_begun before.state.phase (is_some p.shut)
       → Steps condition unread taken held p [] q → MayRest condition unread taken held size p.hub before after is_full (is_some p.shut) may_send d → IsServed condition unread taken held size causes p q [] is_full may_send before after 0 0 [] d
-  rest_served p q is_full may_send before after to.Flush e s may = (may.0, subst (λ (h : Phase). StaysOrIsOver h after.course.phase) e may.1)
+  rest_served p q is_full may_send before after to.Flush e s may = (may.0, subst (λ (h : Phase). StaysOrIsOver h after.state.phase) e may.1)
   rest_served p q is_full may_send before after to.Answer e s may = inr (inl (record { earlier = []; later = []; all = refl; mid = p; next = p; came = begins; is = may; goes = s }))
-  rest_served p q is_full may_send before after to.Send e s (none, off, phase) = inr (none, refl, off, subst (λ (h : Phase). StaysOrIsOver h after.course.phase) e phase)
+  rest_served p q is_full may_send before after to.Send e s (none, off, phase) = inr (none, refl, off, subst (λ (h : Phase). StaysOrIsOver h after.state.phase) e phase)
   rest_served p q is_full may_send before after to.Read e s (inl back) = inr (inl (back.0, back.1 ∙ e))
   rest_served p q is_full may_send before after to.Read e s (inr (inl later)) = inr (inr (inl (later.0, later.1 ∙ e)))
   rest_served p q is_full may_send before after to.Read e s (inr (inr (over, kept))) = inr (inr (inr over))
   rest_served p q is_full may_send before after to.Finish e s may = may
-  rest_served p q is_full may_send before after to.Drain e s may = subst (λ (h : Phase). StaysOrIsOver h after.course.phase) e may
+  rest_served p q is_full may_send before after to.Drain e s may = subst (λ (h : Phase). StaysOrIsOver h after.state.phase) e may
   rest_served p q is_full may_send before after to.Wait e s may = may ∙ e
 
-  read_served : (p q : Position A R K S) (deeds : List Deed) (is_full may_send : Bool) (before after : Seat R K S) (answered read : ℕ) (sent : List SentOn) → next_duty size before ≡ to.Read → read ≡ 1
-      → IsServed condition unread taken held size causes p q deeds is_full may_send before after answered read sent (next_duty size before)
-  read_served p q deeds is_full may_send before after answered read sent due one = subst (λ (d : Duty). IsServed condition unread taken held size causes p q deeds is_full may_send before after answered read sent d) (sym due) (inl one)
+  read_served : (p q : Position A R K S) (actions : List HostAction) (is_full may_send : Bool) (before after : Slot R K S) (answered read : ℕ) (sent : List SentOn) → slot_action size before ≡ to.Read → read ≡ 1
+      → IsServed condition unread taken held size causes p q actions is_full may_send before after answered read sent (slot_action size before)
+  read_served p q actions is_full may_send before after answered read sent due one = subst (λ (d : NextAction). IsServed condition unread taken held size causes p q actions is_full may_send before after answered read sent d) (sym due) (inl one)
 
-  answer_served : (p q : Position A R K S) (deeds : List Deed) (is_full may_send : Bool) (before after : Seat R K S) (answered read : ℕ) (sent : List SentOn) → next_duty size before ≡ to.Answer → answered ≡ 1
-      → IsServed condition unread taken held size causes p q deeds is_full may_send before after answered read sent (next_duty size before)
-  answer_served p q deeds is_full may_send before after answered read sent due one = subst (λ (d : Duty). IsServed condition unread taken held size causes p q deeds is_full may_send before after answered read sent d) (sym due) (inl one)
+  answer_served : (p q : Position A R K S) (actions : List HostAction) (is_full may_send : Bool) (before after : Slot R K S) (answered read : ℕ) (sent : List SentOn) → slot_action size before ≡ to.Answer → answered ≡ 1
+      → IsServed condition unread taken held size causes p q actions is_full may_send before after answered read sent (slot_action size before)
+  answer_served p q actions is_full may_send before after answered read sent due one = subst (λ (d : NextAction). IsServed condition unread taken held size causes p q actions is_full may_send before after answered read sent d) (sym due) (inl one)
 
   -- where it rested it wasn't its turn
-  rested_unsent : (p : Position A R K S) (before after : Seat R K S) (is_full may_send : Bool) → next_duty size before ≡ to.Send
-      → MayRest condition unread taken held size p.hub before after is_full (is_some p.shut) may_send (next_duty size before) → may_send ≡ false
+  rested_unsent : (p : Position A R K S) (before after : Slot R K S) (is_full may_send : Bool) → slot_action size before ≡ to.Send
+      → MayRest condition unread taken held size p.hub before after is_full (is_some p.shut) may_send (slot_action size before) → may_send ≡ false
   rested_unsent p before after is_full may_send due may =
-      let r = subst (λ (d : Duty). MayRest condition unread taken held size p.hub before after is_full (is_some p.shut) may_send d) due may in r.0
+      let r = subst (λ (d : NextAction). MayRest condition unread taken held size p.hub before after is_full (is_some p.shut) may_send d) due may in r.0
 
   -- a connection had its turn
-  took_turn : (p q : Position A R K S) (at : ℕ) (time : Time) (is_full may_send : Bool) (before after : Seat R K S) → HasTurn condition unread taken held p q at before after
-      → before.course.phase ≡ phase_begun before.course.phase (is_some p.shut) → ActsOnce condition unread taken held size p.hub q.hub before after time.moment is_full (is_some p.shut) may_send → Turned p q at time is_full may_send before after
+  took_turn : (p q : Position A R K S) (at : ℕ) (time : Time) (is_full may_send : Bool) (before after : Slot R K S) → HasTurn condition unread taken held p q at before after
+      → before.state.phase ≡ phase_begun before.state.phase (is_some p.shut) → ActsOnce condition unread taken held size p.hub q.hub before after time.moment is_full (is_some p.shut) may_send → Turned p q at time is_full may_send before after
   took_turn p q at time is_full may_send before after t e (inl (r, may)) = record {
-    deeds = [];
+    actions = [];
     steps = goes_on begins (rests t r);
     once = omega arith;
     others = λ place ne. refl;
@@ -112,12 +112,12 @@ module _ {A R K S : Type 0} (condition : A → Condition) (unread : R → Option
     unsent_others = λ place ne. refl;
     sends_on = λ due now. let r = rested_unsent p before after is_full may_send due may in let bad : true ≡ false = sym now ∙ r in cc;
     sends_none = λ no. refl;
-    does = rest_served p q is_full may_send before after (next_duty size before) e (goes_on begins (rests t r)) may;
+    does = rest_served p q is_full may_send before after (slot_action size before) e (goes_on begins (rests t r)) may;
     in_time = tt;
     quiet = refl;
   }
   took_turn p q at time is_full may_send before after t e (inr (inl (o, due))) = record {
-    deeds = Takes at before.connection o.piece ∷ [];
+    actions = Takes at before.connection o.piece ∷ [];
     steps = goes_on begins (offers t o);
     once = omega arith;
     others = λ place ne. refl;
@@ -132,7 +132,7 @@ module _ {A R K S : Type 0} (condition : A → Condition) (unread : R → Option
     quiet = refl;
   }
   took_turn p q at time is_full may_send before after t e (inr (inr (inl (r, due)))) = record {
-    deeds = Declines at before.connection r.piece time.moment r.answers.sent ∷ [];
+    actions = Declines at before.connection r.piece time.moment r.answers.sent ∷ [];
     steps = goes_on begins (refuses t r);
     once = one_at_most (at == at);
     others = λ place ne. none_elsewhere at place ne;
@@ -147,7 +147,7 @@ module _ {A R K S : Type 0} (condition : A → Condition) (unread : R → Option
     quiet = refl;
   }
   took_turn p q at time is_full may_send before after t e (inr (inr (inr (inl (a, due))))) = record {
-    deeds = Replies at before.connection time.moment a.now a.answers.sent ∷ [];
+    actions = Replies at before.connection time.moment a.now a.answers.sent ∷ [];
     steps = goes_on begins (answers t a);
     once = one_at_most (at == at);
     others = λ place ne. none_elsewhere at place ne;
@@ -164,7 +164,7 @@ module _ {A R K S : Type 0} (condition : A → Condition) (unread : R → Option
   took_turn p q at time is_full may_send before after t e (inr (inr (inr (inr (inl (d, due)))))) =
       let s = goes_on begins (delays t d) in
       record {
-        deeds = [];
+        actions = [];
         steps = s;
         once = omega arith;
         others = λ place ne. refl;
@@ -174,7 +174,7 @@ module _ {A R K S : Type 0} (condition : A → Condition) (unread : R → Option
         unsent_others = λ place ne. refl;
         sends_on = λ h now. let bad : to.Answer ≡ to.Send = sym due ∙ h in cc;
         sends_none = λ no. refl;
-        does = subst (λ (x : Duty). IsServed condition unread taken held size causes p q [] is_full may_send before after 0 0 [] x) (sym due) (inr (inr (record {
+        does = subst (λ (x : NextAction). IsServed condition unread taken held size causes p q [] is_full may_send before after 0 0 [] x) (sym due) (inr (inr (record {
           keeps = record { earlier = []; later = []; all = refl; mid = p; next = q; came = begins; is = d.keeps; goes = begins };
           stays = d.stays;
           stirs = d.stirs;
@@ -185,7 +185,7 @@ module _ {A R K S : Type 0} (condition : A → Condition) (unread : R → Option
         quiet = refl;
       }
   took_turn p q at time is_full may_send before after t e (inr (inr (inr (inr (inr (s, due, may)))))) = record {
-    deeds = Sends at before.connection s.sends.sent s.answer ∷ [];
+    actions = Sends at before.connection s.sends.sent s.answer ∷ [];
     steps = goes_on begins (sends t s);
     once = omega arith;
     others = λ place ne. refl;
@@ -195,35 +195,35 @@ module _ {A R K S : Type 0} (condition : A → Condition) (unread : R → Option
     unsent_others = λ place ne. none_sent at place s.answer ne;
     sends_on = λ h now. refl;
     sends_none = λ no. absurd (no due may);
-    does = subst (λ (x : Duty). IsServed condition unread taken held size causes p q (Sends at before.connection s.sends.sent s.answer ∷ []) is_full may_send before after 0 0 (sendings_at at (Sends at before.connection s.sends.sent s.answer ∷ [])) x) (sym due)
+    does = subst (λ (x : NextAction). IsServed condition unread taken held size causes p q (Sends at before.connection s.sends.sent s.answer ∷ []) is_full may_send before after 0 0 (sendings_at at (Sends at before.connection s.sends.sent s.answer ∷ [])) x) (sym due)
         (inl (may, (s.answer, one_sent at s.answer, s.goes ∙ ap (λ (h : Phase). phase_sent h s.answer) e)));
     in_time = (tt, tt);
     quiet = refl;
   }
 
   -- what comes next is what came next as the turn began
-  duty_begun : (shut : Option Shut) (is_shut is_awaited : Bool) (before mid : Seat R K S) → is_shut ≡ is_some shut → mid.course.phase ≡ phase_begun before.course.phase is_shut → mid.wire ≡ before.wire
-      → mid.course.is_readable ≡ before.course.is_readable → mid.course.is_writable ≡ before.course.is_writable → mid.course.is_awaited ≡ is_sending before.course.phase && is_awaited
-      → next_duty size mid ≡ turn_duty size shut before is_awaited
-  duty_begun shut is_shut is_awaited before mid told phase wire readable writable awaited =
-      let p = phase_begun before.course.phase (is_some shut) in
-      let phase_so : mid.course.phase ≡ p = phase ∙ ap (λ (b : Bool). phase_begun before.course.phase b) told in
-      let awaited_so : mid.course.is_awaited ≡ is_sending p && is_awaited =
-      awaited ∙ ap (λ (b : Bool). b && is_awaited) (sym (sends_begun before.course.phase (is_some shut))) in
-      ap (λ (h : Phase). duty h mid.course.is_awaited (nat_lt 0 (owed_count size mid.wire)) mid.course.is_readable mid.course.is_writable) phase_so
-      ∙ (ap (λ (w : Wire K S). duty p mid.course.is_awaited (nat_lt 0 (owed_count size w)) mid.course.is_readable mid.course.is_writable) wire
-      ∙ (ap (λ (b : Bool). duty p mid.course.is_awaited (nat_lt 0 (owed_count size before.wire)) b mid.course.is_writable) readable
-      ∙ (ap (λ (b : Bool). duty p mid.course.is_awaited (nat_lt 0 (owed_count size before.wire)) before.course.is_readable b) writable
-      ∙ (ap (λ (b : Bool). duty p b (nat_lt 0 (owed_count size before.wire)) before.course.is_readable before.course.is_writable) awaited_so
-      ∙ asks_sending p is_awaited (nat_lt 0 (owed_count size before.wire)) before.course.is_readable before.course.is_writable))))
+  action_begun : (shut : Option Shut) (is_shut is_awaited : Bool) (before mid : Slot R K S) → is_shut ≡ is_some shut → mid.state.phase ≡ phase_begun before.state.phase is_shut → mid.wire ≡ before.wire
+      → mid.state.is_readable ≡ before.state.is_readable → mid.state.is_writable ≡ before.state.is_writable → mid.state.is_awaited ≡ is_sending before.state.phase && is_awaited
+      → slot_action size mid ≡ turn_action size shut before is_awaited
+  action_begun shut is_shut is_awaited before mid reported phase wire readable writable awaited =
+      let p = phase_begun before.state.phase (is_some shut) in
+      let phase_so : mid.state.phase ≡ p = phase ∙ ap (λ (b : Bool). phase_begun before.state.phase b) reported in
+      let awaited_so : mid.state.is_awaited ≡ is_sending p && is_awaited =
+      awaited ∙ ap (λ (b : Bool). b && is_awaited) (sym (sends_begun before.state.phase (is_some shut))) in
+      ap (λ (h : Phase). next_action h mid.state.is_awaited (nat_lt 0 (owed_count size mid.wire)) mid.state.is_readable mid.state.is_writable) phase_so
+      ∙ (ap (λ (w : Wire K S). next_action p mid.state.is_awaited (nat_lt 0 (owed_count size w)) mid.state.is_readable mid.state.is_writable) wire
+      ∙ (ap (λ (b : Bool). next_action p mid.state.is_awaited (nat_lt 0 (owed_count size before.wire)) b mid.state.is_writable) readable
+      ∙ (ap (λ (b : Bool). next_action p mid.state.is_awaited (nat_lt 0 (owed_count size before.wire)) before.state.is_readable b) writable
+      ∙ (ap (λ (b : Bool). next_action p b (nat_lt 0 (owed_count size before.wire)) before.state.is_readable before.state.is_writable) awaited_so
+      ∙ asks_sending p is_awaited (nat_lt 0 (owed_count size before.wire)) before.state.is_readable before.state.is_writable))))
 
-  held_back : (p m : Position A R K S) (is_full : Bool) (before mid : Seat R K S) → m.shut ≡ p.shut → mid.course.unfinished ≡ before.course.unfinished
-      → is_held_back mid.course is_full (is_some m.shut) ≡ true → is_held_back before.course is_full (is_some p.shut) ≡ true
+  held_back : (p m : Position A R K S) (is_full : Bool) (before mid : Slot R K S) → m.shut ≡ p.shut → mid.state.unfinished ≡ before.state.unfinished
+      → is_held_back mid.state is_full (is_some m.shut) ≡ true → is_held_back before.state is_full (is_some p.shut) ≡ true
   held_back p m is_full before mid shut count back =
       subst (λ (n : ℕ). (is_some p.shut || (is_full && nat_lt 0 n)) ≡ true) count
-      (subst (λ (o : Option Shut). (is_some o || (is_full && nat_lt 0 mid.course.unfinished)) ≡ true) shut back)
+      (subst (λ (o : Option Shut). (is_some o || (is_full && nat_lt 0 mid.state.unfinished)) ≡ true) shut back)
 
-  off_begun : (before mid after : Seat R K S) → mid.wire ≡ before.wire → mid.course.is_writable ≡ before.course.is_writable → IsPutOff size mid after → IsPutOff size before after
+  off_begun : (before mid after : Slot R K S) → mid.wire ≡ before.wire → mid.state.is_writable ≡ before.state.is_writable → IsPutOff size mid after → IsPutOff size before after
   off_begun before mid after wire writable off = record {
     sends = λ may owes. elim (off.sends (writable ∙ may) (subst (λ (w : Wire K S). 0 < owed_count size w) (sym wire) owes)) [
       | inl fewer ↦ inl (subst (λ (w : Wire K S). owed_count size after.wire < owed_count size w) wire fewer)
@@ -234,42 +234,42 @@ module _ {A R K S : Type 0} (condition : A → Condition) (unread : R → Option
   }
 
   -- who was served once its turn had begun was served
-  served_begun : (p m q : Position A R K S) (deeds : List Deed) (is_full may_send : Bool) (before mid after : Seat R K S) (answered read : ℕ) (sent : List SentOn) (d : Duty) → Steps condition unread taken held p [] m → m.shut ≡ p.shut
-      → mid.connection ≡ before.connection → mid.wire ≡ before.wire → mid.course.unfinished ≡ before.course.unfinished → mid.course.is_writable ≡ before.course.is_writable
-      → phase_begun mid.course.phase (is_some m.shut) ≡ phase_begun before.course.phase (is_some p.shut)
-      → IsServed condition unread taken held size causes m q deeds is_full may_send mid after answered read sent d → IsServed condition unread taken held size causes p q deeds is_full may_send before after answered read sent d
-  served_begun p m q deeds is_full may_send before mid after answered read sent to.Flush s shut number wire count writable phase (inl fewer, h) =
-      (inl (subst (λ (w : Wire K S). owed_count size after.wire < owed_count size w) wire fewer), subst (λ (x : Phase). StaysOrIsOver x after.course.phase) phase h)
-  served_begun p m q deeds is_full may_send before mid after answered read sent to.Flush s shut number wire count writable phase (inr none, h) = (inr none, subst (λ (x : Phase). StaysOrIsOver x after.course.phase) phase h)
-  served_begun p m q deeds is_full may_send before mid after answered read sent to.Answer s shut number wire count writable phase (inl one) = inl one
-  served_begun p m q deeds is_full may_send before mid after answered read sent to.Answer s shut number wire count writable phase (inr (inl lost)) =
-      inr (inl (subst (λ (n : ℕ). IsLost condition unread taken held size causes p q deeds n) number (lost_before condition unread taken held size causes p m q mid.connection [] deeds s lost)))
-  served_begun p m q deeds is_full may_send before mid after answered read sent to.Answer s shut number wire count writable phase (inr (inr k)) =
-      let b = kept_back_before condition unread taken held size causes p m q [] deeds mid after s k in
+  served_begun : (p m q : Position A R K S) (actions : List HostAction) (is_full may_send : Bool) (before mid after : Slot R K S) (answered read : ℕ) (sent : List SentOn) (d : NextAction) → Steps condition unread taken held p [] m → m.shut ≡ p.shut
+      → mid.connection ≡ before.connection → mid.wire ≡ before.wire → mid.state.unfinished ≡ before.state.unfinished → mid.state.is_writable ≡ before.state.is_writable
+      → phase_begun mid.state.phase (is_some m.shut) ≡ phase_begun before.state.phase (is_some p.shut)
+      → IsServed condition unread taken held size causes m q actions is_full may_send mid after answered read sent d → IsServed condition unread taken held size causes p q actions is_full may_send before after answered read sent d
+  served_begun p m q actions is_full may_send before mid after answered read sent to.Flush s shut number wire count writable phase (inl fewer, h) =
+      (inl (subst (λ (w : Wire K S). owed_count size after.wire < owed_count size w) wire fewer), subst (λ (x : Phase). StaysOrIsOver x after.state.phase) phase h)
+  served_begun p m q actions is_full may_send before mid after answered read sent to.Flush s shut number wire count writable phase (inr none, h) = (inr none, subst (λ (x : Phase). StaysOrIsOver x after.state.phase) phase h)
+  served_begun p m q actions is_full may_send before mid after answered read sent to.Answer s shut number wire count writable phase (inl one) = inl one
+  served_begun p m q actions is_full may_send before mid after answered read sent to.Answer s shut number wire count writable phase (inr (inl lost)) =
+      inr (inl (subst (λ (n : ℕ). IsLost condition unread taken held size causes p q actions n) number (lost_before condition unread taken held size causes p m q mid.connection [] actions s lost)))
+  served_begun p m q actions is_full may_send before mid after answered read sent to.Answer s shut number wire count writable phase (inr (inr k)) =
+      let b = kept_back_before condition unread taken held size causes p m q [] actions mid after s k in
       inr (inr (record {
-        keeps = subst (λ (n : ℕ). IsOnce condition unread taken held size causes (λ old new. KeepsBack condition (told taken held before.wire) (told taken held after.wire) before.wire.failures after.wire.failures old new n) p q deeds) number
-            (subst (λ (w : Wire K S). IsOnce condition unread taken held size causes (λ old new. KeepsBack condition (told taken held w) (told taken held after.wire) w.failures after.wire.failures old new mid.connection) p q deeds) wire b.keeps);
+        keeps = subst (λ (n : ℕ). IsOnce condition unread taken held size causes (λ old new. KeepsBack condition (reported taken held before.wire) (reported taken held after.wire) before.wire.failures after.wire.failures old new n) p q actions) number
+            (subst (λ (w : Wire K S). IsOnce condition unread taken held size causes (λ old new. KeepsBack condition (reported taken held w) (reported taken held after.wire) w.failures after.wire.failures old new mid.connection) p q actions) wire b.keeps);
         stays = b.stays;
         stirs = b.stirs;
         counts_not = b.counts_not;
         leaves = b.leaves ∙ count;
       }))
-  served_begun p m q deeds is_full may_send before mid after answered read sent to.Send s shut number wire count writable phase (inl (may, h)) =
+  served_begun p m q actions is_full may_send before mid after answered read sent to.Send s shut number wire count writable phase (inl (may, h)) =
       inl (may, (h.0, h.1, h.2 ∙ ap (λ (x : Phase). phase_sent x h.0) phase))
-  served_begun p m q deeds is_full may_send before mid after answered read sent to.Send s shut number wire count writable phase (inr (none, unsent, off, h)) =
-      inr (none, unsent, off_begun before mid after wire writable off, subst (λ (x : Phase). StaysOrIsOver x after.course.phase) phase h)
-  served_begun p m q deeds is_full may_send before mid after answered read sent to.Read s shut number wire count writable phase (inl one) = inl one
-  served_begun p m q deeds is_full may_send before mid after answered read sent to.Read s shut number wire count writable phase (inr (inl back)) =
+  served_begun p m q actions is_full may_send before mid after answered read sent to.Send s shut number wire count writable phase (inr (none, unsent, off, h)) =
+      inr (none, unsent, off_begun before mid after wire writable off, subst (λ (x : Phase). StaysOrIsOver x after.state.phase) phase h)
+  served_begun p m q actions is_full may_send before mid after answered read sent to.Read s shut number wire count writable phase (inl one) = inl one
+  served_begun p m q actions is_full may_send before mid after answered read sent to.Read s shut number wire count writable phase (inr (inl back)) =
       inr (inl (held_back p m is_full before mid shut count back.0, back.1 ∙ phase))
-  served_begun p m q deeds is_full may_send before mid after answered read sent to.Read s shut number wire count writable phase (inr (inr (inl none))) = inr (inr (inl (none.0, none.1 ∙ phase)))
-  served_begun p m q deeds is_full may_send before mid after answered read sent to.Read s shut number wire count writable phase (inr (inr (inr over))) = inr (inr (inr over))
-  served_begun p m q deeds is_full may_send before mid after answered read sent to.Finish s shut number wire count writable phase h = h
-  served_begun p m q deeds is_full may_send before mid after answered read sent to.Drain s shut number wire count writable phase h = subst (λ (x : Phase). StaysOrIsOver x after.course.phase) phase h
-  served_begun p m q deeds is_full may_send before mid after answered read sent to.Wait s shut number wire count writable phase h = h ∙ phase
+  served_begun p m q actions is_full may_send before mid after answered read sent to.Read s shut number wire count writable phase (inr (inr (inl none))) = inr (inr (inl (none.0, none.1 ∙ phase)))
+  served_begun p m q actions is_full may_send before mid after answered read sent to.Read s shut number wire count writable phase (inr (inr (inr over))) = inr (inr (inr over))
+  served_begun p m q actions is_full may_send before mid after answered read sent to.Finish s shut number wire count writable phase h = h
+  served_begun p m q actions is_full may_send before mid after answered read sent to.Drain s shut number wire count writable phase h = subst (λ (x : Phase). StaysOrIsOver x after.state.phase) phase h
+  served_begun p m q actions is_full may_send before mid after answered read sent to.Wait s shut number wire count writable phase h = h ∙ phase
 
   -- and had its causes since before
-  caused_begun : (lost more : Type 0) (before mid after : Seat R K S) → mid.source ≡ before.source → mid.wire ≡ before.wire → mid.course.is_readable ≡ before.course.is_readable
-      → mid.course.is_writable ≡ before.course.is_writable → (mid.course.phase ≡ Over → before.course.phase ≡ Over) → (lost → more) → HasCauses causes lost mid after → HasCauses causes more before after
+  caused_begun : (lost more : Type 0) (before mid after : Slot R K S) → mid.source ≡ before.source → mid.wire ≡ before.wire → mid.state.is_readable ≡ before.state.is_readable
+      → mid.state.is_writable ≡ before.state.is_writable → (mid.state.phase ≡ Over → before.state.phase ≡ Over) → (lost → more) → HasCauses causes lost mid after → HasCauses causes more before after
   caused_begun lost more before mid after source wire readable writable over f h = record {
     readable = elim h.readable [
       | inl same ↦ inl (same ∙ readable)
@@ -290,41 +290,41 @@ module _ {A R K S : Type 0} (condition : A → Condition) (unread : R → Option
   }
 
   -- a connection had its turn, once that had begun
-  pub served : (p q : Position A R K S) (at : ℕ) (time : Time) (is_full is_shut may_send has_sent is_awaited : Bool) (told_old told_new : Option (List Note)) (before mid after : Seat R K S) → told_new ≡ told_old → at < length p.seats → slot at p.seats ≡ Some before
-      → q.seats ≡ set p.seats at (Some after) → q.limits ≡ p.limits → q.shut ≡ p.shut → mid ≡ record before { course = mid.course }
-      → (mid.course.phase ≡ Open → before.course.phase ≡ Open) → (is_ended before.course.phase ≡ true → is_ended mid.course.phase ≡ true)
-      → mid.course.unfinished ≡ before.course.unfinished → mid.course.phase ≡ phase_begun before.course.phase is_shut → mid.course.is_readable ≡ before.course.is_readable
-      → mid.course.is_writable ≡ before.course.is_writable → is_shut ≡ is_some p.shut
-      → mid.course.is_awaited ≡ is_sending before.course.phase && is_awaited → is_awaited_at p.hub.connections.items before.connection ≡ is_awaited
-      → (has_sent ≡ true → (may_send ≡ true) × (next_duty size mid ≡ to.Send)) → (has_sent ≡ false → may_send ≡ true → next_duty size mid ≡ to.Send → ⊥)
-      → TakesTurn condition unread taken held size causes p.hub q.hub mid after time.moment is_full is_shut may_send → Serves condition unread taken held size causes p q at time is_full may_send has_sent told_old told_new
-  served p q at time is_full is_shut may_send has_sent is_awaited told_old told_new before mid after quiet there sat sits limits shut same opens ended count phase readable writable told awaited asked sends_so sends_not t =
-      let m : Position A R K S = record p { seats = set p.seats at (Some mid) } in
-      let begun : slot at m.seats ≡ Some mid = get_or-set_same p.seats at (Some mid) None there in
-      let unfinished : unfinished_of (slot at m.seats) ≡ unfinished_of (slot at p.seats) =
-      ap (λ (o : Option (Seat R K S)). unfinished_of o) begun ∙ (count ∙ sym (ap (λ (o : Option (Seat R K S)). unfinished_of o) sat)) in
-      let wire = ap (λ (x : Seat R K S). x.wire) same in
+  pub served : (p q : Position A R K S) (at : ℕ) (time : Time) (is_full is_shut may_send has_sent is_awaited : Bool) (reported_old reported_new : Option (List Note)) (before mid after : Slot R K S) → reported_new ≡ reported_old → at < length p.slots → slot_at at p.slots ≡ Some before
+      → q.slots ≡ set p.slots at (Some after) → q.limits ≡ p.limits → q.shut ≡ p.shut → mid ≡ record before { state = mid.state }
+      → (mid.state.phase ≡ Open → before.state.phase ≡ Open) → (is_ended before.state.phase ≡ true → is_ended mid.state.phase ≡ true)
+      → mid.state.unfinished ≡ before.state.unfinished → mid.state.phase ≡ phase_begun before.state.phase is_shut → mid.state.is_readable ≡ before.state.is_readable
+      → mid.state.is_writable ≡ before.state.is_writable → is_shut ≡ is_some p.shut
+      → mid.state.is_awaited ≡ is_sending before.state.phase && is_awaited → is_awaited_at p.hub.connections.items before.connection ≡ is_awaited
+      → (has_sent ≡ true → (may_send ≡ true) × (slot_action size mid ≡ to.Send)) → (has_sent ≡ false → may_send ≡ true → slot_action size mid ≡ to.Send → ⊥)
+      → TakesTurn condition unread taken held size causes p.hub q.hub mid after time.moment is_full is_shut may_send → Serves condition unread taken held size causes p q at time is_full may_send has_sent reported_old reported_new
+  served p q at time is_full is_shut may_send has_sent is_awaited reported_old reported_new before mid after quiet there sat sits limits shut same opens ended count phase readable writable reported awaited asked sends_so sends_not t =
+      let m : Position A R K S = record p { slots = set p.slots at (Some mid) } in
+      let begun : slot_at at m.slots ≡ Some mid = get_or-set_same p.slots at (Some mid) None there in
+      let unfinished : unfinished_of (slot_at at m.slots) ≡ unfinished_of (slot_at at p.slots) =
+      ap (λ (o : Option (Slot R K S)). unfinished_of o) begun ∙ (count ∙ sym (ap (λ (o : Option (Slot R K S)). unfinished_of o) sat)) in
+      let wire = ap (λ (x : Slot R K S). x.wire) same in
       let began = woken condition unread taken held p m at before mid there sat refl refl refl refl
-      (record { connection = ap (λ (x : Seat R K S). x.connection) same; address = ap (λ (x : Seat R K S). x.address) same })
-      (ap (λ (x : Seat R K S). x.source) same) wire opens (subst (λ (h : Phase). SendsStill before.course.phase h) (sym phase) (still_begun before.course.phase is_shut)) ended count in
-      let stands : Some after ≡ slot at q.seats = sym (ap (λ (l : List (Option (Seat R K S))). slot at l) sits ∙ get_or-set_same p.seats at (Some after) None there) in
-      let source = ap (λ (x : Seat R K S). x.source) same in
-      let number = ap (λ (x : Seat R K S). x.connection) same in
-      let begun_so : mid.course.phase ≡ phase_begun before.course.phase (is_some p.shut) = phase ∙ ap (λ (b : Bool). phase_begun before.course.phase b) told in
-      let twice : phase_begun mid.course.phase (is_some p.shut) ≡ phase_begun before.course.phase (is_some p.shut) =
-      ap (λ (h : Phase). phase_begun h (is_some p.shut)) begun_so ∙ begun_once before.course.phase (is_some p.shut) in
+      (record { connection = ap (λ (x : Slot R K S). x.connection) same; address = ap (λ (x : Slot R K S). x.address) same })
+      (ap (λ (x : Slot R K S). x.source) same) wire opens (subst (λ (h : Phase). SendsStill before.state.phase h) (sym phase) (still_begun before.state.phase is_shut)) ended count in
+      let represents : Some after ≡ slot_at at q.slots = sym (ap (λ (l : List (Option (Slot R K S))). slot_at at l) sits ∙ get_or-set_same p.slots at (Some after) None there) in
+      let source = ap (λ (x : Slot R K S). x.source) same in
+      let number = ap (λ (x : Slot R K S). x.connection) same in
+      let begun_so : mid.state.phase ≡ phase_begun before.state.phase (is_some p.shut) = phase ∙ ap (λ (b : Bool). phase_begun before.state.phase b) reported in
+      let twice : phase_begun mid.state.phase (is_some p.shut) ≡ phase_begun before.state.phase (is_some p.shut) =
+      ap (λ (h : Phase). phase_begun h (is_some p.shut)) begun_so ∙ begun_once before.state.phase (is_some p.shut) in
       let s = took_turn m q at time is_full may_send mid after (record {
-        there = omega (arith, there, length-set p.seats at (Some mid));
+        there = omega (arith, there, length-set p.slots at (Some mid));
         sat = begun;
-        sits = sits ∙ sym (set_again p.seats at (Some mid) (Some after));
+        sits = sits ∙ sym (set_again p.slots at (Some mid) (Some after));
         client = t.client;
         hub = t.hub;
         ended = t.ended;
         same_limits = limits;
         same_shut = shut;
-      }) (begun_so ∙ sym twice) (subst (λ (b : Bool). ActsOnce condition unread taken held size p.hub q.hub mid after time.moment is_full b may_send) told t.acts) in
+      }) (begun_so ∙ sym twice) (subst (λ (b : Bool). ActsOnce condition unread taken held size p.hub q.hub mid after time.moment is_full b may_send) reported t.acts) in
       record {
-        deeds = s.deeds;
+        actions = s.actions;
         steps = steps_join condition unread taken held began s.steps;
         once = s.once;
         others = s.others;
@@ -332,16 +332,16 @@ module _ {A R K S : Type 0} (condition : A → Condition) (unread : R → Option
         unread_others = s.unread_others;
         sends_once = s.sends_once;
         unsent_others = s.unsent_others;
-        counted = counted_by (sendings_in s.deeds) has_sent (λ h. s.sends_on (sends_so h).1 (sends_so h).0) (λ h. s.sends_none (λ due may. sends_not h may due));
+        counted = counted_by (sendings_in s.actions) has_sent (λ h. s.sends_on (sends_so h).1 (sends_so h).0) (λ h. s.sends_none (λ due may. sends_not h may due));
         allowed = λ h. (sends_so h).0;
-        served = subst (λ (x : Option (Seat R K S)). IsServedAt condition unread taken held size causes p q is_full may_send s.deeds at x) (sym sat) (record {
+        served = subst (λ (x : Option (Slot R K S)). IsServedAt condition unread taken held size causes p q is_full may_send s.actions at x) (sym sat) (record {
           after = after;
-          left = inl (sym stands);
-          caused = caused_begun (IsUnknown p.hub mid.connection) (IsLost condition unread taken held size causes p q s.deeds before.connection) before mid after source wire readable writable
-              (λ h. over_begun before.course.phase (is_some p.shut) (sym begun_so ∙ h))
+          left = inl (sym represents);
+          caused = caused_begun (IsUnknown p.hub mid.connection) (IsLost condition unread taken held size causes p q s.actions before.connection) before mid after source wire readable writable
+              (λ h. over_begun before.state.phase (is_some p.shut) (sym begun_so ∙ h))
               (λ unknown. record {
                 earlier = [];
-                later = s.deeds;
+                later = s.actions;
                 all = refl;
                 mid = p;
                 next = p;
@@ -350,38 +350,38 @@ module _ {A R K S : Type 0} (condition : A → Condition) (unread : R → Option
                 goes = steps_join condition unread taken held began s.steps;
               }) t.caused;
           is_awaited = is_awaited;
-          asked = record { earlier = []; later = s.deeds; all = refl; mid = p; next = p; came = begins; is = asked; goes = steps_join condition unread taken held began s.steps };
-          served = subst (λ (d : Duty). IsServed condition unread taken held size causes p q s.deeds is_full may_send before after (answers_at at s.deeds) (pieces_at at s.deeds) (sendings_at at s.deeds) d)
-              (duty_begun p.shut is_shut is_awaited before mid told phase wire readable writable awaited)
-              (served_begun p m q s.deeds is_full may_send before mid after (answers_at at s.deeds) (pieces_at at s.deeds) (sendings_at at s.deeds) (next_duty size mid) began refl number wire count writable twice s.does);
+          asked = record { earlier = []; later = s.actions; all = refl; mid = p; next = p; came = begins; is = asked; goes = steps_join condition unread taken held began s.steps };
+          served = subst (λ (d : NextAction). IsServed condition unread taken held size causes p q s.actions is_full may_send before after (answers_at at s.actions) (pieces_at at s.actions) (sendings_at at s.actions) d)
+              (action_begun p.shut is_shut is_awaited before mid reported phase wire readable writable awaited)
+              (served_begun p m q s.actions is_full may_send before mid after (answers_at at s.actions) (pieces_at at s.actions) (sendings_at at s.actions) (slot_action size mid) began refl number wire count writable twice s.does);
         });
         in_time = s.in_time;
-        noted = subst (λ (l : List Note). Grows told_old told_new l) (sym s.quiet) (grows_same told_old told_new quiet);
+        noted = subst (λ (l : List Note). Grows reported_old reported_new l) (sym s.quiet) (grows_same reported_old reported_new quiet);
       }
 
   -- and was closed after it
-  pub then_closed : (p q r : Position A R K S) (at : ℕ) (time : Time) (is_full may_send has_sent : Bool) (told so_far tells : Option (List Note)) (reason : Closing) (seat : Seat R K S) → Serves condition unread taken held size causes p q at time is_full may_send has_sent told so_far → Goes condition unread taken held q r at time.second reason seat
-      → Grows so_far tells (LetGo seat.connection reason ∷ []) → Serves condition unread taken held size causes p r at time is_full may_send has_sent told tells
-  then_closed p q r at time is_full may_send has_sent told so_far tells reason seat s g noted =
-      let more : List Deed = Closes at seat.connection time.second reason ∷ [] in
+  pub then_closed : (p q r : Position A R K S) (at : ℕ) (time : Time) (is_full may_send has_sent : Bool) (reported so_far reports : Option (List Note)) (reason : Closing) (slot : Slot R K S) → Serves condition unread taken held size causes p q at time is_full may_send has_sent reported so_far → Goes condition unread taken held q r at time.second reason slot
+      → Grows so_far reports (LetGo slot.connection reason ∷ []) → Serves condition unread taken held size causes p r at time is_full may_send has_sent reported reports
+  then_closed p q r at time is_full may_send has_sent reported so_far reports reason slot s g noted =
+      let more : List HostAction = Closes at slot.connection time.second reason ∷ [] in
       record {
-        deeds = s.deeds ++ more;
+        actions = s.actions ++ more;
         steps = goes_on s.steps (leaves g);
-        once = let e = answers_append at s.deeds more in let f : answers_at at more ≡ 0 = refl in let o = s.once in omega (arith, e, f, o);
-        others = λ place ne. let e = answers_append place s.deeds more in let f : answers_at place more ≡ 0 = refl in let o = s.others place ne in omega (arith, e, f, o);
-        waits = λ full some. let e = pieces_append at s.deeds more in let f : pieces_at at more ≡ 0 = refl in let o = s.waits full some in omega (arith, e, f, o);
-        unread_others = λ place ne. let e = pieces_append place s.deeds more in let f : pieces_at place more ≡ 0 = refl in let o = s.unread_others place ne in omega (arith, e, f, o);
-        sends_once = let e = ap (λ (l : List SentOn). length l) (sendings_after at s.deeds more refl) in let o = s.sends_once in omega (arith, e, o);
-        unsent_others = λ place ne. sendings_after place s.deeds more refl ∙ s.unsent_others place ne;
-        counted = let e = sendings_in_append s.deeds more in let f : sendings_in more ≡ 0 = refl in let none : sendings_in (s.deeds ++ more) ≡ sendings_in s.deeds = omega (arith, e, f) in none ∙ s.counted;
+        once = let e = answers_append at s.actions more in let f : answers_at at more ≡ 0 = refl in let o = s.once in omega (arith, e, f, o);
+        others = λ place ne. let e = answers_append place s.actions more in let f : answers_at place more ≡ 0 = refl in let o = s.others place ne in omega (arith, e, f, o);
+        waits = λ full some. let e = pieces_append at s.actions more in let f : pieces_at at more ≡ 0 = refl in let o = s.waits full some in omega (arith, e, f, o);
+        unread_others = λ place ne. let e = pieces_append place s.actions more in let f : pieces_at place more ≡ 0 = refl in let o = s.unread_others place ne in omega (arith, e, f, o);
+        sends_once = let e = ap (λ (l : List SentOn). length l) (sendings_after at s.actions more refl) in let o = s.sends_once in omega (arith, e, o);
+        unsent_others = λ place ne. sendings_after place s.actions more refl ∙ s.unsent_others place ne;
+        counted = let e = sendings_in_append s.actions more in let f : sendings_in more ≡ 0 = refl in let none : sendings_in (s.actions ++ more) ≡ sendings_in s.actions = omega (arith, e, f) in none ∙ s.counted;
         allowed = s.allowed;
-        served = at_after condition unread taken held size causes p q r is_full may_send s.deeds more at (slot at p.seats) s.steps (goes_on begins (leaves g))
-            (λ other sits. inr (closed_there condition unread taken held size causes q r at time.second reason seat other g sits)) refl refl refl s.served;
-        in_time = in_time_append time s.deeds more s.in_time (refl, tt);
-        noted = noted_on told so_far tells s.deeds more s.noted noted;
+        served = at_after condition unread taken held size causes p q r is_full may_send s.actions more at (slot_at at p.slots) s.steps (goes_on begins (leaves g))
+            (λ other sits. inr (closed_there condition unread taken held size causes q r at time.second reason slot other g sits)) refl refl refl s.served;
+        in_time = in_time_append time s.actions more s.in_time (refl, tt);
+        noted = noted_on reported so_far reports s.actions more s.noted noted;
       }
 
-  pub closes_served : (p q r : Position A R K S) (at : ℕ) (time : Time) (is_full may_send has_sent : Bool) (told so_far tells : Option (List Note)) (reason : Closing) (x : Option (Seat R K S)) → IfSome x (Goes condition unread taken held q r at time.second reason) → MayGo q time.second reason x
-      → Serves condition unread taken held size causes p q at time is_full may_send has_sent told so_far → Grows so_far tells (farewell reason x) → Serves condition unread taken held size causes p r at time is_full may_send has_sent told tells
-  closes_served p q r at time is_full may_send has_sent told so_far tells reason None g d s noted = absurd d
-  closes_served p q r at time is_full may_send has_sent told so_far tells reason (Some seat) g d s noted = then_closed p q r at time is_full may_send has_sent told so_far tells reason seat s g noted
+  pub closes_served : (p q r : Position A R K S) (at : ℕ) (time : Time) (is_full may_send has_sent : Bool) (reported so_far reports : Option (List Note)) (reason : Closing) (x : Option (Slot R K S)) → IfSome x (Goes condition unread taken held q r at time.second reason) → MayGo q time.second reason x
+      → Serves condition unread taken held size causes p q at time is_full may_send has_sent reported so_far → Grows so_far reports (farewell reason x) → Serves condition unread taken held size causes p r at time is_full may_send has_sent reported reports
+  closes_served p q r at time is_full may_send has_sent reported so_far reports reason None g d s noted = absurd d
+  closes_served p q r at time is_full may_send has_sent reported so_far reports reason (Some slot) g d s noted = then_closed p q r at time is_full may_send has_sent reported so_far reports reason slot s g noted

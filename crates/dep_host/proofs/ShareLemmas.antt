@@ -27,7 +27,7 @@ turn_behind first next at h = elim (cases_lt at first) [
   | inr ge ↦ ge
 ]
 
--- and in front of the next
+-- and in prefix of the next
 turn_before : (first next at : ℕ) → is_turn first next at ≡ true → (next ≡ 0) ⊎ (at < next)
 turn_before first next at h = elim (cases_lt at next) [
   | inl lt ↦ inr lt

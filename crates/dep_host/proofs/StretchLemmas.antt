@@ -2,40 +2,40 @@
 use Rattle.std.proofs.Common.{◌≡◌, ◌<◌, ℕ, Bool, true, List, [], ◌∷◌, ◌++◌, Option, None, Some, refl, sym, ap, subst, ◌∙◌, append_assoc, is_some, inl, inr, arith}
 use Rattle.std.specs.Option.{option_map_or}
 use Rattle.dep_types.specs.Conditions.{Condition}
-use Rattle.dep_hub.specs.StandsOwing.{KeepsBack, is_awaited_at}
+use Rattle.dep_hub.specs.RepresentsOwing.{KeepsBack, is_awaited_at}
 use Rattle.dep_hub.specs.declared.hub.Hub.{Hub}
 use Rattle.dep_hub.specs.declared.sent_on.SentOn.{SentOn}
-use Rattle.dep_outbox.specs.Wires.{told}
+use Rattle.dep_outbox.specs.Wires.{reported}
 use Rattle.dep_host.specs.declared.ending.Shut.{Shut}
-use Rattle.dep_host.specs.Courses.{StaysOrIsOver, is_held_back, phase_begun}
+use Rattle.dep_host.specs.ConnectionStates.{StaysOrIsOver, is_held_back, phase_begun}
 use Rattle.dep_host.specs.Causes.{Causes}
-use Rattle.dep_host.specs.declared.seat.Seat.{Seat}
+use Rattle.dep_host.specs.declared.slot.Slot.{Slot}
 use Rattle.dep_host.specs.declared.log.Closing.{Closing}
-use Rattle.dep_host.specs.declared.course.Duty.{Duty}
-use Rattle.dep_host.specs.declared.course.Duty.TheVariants as to
-use Rattle.dep_host.specs.Seats.{IsUnknown, phase_sent}
-use Rattle.dep_host.specs.Hosting.{Position, slot, Deed, Closes, answers_at, pieces_at, sendings_at, unfinished_of, Goes, Steps, begins, IsClosed, IsLeftAs, IsOnce, IsLost, IsKeptBack, IsServed, IsServedAt, turn_duty}
+use Rattle.dep_host.specs.declared.connection_state.NextAction.{NextAction}
+use Rattle.dep_host.specs.declared.connection_state.NextAction.TheVariants as to
+use Rattle.dep_host.specs.Slots.{IsUnknown, phase_sent}
+use Rattle.dep_host.specs.Hosting.{Position, slot_at, HostAction, Closes, answers_at, pieces_at, sendings_at, unfinished_of, Goes, Steps, begins, IsClosed, IsLeftAs, IsOnce, IsLost, IsKeptBack, IsServed, IsServedAt, turn_action}
 use Rattle.dep_host.proofs.HostLemmas.{steps_join}
-use Rattle.dep_host.proofs.DeedLemmas.{answers_append, pieces_append, sendings_after, sendings_before}
-use Rattle.dep_host.proofs.SeatLemmas.{lost_too}
+use Rattle.dep_host.proofs.ActionLemmas.{answers_append, pieces_append, sendings_after, sendings_before}
+use Rattle.dep_host.proofs.SlotLemmas.{lost_too}
 
--- one seat is at a place
+-- one slot is at a place
 some_same : {X : Type 0} (x y : X) → Some x ≡ Some y → x ≡ y
 some_same {X = X} x y e = ap (λ (o : Option X). option_map_or (λ z. z) o x) e
 
 module _ {A R K S : Type 0} (condition : A → Condition) (unread : R → Option (List ℕ)) (taken : K → Option (List ℕ)) (held : S → Option (List ℕ)) (size : S → ℕ) (causes : Causes R K S) where
   -- of a request of which something is kept no more was read
-  pub none_read : (p : Position A R K S) (at n : ℕ) (before : Seat R K S) → slot at p.seats ≡ Some before → before.course.unfinished ≡ 0 → 0 < unfinished_of (slot at p.seats) → n ≡ 0
+  pub none_read : (p : Position A R K S) (at n : ℕ) (before : Slot R K S) → slot_at at p.slots ≡ Some before → before.state.unfinished ≡ 0 → 0 < unfinished_of (slot_at at p.slots) → n ≡ 0
   none_read p at n before sat none some = absurd (
-      let kept : unfinished_of (slot at p.seats) ≡ before.course.unfinished = ap (λ (x : Option (Seat R K S)). unfinished_of x) sat in
+      let kept : unfinished_of (slot_at at p.slots) ≡ before.state.unfinished = ap (λ (x : Option (Slot R K S)). unfinished_of x) sat in
       let no : ⊥ = omega (arith, kept, none, some) in no)
 
   -- who was served is served still where the round began earlier
-  once_before : (So : Hub A → Hub A → Type 0) (p q r : Position A R K S) (xs ys : List Deed) → Steps condition unread taken held p xs q → IsOnce condition unread taken held size causes So q r ys → IsOnce condition unread taken held size causes So p r (xs ++ ys)
+  once_before : (So : Hub A → Hub A → Type 0) (p q r : Position A R K S) (xs ys : List HostAction) → Steps condition unread taken held p xs q → IsOnce condition unread taken held size causes So q r ys → IsOnce condition unread taken held size causes So p r (xs ++ ys)
   once_before So p q r xs ys s once = record {
     earlier = xs ++ once.earlier;
     later = once.later;
-    all = ap (λ (l : List Deed). xs ++ l) once.all ∙ sym (append_assoc xs once.earlier once.later);
+    all = ap (λ (l : List HostAction). xs ++ l) once.all ∙ sym (append_assoc xs once.earlier once.later);
     mid = once.mid;
     next = once.next;
     came = steps_join condition unread taken held s once.came;
@@ -43,47 +43,47 @@ module _ {A R K S : Type 0} (condition : A → Condition) (unread : R → Option
     goes = once.goes;
   }
 
-  pub lost_before : (p q r : Position A R K S) (number : ℕ) (xs ys : List Deed) → Steps condition unread taken held p xs q → IsLost condition unread taken held size causes q r ys number → IsLost condition unread taken held size causes p r (xs ++ ys) number
+  pub lost_before : (p q r : Position A R K S) (number : ℕ) (xs ys : List HostAction) → Steps condition unread taken held p xs q → IsLost condition unread taken held size causes q r ys number → IsLost condition unread taken held size causes p r (xs ++ ys) number
   lost_before p q r number xs ys s lost = once_before (λ old new. IsUnknown old number) p q r xs ys s lost
 
-  pub kept_back_before : (p q r : Position A R K S) (xs ys : List Deed) (before after : Seat R K S) → Steps condition unread taken held p xs q → IsKeptBack condition unread taken held size causes q r ys before after
+  pub kept_back_before : (p q r : Position A R K S) (xs ys : List HostAction) (before after : Slot R K S) → Steps condition unread taken held p xs q → IsKeptBack condition unread taken held size causes q r ys before after
       → IsKeptBack condition unread taken held size causes p r (xs ++ ys) before after
   kept_back_before p q r xs ys before after s k = record {
-    keeps = once_before (λ old new. KeepsBack condition (told taken held before.wire) (told taken held after.wire) before.wire.failures after.wire.failures old new before.connection) p q r xs ys s k.keeps;
+    keeps = once_before (λ old new. KeepsBack condition (reported taken held before.wire) (reported taken held after.wire) before.wire.failures after.wire.failures old new before.connection) p q r xs ys s k.keeps;
     stays = k.stays;
     stirs = k.stirs;
     counts_not = k.counts_not;
     leaves = k.leaves;
   }
 
-  served_before : (p q r : Position A R K S) (xs ys : List Deed) (is_full may_send : Bool) (before after : Seat R K S) (answered read : ℕ) (sent : List SentOn) (d : Duty) → Steps condition unread taken held p xs q → q.shut ≡ p.shut
+  served_before : (p q r : Position A R K S) (xs ys : List HostAction) (is_full may_send : Bool) (before after : Slot R K S) (answered read : ℕ) (sent : List SentOn) (d : NextAction) → Steps condition unread taken held p xs q → q.shut ≡ p.shut
       → IsServed condition unread taken held size causes q r ys is_full may_send before after answered read sent d → IsServed condition unread taken held size causes p r (xs ++ ys) is_full may_send before after answered read sent d
-  served_before p q r xs ys is_full may_send before after answered read sent to.Flush s shut h = (h.0, subst (λ (o : Option Shut). StaysOrIsOver (phase_begun before.course.phase (is_some o)) after.course.phase) shut h.1)
+  served_before p q r xs ys is_full may_send before after answered read sent to.Flush s shut h = (h.0, subst (λ (o : Option Shut). StaysOrIsOver (phase_begun before.state.phase (is_some o)) after.state.phase) shut h.1)
   served_before p q r xs ys is_full may_send before after answered read sent to.Answer s shut (inl one) = inl one
   served_before p q r xs ys is_full may_send before after answered read sent to.Answer s shut (inr (inl lost)) = inr (inl (lost_before p q r before.connection xs ys s lost))
   served_before p q r xs ys is_full may_send before after answered read sent to.Answer s shut (inr (inr k)) = inr (inr (kept_back_before p q r xs ys before after s k))
   served_before p q r xs ys is_full may_send before after answered read sent to.Send s shut (inl (may, h)) =
-      inl (may, (h.0, h.1, subst (λ (o : Option Shut). after.course.phase ≡ phase_sent (phase_begun before.course.phase (is_some o)) h.0) shut h.2))
+      inl (may, (h.0, h.1, subst (λ (o : Option Shut). after.state.phase ≡ phase_sent (phase_begun before.state.phase (is_some o)) h.0) shut h.2))
   served_before p q r xs ys is_full may_send before after answered read sent to.Send s shut (inr (none, unsent, off, phase)) =
-      inr (none, unsent, off, subst (λ (o : Option Shut). StaysOrIsOver (phase_begun before.course.phase (is_some o)) after.course.phase) shut phase)
+      inr (none, unsent, off, subst (λ (o : Option Shut). StaysOrIsOver (phase_begun before.state.phase (is_some o)) after.state.phase) shut phase)
   served_before p q r xs ys is_full may_send before after answered read sent to.Read s shut (inl one) = inl one
   served_before p q r xs ys is_full may_send before after answered read sent to.Read s shut (inr (inl back)) = inr (inl (
-    subst (λ (o : Option Shut). is_held_back before.course is_full (is_some o) ≡ true) shut back.0,
-    subst (λ (o : Option Shut). after.course.phase ≡ phase_begun before.course.phase (is_some o)) shut back.1,
+    subst (λ (o : Option Shut). is_held_back before.state is_full (is_some o) ≡ true) shut back.0,
+    subst (λ (o : Option Shut). after.state.phase ≡ phase_begun before.state.phase (is_some o)) shut back.1,
   ))
   served_before p q r xs ys is_full may_send before after answered read sent to.Read s shut (inr (inr (inl none))) =
-      inr (inr (inl (none.0, subst (λ (o : Option Shut). after.course.phase ≡ phase_begun before.course.phase (is_some o)) shut none.1)))
+      inr (inr (inl (none.0, subst (λ (o : Option Shut). after.state.phase ≡ phase_begun before.state.phase (is_some o)) shut none.1)))
   served_before p q r xs ys is_full may_send before after answered read sent to.Read s shut (inr (inr (inr over))) = inr (inr (inr over))
   served_before p q r xs ys is_full may_send before after answered read sent to.Finish s shut h = h
-  served_before p q r xs ys is_full may_send before after answered read sent to.Drain s shut h = subst (λ (o : Option Shut). StaysOrIsOver (phase_begun before.course.phase (is_some o)) after.course.phase) shut h
-  served_before p q r xs ys is_full may_send before after answered read sent to.Wait s shut h = subst (λ (o : Option Shut). after.course.phase ≡ phase_begun before.course.phase (is_some o)) shut h
+  served_before p q r xs ys is_full may_send before after answered read sent to.Drain s shut h = subst (λ (o : Option Shut). StaysOrIsOver (phase_begun before.state.phase (is_some o)) after.state.phase) shut h
+  served_before p q r xs ys is_full may_send before after answered read sent to.Wait s shut h = subst (λ (o : Option Shut). after.state.phase ≡ phase_begun before.state.phase (is_some o)) shut h
 
   -- and where it went on later
-  once_later : (So : Hub A → Hub A → Type 0) (p q r : Position A R K S) (xs ys : List Deed) → Steps condition unread taken held q ys r → IsOnce condition unread taken held size causes So p q xs → IsOnce condition unread taken held size causes So p r (xs ++ ys)
+  once_later : (So : Hub A → Hub A → Type 0) (p q r : Position A R K S) (xs ys : List HostAction) → Steps condition unread taken held q ys r → IsOnce condition unread taken held size causes So p q xs → IsOnce condition unread taken held size causes So p r (xs ++ ys)
   once_later So p q r xs ys s once = record {
     earlier = once.earlier;
     later = once.later ++ ys;
-    all = ap (λ (l : List Deed). l ++ ys) once.all ∙ append_assoc once.earlier once.later ys;
+    all = ap (λ (l : List HostAction). l ++ ys) once.all ∙ append_assoc once.earlier once.later ys;
     mid = once.mid;
     next = once.next;
     came = once.came;
@@ -91,20 +91,20 @@ module _ {A R K S : Type 0} (condition : A → Condition) (unread : R → Option
     goes = steps_join condition unread taken held once.goes s;
   }
 
-  lost_later : (p q r : Position A R K S) (number : ℕ) (xs ys : List Deed) → Steps condition unread taken held q ys r → IsLost condition unread taken held size causes p q xs number → IsLost condition unread taken held size causes p r (xs ++ ys) number
+  lost_later : (p q r : Position A R K S) (number : ℕ) (xs ys : List HostAction) → Steps condition unread taken held q ys r → IsLost condition unread taken held size causes p q xs number → IsLost condition unread taken held size causes p r (xs ++ ys) number
   lost_later p q r number xs ys s lost = once_later (λ old new. IsUnknown old number) p q r xs ys s lost
 
-  kept_back_later : (p q r : Position A R K S) (xs ys : List Deed) (before after : Seat R K S) → Steps condition unread taken held q ys r → IsKeptBack condition unread taken held size causes p q xs before after
+  kept_back_later : (p q r : Position A R K S) (xs ys : List HostAction) (before after : Slot R K S) → Steps condition unread taken held q ys r → IsKeptBack condition unread taken held size causes p q xs before after
       → IsKeptBack condition unread taken held size causes p r (xs ++ ys) before after
   kept_back_later p q r xs ys before after s k = record {
-    keeps = once_later (λ old new. KeepsBack condition (told taken held before.wire) (told taken held after.wire) before.wire.failures after.wire.failures old new before.connection) p q r xs ys s k.keeps;
+    keeps = once_later (λ old new. KeepsBack condition (reported taken held before.wire) (reported taken held after.wire) before.wire.failures after.wire.failures old new before.connection) p q r xs ys s k.keeps;
     stays = k.stays;
     stirs = k.stirs;
     counts_not = k.counts_not;
     leaves = k.leaves;
   }
 
-  served_later : (p q r : Position A R K S) (xs ys : List Deed) (is_full may_send : Bool) (before after : Seat R K S) (answered read : ℕ) (sent : List SentOn) (d : Duty) → Steps condition unread taken held q ys r
+  served_later : (p q r : Position A R K S) (xs ys : List HostAction) (is_full may_send : Bool) (before after : Slot R K S) (answered read : ℕ) (sent : List SentOn) (d : NextAction) → Steps condition unread taken held q ys r
       → IsServed condition unread taken held size causes p q xs is_full may_send before after answered read sent d → IsServed condition unread taken held size causes p r (xs ++ ys) is_full may_send before after answered read sent d
   served_later p q r xs ys is_full may_send before after answered read sent to.Flush s h = h
   served_later p q r xs ys is_full may_send before after answered read sent to.Answer s (inl one) = inl one
@@ -117,13 +117,13 @@ module _ {A R K S : Type 0} (condition : A → Condition) (unread : R → Option
   served_later p q r xs ys is_full may_send before after answered read sent to.Wait s h = h
 
   -- who was closed was closed where it began earlier, and where it went on later
-  closed_before : (p q r : Position A R K S) (xs ys : List Deed) (place : ℕ) (seat : Seat R K S) → Steps condition unread taken held p xs q → IsClosed condition unread taken held q r ys place seat → IsClosed condition unread taken held p r (xs ++ ys) place seat
-  closed_before p q r xs ys place seat s k = record {
+  closed_before : (p q r : Position A R K S) (xs ys : List HostAction) (place : ℕ) (slot : Slot R K S) → Steps condition unread taken held p xs q → IsClosed condition unread taken held q r ys place slot → IsClosed condition unread taken held p r (xs ++ ys) place slot
+  closed_before p q r xs ys place slot s k = record {
     earlier = xs ++ k.earlier;
     later = k.later;
     second = k.second;
     reason = k.reason;
-    all = ap (λ (l : List Deed). xs ++ l) k.all ∙ sym (append_assoc xs k.earlier (Closes place seat.connection k.second k.reason ∷ k.later));
+    all = ap (λ (l : List HostAction). xs ++ l) k.all ∙ sym (append_assoc xs k.earlier (Closes place slot.connection k.second k.reason ∷ k.later));
     mid = k.mid;
     next = k.next;
     came = steps_join condition unread taken held s k.came;
@@ -131,13 +131,13 @@ module _ {A R K S : Type 0} (condition : A → Condition) (unread : R → Option
     rest = k.rest;
   }
 
-  closed_later : (p q r : Position A R K S) (xs ys : List Deed) (place : ℕ) (seat : Seat R K S) → Steps condition unread taken held q ys r → IsClosed condition unread taken held p q xs place seat → IsClosed condition unread taken held p r (xs ++ ys) place seat
-  closed_later p q r xs ys place seat s k = record {
+  closed_later : (p q r : Position A R K S) (xs ys : List HostAction) (place : ℕ) (slot : Slot R K S) → Steps condition unread taken held q ys r → IsClosed condition unread taken held p q xs place slot → IsClosed condition unread taken held p r (xs ++ ys) place slot
+  closed_later p q r xs ys place slot s k = record {
     earlier = k.earlier;
     later = k.later ++ ys;
     second = k.second;
     reason = k.reason;
-    all = ap (λ (l : List Deed). l ++ ys) k.all ∙ append_assoc k.earlier (Closes place seat.connection k.second k.reason ∷ k.later) ys;
+    all = ap (λ (l : List HostAction). l ++ ys) k.all ∙ append_assoc k.earlier (Closes place slot.connection k.second k.reason ∷ k.later) ys;
     mid = k.mid;
     next = k.next;
     came = k.came;
@@ -146,11 +146,11 @@ module _ {A R K S : Type 0} (condition : A → Condition) (unread : R → Option
   }
 
   -- who sat there was closed by this
-  pub closed_there : (q r : Position A R K S) (at second : ℕ) (reason : Closing) (seat other : Seat R K S) → Goes condition unread taken held q r at second reason seat → slot at q.seats ≡ Some other
-      → IsClosed condition unread taken held q r (Closes at seat.connection second reason ∷ []) at other
-  closed_there q r at second reason seat other g sat =
-      let same : seat ≡ other = some_same seat other (sym g.sat ∙ sat) in
-      subst (λ (s : Seat R K S). IsClosed condition unread taken held q r (Closes at seat.connection second reason ∷ []) at s) same (record {
+  pub closed_there : (q r : Position A R K S) (at second : ℕ) (reason : Closing) (slot other : Slot R K S) → Goes condition unread taken held q r at second reason slot → slot_at at q.slots ≡ Some other
+      → IsClosed condition unread taken held q r (Closes at slot.connection second reason ∷ []) at other
+  closed_there q r at second reason slot other g sat =
+      let same : slot ≡ other = some_same slot other (sym g.sat ∙ sat) in
+      subst (λ (s : Slot R K S). IsClosed condition unread taken held q r (Closes at slot.connection second reason ∷ []) at s) same (record {
         earlier = [];
         later = [];
         second = second;
@@ -164,56 +164,56 @@ module _ {A R K S : Type 0} (condition : A → Condition) (unread : R → Option
       })
 
   -- it is left as it was where it began earlier, and where it went on later
-  left_before : (p q r : Position A R K S) (xs ys : List Deed) (place : ℕ) (seat : Seat R K S) → Steps condition unread taken held p xs q → IsLeftAs condition unread taken held q r ys place seat → IsLeftAs condition unread taken held p r (xs ++ ys) place seat
-  left_before p q r xs ys place seat s (inl sits) = inl sits
-  left_before p q r xs ys place seat s (inr k) = inr (closed_before p q r xs ys place seat s k)
+  left_before : (p q r : Position A R K S) (xs ys : List HostAction) (place : ℕ) (slot : Slot R K S) → Steps condition unread taken held p xs q → IsLeftAs condition unread taken held q r ys place slot → IsLeftAs condition unread taken held p r (xs ++ ys) place slot
+  left_before p q r xs ys place slot s (inl sits) = inl sits
+  left_before p q r xs ys place slot s (inr k) = inr (closed_before p q r xs ys place slot s k)
 
-  left_later : (p q r : Position A R K S) (xs ys : List Deed) (place : ℕ) (seat : Seat R K S) → Steps condition unread taken held p xs q → Steps condition unread taken held q ys r
-      → ((other : Seat R K S) → slot place q.seats ≡ Some other → IsLeftAs condition unread taken held q r ys place other) → IsLeftAs condition unread taken held p q xs place seat → IsLeftAs condition unread taken held p r (xs ++ ys) place seat
-  left_later p q r xs ys place seat s t how (inl sits) = left_before p q r xs ys place seat s (how seat sits)
-  left_later p q r xs ys place seat s t how (inr k) = inr (closed_later p q r xs ys place seat t k)
+  left_later : (p q r : Position A R K S) (xs ys : List HostAction) (place : ℕ) (slot : Slot R K S) → Steps condition unread taken held p xs q → Steps condition unread taken held q ys r
+      → ((other : Slot R K S) → slot_at place q.slots ≡ Some other → IsLeftAs condition unread taken held q r ys place other) → IsLeftAs condition unread taken held p q xs place slot → IsLeftAs condition unread taken held p r (xs ++ ys) place slot
+  left_later p q r xs ys place slot s t how (inl sits) = left_before p q r xs ys place slot s (how slot sits)
+  left_later p q r xs ys place slot s t how (inr k) = inr (closed_later p q r xs ys place slot t k)
 
-  -- the same of who sits at a place, or nobody does
-  pub at_before : (p q r : Position A R K S) (is_full may_send : Bool) (xs ys : List Deed) (place : ℕ) (x : Option (Seat R K S)) → Steps condition unread taken held p xs q → q.shut ≡ p.shut → answers_at place xs ≡ 0 → pieces_at place xs ≡ 0 → sendings_at place xs ≡ []
+  -- the same of who is at a place, or nobody does
+  pub at_before : (p q r : Position A R K S) (is_full may_send : Bool) (xs ys : List HostAction) (place : ℕ) (x : Option (Slot R K S)) → Steps condition unread taken held p xs q → q.shut ≡ p.shut → answers_at place xs ≡ 0 → pieces_at place xs ≡ 0 → sendings_at place xs ≡ []
       → IsServedAt condition unread taken held size causes q r is_full may_send ys place x → IsServedAt condition unread taken held size causes p r is_full may_send (xs ++ ys) place x
   at_before p q r is_full may_send xs ys place None s shut none unread_yet unsent_yet h = tt
-  at_before p q r is_full may_send xs ys place (Some seat) s shut none unread_yet unsent_yet h =
+  at_before p q r is_full may_send xs ys place (Some slot) s shut none unread_yet unsent_yet h =
       let answered : answers_at place ys ≡ answers_at place (xs ++ ys) = let e = answers_append place xs ys in omega (arith, e, none) in
       let pieces : pieces_at place ys ≡ pieces_at place (xs ++ ys) = let e = pieces_append place xs ys in omega (arith, e, unread_yet) in
       let sent : sendings_at place ys ≡ sendings_at place (xs ++ ys) = sym (sendings_before place xs ys unsent_yet) in
       record {
         after = h.after;
         left = left_before p q r xs ys place h.after s h.left;
-        caused = lost_too causes (IsLost condition unread taken held size causes q r ys seat.connection) (IsLost condition unread taken held size causes p r (xs ++ ys) seat.connection) seat h.after
-            (lost_before p q r seat.connection xs ys s) h.caused;
+        caused = lost_too causes (IsLost condition unread taken held size causes q r ys slot.connection) (IsLost condition unread taken held size causes p r (xs ++ ys) slot.connection) slot h.after
+            (lost_before p q r slot.connection xs ys s) h.caused;
         is_awaited = h.is_awaited;
-        asked = once_before (λ old new. is_awaited_at old.connections.items seat.connection ≡ h.is_awaited) p q r xs ys s h.asked;
-        served = served_before p q r xs ys is_full may_send seat h.after (answers_at place (xs ++ ys)) (pieces_at place (xs ++ ys)) (sendings_at place (xs ++ ys)) (turn_duty size p.shut seat h.is_awaited) s shut
-            (subst (λ (o : Option Shut). IsServed condition unread taken held size causes q r ys is_full may_send seat h.after (answers_at place (xs ++ ys)) (pieces_at place (xs ++ ys)) (sendings_at place (xs ++ ys)) (turn_duty size o seat h.is_awaited)) shut
-            (subst (λ (l : List SentOn). IsServed condition unread taken held size causes q r ys is_full may_send seat h.after (answers_at place (xs ++ ys)) (pieces_at place (xs ++ ys)) l (turn_duty size q.shut seat h.is_awaited)) sent
-            (subst (λ (n : ℕ). IsServed condition unread taken held size causes q r ys is_full may_send seat h.after (answers_at place (xs ++ ys)) n (sendings_at place ys) (turn_duty size q.shut seat h.is_awaited)) pieces
-            (subst (λ (n : ℕ). IsServed condition unread taken held size causes q r ys is_full may_send seat h.after n (pieces_at place ys) (sendings_at place ys) (turn_duty size q.shut seat h.is_awaited)) answered h.served))));
+        asked = once_before (λ old new. is_awaited_at old.connections.items slot.connection ≡ h.is_awaited) p q r xs ys s h.asked;
+        served = served_before p q r xs ys is_full may_send slot h.after (answers_at place (xs ++ ys)) (pieces_at place (xs ++ ys)) (sendings_at place (xs ++ ys)) (turn_action size p.shut slot h.is_awaited) s shut
+            (subst (λ (o : Option Shut). IsServed condition unread taken held size causes q r ys is_full may_send slot h.after (answers_at place (xs ++ ys)) (pieces_at place (xs ++ ys)) (sendings_at place (xs ++ ys)) (turn_action size o slot h.is_awaited)) shut
+            (subst (λ (l : List SentOn). IsServed condition unread taken held size causes q r ys is_full may_send slot h.after (answers_at place (xs ++ ys)) (pieces_at place (xs ++ ys)) l (turn_action size q.shut slot h.is_awaited)) sent
+            (subst (λ (n : ℕ). IsServed condition unread taken held size causes q r ys is_full may_send slot h.after (answers_at place (xs ++ ys)) n (sendings_at place ys) (turn_action size q.shut slot h.is_awaited)) pieces
+            (subst (λ (n : ℕ). IsServed condition unread taken held size causes q r ys is_full may_send slot h.after n (pieces_at place ys) (sendings_at place ys) (turn_action size q.shut slot h.is_awaited)) answered h.served))));
       }
 
-  -- later deeds did not concern it, but that it may have been closed
-  pub at_after : (p q r : Position A R K S) (is_full may_send : Bool) (xs ys : List Deed) (place : ℕ) (x : Option (Seat R K S)) → Steps condition unread taken held p xs q → Steps condition unread taken held q ys r
-      → ((other : Seat R K S) → slot place q.seats ≡ Some other → IsLeftAs condition unread taken held q r ys place other) → answers_at place ys ≡ 0
+  -- later actions did not concern it, but that it may have been closed
+  pub at_after : (p q r : Position A R K S) (is_full may_send : Bool) (xs ys : List HostAction) (place : ℕ) (x : Option (Slot R K S)) → Steps condition unread taken held p xs q → Steps condition unread taken held q ys r
+      → ((other : Slot R K S) → slot_at place q.slots ≡ Some other → IsLeftAs condition unread taken held q r ys place other) → answers_at place ys ≡ 0
       → pieces_at place ys ≡ 0 → sendings_at place ys ≡ [] → IsServedAt condition unread taken held size causes p q is_full may_send xs place x → IsServedAt condition unread taken held size causes p r is_full may_send (xs ++ ys) place x
   at_after p q r is_full may_send xs ys place None s t how none unread_later unsent_later h = tt
-  at_after p q r is_full may_send xs ys place (Some seat) s t how none unread_later unsent_later h =
+  at_after p q r is_full may_send xs ys place (Some slot) s t how none unread_later unsent_later h =
       let answered : answers_at place xs ≡ answers_at place (xs ++ ys) = let e = answers_append place xs ys in omega (arith, e, none) in
       let pieces : pieces_at place xs ≡ pieces_at place (xs ++ ys) = let e = pieces_append place xs ys in omega (arith, e, unread_later) in
       let sent : sendings_at place xs ≡ sendings_at place (xs ++ ys) = sym (sendings_after place xs ys unsent_later) in
-      let d = turn_duty size p.shut seat h.is_awaited in
+      let d = turn_action size p.shut slot h.is_awaited in
       record {
         after = h.after;
         left = left_later p q r xs ys place h.after s t how h.left;
-        caused = lost_too causes (IsLost condition unread taken held size causes p q xs seat.connection) (IsLost condition unread taken held size causes p r (xs ++ ys) seat.connection) seat h.after
-            (lost_later p q r seat.connection xs ys t) h.caused;
+        caused = lost_too causes (IsLost condition unread taken held size causes p q xs slot.connection) (IsLost condition unread taken held size causes p r (xs ++ ys) slot.connection) slot h.after
+            (lost_later p q r slot.connection xs ys t) h.caused;
         is_awaited = h.is_awaited;
-        asked = once_later (λ old new. is_awaited_at old.connections.items seat.connection ≡ h.is_awaited) p q r xs ys t h.asked;
-        served = served_later p q r xs ys is_full may_send seat h.after (answers_at place (xs ++ ys)) (pieces_at place (xs ++ ys)) (sendings_at place (xs ++ ys)) d t
-            (subst (λ (l : List SentOn). IsServed condition unread taken held size causes p q xs is_full may_send seat h.after (answers_at place (xs ++ ys)) (pieces_at place (xs ++ ys)) l d) sent
-            (subst (λ (n : ℕ). IsServed condition unread taken held size causes p q xs is_full may_send seat h.after (answers_at place (xs ++ ys)) n (sendings_at place xs) d) pieces
-            (subst (λ (n : ℕ). IsServed condition unread taken held size causes p q xs is_full may_send seat h.after n (pieces_at place xs) (sendings_at place xs) d) answered h.served)));
+        asked = once_later (λ old new. is_awaited_at old.connections.items slot.connection ≡ h.is_awaited) p q r xs ys t h.asked;
+        served = served_later p q r xs ys is_full may_send slot h.after (answers_at place (xs ++ ys)) (pieces_at place (xs ++ ys)) (sendings_at place (xs ++ ys)) d t
+            (subst (λ (l : List SentOn). IsServed condition unread taken held size causes p q xs is_full may_send slot h.after (answers_at place (xs ++ ys)) (pieces_at place (xs ++ ys)) l d) sent
+            (subst (λ (n : ℕ). IsServed condition unread taken held size causes p q xs is_full may_send slot h.after (answers_at place (xs ++ ys)) n (sendings_at place xs) d) pieces
+            (subst (λ (n : ℕ). IsServed condition unread taken held size causes p q xs is_full may_send slot h.after n (pieces_at place xs) (sendings_at place xs) d) answered h.served)));
       }

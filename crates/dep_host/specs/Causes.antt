@@ -5,8 +5,8 @@ use Rattle.dep_outbox.specs.Sockets.{after_receive, after_send}
 use Rattle.dep_outbox.specs.declared.socket.Halts.{Halts}
 use Rattle.dep_outbox.specs.declared.socket.Received.TheVariants as gives
 use Rattle.dep_outbox.specs.declared.socket.Delivered.TheVariants as takes
-use Rattle.dep_host.specs.declared.seat.Seat.{Seat}
-use Rattle.dep_host.specs.declared.course.Phase.TheVariants.{Over}
+use Rattle.dep_host.specs.declared.slot.Slot.{Slot}
+use Rattle.dep_host.specs.declared.connection_state.Phase.TheVariants.{Over}
 
 -- how often the halves of a socket gave or took no byte, and a spool failed
 pub record Causes (R K S : Type 0) : Type 0 where
@@ -19,17 +19,17 @@ causes_of source sink spool = record { source = source; sink = sink; spool = spo
 
 module _ {R K S : Type 0} (causes : Causes R K S) where
   -- its socket was asked since, once, and had nothing to read
-  abbrev pub HasNone : (before after : Seat R K S) → Type 0
+  abbrev pub HasNone : (before after : Slot R K S) → Type 0
   HasNone before after =
       causes.source after.source ≡ after_receive gives.Later (causes.source before.source)
 
   -- its socket was asked since, and at last took no more
-  abbrev pub TakesNone : (before after : Seat R K S) → Type 0
+  abbrev pub TakesNone : (before after : Slot R K S) → Type 0
   TakesNone before after =
       causes.sink after.wire.sink ≡ after_send takes.Later (causes.sink before.wire.sink)
 
   -- its client was seen to send no more, or its socket or its spool to fail
-  abbrev pub IsBroken : (before after : Seat R K S) → Type 0
+  abbrev pub IsBroken : (before after : Slot R K S) → Type 0
   IsBroken before after =
       (causes.source after.source ≡ after_receive gives.Ended (causes.source before.source))
       ⊎ ((causes.source after.source ≡ after_receive gives.Failed (causes.source before.source))
@@ -38,10 +38,10 @@ module _ {R K S : Type 0} (causes : Causes R K S) where
 
   -- It is read, and sent to, as before, but where its socket said in between that it has nothing,
   -- or takes no more; and it is over only where it was, is broken, or was lost.
-  pub record HasCauses (lost : Type 0) (before after : Seat R K S) : Type 0 where
-    pub readable : (after.course.is_readable ≡ before.course.is_readable)
-        ⊎ ((after.course.is_readable ≡ false) × HasNone before after)
-    pub writable : (after.course.is_writable ≡ before.course.is_writable)
-        ⊎ ((after.course.is_writable ≡ false) × TakesNone before after)
-    pub over : after.course.phase ≡ Over
-        → (before.course.phase ≡ Over) ⊎ (IsBroken before after ⊎ lost)
+  pub record HasCauses (lost : Type 0) (before after : Slot R K S) : Type 0 where
+    pub readable : (after.state.is_readable ≡ before.state.is_readable)
+        ⊎ ((after.state.is_readable ≡ false) × HasNone before after)
+    pub writable : (after.state.is_writable ≡ before.state.is_writable)
+        ⊎ ((after.state.is_writable ≡ false) × TakesNone before after)
+    pub over : after.state.phase ≡ Over
+        → (before.state.phase ≡ Over) ⊎ (IsBroken before after ⊎ lost)

@@ -5,8 +5,8 @@ use Rattle.std.specs.Io.KnownBytes.{IsAtEnd}
 use Rattle.std.specs.Net.Addr.{ipv4_bits, ipv6_bits}
 use Rattle.std.specs.declared.net.ip_addr.IpAddr.{IpAddr}
 use Rattle.std.specs.declared.net.ip_addr.IpAddr.TheVariants.{V4, V6}
-use Rattle.dep_outbox.specs.Wires.{told}
-use Rattle.dep_host.specs.declared.seat.Seat.{Seat}
+use Rattle.dep_outbox.specs.Wires.{reported}
+use Rattle.dep_host.specs.declared.slot.Slot.{Slot}
 use Rattle.dep_host.specs.declared.events.Event.{Event}
 use Rattle.dep_host.specs.declared.events.Event.TheVariants.{Ready, Client, Round, Stop, End}
 
@@ -14,7 +14,7 @@ use Rattle.dep_host.specs.declared.events.Event.TheVariants.{Ready, Client, Roun
 abbrev pub IsFresh : {R K S : Type 0} → (K → Option (List ℕ)) → (S → Option (List ℕ))
     → Event R K S → Type 0
 IsFresh taken held (Ready at r w) = Unit {0}
-IsFresh taken held (Client client) = IsAtEnd (told taken held client.wire)
+IsFresh taken held (Client client) = IsAtEnd (reported taken held client.wire)
 IsFresh taken held (Round time) = Unit {0}
 IsFresh taken held (Stop second) = Unit {0}
 IsFresh taken held End = Unit {0}
@@ -44,11 +44,11 @@ abbrev pub origin : IpAddr → ℕ
 origin (V4 ip) = ipv4_bits ip
 origin (V6 ip) = ipv6_bits ip / 0x1_0000_0000_0000_0000 + 0x1_0000_0000
 
--- who sits at a place comes from there
-abbrev pub comes_from : {R K S : Type 0} → ℕ → Option (Seat R K S) → Bool
+-- who is at a place comes from there
+abbrev pub comes_from : {R K S : Type 0} → ℕ → Option (Slot R K S) → Bool
 comes_from from None = false
-comes_from from (Some seat) = origin seat.address == from
+comes_from from (Some slot) = origin slot.address == from
 
--- how many connections sit there from one address
-abbrev pub seated_from : {R K S : Type 0} → ℕ → List (Option (Seat R K S)) → ℕ
-seated_from from seats = count_by (λ s. comes_from from s) seats
+-- how many connections are there from one address
+abbrev pub slots_from : {R K S : Type 0} → ℕ → List (Option (Slot R K S)) → ℕ
+slots_from from slots = count_by (λ s. comes_from from s) slots

@@ -1,6 +1,6 @@
-pub mod Courses
+pub mod ConnectionStates
 pub mod Causes
-pub mod Seats
+pub mod Slots
 pub mod Sharing
 pub mod Notes
 pub mod Hosting

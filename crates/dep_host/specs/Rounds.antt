@@ -6,11 +6,11 @@ use Rattle.dep_host.specs.declared.ending.Shut.{Shut}
 use Rattle.dep_host.specs.declared.limits.Limits.{Limits}
 use Rattle.dep_host.specs.declared.serving.Ended.{Ended}
 use Rattle.dep_host.specs.declared.serving.Ended.TheVariants as ended
-use Rattle.dep_host.specs.Courses.{is_overdue}
+use Rattle.dep_host.specs.ConnectionStates.{is_overdue}
 
 -- a host was shut at one of these seconds, or it is as it was
-abbrev pub IsTold : (old new : Option Shut) → (rounds : List ℕ) → Type 0
-IsTold old new rounds = (new ≡ old) ⊎ (IsNone old × IfSome new (λ shut. Contains rounds shut.second))
+abbrev pub IsReported : (old new : Option Shut) → (rounds : List ℕ) → Type 0
+IsReported old new rounds = (new ≡ old) ⊎ (IsNone old × IfSome new (λ shut. Contains rounds shut.second))
 
 -- the rounds behind which it went on: all but the last, where it ended as it is shut
 abbrev pub gone_on : Ended → List ℕ → List ℕ
@@ -22,6 +22,6 @@ gone_on ended.Spent rounds = rounds
 -- of its rounds, and of where it was told to stop.
 pub record EndsInTime (rounds : List ℕ) (old new : Option Shut) (limits : Limits) (ended : Ended)
     : Type 0 where
-  pub is_told : IsTold old new rounds
+  pub is_reported : IsReported old new rounds
   pub in_time : IsNonDecreasing rounds
       → All (λ second. is_overdue new second limits ≡ false) (gone_on ended rounds)

@@ -7,7 +7,7 @@ abbrev pub most_sent : ℕ
 most_sent = 64
 
 -- It is the turn of a place in a round that sends contents on from a first place, as the next one does from this one:
--- it is at or behind the first, and in front of the next, or all had their turn.
+-- it is at or behind the first, and in prefix of the next, or all had their turn.
 abbrev pub is_turn : (first next place : ℕ) → Bool
 is_turn first next place = not (nat_lt place first) && (next == 0 || nat_lt place next)
 

@@ -2,10 +2,10 @@
 ghost use Rattle.std.specs.Prelude.{◌≡◌, IsTrue, Bool, List, [], ◌∷◌, Option, None};
 ghost use Rattle.std.specs.Net.Addr.{MatchIp, IsCanonicalOf};
 ghost use Rattle.dep_host.specs.Coming.{IsFresh, origin, comes_from};
-ghost use Rattle.dep_host.specs.Notes.{TurnedAway, Grows};
+ghost use Rattle.dep_host.specs.Notes.{Rejected, Grows};
 
-use crate::log::{HostLog, Refusal};
-use crate::seat::{Seat, Time};
+use crate::log::{HostLog, Rejection};
+use crate::slot::{Slot, Time};
 use dep_outbox::{Sink, Source, Spool, Wire};
 use std::net::IpAddr;
 
@@ -53,28 +53,28 @@ const MOST_HOSTS: u128 = 0x1_0000_0000_0000_0000;
 /// The number of the first of these networks, behind all IPv4 addresses.
 const FIRST_NETWORK: u128 = 0x1_0000_0000;
 
-/// Whether who sits at a place comes from there.
+/// Whether who is at a place comes from there.
 pub(crate) fn comes_from<R: Source, K: Sink, S: Spool>(
-    place: &Option<Seat<R, K, S>>,
+    place: &Option<Slot<R, K, S>>,
     from: u128,
 ) -> bool
     ensures { result ≡ comes_from from place.now }
 {
     match place {
-        Some(seat) => origin(seat.address) == from,
+        Some(slot) => origin(slot.address) == from,
         None => false,
     }
 }
 
 /// Cuts a client off.
-pub(crate) fn turn_away<R: Drop, K: Drop, S: Drop, L: HostLog>(
+pub(crate) fn reject<R: Drop, K: Drop, S: Drop, L: HostLog>(
     client: Client<R, K, S>,
-    refusal: Refusal,
+    refusal: Rejection,
     log: &mut L,
-) -> Refusal
+) -> Rejection
     ensures same { result ≡ refusal }
     ensures noted { Grows (L.notes log.old) (L.notes log.new)
-        (TurnedAway client.address refusal ∷ []) }
+        (Rejected client.address refusal ∷ []) }
 {
     log.refused(client.address, refusal);
     drop(client);
@@ -84,13 +84,13 @@ pub(crate) fn turn_away<R: Drop, K: Drop, S: Drop, L: HostLog>(
 /// What comes to a host.
 #[derive(Drop)]
 pub enum Event<R, K, S> {
-    /// The socket of the connection at a place may be ready. Where nobody sits there nothing happens.
+    /// The socket of the connection at a place may be ready. Where nobody is there nothing happens.
     Ready {
         at: usize,
         is_readable: bool,
         is_writable: bool,
     },
-    /// A client connects. It sits at the place that was offered, and is turned away where none was.
+    /// A client connects. It is at the place that was offered, and is rejected where none was.
     Client(Client<R, K, S>),
     /// Each socket that was ready was among the events before it: each connection has its turn.
     Round(Time),

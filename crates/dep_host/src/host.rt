@@ -1,14 +1,14 @@
 //! All connections, over one hub.
 ghost use Rattle.std.specs.Prelude.{◌≡◌, ◌≤◌, ℕ, None, length, get_or, IfOk};
 
-use crate::course::is_past;
+use crate::connection_state::is_past;
 use crate::ending::{Cause, Shut};
-use crate::events::{Client, comes_from, origin, turn_away};
+use crate::events::{Client, comes_from, origin, reject};
 use crate::limits::Limits;
-use crate::log::{Closing, HostLog, Refusal};
+use crate::log::{Closing, HostLog, Rejection};
 use crate::read_buffer::ReadBuffer;
-use crate::seat::{Seat, Time, Turn, is_read, unfinished};
 use crate::share::Share;
+use crate::slot::{Slot, Time, Turn, is_read, unfinished};
 use dep_hub::{Archive, ConnectFault, Hub};
 use dep_outbox::{Sink, Source, Spool};
 use std::alloc::{AllocError, Global};
@@ -21,8 +21,8 @@ pub const MOST_SEATS: usize = 1_024;
 #[derive(Drop)]
 pub struct Host<A, R, K, S> {
     hub: Hub<A>,
-    seats: Vec<Option<Seat<R, K, S>>>,
-    /// Nobody sits at this place, nor behind it.
+    slots: Vec<Option<Slot<R, K, S>>>,
+    /// Nobody is at this place, nor behind it.
     end: usize,
     limits: Limits,
     /// Since when it is shut, and why, if it is.
@@ -33,19 +33,19 @@ pub struct Host<A, R, K, S> {
     is_left: bool,
     /// How often it could not be known whether the store is open, up to 2^64 - 1. Clauses alone read it.
     unanswered: u64,
-    ghost within: { end ≤ length seats.items },
-    ghost free: { (at : ℕ) → end ≤ at → get_or seats.items at None ≡ None },
+    ghost within: { end ≤ length slots.items },
+    ghost free: { (at : ℕ) → end ≤ at → get_or slots.items at None ≡ None },
 }
 
 impl<A: Archive, R: Source + Drop, K: Sink + Drop, S: Spool + Drop> Host<A, R, K, S> {
     ghost use Rattle.std.specs.Prelude.{◌⊎◌, ◌<◌, List, [], ◌∷◌, nat_lt, IfErr, IfSome, is_some, IsSome, IsNone, true, false};
     ghost use Rattle.std.specs.Io.KnownBytes.{IsAtEnd};
-    ghost use Rattle.dep_outbox.specs.Wires.{told};
-    ghost use Rattle.dep_hub.specs.Errands.{WorkedAhead, Runs};
+    ghost use Rattle.dep_outbox.specs.Wires.{reported};
+    ghost use Rattle.dep_hub.specs.ArchiveCalls.{WorkedAhead, Runs};
     ghost use Rattle.dep_hub.specs.WorkingAhead.{RestsAhead};
-    ghost use Rattle.dep_host.specs.Hosting.{Deed, Steps, Serves, Closed, GoesRound, Sheds, Stays, HasTime, MayGo, IsEmpty, IsReadAt, farewell, IsVacant, IsWaiting, position, slot, unfinished_of, unfinished_in};
-    ghost use Rattle.dep_host.specs.Coming.{origin, seated_from};
-    ghost use Rattle.dep_host.specs.Courses.{is_overdue};
+    ghost use Rattle.dep_host.specs.Hosting.{HostAction, Steps, Serves, Closed, GoesRound, EvictsLargest, Stays, HasTime, MayGo, IsEmpty, IsReadAt, farewell, IsVacant, IsWaiting, position, slot_at, unfinished_of, unfinished_in};
+    ghost use Rattle.dep_host.specs.Coming.{origin, slots_from};
+    ghost use Rattle.dep_host.specs.ConnectionStates.{is_overdue};
     ghost use Rattle.dep_host.specs.Causes.{causes_of};
     ghost use Rattle.dep_host.specs.Notes.{Grows};
     ghost use Rattle.dep_host.specs.Meeting.{Admits, IsAsked, IsOffer, MayEnd, Stops, Wakes, refusal_of};
@@ -54,16 +54,16 @@ impl<A: Archive, R: Source + Drop, K: Sink + Drop, S: Spool + Drop> Host<A, R, K
     pub fn new(alloc: Global, hub: Hub<A>, limits: Limits) -> Result<Host<A, R, K, S>, Hub<A>>
         ensures hub { IfOk result (λ host. host.hub ≡ hub) }
         ensures limits { IfOk result (λ host. host.limits ≡ limits) }
-        ensures untold { IfOk result (λ host. IsNone host.shut) }
-        ensures empty { IfOk result (λ host. (at : ℕ) → slot at host.seats.items ≡ None) }
+        ensures unreported { IfOk result (λ host. IsNone host.shut) }
+        ensures empty { IfOk result (λ host. (at : ℕ) → slot_at at host.slots.items ≡ None) }
         ensures kept { IfErr result (λ handed_back. handed_back ≡ hub) }
     {
-        let Ok(seats) = empty_seats(alloc) else {
+        let Ok(slots) = empty_slots(alloc) else {
             return Err(hub);
         };
         Ok(Host {
             hub,
-            seats,
+            slots,
             end: 0,
             limits,
             shut: None,
@@ -79,7 +79,7 @@ impl<A: Archive, R: Source + Drop, K: Sink + Drop, S: Spool + Drop> Host<A, R, K
     {
         let Host {
             hub,
-            seats: _,
+            slots: _,
             end: _,
             limits: _,
             shut: _,
@@ -93,10 +93,10 @@ impl<A: Archive, R: Source + Drop, K: Sink + Drop, S: Spool + Drop> Host<A, R, K
     /// Asks at a second whether the store is open, unless it is shut. Where it is told that it isn't, it is
     /// shut from then on: no client is let in, and no connection is read. It returns whether it isn't shut.
     pub fn is_open(&mut self, second: u64) -> bool
-        ensures asks { IsAsked A.condition A.account R.unread K.taken S.held self.old self.new
+        ensures asks { IsAsked A.condition A.call_log R.unread K.taken S.held self.old self.new
             second }
-        ensures seats { self.new.seats ≡ self.old.seats }
-        ensures untold { result ≡ true → IsNone self.new.shut }
+        ensures slots { self.new.slots ≡ self.old.slots }
+        ensures unreported { result ≡ true → IsNone self.new.shut }
         ensures shut { result ≡ false → IsSome self.new.shut }
     {
         if self.shut.is_some() {
@@ -136,11 +136,11 @@ impl<A: Archive, R: Source + Drop, K: Sink + Drop, S: Spool + Drop> Host<A, R, K
         ensures goes { Steps A.condition R.unread K.taken S.held (position self.old) []
             (position self.new) }
         ensures stays { Stays self.old self.new }
-        ensures seats { self.new.seats ≡ self.old.seats }
+        ensures slots { self.new.slots ≡ self.old.slots }
         ensures left { self.new.is_left ≡ result }
         ensures prepares { RestsAhead A.condition self.old.hub self.new.hub }
-        ensures asked { Runs (WorkedAhead result) (A.account self.old.hub.store)
-            (A.account self.new.hub.store) }
+        ensures asked { Runs (WorkedAhead result) (A.call_log self.old.hub.store)
+            (A.call_log self.new.hub.store) }
     {
         self.is_left = self.hub.work_ahead();
         self.is_left
@@ -169,87 +169,87 @@ impl<A: Archive, R: Source + Drop, K: Sink + Drop, S: Spool + Drop> Host<A, R, K
             return None;
         }
         for at in 0..self.end {
-            if self.seats[at].is_none() {
+            if self.slots[at].is_none() {
                 return Some(at);
             }
         }
-        if self.end < self.seats.len() {
+        if self.end < self.slots.len() {
             Some(self.end)
         } else {
             None
         }
     }
 
-    /// Why a client is turned away that comes where there is no vacancy.
-    pub fn refusal(&self) -> Refusal
+    /// Why a client is rejected that comes where there is no vacancy.
+    pub fn refusal(&self) -> Rejection
         ensures { result ≡ refusal_of self.now.shut }
     {
         match self.shut {
             Some(shut) => match shut.cause {
-                Cause::Store => Refusal::Shut,
-                Cause::Stop => Refusal::Stopped,
+                Cause::Store => Rejection::Shut,
+                Cause::Stop => Rejection::Stopped,
             },
-            None => Refusal::Full,
+            None => Rejection::Full,
         }
     }
 
-    /// Whether nobody sits there.
+    /// Whether nobody is there.
     pub fn is_empty(&self) -> bool
         ensures { result ≡ true → IsEmpty (position self.now) }
     {
         for at in 0..self.end {
-            if self.seats[at].is_some() {
+            if self.slots[at].is_some() {
                 return false;
             }
         }
         true
     }
 
-    /// Opens a connection over a socket that has taken nothing, and seats it there. Where it is
+    /// Opens a connection over a socket that has taken nothing, and slots it there. Where it is
     /// refused its client is cut off.
     pub fn admit<L: HostLog>(
         &mut self,
         at: usize,
         client: Client<R, K, S>,
         log: &mut L,
-    ) -> Result<(), Refusal>
+    ) -> Result<(), Rejection>
         requires vacant { IsVacant self.old at }
-        requires fresh { IsAtEnd (told K.taken S.held client.wire) }
+        requires fresh { IsAtEnd (reported K.taken S.held client.wire) }
         ensures { Admits A.condition R.unread K.taken S.held L.notes self.old self.new
             log.old log.new at client result }
     {
-        if self.seated_from(client.address) >= self.limits.address_connections {
-            return Err(turn_away(client, Refusal::Address, log));
+        if self.slots_from(client.address) >= self.limits.address_connections {
+            return Err(reject(client, Rejection::Address, log));
         }
         let connection = match self.hub.connect() {
             Ok(connection) => connection,
-            Err(ConnectFault::Full) => return Err(turn_away(client, Refusal::Full, log)),
-            Err(ConnectFault::Memory) => return Err(turn_away(client, Refusal::Memory, log)),
+            Err(ConnectFault::Full) => return Err(reject(client, Rejection::Full, log)),
+            Err(ConnectFault::Memory) => return Err(reject(client, Rejection::Memory, log)),
         };
         log.opened(connection, client.address);
         self.end = self.end.max(at + 1);
-        self.seats[at] = Some(Seat::new(connection, client));
+        self.slots[at] = Some(Slot::new(connection, client));
         Ok(())
     }
 
-    /// How many sit there that come from an address.
-    fn seated_from(&self, address: IpAddr) -> usize
-        ensures { result ≡ seated_from (origin address) self.now.seats.items }
+    /// How many are there that come from an address.
+    fn slots_from(&self, address: IpAddr) -> usize
+        ensures { result ≡ slots_from (origin address) self.now.slots.items }
     {
         let from = origin(address);
-        self.seats
+        self.slots
             .iter()
-            .filter(|seat| comes_from(*seat, from))
+            .filter(|slot| comes_from(*slot, from))
             .count()
     }
 
     /// Takes note that a socket may be ready.
-    pub fn awake(&mut self, at: usize, is_readable: bool, is_writable: bool)
+    pub fn set_ready(&mut self, at: usize, is_readable: bool, is_writable: bool)
         ensures { Wakes self.old self.new at is_readable is_writable }
     {
-        if at < self.seats.len() {
-            if let Some(seat) = &mut self.seats[at] {
-                seat.awake(is_readable, is_writable);
+        if at < self.slots.len() {
+            if let Some(slot) = &mut self.slots[at] {
+                slot.set_ready(is_readable, is_writable);
             }
         }
     }
@@ -263,9 +263,9 @@ impl<A: Archive, R: Source + Drop, K: Sink + Drop, S: Spool + Drop> Host<A, R, K
             (causes_of R.halts K.halts S.failures) (position self.old) (position self.new)
             self.old.first self.new.first time.now (L.notes log.old) (L.notes log.new) }
         ensures left { (at : ℕ)
-            → HasTime time.now.second self.new.limits (slot at self.new.seats.items) }
+            → HasTime time.now.second self.new.limits (slot_at at self.new.slots.items) }
         ensures waits { result ≡ false
-            → (at : ℕ) → IsWaiting S.size (slot at self.new.seats.items) }
+            → (at : ℕ) → IsWaiting S.size (slot_at at self.new.slots.items) }
         ensures stays { Stays (record self.old { first = self.new.first }) self.new }
     {
         let is_full = self.is_full();
@@ -284,7 +284,7 @@ impl<A: Archive, R: Source + Drop, K: Sink + Drop, S: Spool + Drop> Host<A, R, K
             is_busy = is_busy | served.is_busy;
         }
         self.first = share.next;
-        self.shed(time.second, log);
+        self.evict_largest(time.second, log);
         self.draw_in();
         is_busy
     }
@@ -296,69 +296,69 @@ impl<A: Archive, R: Source + Drop, K: Sink + Drop, S: Spool + Drop> Host<A, R, K
         buffer: &mut ReadBuffer,
         turn: &Turn,
         log: &mut L,
-    ) -> Served
-        requires there { at < length self.old.seats.items }
+    ) -> TurnOutcome
+        requires there { at < length self.old.slots.items }
         requires shut { turn.now.is_shut ≡ is_some self.old.shut }
         ensures goes { Serves A.condition R.unread K.taken S.held S.size
             (causes_of R.halts K.halts S.failures) (position self.old) (position self.new) at
             turn.now.time turn.now.is_full turn.now.may_send result.has_sent (L.notes log.old)
             (L.notes log.new) }
         ensures here { HasTime turn.now.time.second self.new.limits
-            (slot at self.new.seats.items) }
+            (slot_at at self.new.slots.items) }
         ensures waits { result.is_busy ≡ false
-            → IsWaiting S.size (slot at self.new.seats.items) }
+            → IsWaiting S.size (slot_at at self.new.slots.items) }
         ensures others { (place : ℕ) → (place ≡ at → ⊥)
-            → slot place self.new.seats.items ≡ slot place self.old.seats.items }
+            → slot_at place self.new.slots.items ≡ slot_at place self.old.slots.items }
         ensures stays { Stays self.old self.new }
     {
-        let Some(seat) = &mut self.seats[at] else {
-            return Served {
+        let Some(slot) = &mut self.slots[at] else {
+            return TurnOutcome {
                 has_sent: false,
                 is_busy: false,
             };
         };
-        let is_awaited = seat.is_awaited(&self.hub);
-        seat.begin_turn(turn.time.second, &self.limits, turn.is_shut, is_awaited);
-        let has_sent = seat.sends_on(turn);
-        seat.take_turn(&mut self.hub, buffer, turn, log);
-        let is_busy = seat.is_busy();
-        let closing = seat.course.closing(turn.time.second, &self.limits);
+        let is_awaited = slot.is_awaited(&self.hub);
+        slot.begin_turn(turn.time.second, &self.limits, turn.is_shut, is_awaited);
+        let has_sent = slot.sends_on(turn);
+        slot.take_turn(&mut self.hub, buffer, turn, log);
+        let is_busy = slot.is_busy();
+        let closing = slot.state.closing(turn.time.second, &self.limits);
         if let Some(closing) = closing {
             self.close(at, turn.time.second, closing, log);
-            return Served {
+            return TurnOutcome {
                 has_sent,
                 is_busy: false,
             };
         }
-        Served { has_sent, is_busy }
+        TurnOutcome { has_sent, is_busy }
     }
 
     /// Closes the connection there, for a reason.
     fn close<L: HostLog>(&mut self, at: usize, second: u64, closing: Closing, log: &mut L)
-        requires there { at < length self.old.seats.items }
+        requires there { at < length self.old.slots.items }
         requires done { MayGo (position self.old) second closing
-            (slot at self.old.seats.items) }
+            (slot_at at self.old.slots.items) }
         ensures goes { Closed A.condition R.unread K.taken S.held self.old self.new at second
             closing }
         ensures noted { Grows (L.notes log.old) (L.notes log.new)
-            (farewell closing (slot at self.old.seats.items)) }
+            (farewell closing (slot_at at self.old.slots.items)) }
     {
-        if let Some(seat) = self.seats[at].take() {
-            self.hub.close(seat.connection);
-            seat.break_off(log);
-            log.closed(seat.connection, seat.address, closing, seat.bytes());
-            drop(seat);
+        if let Some(slot) = self.slots[at].take() {
+            self.hub.close(slot.connection);
+            slot.break_off(log);
+            log.closed(slot.connection, slot.address, closing, slot.bytes());
+            drop(slot);
         }
     }
 
     /// Where more bytes of unfinished requests are kept than may be, closes the connection that has
     /// most of them, unless one of its requests may be complete, which is answered first.
-    fn shed<L: HostLog>(&mut self, second: u64, log: &mut L)
-        ensures goes { (deeds : List Deed) × Sheds A.condition R.unread K.taken S.held
-            (position self.old) (position self.new) second deeds (L.notes log.old)
+    fn evict_largest<L: HostLog>(&mut self, second: u64, log: &mut L)
+        ensures goes { (actions : List HostAction) × EvictsLargest A.condition R.unread K.taken S.held
+            (position self.old) (position self.new) second actions (L.notes log.old)
             (L.notes log.new) }
-        ensures left { (at : ℕ) → (slot at self.new.seats.items ≡ slot at self.old.seats.items)
-            ⊎ (slot at self.new.seats.items ≡ None) }
+        ensures left { (at : ℕ) → (slot_at at self.new.slots.items ≡ slot_at at self.old.slots.items)
+            ⊎ (slot_at at self.new.slots.items ≡ None) }
         ensures stays { Stays self.old self.new }
     {
         let at = self.largest();
@@ -367,12 +367,12 @@ impl<A: Archive, R: Source + Drop, K: Sink + Drop, S: Spool + Drop> Host<A, R, K
         }
     }
 
-    /// Moves the end in front of the places behind which nobody sits.
+    /// Moves the end in front of the places behind which nobody is.
     fn draw_in(&mut self)
         ensures { (position self.new ≡ position self.old) × Stays self.old self.new }
     {
         for _ in 0..self.end {
-            if self.seats[self.end - 1].is_some() {
+            if self.slots[self.end - 1].is_some() {
                 return;
             }
             self.end -= 1;
@@ -381,34 +381,34 @@ impl<A: Archive, R: Source + Drop, K: Sink + Drop, S: Spool + Drop> Host<A, R, K
 
     /// Where the most bytes of unfinished requests are kept.
     fn largest(&self) -> usize
-        ensures { (place : ℕ) → unfinished_of (slot place self.now.seats.items)
-            ≤ unfinished_of (slot result self.now.seats.items) }
+        ensures { (place : ℕ) → unfinished_of (slot_at place self.now.slots.items)
+            ≤ unfinished_of (slot_at result self.now.slots.items) }
     {
         let mut largest = 0;
         for at in 0..self.end {
-            if unfinished(&self.seats[at]) > unfinished(&self.seats[largest]) {
+            if unfinished(&self.slots[at]) > unfinished(&self.slots[largest]) {
                 largest = at;
             }
         }
         largest
     }
 
-    /// Whether who sits there is read, and none of its requests may be complete.
+    /// Whether who is there is read, and none of its requests may be complete.
     fn is_read(&self, at: usize) -> bool
         ensures read { result ≡ true → IsReadAt (position self.now) at }
         ensures unread { result ≡ false → IsReadAt (position self.now) at → ⊥ }
     {
-        at < self.seats.len() && is_read(&self.seats[at])
+        at < self.slots.len() && is_read(&self.slots[at])
     }
 
     /// Whether more bytes of unfinished requests are kept than may be.
     fn is_full(&self) -> bool
         ensures { result ≡ nat_lt self.now.limits.unfinished_bytes
-            (unfinished_in self.now.seats.items) }
+            (unfinished_in self.now.slots.items) }
     {
         let mut kept: u128 = 0;
         for at in 0..self.end {
-            kept += unfinished(&self.seats[at]) as u128;
+            kept += unfinished(&self.slots[at]) as u128;
         }
         kept > self.limits.unfinished_bytes as u128
     }
@@ -416,7 +416,7 @@ impl<A: Archive, R: Source + Drop, K: Sink + Drop, S: Spool + Drop> Host<A, R, K
 
 /// What a turn came to.
 #[derive(Clone, Copy)]
-struct Served {
+struct TurnOutcome {
     /// Whether a content was sent on.
     has_sent: bool,
     /// Whether the connection can go on at once.
@@ -424,17 +424,17 @@ struct Served {
 }
 
 /// Room for all connections.
-fn empty_seats<R: Drop, K: Drop, S: Drop>(
+fn empty_slots<R: Drop, K: Drop, S: Drop>(
     alloc: Global,
-) -> Result<Vec<Option<Seat<R, K, S>>>, AllocError>
-    ensures { IfOk result (λ seats. (at : ℕ) → get_or seats.items at None ≡ None) }
+) -> Result<Vec<Option<Slot<R, K, S>>>, AllocError>
+    ensures { IfOk result (λ slots. (at : ℕ) → get_or slots.items at None ≡ None) }
 {
-    let mut seats = Vec::with_capacity(alloc, MOST_SEATS)?;
+    let mut slots = Vec::with_capacity(alloc, MOST_SEATS)?;
     for _ in 0..MOST_SEATS {
-        if let Err(refused) = seats.push(None) {
+        if let Err(refused) = slots.push(None) {
             drop(refused);
             return Err(AllocError);
         }
     }
-    Ok(seats)
+    Ok(slots)
 }

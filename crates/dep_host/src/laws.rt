@@ -7,7 +7,7 @@ use dep_hub::Archive;
 use dep_hub::laws::{answers_make_a_run, connections_make_a_run, replies_make_a_run};
 use dep_outbox::{Sink, Source, Spool};
 
-/// Whatever a host does, it makes a run: behind all records that its hub stood for, the hub stands for
+/// Whatever a host does, it makes a run: behind all records that its hub represented, the hub represents
 /// those of what was done, and holds the bytes that were read and not answered, while its store is open.
 pub fn hosts_make_a_run<A: Archive, R: Source, K: Sink, S: Spool>()
     ensures { MakesRuns A.condition R.unread K.taken S.held }
@@ -17,7 +17,7 @@ pub fn hosts_make_a_run<A: Archive, R: Source, K: Sink, S: Spool>()
 }
 
 /// Where sockets and spools show their bytes: what the wire of each connection took since it came is what was
-/// sent to it, so that what its socket took is a front of that.
+/// sent to it, so that what its socket took is a prefix of that.
 pub fn wires_take_what_is_sent<A: Archive, R: Source, K: Sink, S: Spool>()
     ensures { TakesWhatIsSent A.condition R.unread K.taken S.held }
 {}
@@ -28,13 +28,13 @@ pub fn what_is_read_arrives()
     ensures { ReadsArrive }
 {}
 
-/// No connection sits at two places, and who sits at one was never closed.
-pub fn seats_are_apart<A: Archive, R: Source, K: Sink, S: Spool>()
+/// No connection is at two places, and who is at one was never closed.
+pub fn slots_are_apart<A: Archive, R: Source, K: Sink, S: Spool>()
     ensures apart { SitsApart A.condition R.unread K.taken S.held }
     ensures open { SitsOpen A.condition R.unread K.taken S.held }
 {}
 
-/// What is still to be sent of a content goes on: who sits at a place to whom it is owed is in a phase in which
+/// What is still to be sent of a content goes on: who is at a place to whom it is owed is in a phase in which
 /// it is sent, unless it is over.
 pub fn contents_are_sent<A: Archive, R: Source, K: Sink, S: Spool>()
     ensures { SendsContents A.condition R.unread K.taken S.held }
@@ -46,9 +46,9 @@ pub fn turns_come()
 {}
 
 /// The archive promise, for all connections at once. From a host without connections over a store that
-/// stands for a state, whatever peers, moments and events come: what was done is a run of the machine,
-/// each connection was sent a front of its replies to the requests that its bytes spell, behind which the rest
-/// is owed, these bytes are a front of what its client gave, and the store stands for the machine's state, while
+/// represents a state, whatever peers, moments and events come: what was done is a run of the machine,
+/// each connection was sent a prefix of its replies to the requests that its bytes spell, behind which the rest
+/// is owed, these bytes are a prefix of what its client gave, and the store represents the machine's state, while
 /// it is open.
 pub fn hosts_keep_the_archive_promise<A: Archive, R: Source, K: Sink, S: Spool>()
     ensures { KeepsPromises A.condition R.unread K.taken S.held }
@@ -77,6 +77,6 @@ pub fn sending_ends<A: Archive, R: Source, K: Sink, S: Spool>()
 
 /// Once a host is shut, as its store is or as it was told to stop, it stays so: it lets nobody in and reads
 /// nothing, answers what was read, and closes.
-pub fn told_hosts_take_nothing<A: Archive, R: Source, K: Sink, S: Spool>()
+pub fn reported_hosts_take_nothing<A: Archive, R: Source, K: Sink, S: Spool>()
     ensures { TakesNothing A.condition R.unread K.taken S.held }
 {}

@@ -1,13 +1,13 @@
 //! What is told of each connection, for a log of them.
 ghost use Rattle.std.specs.Prelude.{◌≡◌, List, [], ◌∷◌, Option, None};
-ghost use Rattle.dep_host.specs.Notes.{Note, LetIn, TurnedAway, LetGo, Grows};
+ghost use Rattle.dep_host.specs.Notes.{Note, LetIn, Rejected, LetGo, Grows};
 
 use dep_hub::{AccessLog, ConnId, Next, SentOn};
 use std::net::IpAddr;
 
-/// Why a client was turned away.
+/// Why a client was rejected.
 #[derive(Clone, Copy, Debug, PartialEq, Eq)]
-pub enum Refusal {
+pub enum Rejection {
     /// As many connections as may be come from its address.
     Address,
     /// No further connection can be opened.
@@ -53,10 +53,10 @@ pub trait HostLog {
         ensures noted { Grows (notes self.old) (notes self.new)
             (LetIn connection address ∷ []) };
 
-    /// A client was turned away.
-    fn refused(&mut self, address: IpAddr, refusal: Refusal)
+    /// A client was rejected.
+    fn refused(&mut self, address: IpAddr, refusal: Rejection)
         ensures noted { Grows (notes self.old) (notes self.new)
-            (TurnedAway address refusal ∷ []) };
+            (Rejected address refusal ∷ []) };
 
     /// The next item of a connection is answered, where one is complete. None may be.
     fn answering(&mut self, connection: ConnId, address: IpAddr) -> Self::Item

@@ -18,7 +18,7 @@ pub struct ReadBuffer {
 }
 
 impl ReadBuffer {
-    /// A buffer of so many bytes, at least one, up to `MOST_READ`. An `Err` is want of memory.
+    /// A buffer of so many bytes, at least one, up to `MOST_READ`. An `Err` is lack of memory.
     pub fn new(alloc: Global, size: usize) -> Result<ReadBuffer, AllocError>
         ensures { IfOk result (λ buffer. length buffer.bytes.items
             ≡ min (max size 1) MOST_READ) }
@@ -27,7 +27,7 @@ impl ReadBuffer {
         Ok(ReadBuffer { bytes })
     }
 
-    /// Receives what is there, into a front of it. The source is asked once.
+    /// Receives what is there, into a prefix of it. The source is asked once.
     pub(crate) fn receive<R: Source>(&mut self, source: &mut R) -> Received
         ensures bytes { Receives (R.unread source.old) (R.unread source.new)
             self.new.bytes.items result }

@@ -3,8 +3,8 @@ ghost use Rattle.std.specs.Prelude.{◌≡◌, ◌≢◌, ℕ, List, [], ◌∷�
 ghost use Rattle.std.specs.List.{AllByRecursion};
 ghost use Rattle.dep_host.specs.Coming.{IsFresh, seconds_of};
 ghost use Rattle.dep_host.specs.Causes.{causes_of};
-ghost use Rattle.dep_host.specs.Courses.{is_overdue};
-ghost use Rattle.dep_host.specs.Hosting.{Deed, GoesOn, IsWaiting, position, slot};
+ghost use Rattle.dep_host.specs.ConnectionStates.{is_overdue};
+ghost use Rattle.dep_host.specs.Hosting.{HostAction, GoesOn, IsWaiting, position, slot_at};
 ghost use Rattle.dep_host.specs.Meeting.{AsksOn, IsIdle, IsMet, IsOffer, MayEnd, Meets, Met, most_events};
 ghost use Rattle.dep_host.specs.Runs.{Promises};
 
@@ -46,9 +46,9 @@ pub fn serve<
     L: HostLog,
 >(host: &mut Host<A, R, K, S>, events: &mut E, buffer: &mut ReadBuffer, log: &mut L) -> Ended
     // What came, and what was made of each.
-    ensures met { (deeds : List Deed) × Met A.condition A.account R.unread K.taken S.held S.size
+    ensures met { (actions : List HostAction) × Met A.condition A.call_log R.unread K.taken S.held S.size
         (causes_of R.halts K.halts S.failures) L.notes (E.given events.old) (E.given events.new)
-        host.old host.new log.old log.new deeds most_events result }
+        host.old host.new log.old log.new actions most_events result }
     ensures goes { GoesOn A.condition R.unread K.taken S.held (position host.old)
         (position host.new) }
     // The archive promise, for all connections.
@@ -83,7 +83,7 @@ fn meet<A: Archive, R: Source + Drop, K: Sink + Drop, S: Spool + Drop, L: HostLo
 ) -> Result<Now, Ended>
     requires fresh { IsFresh K.taken S.held event }
     requires vacant { IsOffer host.old now.vacancy }
-    ensures met { IsMet A.condition A.account R.unread K.taken S.held S.size
+    ensures met { IsMet A.condition A.call_log R.unread K.taken S.held S.size
         (causes_of R.halts K.halts S.failures) L.notes host.old host.new log.old log.new
         now.vacancy event result }
     ensures vacant { IfOk result (λ next. IsOffer host.new next.vacancy) }
@@ -99,7 +99,7 @@ fn meet<A: Archive, R: Source + Drop, K: Sink + Drop, S: Spool + Drop, L: HostLo
             is_readable,
             is_writable,
         } => {
-            host.awake(at, is_readable, is_writable);
+            host.set_ready(at, is_readable, is_writable);
             Ok(Now {
                 vacancy: now.vacancy,
                 is_busy: true,
@@ -133,8 +133,8 @@ fn go_on<A: Archive, R: Source + Drop, K: Sink + Drop, S: Spool + Drop>(
     second: u64,
 ) -> Result<Now, Ended>
     requires waits { is_busy ≡ false
-        → (at : ℕ) → IsWaiting S.size (slot at host.old.seats.items) }
-    ensures asks { AsksOn A.condition A.account R.unread K.taken S.held host.old host.new second }
+        → (at : ℕ) → IsWaiting S.size (slot_at at host.old.slots.items) }
+    ensures asks { AsksOn A.condition A.call_log R.unread K.taken S.held host.old host.new second }
     ensures vacant { IfOk result (λ next. IsOffer host.new next.vacancy) }
     ensures idle { IfOk result (λ next. next.is_busy ≡ false → IsIdle S.size host.new) }
     ensures end { result ≢ Err Ended.Events }
@@ -191,13 +191,13 @@ fn let_in<A: Archive, R: Source + Drop, K: Sink + Drop, S: Spool + Drop, L: Host
 )
     requires fresh { IsFresh K.taken S.held (Event.Client client) }
     requires vacant { IsOffer host.old vacancy }
-    ensures { (deeds : List Deed) × Meets A.condition A.account R.unread K.taken S.held S.size
+    ensures { (actions : List HostAction) × Meets A.condition A.call_log R.unread K.taken S.held S.size
         (causes_of R.halts K.halts S.failures) L.notes host.old host.new log.old log.new vacancy
-        (Event.Client client) deeds }
+        (Event.Client client) actions }
 {
     match vacancy {
         Some(at) => {
-            let _told = host.admit(at, client, log);
+            let _reported = host.admit(at, client, log);
         }
         None => {
             log.refused(client.address, host.refusal());

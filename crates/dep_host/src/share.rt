@@ -31,7 +31,7 @@ impl Share {
         }
     }
 
-    /// Whether a content that is sent to who sits at a place may be sent on.
+    /// Whether a content that is sent to who is at a place may be sent on.
     pub(crate) fn is_turn(&self, at: usize) -> bool
         ensures { result ≡ is_turn self.now.first self.now.next at }
     {

@@ -8,17 +8,17 @@ use Rattle.std.specs.Io.KnownBytes.{Appends}
 use Rattle.std.proofs.lemmas.Bool.{eq-eqb, eqb-true}
 use Rattle.dep_types.specs.State.{State, File, file_at}
 use Rattle.dep_types.specs.declared.config.Config.{Config}
-use Rattle.dep_types.specs.Conditions.{Condition, StandsFor, HasCleanDisk, Leaves}
+use Rattle.dep_types.specs.Conditions.{Condition, Represents, HasCleanDisk, Leaves}
 use Rattle.dep_message.specs.Places.{Reading}
 use Rattle.dep_hub.specs.Records.{Line}
 use Rattle.dep_hub.specs.Shut.{LeavesNoMore, IfShut}
-use Rattle.dep_hub.specs.Standing.{intake_of, store_of, IsClean, IsHonest}
+use Rattle.dep_hub.specs.Representing.{intake_of, store_of, IsClean, IsHonest}
 use Rattle.dep_hub.specs.Holding.{IsHeldAs, KeepsHolding, with_held}
 use Rattle.dep_answers.specs.declared.performed.StoredFile.{StoredFile}
 use Rattle.std.specs.List.{remove}
 use Rattle.dep_hub.specs.Numbers.{index_of, Ascends}
-use Rattle.dep_hub.specs.Owing.{HasBehind, IsFrontBehind, IsLater, IsOwed, later_than, bytes_later, TakesFew}
-use Rattle.dep_hub.specs.StandsOwing.{IsPaid, OthersStay, SendsOn, behind_at, is_part}
+use Rattle.dep_hub.specs.Owing.{HasBehind, IsPrefixBehind, IsLater, IsOwed, later_than, bytes_later, TakesFew}
+use Rattle.dep_hub.specs.RepresentsOwing.{IsPaid, OthersStay, SendsOn, behind_at, is_part}
 use Rattle.dep_hub.specs.declared.next.Next.{Next}
 use Rattle.dep_hub.specs.declared.next.Next.TheVariants.{NoSuch}
 use Rattle.dep_hub.specs.declared.sent_on.SentOn.{SentOn}
@@ -91,7 +91,7 @@ same_file s it a b h k = let e : Some a ≡ Some b = sym h ∙ k in cc
 pub one_behind : (s : State) (it : StoredFile) (start : ℕ) (xs ys : List ℕ) → HasBehind s it start xs → HasBehind s it start ys → xs ≡ ys
 one_behind s it start xs ys h k = sym h.is ∙ (ap (λ (f : File). drop start f.content) (same_file s it h.file k.file h.held k.held) ∙ k.is)
 
-pub front_behind : (s : State) (it : StoredFile) (start : ℕ) (owed sent : List ℕ) → HasBehind s it start owed → IsFrontBehind s it start sent
+pub front_behind : (s : State) (it : StoredFile) (start : ℕ) (owed sent : List ℕ) → HasBehind s it start owed → IsPrefixBehind s it start sent
     → (rest : List ℕ) × (owed ≡ sent ++ rest)
 front_behind s it start owed sent h k = let x = k h.file h.held in (x.0, sym h.is ∙ x.1)
 
@@ -106,11 +106,11 @@ owed_if s true b b' xs ys h k = h
 owed_if s false b b' xs ys h k = k
 
 -- a later rest of a content is owed
-pub owed_later : (store : Condition) (r : Option Rest) (more : Option (List ℕ)) → IsLater store r more → HasCleanDisk store → (s : State) → StandsFor store s
+pub owed_later : (store : Condition) (r : Option Rest) (more : Option (List ℕ)) → IsLater store r more → HasCleanDisk store → (s : State) → Represents store s
     → IsOwed s (later_than r) (bytes_later more)
-owed_later store None more later disk s stands = ap bytes_later later
-owed_later store (Some r) more later disk s stands =
-    subst (λ (l : List ℕ). HasBehind s r.file r.sent l) (sym (ap bytes_later later.1)) (later.2 disk s stands)
+owed_later store None more later disk s represents = ap bytes_later later
+owed_later store (Some r) more later disk s represents =
+    subst (λ (l : List ℕ). HasBehind s r.file r.sent l) (sym (ap bytes_later later.1)) (later.2 disk s represents)
 
 -- what is paid of what is owed
 pub paid_part : (s : State) (it : StoredFile) (start next : ℕ) (owed sent : List ℕ) → HasBehind s it start owed
@@ -122,7 +122,7 @@ pub paid_all : (s : State) (it : StoredFile) (start : ℕ) (owed sent : List ℕ
     → (rest : List ℕ) × (owed ≡ sent ++ rest) × IsPaid All sent rest × IsOwed s Nothing rest
 paid_all s it start owed sent h x = ([], one_behind s it start owed sent h x ∙ sym (append-nil sent), refl, refl)
 
-pub paid_broken : (s : State) (it : StoredFile) (start : ℕ) (owed sent : List ℕ) → HasBehind s it start owed → IsFrontBehind s it start sent
+pub paid_broken : (s : State) (it : StoredFile) (start : ℕ) (owed sent : List ℕ) → HasBehind s it start owed → IsPrefixBehind s it start sent
     → (rest : List ℕ) × (owed ≡ sent ++ rest) × IsPaid BrokenOff sent rest × IsOwed s Broken rest
 paid_broken s it start owed sent h x = let y = front_behind s it start owed sent h x in (y.0, y.1, tt, tt)
 
@@ -147,10 +147,10 @@ module _ {A : Type 0} (condition : A → Condition) (old new : Hub A) (n : ℕ) 
   -- some of what was owed is sent
   pub sends_on : (before : Behind) → behind_at old.connections.items n ≡ before → (answer : SentOn) (taken takes : Option (List ℕ)) (failures failures_after : ℕ)
       (sent : List ℕ) → Appends taken takes sent
-      → (IsHonest condition new → (s : State) → StandsFor (store_of condition old) s → (owed : List ℕ) → IsOwed s before owed
+      → (IsHonest condition new → (s : State) → Represents (store_of condition old) s → (owed : List ℕ) → IsOwed s before owed
       → (rest : List ℕ) × (owed ≡ sent ++ rest) × IsPaid answer sent rest × IsOwed s b rest)
-      → (IsClean condition new → IsHonest condition new → (s : State) → StandsFor (store_of condition old) s → StandsFor (store_of condition new) s)
-      → (IsHonest condition new → (s : State) → StandsFor (store_of condition old) s → Leaves (store_of condition new) (λ found. found ≡ s))
+      → (IsClean condition new → IsHonest condition new → (s : State) → Represents (store_of condition old) s → Represents (store_of condition new) s)
+      → (IsHonest condition new → (s : State) → Represents (store_of condition old) s → Leaves (store_of condition new) (λ found. found ≡ s))
       → IfShut (store_of condition old) (store_of condition new) (LeavesNoMore (store_of condition old) (store_of condition new))
       → (answer ≢ BrokenOff → failures_after ≡ failures) → is_content b ≡ is_part answer → TakesFew taken takes
       → SendsOn condition taken takes failures failures_after old new n answer
@@ -169,7 +169,7 @@ module _ {A : Type 0} (condition : A → Condition) (old new : Hub A) (n : ℕ) 
           }),
           leaves honest w.state at.at.state,
         );
-    stands = λ honest clean w held at. record { state = stays clean honest w.state at.state; kept = holds_on w.line held at.kept };
+    represents = λ honest clean w held at. record { state = stays clean honest w.state at.state; kept = holds_on w.line held at.kept };
     shut = shut;
     kept = kept;
     left = ap is_content (behinds n ∙ ap (λ (t : Bool). if t then b else behind_at old.connections.items n) (eq-eqb n n refl)) ∙ left;

@@ -91,12 +91,12 @@ cuts (x ∷ a) b (y ∷ c) d e = cuts_on x y a b c d (head_same e) (cuts a b c d
 
 -- the first item at a place with bytes more, where none was complete without: its text ends in these
 -- bytes
-pub record Ending (limit : ℕ) (bare : Place) (held : List ℕ) (item : Item) (next : Place) : Type 0 where
+pub record Ending (limit : ℕ) (head_only : Place) (held : List ℕ) (item : Item) (next : Place) : Type 0 where
   pub part : List ℕ
   pub rest : List ℕ
   pub at : Place
   pub whole : held ≡ part ++ rest
-  pub first : FirstAt limit (place_with bare part) item at
+  pub first : FirstAt limit (place_with head_only part) item at
   pub waits : Waits limit at
   pub goes_on : next ≡ place_with at rest
 
@@ -115,7 +115,7 @@ ending_by limit continued had held item next w f (shorter p e) =
     absurd (waits_none limit (Open continued had) (after_item item f.text p) item w
     (record { text = f.text; behind = p; whole = e; spelled = f.spelled; goes_on = refl }))
 
-pub ending : (limit : ℕ) (bare : Place) (held : List ℕ) (item : Item) (next : Place) → Waits limit bare → FirstAt limit (place_with bare held) item next
-    → Ending limit bare held item next
+pub ending : (limit : ℕ) (head_only : Place) (held : List ℕ) (item : Item) (next : Place) → Waits limit head_only → FirstAt limit (place_with head_only held) item next
+    → Ending limit head_only held item next
 ending limit (Open continued had) held item next w f = ending_by limit continued had held item next w f (cuts had held f.text f.behind f.whole)
 ending limit Shut held item next w f = absurd f

@@ -5,7 +5,7 @@ use Rattle.std.specs.Io.KnownBytes.{Appends}
 use Rattle.dep_types.specs.State.{State}
 use Rattle.dep_types.specs.Writing.{HasRisen}
 use Rattle.dep_types.specs.declared.config.Config.{Config}
-use Rattle.dep_types.specs.Conditions.{StandsFor, HasCleanDisk, Leaves}
+use Rattle.dep_types.specs.Conditions.{Represents, HasCleanDisk, Leaves}
 use Rattle.dep_message.specs.Places.{Place, Open, Shut, Reading, IsOpen, HasBytes, place_with}
 use Rattle.dep_message.specs.Stream.{Item, FirstAt, Waits}
 use Rattle.dep_hub.specs.Records.{Line, Absent, Live, ShutLine, ReadsBeyond, Arrives, LeftByArrival}
@@ -13,7 +13,7 @@ use Rattle.dep_hub.specs.Causes.{IsCutWhileStreaming}
 use Rattle.dep_hub.specs.Sending.{Outside}
 use Rattle.dep_hub.specs.Serving.{IsDeadIfShut}
 use Rattle.dep_hub.specs.Shut.{LeavesNoMore, IfShut, SendsFixed}
-use Rattle.dep_hub.specs.Standing.{IsKeptAs}
+use Rattle.dep_hub.specs.Representing.{IsKeptAs}
 use Rattle.dep_hub.specs.Holding.{fed, IsHeldAs, Outcome, ArrivesAs, items_answered}
 use Rattle.dep_hub.specs.declared.arrived.Arrived.{Arrived}
 use Rattle.dep_hub.specs.declared.arrived.Arrived.TheVariants as came
@@ -54,7 +54,7 @@ pub record NextPart (config : Config) (offered : List ℕ) (moment : ℕ) (line 
   pub becomes : Line
   pub arrival : Arrives config part moment line s sent left becomes answer
   pub outcome_is : outcome (items_answered arrival) rest sent
-  pub stands : IsTrue new.store.is_open → StandsFor new.store left
+  pub represents : IsTrue new.store.is_open → Represents new.store left
   pub stays_clean : answer ≡ came.Open → IsTrue new.store.is_open
   pub kept : IsHeldAs config.max_upload becomes rest (Some now)
   pub stop : Leaves new.store (LeftByArrival arrival)
@@ -71,15 +71,15 @@ pub record StillPart (config : Config) (offered : List ℕ) (moment : ℕ) (line
 
 -- an intake that keeps a line, with bytes that have not arrived
 pub record Keeps (limit : ℕ) (line : Line) (offered : List ℕ) (reading : Reading) : Type 0 where
-  pub bare : Reading
-  pub keeps : IsKeptAs limit line (Some bare)
-  pub is_fed : reading ≡ fed bare offered
+  pub head_only : Reading
+  pub keeps : IsKeptAs limit line (Some head_only)
+  pub is_fed : reading ≡ fed head_only offered
 
 -- the same for whatever line the intake kept, with whatever bytes more
 pub record NextOver (config : Config) (reading now : Reading) (moment : ℕ) (old new : Outside) (answer : Arrived) (outcome : Outcome) : Type 0 where
   pub sent : List ℕ
   pub appends : Appends old.taken new.taken sent
-  pub parts : HasCleanDisk new.store → (line : Line) (s : State) (offered : List ℕ) → Keeps config.max_upload line offered reading → StandsFor old.store s
+  pub parts : HasCleanDisk new.store → (line : Line) (s : State) (offered : List ℕ) → Keeps config.max_upload line offered reading → Represents old.store s
       → NextPart config offered moment line s sent old new now answer outcome
   pub sends : IfShut old.store new.store (SendsFixed sent answer × LeavesNoMore old.store new.store)
   pub still : IfShut old.store new.store ((line : Line) (offered : List ℕ) → Keeps config.max_upload line offered reading → StillPart config offered moment line sent now answer outcome)
@@ -91,14 +91,14 @@ module _ (limit : ℕ) (offered : List ℕ) (reading : Reading) where
   pub ended_limit : Keeps limit ShutLine offered reading → reading.limit ≡ limit
   ended_limit k = ap (λ (r : Reading). r.limit) k.is_fed ∙ k.keeps.same_limit
 
-  pub keeps_place : (line : Line) (k : Keeps limit line offered reading) → reading.place ≡ place_with k.bare.place offered
+  pub keeps_place : (line : Line) (k : Keeps limit line offered reading) → reading.place ≡ place_with k.head_only.place offered
   keeps_place line k = ap (λ (r : Reading). r.place) k.is_fed
 
   pub ended_place : Keeps limit ShutLine offered reading → reading.place ≡ Shut
   ended_place k = keeps_place ShutLine k ∙ ap (λ p. place_with p offered) k.keeps.shut
 
   pub live_open : (stream : List ℕ) → Keeps limit (Live stream) offered reading → IsOpen reading.place
-  live_open stream k = subst (λ p. IsOpen p) (sym (keeps_place (Live stream) k)) (open_with k.bare.place offered k.keeps.is_open)
+  live_open stream k = subst (λ p. IsOpen p) (sym (keeps_place (Live stream) k)) (open_with k.head_only.place offered k.keeps.is_open)
 
   pub ended_dead : Keeps limit ShutLine offered reading → reading.is_dead ≡ true
   ended_dead k = ap (λ (r : Reading). r.is_dead) k.is_fed ∙ k.keeps.dead
@@ -110,7 +110,7 @@ module _ (limit : ℕ) (offered : List ℕ) (reading : Reading) where
 
   -- the first item of the bytes is that of what the line keeps, with those that were offered
   pub first_of : (stream : List ℕ) (item : Item) (next : Place) (k : Keeps limit (Live stream) offered reading) → FirstAt reading.limit reading.place item next
-      → FirstAt limit (place_with k.bare.place offered) item next
+      → FirstAt limit (place_with k.head_only.place offered) item next
   first_of stream item next k f =
       subst (λ p. FirstAt limit p item next) (keeps_place (Live stream) k) (subst (λ n. FirstAt n reading.place item next) (keeps_limit stream k) f)
 
@@ -154,9 +154,9 @@ reaches limit stream offered part rest items Shut now o whole r w l p = absurd o
 pub reaches_next : (limit : ℕ) (stream offered : List ℕ) (reading now : Reading) (item : Item) → Keeps limit (Live stream) offered reading → now.limit ≡ reading.limit
     → FirstAt reading.limit reading.place item now.place → IsOpen now.place → Reaches limit stream offered (item ∷ []) now
 reaches_next limit stream offered reading now item k same f o =
-    let y = ending limit k.bare.place offered item now.place k.keeps.spells.waits (first_of limit offered reading stream item now.place k f) in
+    let y = ending limit k.head_only.place offered item now.place k.keeps.spells.waits (first_of limit offered reading stream item now.place k f) in
     reaches limit stream offered y.part y.rest (item ∷ []) y.at now (was_open y.at y.rest (subst (λ p. IsOpen p) y.goes_on o)) y.whole
-    (beyond limit stream y.part k.bare k.keeps (item ∷ []) y.at (y.at, y.first, refl)) y.waits (same ∙ keeps_limit limit offered reading stream k) y.goes_on
+    (beyond limit stream y.part k.head_only k.keeps (item ∷ []) y.at (y.at, y.first, refl)) y.waits (same ∙ keeps_limit limit offered reading stream k) y.goes_on
 
 -- no item is complete: all of the bytes arrive
 pub reaches_none : (limit : ℕ) (stream offered : List ℕ) (reading now : Reading) → Keeps limit (Live stream) offered reading → now.limit ≡ reading.limit → now.place ≡ reading.place
@@ -165,7 +165,7 @@ reaches_none limit stream offered reading now k same stays w = by_place reading.
   where
     by_place : (at : Place) → reading.place ≡ at → IsOpen at → (r : Reaches limit stream offered [] now) × (r.rest ≡ [])
     by_place (Open continued bytes) e o =
-        let reads = beyond limit stream offered k.bare k.keeps [] (Open continued bytes) (sym e ∙ keeps_place limit offered reading (Live stream) k) in
+        let reads = beyond limit stream offered k.head_only k.keeps [] (Open continued bytes) (sym e ∙ keeps_place limit offered reading (Live stream) k) in
         let waits : Waits limit (Open continued bytes) = subst (λ p. Waits limit p) e (subst (λ n. Waits n reading.place) (keeps_limit limit offered reading stream k) w) in (
           record {
             part = offered;

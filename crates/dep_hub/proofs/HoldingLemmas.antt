@@ -1,18 +1,18 @@
--- What a hub stands for that holds bytes which have not arrived, after each of its calls.
+-- What a hub represents that holds bytes which have not arrived, after each of its calls.
 use Rattle.std.proofs.Common.{◌≡◌, ◌≢◌, ℕ, ◌==◌, ◌≤◌, Bool, true, false, List, [], ◌∷◌, ◌++◌, Vec, Global, set, get_or, Option, Some, None, if◌then◌else◌, refl, sym, ap, subst, ◌∙◌, arith}
 use Rattle.std.proofs.lemmas.Bool.{eqb-true}
 use Rattle.dep_types.specs.State.{State}
 use Rattle.dep_types.specs.declared.config.Config.{Config}
-use Rattle.dep_types.specs.Conditions.{Condition, StandsFor, Leaves}
+use Rattle.dep_types.specs.Conditions.{Condition, Represents, Leaves}
 use Rattle.dep_message.specs.Places.{Open, Reading, shut_reading, place_with}
-use Rattle.dep_hub.specs.Machine.{want_of_memory}
+use Rattle.dep_hub.specs.Machine.{out_of_memory}
 use Rattle.dep_hub.specs.Records.{Connect, Close, Arrive, Record, stopped, first_world, connects, closes, arrives, Run, goes_on, stops, Line, Absent, Live, World, with_line}
 use Rattle.dep_hub.specs.Sending.{Outside, outside}
 use Rattle.dep_hub.specs.Serving.{IsDeadIfShut}
 use Rattle.dep_hub.specs.Nexts.{RunsOut, AnswersNext}
-use Rattle.dep_hub.specs.Standing.{intake_of, IsKeptAs, StandsAt, store_of, IsClean}
+use Rattle.dep_hub.specs.Representing.{intake_of, IsKeptAs, RepresentsAt, store_of, IsClean}
 use Rattle.dep_hub.specs.Archives.{KeepsAll}
-use Rattle.dep_hub.specs.Holding.{RestsOn, StandsOn, with_held, fed, IsHeldAs, Outcome, arrived_by, IsNext, IsRefused, KeepsHolding, StandsHolding, StandsHoldingAfter, MovesLine, PartArrives, AnswersOver, ComesToNext, OffersTo}
+use Rattle.dep_hub.specs.Holding.{RestsOn, RepresentsOn, with_held, fed, IsHeldAs, Outcome, arrived_by, IsNext, IsRefused, KeepsHolding, RepresentsHolding, RepresentsHoldingAfter, LineTransition, PartArrives, AnswersOver, ComesToNext, OffersTo}
 use Rattle.dep_hub.specs.Numbers.{index_of, Ascends}
 use Rattle.dep_hub.specs.declared.arrived.Arrived.{Arrived}
 use Rattle.dep_hub.specs.declared.arrived.Arrived.TheVariants as came
@@ -83,7 +83,7 @@ held_more limit line held piece before now e k =
     (k.0, k.1, e ∙ (ap (λ (r : Reading). fed r piece) k.2 ∙ (λ i. record { limit = k.0.limit; place = place_twice k.0.place held piece i; is_dead = k.0.is_dead })))
 
 keeps : (limit : ℕ) (line : Line) (held : List ℕ) (reading : Reading) → IsHeldAs limit line held (Some reading) → Keeps limit line held reading
-keeps limit line held reading k = record { bare = k.0; keeps = k.1; is_fed = k.2 }
+keeps limit line held reading k = record { head_only = k.0; keeps = k.1; is_fed = k.2 }
 
 -- ---- the connection of a call
 
@@ -147,8 +147,8 @@ module _ {A : Type 0} (condition : A → Condition) (old new : Hub A) (n i : ℕ
               left = r.left;
               line = r.becomes;
               arrives = r.arrival;
-              stands = λ clean. record { state = r.stands clean; kept = put_here w.line held at.kept r.becomes r.rest r.kept };
-              rests = λ clean. stays_as (store_of condition new) r.left settles (r.stands clean);
+              represents = λ clean. record { state = r.represents clean; kept = put_here w.line held at.kept r.becomes r.rest r.kept };
+              rests = λ clean. stays_as (store_of condition new) r.left settles (r.represents clean);
               stays_clean = r.stays_clean;
               stop = r.stop;
               cause = r.cause;
@@ -201,7 +201,7 @@ module _ {A : Type 0} (condition : A → Condition) (old new : Hub A) (n i : ℕ
     -- memory runs out for a piece
     pub refuses : (piece : List ℕ) (answer : Arrived) → RunsOut (place_with c.intake.place piece) Before After answer → answer ≢ came.NoSuch → now ≡ shut_reading c.intake
         → OffersTo condition taken takes failures failures_after old new n piece answer
-    refuses piece came.Open o there shut = absurd (ends_sent want_of_memory o.sent o.sends)
+    refuses piece came.Open o there shut = absurd (ends_sent out_of_memory o.sent o.sends)
     refuses piece came.Closed o there shut = refused piece came.Closed o (λ e. cc) shut
     refuses piece came.Cut o there shut = refused piece came.Cut o (λ e. cc) shut
     refuses piece came.NoSuch o there shut = absurd (there refl)
@@ -242,27 +242,27 @@ module _ {A : Type 0} (condition : A → Condition) (hub : Hub A) (w : World) wh
       let same : r ≡ k.0 = k.2 ∙ (ap (λ x. fed k.0 x) e ∙ (λ i. record { limit = k.0.limit; place = place_nothing k.0.place i; is_dead = k.0.is_dead })) in
       subst (λ x. IsKeptAs limit line (Some x)) (sym same) k.1
 
-  pub holds_nothing : StandsAt condition hub w → StandsHolding condition hub w (λ n. [])
+  pub holds_nothing : RepresentsAt condition hub w → RepresentsHolding condition hub w (λ n. [])
   holds_nothing at = record { state = at.state; kept = λ n. hold_one hub.config.max_upload (w.line n) (intake_of hub.connections.items n) (at.kept n) }
 
-  pub stands_at : (held : ℕ → List ℕ) → ((n : ℕ) → held n ≡ []) → StandsHolding condition hub w held → StandsAt condition hub w
-  stands_at held e at = record {
+  pub represents_at : (held : ℕ → List ℕ) → ((n : ℕ) → held n ≡ []) → RepresentsHolding condition hub w held → RepresentsAt condition hub w
+  represents_at held e at = record {
     state = at.state;
     kept = λ n. keep_one hub.config.max_upload (w.line n) (held n) (intake_of hub.connections.items n) (e n) (at.kept n);
   }
 
 -- a record is added to those of a run, and where the arrival was the last thing, what a stop leaves
--- stands for the records with a stop
+-- represents the records with a stop
 module _ {A : Type 0} (condition : A → Condition) (old new : Hub A) (n : ℕ) (offered : List ℕ) (moment : ℕ) (sent : List ℕ)
-    (failures failures_after : ℕ) (answer : Arrived) (first : State) (records : List Record) (held : ℕ → List ℕ) (h : StandsHoldingAfter condition old first records held)
+    (failures failures_after : ℕ) (answer : Arrived) (first : State) (records : List Record) (held : ℕ → List ℕ) (h : RepresentsHoldingAfter condition old first records held)
     (a : PartArrives condition old.config new n offered moment sent failures failures_after answer h.world held) where
   pub answer_adds : new.config ≡ old.config → IsClean condition new
-      → StandsHoldingAfter condition new first (records ++ record { event = Arrive n a.part moment; sent = sent } ∷ []) (with_held n a.rest held)
+      → RepresentsHoldingAfter condition new first (records ++ record { event = Arrive n a.part moment; sent = sent } ∷ []) (with_held n a.rest held)
   answer_adds config clean = record {
     world = record { state = a.left; line = with_line n a.line h.world.line };
     run = subst (λ (x : Config). Run x first (records ++ record { event = Arrive n a.part moment; sent = sent } ∷ []) (record { state = a.left; line = with_line n a.line h.world.line })) (sym config)
         (goes_on h.run (arrives a.arrives));
-    at = a.stands clean;
+    at = a.represents clean;
   }
 
   pub answer_stops : Leaves (store_of condition new)
@@ -270,12 +270,12 @@ module _ {A : Type 0} (condition : A → Condition) (old new : Hub A) (n : ℕ) 
   answer_stops = leaves_wider (store_of condition new) _ _ (λ found l. stopped_run old.config h.run n a.arrives found l) a.stop
 
 module _ {A : Type 0} (condition : A → Condition) (old new : Hub A) (n : ℕ) (first : State) (records : List Record) (held : ℕ → List ℕ)
-    (h : StandsHoldingAfter condition old first records held) (config : new.config ≡ old.config) (store : new.store ≡ old.store) where
-  same_state : StandsFor (store_of condition new) h.world.state
-  same_state = subst (λ (x : A). StandsFor (condition x) h.world.state) (sym store) h.at.state
+    (h : RepresentsHoldingAfter condition old first records held) (config : new.config ≡ old.config) (store : new.store ≡ old.store) where
+  same_state : Represents (store_of condition new) h.world.state
+  same_state = subst (λ (x : A). Represents (condition x) h.world.state) (sym store) h.at.state
 
-  pub connect_adds : MovesLine condition old new n (Live []) (λ bytes. bytes)
-      → StandsHoldingAfter condition new first (records ++ record { event = Connect n; sent = [] } ∷ []) held
+  pub connect_adds : LineTransition condition old new n (Live []) (λ bytes. bytes)
+      → RepresentsHoldingAfter condition new first (records ++ record { event = Connect n; sent = [] } ∷ []) held
   connect_adds moves =
       let w : World = record { state = h.world.state; line = with_line n (Live []) h.world.line } in
       record {
@@ -284,8 +284,8 @@ module _ {A : Type 0} (condition : A → Condition) (old new : Hub A) (n : ℕ) 
         at = record { state = same_state; kept = moves h.world.line held h.at.kept };
       }
 
-  pub close_adds : MovesLine condition old new n Absent (with_held n [])
-      → StandsHoldingAfter condition new first (records ++ record { event = Close n; sent = [] } ∷ []) (with_held n [] held)
+  pub close_adds : LineTransition condition old new n Absent (with_held n [])
+      → RepresentsHoldingAfter condition new first (records ++ record { event = Close n; sent = [] } ∷ []) (with_held n [] held)
   close_adds moves =
       let w : World = record { state = h.world.state; line = with_line n Absent h.world.line } in
       record {
@@ -296,15 +296,15 @@ module _ {A : Type 0} (condition : A → Condition) (old new : Hub A) (n : ℕ) 
 
 -- a stop at rest
 pub rests_holding : {A : Type 0} (condition : A → Condition) (hub : Hub A) → Settles (store_of condition hub) → (first : State) (records : List Record) (held : ℕ → List ℕ)
-    → StandsHoldingAfter condition hub first records held → Leaves (store_of condition hub) (λ found. Run hub.config first (records ++ stopped ∷ []) (first_world found))
+    → RepresentsHoldingAfter condition hub first records held → Leaves (store_of condition hub) (λ found. Run hub.config first (records ++ stopped ∷ []) (first_world found))
 rests_holding condition hub settles first records held h =
     leaves_wider (store_of condition hub) _ _ (λ found e. subst (λ s. Run hub.config first (records ++ stopped ∷ []) (first_world s)) (sym e) (stops h.run))
     (stays_as (store_of condition hub) h.world.state settles h.at.state)
 
 -- between two calls, where the store keeps what it kept
 module _ {A : Type 0} (condition : A → Condition) (old new : Hub A) (config : new.config ≡ old.config) (connections : new.connections ≡ old.connections) (next : new.next ≡ old.next) where
-  stands_still : (IsClean condition new → (s : State) → StandsFor (store_of condition old) s → StandsFor (store_of condition new) s) → StandsOn condition old new
-  stands_still kept clean first records held h = record {
+  represents_still : (IsClean condition new → (s : State) → Represents (store_of condition old) s → Represents (store_of condition new) s) → RepresentsOn condition old new
+  represents_still kept clean first records held h = record {
     world = h.world;
     run = subst (λ (x : Config). Run x first records h.world) (sym config) h.run;
     at = record {
@@ -317,7 +317,7 @@ module _ {A : Type 0} (condition : A → Condition) (old new : Hub A) (config : 
   -- it was asked for nothing that it keeps
   pub rests_on : Settles (store_of condition old) → KeepsAll (store_of condition old) (store_of condition new) → RestsOn condition KeepsAll old new
   rests_on settles store = record {
-    stands = stands_still store.kept;
+    represents = represents_still store.kept;
     stops = λ honest first records held h. leaves_before (store_of condition old) (store_of condition new) _ (store.left honest)
         (rests_holding condition old settles first records held h);
     store = store;

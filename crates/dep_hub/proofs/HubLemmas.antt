@@ -1,4 +1,4 @@
--- What a hub stands for, after each of its calls.
+-- What a hub represents, after each of its calls.
 use Rattle.std.proofs.Common.{◌≡◌, ◌≢◌, ◌⊎◌, ℕ, ◌==◌, Bool, true, false, List, [], ◌∷◌, ◌++◌, get_or, set, Option, Some, None, if◌then◌else◌, IsTrue, refl, sym, ap, subst, ◌∙◌, append_assoc, arith, inl, inr}
 use Rattle.std.specs.Prelude.{IsSome}
 use Rattle.std.proofs.Math.Bool.{Bool-set}
@@ -10,14 +10,14 @@ use Rattle.dep_head.specs.Head.{head_end}
 use Rattle.dep_message.specs.Places.{Place, Open, Shut, Reading, IsOpen, HasBytes, place_with}
 use Rattle.dep_message.specs.Stream.{Item, Reads, Waits}
 use Rattle.dep_message.proofs.Reading.{reads_more, reads_append}
-use Rattle.dep_types.specs.Conditions.{Condition, StandsFor, Leaves}
+use Rattle.dep_types.specs.Conditions.{Condition, Represents, Leaves}
 use Rattle.dep_hub.specs.Machine.{Serves, serves_all, step_fails, gives_up, given_up, cut_short, answer_at_place}
 use Rattle.dep_hub.specs.Stops.{LeftByServing}
 use Rattle.dep_hub.specs.Records.{Event, Connect, Arrive, Close, Record, stopped, Line, Absent, Live, ShutLine, World, first_world, with_line, line_after, ReadsBeyond, Arrives, at_live, at_shut_line, LeftByArrival, MayShut, connects, closes, arrives, Run, goes_on, stops, breaks}
 use Rattle.dep_hub.specs.Causes.{EndsInContent, IsCutWhileStreaming}
 use Rattle.dep_hub.specs.Sending.{Outside, outside}
 use Rattle.dep_hub.specs.Serving.{IsDeadIfShut, arrival_of, ServesFrom, ServesOver}
-use Rattle.dep_hub.specs.Standing.{intake_of, KeepsRest, IsKeptAs, StandsAt, StandsAfter, StopsAfter, Adds, Moves, ArrivesTo, ArrivesShut, ArrivesOver, ComesTo, store_of, IsClean, IsHonest}
+use Rattle.dep_hub.specs.Representing.{intake_of, KeepsRest, IsKeptAs, RepresentsAt, RepresentsAfter, StopsAfter, Adds, Transition, ArrivesTo, ArrivesShut, ArrivesOver, ComesTo, store_of, IsClean, IsHonest}
 use Rattle.dep_hub.specs.Shut.{IfShut}
 use Rattle.dep_hub.specs.Claims.{is_any_pending, is_any_waiting}
 use Rattle.dep_hub.specs.Numbers.{index_of, Ascends, Ascends-prop}
@@ -129,7 +129,7 @@ pub record NextLine (config : Config) (piece : List ℕ) (moment : ℕ) (line : 
   pub left : State
   pub becomes : Line
   pub arrival : Arrives config piece moment line s sent left becomes answer
-  pub stands : IsTrue new.store.is_open → StandsFor new.store left
+  pub represents : IsTrue new.store.is_open → Represents new.store left
   pub stays_clean : answer ≡ StaysOpen → IsTrue new.store.is_open
   pub kept : IsKeptAs config.max_upload becomes (Some reading)
   pub stop : Leaves new.store (LeftByArrival arrival)
@@ -143,13 +143,13 @@ after_live config stream piece s left moment sent (Open continued rest) answer n
 after_live config stream piece s left moment sent Shut answer now is_dead l d v = record { same_limit = l; shut = refl; dead = d refl }
 
 ended_next : (config : Config) (piece : List ℕ) (moment : ℕ) (old new : Outside) (limit : ℕ) (is_dead : Bool) {s left : State} {sent : List ℕ} {at : Place} {answer : Arrived}
-    → limit ≡ config.max_upload → (at ≡ Shut → is_dead ≡ true) → Nothing s sent left at answer → (IsTrue new.store.is_open → StandsFor new.store left) → Leaves new.store (λ found. found ≡ s)
+    → limit ≡ config.max_upload → (at ≡ Shut → is_dead ≡ true) → Nothing s sent left at answer → (IsTrue new.store.is_open → Represents new.store left) → Leaves new.store (λ found. found ≡ s)
     → NextLine config piece moment ShutLine s sent old new (record { limit = limit; place = at; is_dead = is_dead }) answer
-ended_next config piece moment old new limit is_dead same dead nothing stands stop = record {
+ended_next config piece moment old new limit is_dead same dead nothing represents stop = record {
   left = _;
   becomes = ShutLine;
   arrival = at_shut_line;
-  stands = stands;
+  represents = represents;
   stays_clean = λ e. cc;
   kept = record { same_limit = same; shut = refl; dead = dead refl };
   stop = stop;
@@ -175,7 +175,7 @@ arrival config piece moment (Live stream) s sent before after old new answer m d
       left = t.left;
       becomes = line_after (stream ++ piece) new.place;
       arrival = at_live w;
-      stands = t.stands;
+      represents = t.represents;
       stays_clean = t.stays_clean;
       kept = after_live config stream piece s t.left moment sent new.place answer new.limit new.is_dead (m ∙ k.same_limit) (d dead) w;
       stop = leaves_wider after.store _ _ (λ c h. left_map Given Beyond f t.serves c h) t.stop;
@@ -189,7 +189,7 @@ arrival config piece moment ShutLine s sent before after old new answer m d k v 
     let f : (items : List Item) (at : Place) → Given items at → AtEnd items at =
     λ items at r. subst (λ p. Reads old.limit (place_with p piece) items at) k.shut r in
     let w : Serves config AtEnd s moment sent t.left new.place answer = serves_map Given AtEnd f t.serves in
-    ended_next config piece moment before after new.limit new.is_dead (m ∙ k.same_limit) (d dead) (serves_ended old.limit w) t.stands
+    ended_next config piece moment before after new.limit new.is_dead (m ∙ k.same_limit) (d dead) (serves_ended old.limit w) t.represents
     (leaves_wider after.store _ _ (λ c h. ended_left old.limit w c (left_map Given AtEnd f t.serves c h)) t.stop)
 
 -- an arrival that the machine answers from any state, and stays at it
@@ -288,7 +288,7 @@ module _ {A : Type 0} (condition : A → Condition) (old new : Hub A) (n i : ℕ
   Over answer = ServesOver old.config (arrival_of c.intake piece moment) (outside held failures (store_of condition old)) (outside holds failures_after (store_of condition new)) now.place answer
 
   -- the world after the arrival
-  arrives_at : (answer : Arrived) (v : Over answer) → IsHonest condition new → (w : World) → StandsAt condition old w
+  arrives_at : (answer : Arrived) (v : Over answer) → IsHonest condition new → (w : World) → RepresentsAt condition old w
       → ArrivesTo condition old.config new n piece moment v.sent failures failures_after answer w
   arrives_at answer v honest w at =
       let found = index_some n i old.connections.items c index item in
@@ -299,13 +299,13 @@ module _ {A : Type 0} (condition : A → Condition) (old new : Hub A) (n i : ℕ
         left = r.left;
         line = r.becomes;
         arrives = r.arrival;
-        stands = λ clean. record {
-          state = r.stands clean;
+        represents = λ clean. record {
+          state = r.represents clean;
           kept = subst (λ (x : _). (m : ℕ) → IsKeptAs x.max_upload (with_line n r.becomes w.line m) (intake_of new.connections.items m)) (sym config)
               (kept_put old.config.max_upload n r.becomes w.line (Some now) old.connections.items new.connections.items r.kept at.kept
               (λ m. ap (λ cs. intake_of cs m) changed ∙ intake_set n i old.connections.items (record { number = c.number; intake = now; behind = b }) index found.0 m));
         };
-        rests = λ clean. stays_as (store_of condition new) r.left settles (r.stands clean);
+        rests = λ clean. stays_as (store_of condition new) r.left settles (r.represents clean);
         stays_clean = r.stays_clean;
         stop = r.stop;
         cause = r.cause;
@@ -318,7 +318,7 @@ module _ {A : Type 0} (condition : A → Condition) (old new : Hub A) (n i : ℕ
         world = record { state = a.left; line = with_line n a.line h.world.line };
         run = subst (λ (x : _). Run x first (records ++ record { event = Arrive n piece moment; sent = v.sent } ∷ []) (record { state = a.left; line = with_line n a.line h.world.line })) (sym config)
             (goes_on h.run (arrives a.arrives));
-        at = a.stands clean;
+        at = a.represents clean;
       }
 
   arrives_stops : (answer : Arrived) (v : Over answer) → StopsAfter condition old new (Arrive n piece moment) v.sent
@@ -377,13 +377,13 @@ pub absent_already : (n : ℕ) (cs : List Connection) → intake_of cs n ≡ Non
 absent_already n cs f m = absent_if n m cs (m == n) refl f
 
 module _ {A : Type 0} (condition : A → Condition) (old new : Hub A) (config : new.config ≡ old.config) where
-  same_state : (w : State) → new.store ≡ old.store → StandsFor (store_of condition old) w → StandsFor (store_of condition new) w
-  same_state w store h = subst (λ (x : A). StandsFor (condition x) w) (sym store) h
+  same_state : (w : State) → new.store ≡ old.store → Represents (store_of condition old) w → Represents (store_of condition new) w
+  same_state w store h = subst (λ (x : A). Represents (condition x) w) (sym store) h
 
   -- a connection is closed
   pub closes_moves : (n : ℕ) → new.store ≡ old.store
       → ((m : ℕ) → intake_of new.connections.items m ≡ (if m == n then None else intake_of old.connections.items m))
-      → Moves condition old new (Close n) []
+      → Transition condition old new (Close n) []
   closes_moves n store gone w at = (
     record { state = w.state; line = with_line n Absent w.line },
     closes,
@@ -395,7 +395,7 @@ module _ {A : Type 0} (condition : A → Condition) (old new : Hub A) (config : 
   )
 
   -- what moves, adds
-  pub moves_adds : (event : Event) (sent : List ℕ) → Moves condition old new event sent → Adds condition old new event sent
+  pub moves_adds : (event : Event) (sent : List ℕ) → Transition condition old new event sent → Adds condition old new event sent
   moves_adds event sent m first records h =
       let a = m h.world h.at in
       record {
@@ -407,7 +407,7 @@ module _ {A : Type 0} (condition : A → Condition) (old new : Hub A) (config : 
   -- a connection is opened
   pub connects_moves : (n : ℕ) → new.store ≡ old.store → n ≡ old.next
       → new.connections.items ≡ old.connections.items ++ record { number = n; intake = record { limit = old.config.max_upload; place = Open false []; is_dead = false }; behind = behind.Nothing } ∷ []
-      → Moves condition old new (Connect n) []
+      → Transition condition old new (Connect n) []
   connects_moves n store this items w at =
       let d : Connection = record { number = n; intake = record { limit = old.config.max_upload; place = Open false []; is_dead = false }; behind = behind.Nothing } in
       let low : Ascends 0 old.connections.items n = subst (λ k. Ascends 0 old.connections.items k) (sym this) old.ascends in (
@@ -421,17 +421,17 @@ module _ {A : Type 0} (condition : A → Condition) (old new : Hub A) (config : 
         },
       )
 
-  -- a hub that stands at the same worlds stands for the same records
-  pub same_stands_for : ((w : World) → StandsAt condition old w → StandsAt condition new w)
-      → (first : State) (records : List Record) → StandsAfter condition old first records → StandsAfter condition new first records
-  same_stands_for same first records h = record {
+  -- a hub that stands at the same worlds represents the same records
+  pub same_represents : ((w : World) → RepresentsAt condition old w → RepresentsAt condition new w)
+      → (first : State) (records : List Record) → RepresentsAfter condition old first records → RepresentsAfter condition new first records
+  same_represents same first records h = record {
     world = h.world;
     run = subst (λ (x : _). Run x first records h.world) (sym config) h.run;
     at = same h.world h.at;
   }
 
 -- a stop at rest
-pub rests : {A : Type 0} (condition : A → Condition) (hub : Hub A) → Settles (store_of condition hub) → (first : State) (records : List Record) → StandsAfter condition hub first records
+pub rests : {A : Type 0} (condition : A → Condition) (hub : Hub A) → Settles (store_of condition hub) → (first : State) (records : List Record) → RepresentsAfter condition hub first records
     → Leaves (store_of condition hub) (λ found. Run hub.config first (records ++ stopped ∷ []) (first_world found))
 rests condition hub settles first records h =
     leaves_wider (store_of condition hub) _ _ (λ c e. subst (λ s. Run hub.config first (records ++ stopped ∷ []) (first_world s)) (sym e) (stops h.run))
@@ -439,6 +439,6 @@ rests condition hub settles first records h =
 
 -- the store is the one of before, and so is what a stop leaves
 pub leaves_as_before : {A : Type 0} (condition : A → Condition) (old : Hub A) (store : A) → store ≡ old.store → Settles (store_of condition old)
-    → (w : World) → StandsAt condition old w → Leaves (condition store) (λ found. found ≡ w.state)
+    → (w : World) → RepresentsAt condition old w → Leaves (condition store) (λ found. found ≡ w.state)
 leaves_as_before condition old store same settles w at =
     subst (λ (x : _). Leaves (condition x) (λ found. found ≡ w.state)) (sym same) (stays_as (store_of condition old) w.state settles at.state)

@@ -25,10 +25,10 @@ use Rattle.dep_router.specs.declared.routed.Routed.{Routed}
 use Rattle.dep_router.specs.declared.routed.Routed.TheVariants.{To, NotFound, NotAllowed}
 use Rattle.dep_hub.specs.Machine.{operation_of, routed_step, step, starting_state, state_after, Fails, given_up, cut_short, Serves, serves_all, step_fails, gives_up}
 use Rattle.dep_hub.specs.Records.{Line, Arrives, ReadsBeyond, at_live, at_shut_line, Arrive, Run, goes_on, arrives, with_line}
-use Rattle.dep_hub.specs.Standing.{intake_of, store_of}
+use Rattle.dep_hub.specs.Representing.{intake_of, store_of}
 use Rattle.dep_hub.specs.Holding.{IsHeldAs, items_served, items_answered}
 use Rattle.dep_hub.specs.Owing.{IsOwed}
-use Rattle.dep_hub.specs.StandsOwing.{RepliesKeep, behind_at, RepliesAdd, SendingStands}
+use Rattle.dep_hub.specs.RepresentsOwing.{RepliesKeep, behind_at, RepliesAdd, SendingRepresents}
 use Rattle.dep_hub.specs.declared.connections.Connection.{Connection}
 use Rattle.dep_hub.proofs.BehindLemmas.{or_parts}
 use Rattle.dep_hub.proofs.Endings.{place_twice}
@@ -51,7 +51,7 @@ use Rattle.dep_hub.specs.declared.hub.Hub.{Hub}
 -- an item doesn't take the file
 abbrev Spares : Behind → Item → Type 0
 Spares b (Request m) = is_in_the_way (claim_of m.head) b ≡ false
-Spares b (Fault refusal bare) = Unit {0}
+Spares b (Fault refusal head_only) = Unit {0}
 Spares b Continue = Unit {0}
 
 abbrev AllSpare : Behind → List Item → Type 0
@@ -84,33 +84,33 @@ target_spares r resource Delete e = put_spares r resource e
 target_spares r resource method e = refl
 
 module _ (config : Config) (it : StoredFile) (file : File) where
-  abbrev Stands : State → Type 0
-  Stands s = file_at s it.object it.file ≡ Some file
+  abbrev StaysFile : State → Type 0
+  StaysFile s = file_at s it.object it.file ≡ Some file
 
-  by_refusal : (s : State) (op : Operation) (o : Option Refusal) → takes_file it.object it.file op.target ≡ false → IsSound s → Stands s
-      → Stands (step_by config s op o).state
+  by_refusal : (s : State) (op : Operation) (o : Option Refusal) → takes_file it.object it.file op.target ≡ false → IsSound s → StaysFile s
+      → StaysFile (step_by config s op o).state
   by_refusal s op (Some r) spares sound h = h
   by_refusal s op None spares sound h = file_stays config s op it.object it.file file sound h spares
 
-  by_operation : (s : State) (op : Operation) → takes_file it.object it.file op.target ≡ false → IsSound s → Stands s → Stands (operation_step config s op).state
+  by_operation : (s : State) (op : Operation) → takes_file it.object it.file op.target ≡ false → IsSound s → StaysFile s → StaysFile (operation_step config s op).state
   unfolding operation_step
   by_operation s op spares sound h = by_refusal s op (refusal config s op) spares sound h
 
-  by_route : (s : State) (m : Message) (r : Routed) (start : ℕ) → is_in_the_way (claim_by r) (Content (record { file = it; sent = start })) ≡ false → IsSound s → Stands s
-      → Stands (routed_step config s m r).state
+  by_route : (s : State) (m : Message) (r : Routed) (start : ℕ) → is_in_the_way (claim_by r) (Content (record { file = it; sent = start })) ≡ false → IsSound s → StaysFile s
+      → StaysFile (routed_step config s m r).state
   by_route s m NotFound start spares sound h = h
   by_route s m (NotAllowed methods) start spares sound h = h
   by_route s m (To t) start spares sound h =
       by_operation s (operation_of m t) (target_spares (record { file = it; sent = start }) t.resource t.method spares) sound h
 
-  by_step : (s : State) (item : Item) (moment start : ℕ) → Spares (Content (record { file = it; sent = start })) item → IsSound s → Stands s → Stands (step config s item moment).state
+  by_step : (s : State) (item : Item) (moment start : ℕ) → Spares (Content (record { file = it; sent = start })) item → IsSound s → StaysFile s → StaysFile (step config s item moment).state
   unfolding step
-  by_step s (Fault r bare) moment start spares sound h = h
+  by_step s (Fault r head_only) moment start spares sound h = h
   by_step s Continue moment start spares sound h = h
   by_step s (Request m) moment start spares sound h = by_route (tick config s moment) m (target m.head.method m.head.path) start spares (keeps_sound config s moment sound) h
 
-  by_start : (s : State) (item : Item) (moment : ℕ) → Stands s → Stands (starting_state config s item moment)
-  by_start s (Fault r bare) moment h = h
+  by_start : (s : State) (item : Item) (moment : ℕ) → StaysFile s → StaysFile (starting_state config s item moment)
+  by_start s (Fault r head_only) moment h = h
   by_start s Continue moment h = h
   by_start s (Request m) moment h = h
 
@@ -170,14 +170,14 @@ reads_after limit (x ∷ xs) ys from p q r s =
     let o = one_at limit from x x r.0 s.0 r.1 s.1 in
     reads_after limit xs ys r.0 p q r.2 (subst (λ (a : Place). Reads limit a (xs ++ ys) q) (sym o.1) s.2)
 
-module _ (limit : ℕ) (stream part rest : List ℕ) (bare : Place) (before : List Item) (spells : Spells limit stream before bare) (b : Behind)
-    (spares : (item : Item) (next : Place) → FirstAt limit (place_with bare (part ++ rest)) item next → Spares b item) where
+module _ (limit : ℕ) (stream part rest : List ℕ) (head_only : Place) (before : List Item) (spells : Spells limit stream before head_only) (b : Behind)
+    (spares : (item : Item) (next : Place) → FirstAt limit (place_with head_only (part ++ rest)) item next → Spares b item) where
   first_spares : (item : Item) (items : List Item) (at : Place) → ReadsBeyond limit stream part (item ∷ items) at → Spares b item
   first_spares item items at x =
-      let same = one_spelling limit stream x.0 before x.1 bare x.2 spells in
+      let same = one_spelling limit stream x.0 before x.1 head_only x.2 spells in
       let r = reads_after limit x.0 (item ∷ items) (Open false (stream ++ part)) (place_with x.1 part) at (reads_more limit x.0 (Open false stream) x.1 part x.2.reads) x.3 in
       spares item (place_with r.0 rest) (subst (λ (p : Place). FirstAt limit p item (place_with r.0 rest))
-      (ap (λ (p : Place). place_with (place_with p part) rest) same.1 ∙ place_twice bare part rest) (first_more limit (place_with x.1 part) item r.0 rest r.1))
+      (ap (λ (p : Place). place_with (place_with p part) rest) same.1 ∙ place_twice head_only part rest) (first_more limit (place_with x.1 part) item r.0 rest r.1))
 
   all_spare : (items : List Item) (at : Place) → length items ≤ 1 → ReadsBeyond limit stream part items at → AllSpare b items
   all_spare [] at l reads = tt
@@ -215,7 +215,7 @@ waits_for cs head = has_to_wait cs (claim_of head)
 item_spares : (cs : List Connection) (limit : ℕ) (at : Place) (m : ℕ) → IsNoNext (waits_for cs) limit at → (item : Item) (next : Place) → FirstAt limit at item next
     → Spares (behind_at cs m) item
 item_spares cs limit at m none (Request message) next f = none_of cs (claim_of message.head) m (none message next f)
-item_spares cs limit at m none (Fault r bare) next f = tt
+item_spares cs limit at m none (Fault r head_only) next f = tt
 item_spares cs limit at m none Continue next f = tt
 
 arrival_spares : (cs : List Connection) (config : Config) (part rest : List ℕ) (moment m : ℕ) {line after : Line} {s left : State} {sent : List ℕ} {answer : Arrived}
@@ -223,13 +223,13 @@ arrival_spares : (cs : List Connection) (config : Config) (part rest : List ℕ)
     → ((reading : Reading) → o ≡ Some reading → IsNoNext (waits_for cs) reading.limit reading.place) → items_answered a ≤ 1 → ArrivalSpares (behind_at cs m) a
 arrival_spares cs config part rest moment m (at_live {stream} v) None kept none l = absurd kept.0
 arrival_spares cs config part rest moment m (at_live {stream} v) (Some reading) kept none l =
-    let bare = kept.0 in
-    let place : reading.place ≡ place_with bare.place (part ++ rest) = ap (λ (r : Reading). r.place) kept.2 in
+    let head_only = kept.0 in
+    let place : reading.place ≡ place_with head_only.place (part ++ rest) = ap (λ (r : Reading). r.place) kept.2 in
     let limit : reading.limit ≡ config.max_upload = ap (λ (r : Reading). r.limit) kept.2 ∙ kept.1.same_limit in
-    let none_here : IsNoNext (waits_for cs) config.max_upload (place_with bare.place (part ++ rest)) =
+    let none_here : IsNoNext (waits_for cs) config.max_upload (place_with head_only.place (part ++ rest)) =
     subst (λ (p : Place). IsNoNext (waits_for cs) config.max_upload p) place (subst (λ (k : ℕ). IsNoNext (waits_for cs) k reading.place) limit (none reading refl)) in
-    serving_spares config.max_upload stream part rest bare.place kept.1.items kept.1.spells (behind_at cs m)
-    (item_spares cs config.max_upload (place_with bare.place (part ++ rest)) m none_here) config _ moment v l
+    serving_spares config.max_upload stream part rest head_only.place kept.1.items kept.1.spells (behind_at cs m)
+    (item_spares cs config.max_upload (place_with head_only.place (part ++ rest)) m none_here) config _ moment v l
 arrival_spares cs config part rest moment m at_shut_line o kept none l = tt
 
 owed_each : (s : State) (t : Bool) (b : Behind) (xs ys : List ℕ) → (t ≡ true → IsOwed s b xs) → (t ≡ false → IsOwed s b ys) → IsOwed s b (if t then xs else ys)
@@ -239,13 +239,13 @@ owed_each s false b xs ys h k = k refl
 -- what others are owed is owed still
 pub replies_keep : {A : Type 0} (condition : A → Condition) (old new : Hub A) → RepliesKeep condition old new
 replies_keep condition old new n moment sent failures failures_after answer w held owed more at a l spares others owes honest clean =
-    let stands = a.stands clean in
+    let represents = a.represents clean in
     let sound : IsSound w.state = (store_of condition old).sound_if_kept w.state at.at.state in
     let cs = old.connections.items in
     record {
-      at = stands;
+      at = represents;
       owes = λ m. owed_each a.left (m == n) (behind_at new.connections.items m) more (owed m)
-          (λ e. subst (λ (k : ℕ). IsOwed a.left (behind_at new.connections.items k) more) (sym (eqb-true m n e)) (owes honest a.left stands.state))
+          (λ e. subst (λ (k : ℕ). IsOwed a.left (behind_at new.connections.items k) more) (sym (eqb-true m n e)) (owes honest a.left represents.state))
           (λ e.
           let other : m ≢ n = grind (arith, nat_tests, e) in
           subst (λ (b : Behind). IsOwed a.left b (owed m)) (sym (others m other))
@@ -265,8 +265,8 @@ replies_add condition old new n moment sent failures failures_after answer first
   at = replies_keep condition old new n moment sent failures failures_after answer h.world held owed more h.at a l spares others owes honest clean;
 }
 
-pub sending_stands : {A : Type 0} (condition : A → Condition) (old new : Hub A) → SendingStands condition old new
-sending_stands condition old new taken takes failures failures_after n answer first records held owed sending h config honest clean =
+pub sending_represents : {A : Type 0} (condition : A → Condition) (old new : Hub A) → SendingRepresents condition old new
+sending_represents condition old new taken takes failures failures_after n answer first records held owed sending h config honest clean =
     let x = sending.sends honest h.world held owed h.at in (
       x.0,
       x.1,

@@ -8,7 +8,7 @@ use Rattle.dep_types.specs.Writing.{HasRisen}
 use Rattle.dep_message.specs.Places.{Place, Open, Shut, Reading, IsOpen, HasBytes, shut_reading}
 use Rattle.dep_message.specs.Stream.{Item, FirstAt, Waits}
 use Rattle.dep_message.specs.Giving.{Takes}
-use Rattle.dep_hub.specs.Machine.{state_after, answer_at_place, SendsUpTo, want_of_memory}
+use Rattle.dep_hub.specs.Machine.{state_after, answer_at_place, SendsUpTo, out_of_memory}
 use Rattle.dep_hub.specs.Sending.{Outside, Passes, outside}
 use Rattle.dep_hub.specs.Serving.{KeepsIntake, Arrival, Answers, IsDeadIfShut, Progress, ServesOver, answer_after}
 use Rattle.dep_hub.specs.Nexts.{Stays, Rests, RunsOut, IsLast, IsDead, Ends, GoesOn, IsWaiting, AnswersNext, TakesNext, ended_as, next_behind, reading_behind}
@@ -68,9 +68,9 @@ stays_same o = record { passes = passes_none o; state = λ s h. h; leaves = leav
 pub rests_same : (o : Outside) → Rests o o
 rests_same o = record { stays = stays_same o; failures = refl }
 
--- the fixed reply for want of memory, over a store that nothing was asked of
+-- the fixed reply for lack of memory, over a store that nothing was asked of
 pub runs_out : (place : Place) (taken takes : Option (List ℕ)) (failures after : ℕ) (store : Condition) (answer : Arrived) → HasBytes place
-    → (sent : List ℕ) × Appends taken takes sent × SendsUpTo want_of_memory sent answer → (answer ≡ Cut → HasRisen failures after)
+    → (sent : List ℕ) × Appends taken takes sent × SendsUpTo out_of_memory sent answer → (answer ≡ Cut → HasRisen failures after)
     → RunsOut place (outside taken failures store) (outside takes after store) answer
 runs_out place taken takes failures after store answer has a cause = record {
   sent = a.0;
@@ -96,7 +96,7 @@ module _ (config : Config) (reading : Reading) (moment : ℕ) (old new : Outside
 
   -- memory ran out
   pub ends_out : (ended : Arrived) → RunsOut reading.place old new ended → (n : Next) → n ≡ ended_as ended → AnswersNext config reading moment old new at n
-  ends_out StaysOpen o n q = absurd (ends_sent want_of_memory o.sent o.sends)
+  ends_out StaysOpen o n q = absurd (ends_sent out_of_memory o.sent o.sends)
   ends_out Closed o n q = subst (λ x. AnswersNext config reading moment old new at x) (sym q) (shut, inr (inl o))
   ends_out Cut o n q = subst (λ x. AnswersNext config reading moment old new at x) (sym q) (shut, inr (inl o))
   ends_out NoSuch o n q = absurd (there_sent o.sends refl)
@@ -125,8 +125,8 @@ module _ (config : Config) (reading mid : Reading) (moment : ℕ) (old new : Out
   pub takes_next : (how : Answered) (is_last : Bool) → (is_last ≡ true → mid.place ≡ Shut) → (is_last ≡ false → mid.place ≡ Shut → ⊥)
       → Answers config old new item moment how → (now : Reading) → now ≡ reading_behind mid how is_last → (n : Next) → n ≡ next_behind how is_last
       → TakesNext config reading now moment old new n
-  takes_next how is_last closes goes a now stands n e =
-      subst (λ (r : Reading). TakesNext config reading r moment old new n) (sym stands)
+  takes_next how is_last closes goes a now represents n e =
+      subst (λ (r : Reading). TakesNext config reading r moment old new n) (sym represents)
       (subst (λ (x : Next). TakesNext config reading (reading_behind mid how is_last) moment old new x) (sym e)
       (behind how is_last closes goes a))
 
@@ -144,9 +144,9 @@ served_stays {config} {came} {old} {mid} {new} {at} v r = record {
   sent = v.sent;
   reads = v.reads;
   passes = subst (λ bytes. Passes old new bytes) (append-nil v.sent) (passes_both v.passes r.stays.passes);
-  replied = λ disk s stands.
-      let b = v.replied (r.stays.passes.honest disk) s stands in
-      record { stands = r.stays.state (state_after config s v.items came.moment) b.stands; whole = b.whole; failures = r.failures ∙ b.failures };
+  replied = λ disk s represents.
+      let b = v.replied (r.stays.passes.honest disk) s represents in
+      record { represents = r.stays.state (state_after config s v.items came.moment) b.represents; whole = b.whole; failures = r.failures ∙ b.failures };
   shut = λ disk none. let so_far = v.shut (r.stays.passes.honest disk) none in (so_far.0, leaves_both old.store mid.store new.store so_far.1 r.stays.leaves);
   still = λ disk none. v.still (r.stays.passes.honest disk) none;
 }

@@ -3,7 +3,7 @@ use Rattle.std.proofs.Common.{◌≡◌, ℕ, List, [], ◌++◌, Option, Some, 
 use Rattle.std.specs.Io.KnownBytes.{Appends}
 use Rattle.dep_types.specs.State.{State}
 use Rattle.dep_types.specs.Streams.{HasContent, IsStreamed}
-use Rattle.dep_types.specs.Conditions.{Condition, StandsFor, HasCleanDisk}
+use Rattle.dep_types.specs.Conditions.{Condition, Represents, HasCleanDisk}
 use Rattle.dep_types.specs.declared.stream_fault.StreamFault.{StreamFault}
 use Rattle.dep_answers.specs.declared.performed.StoredFile.{StoredFile}
 use Rattle.dep_hub.specs.Owing.{HasBehind, IsLater, SendsContent, TakesFew, TakesSome, with_more}
@@ -23,17 +23,17 @@ has_content s it bytes h = record { object = it.object; file = h.file; held = h.
 
 -- all is sent later
 pub in_steps : (old new : Condition) (taken : Option (List ℕ)) (it : StoredFile) (bytes : List ℕ)
-    → (HasCleanDisk new → (s : State) → StandsFor new s → HasBehind s it 0 bytes)
-    → (HasCleanDisk new → (s : State) → StandsFor old s → StandsFor new s)
+    → (HasCleanDisk new → (s : State) → Represents new s → HasBehind s it 0 bytes)
+    → (HasCleanDisk new → (s : State) → Represents old s → Represents new s)
     → SendsContent {A = Unit {0}} old new taken taken it (Some (record { file = it; sent = 0 })) (Ok tt)
 in_steps old new taken it bytes has stays =
-    (Some bytes, (bytes, refl, has), (bytes, whole_later taken bytes, λ disk s stands. has_content s it bytes (has disk s (stays disk s stands))))
+    (Some bytes, (bytes, refl, has), (bytes, whole_later taken bytes, λ disk s represents. has_content s it bytes (has disk s (stays disk s represents))))
 
 -- none is sent, now or later
 pub never_begun : (old new : Condition) (taken : Option (List ℕ)) (it : StoredFile) (r : Option Rest) (fault : StreamFault) → r ≡ None
     → ((s : State) → IsStreamed {X = Unit {0}} s it.file [] (Err fault))
     → SendsContent {A = Unit {0}} old new taken taken it r (Err fault)
-never_begun old new taken it r fault none is = (None, none_later new r none, ([], Appends-nil taken, λ disk s stands. is s))
+never_begun old new taken it r fault none is = (None, none_later new r none, ([], Appends-nil taken, λ disk s represents. is s))
 
 -- bytes were sent, and then others
 pub takes_both : (a b c : Option (List ℕ)) → TakesSome a b → TakesSome b c → TakesSome a c

@@ -4,7 +4,7 @@ use Rattle.std.proofs.lemmas.List.{append-nil}
 use Rattle.dep_types.specs.State.{State}
 use Rattle.dep_types.specs.Writing.{HasRisen}
 use Rattle.dep_types.specs.declared.config.Config.{Config}
-use Rattle.dep_types.specs.Conditions.{StandsFor, HasCleanDisk, Leaves}
+use Rattle.dep_types.specs.Conditions.{Represents, HasCleanDisk, Leaves}
 use Rattle.dep_answers.specs.Steps.{sent_by}
 use Rattle.dep_message.specs.Places.{Place, Shut, Reading, HasBytes, place_with}
 use Rattle.dep_message.specs.Stream.{Item, FirstAt}
@@ -16,7 +16,7 @@ use Rattle.dep_hub.specs.Serving.{Answers, FailsFrom, IsAnsweredShut, IsDeadIfSh
 use Rattle.dep_hub.specs.Shut.{waits, has_ended}
 use Rattle.dep_hub.specs.Shut as fixed
 use Rattle.dep_hub.specs.Nexts.{RunsOut, IsLast, IsDead, GoesOn, IsWaiting, AnswersNext}
-use Rattle.dep_hub.specs.Standing.{IsShut}
+use Rattle.dep_hub.specs.Representing.{IsShut}
 use Rattle.dep_hub.specs.Holding.{Outcome, ArrivesAs, items_answered, arrived_by, IsNext}
 use Rattle.dep_hub.specs.declared.arrived.Arrived.{Arrived}
 use Rattle.dep_hub.specs.declared.arrived.Arrived.TheVariants as came
@@ -35,9 +35,9 @@ module _ (config : Config) (moment : ℕ) (old new : Outside) (now : Reading) (s
   -- the items are answered, and the connection stays open
   part_live : (stream offered : List ℕ) (s : State) (items : List Item) (sent : List ℕ) (r : Reaches config.max_upload stream offered items now)
       → outcome (length items) r.rest (replies config s items moment)
-      → replies config s items moment ≡ sent → StandsFor new.store (state_after config s items moment)
+      → replies config s items moment ≡ sent → Represents new.store (state_after config s items moment)
       → NextPart config offered moment (Live stream) s sent old new now came.Open outcome
-  part_live stream offered s items sent r is e stands =
+  part_live stream offered s items sent r is e represents =
       subst (λ bytes. NextPart config offered moment (Live stream) s bytes old new now came.Open outcome) e
       (record {
         part = r.part;
@@ -47,10 +47,10 @@ module _ (config : Config) (moment : ℕ) (old new : Outside) (now : Reading) (s
         becomes = Live (stream ++ r.part);
         arrival = at_live (serves_all items r.reads r.is_waiting);
         outcome_is = is;
-        stands = λ _. stands;
-        stays_clean = λ _. new.store.open_if_kept (state_after config s items moment) stands;
+        represents = λ _. represents;
+        stays_clean = λ _. new.store.open_if_kept (state_after config s items moment) represents;
         kept = r.kept;
-        stop = stays_as new.store (state_after config s items moment) settles stands;
+        stop = stays_as new.store (state_after config s items moment) settles represents;
         cause = λ c. cc;
       })
 
@@ -71,10 +71,10 @@ module _ (config : Config) (moment : ℕ) (old new : Outside) (now : Reading) (s
 
   -- all of the bytes arrive, and the connection ends
   part_shut : (line : Line) (offered : List ℕ) (s left : State) (sent : List ℕ) (answer : Arrived) (v : Arrives config offered moment line s sent left ShutLine answer)
-      → outcome (items_answered v) [] sent → answer ≢ came.Open → (IsTrue new.store.is_open → StandsFor new.store left) → IsShut config.max_upload now
+      → outcome (items_answered v) [] sent → answer ≢ came.Open → (IsTrue new.store.is_open → Represents new.store left) → IsShut config.max_upload now
       → Leaves new.store (LeftByArrival v) → (answer ≡ came.Cut → HasRisen old.failures new.failures ⊎ IsCutWhileStreaming v)
       → NextPart config offered moment line s sent old new now answer outcome
-  part_shut line offered s left sent answer v is ends stands shut stop cause = record {
+  part_shut line offered s left sent answer v is ends represents shut stop cause = record {
     part = offered;
     rest = [];
     whole = sym (append-nil offered);
@@ -82,7 +82,7 @@ module _ (config : Config) (moment : ℕ) (old new : Outside) (now : Reading) (s
     becomes = ShutLine;
     arrival = v;
     outcome_is = is;
-    stands = stands;
+    represents = represents;
     stays_clean = λ e. absurd (ends e);
     kept = (now, shut, λ i. record { limit = now.limit; place = sym (place_nothing now.place) i; is_dead = now.is_dead });
     stop = stop;
@@ -127,15 +127,15 @@ module _ (config : Config) (moment : ℕ) (old new : Outside) (reading now : Rea
     still = λ disk none. still (g.answers.shut disk none).0;
   }
     where
-      parts : HasCleanDisk new.store → (line : Line) (s : State) (offered : List ℕ) → Keeps config.max_upload line offered reading → StandsFor old.store s
+      parts : HasCleanDisk new.store → (line : Line) (s : State) (offered : List ℕ) → Keeps config.max_upload line offered reading → Represents old.store s
           → NextPart config offered moment line s g.answers.sent old new now came.Open (IsNext More)
-      parts disk Absent s offered k stands = absurd k.keeps
-      parts disk (Live stream) s offered k stands =
-          let x = g.answers.steps disk s stands in
+      parts disk Absent s offered k represents = absurd k.keeps
+      parts disk (Live stream) s offered k represents =
+          let x = g.answers.steps disk s represents in
           part_live config moment old new now settles (IsNext More) stream offered s (g.item ∷ []) g.answers.sent
           (reaches_next config.max_upload stream offered reading now g.item k same g.first g.is_open) refl
-          (append-nil (sent_by (step config s g.item moment)) ∙ sym x.whole) x.stands
-      parts disk ShutLine s offered k stands = absurd (no_first config.max_upload offered reading g.item now.place k g.first)
+          (append-nil (sent_by (step config s g.item moment)) ∙ sym x.whole) x.represents
+      parts disk ShutLine s offered k represents = absurd (no_first config.max_upload offered reading g.item now.place k g.first)
 
       still : IsAnsweredShut g.item g.answers.sent Sent → (line : Line) (offered : List ℕ) → Keeps config.max_upload line offered reading
           → StillPart config offered moment line g.answers.sent now came.Open (IsNext More)
@@ -155,13 +155,13 @@ module _ (config : Config) (moment : ℕ) (old new : Outside) (reading now : Rea
     still = λ disk none. still;
   }
     where
-      parts : (line : Line) (s : State) (offered : List ℕ) → Keeps config.max_upload line offered reading → StandsFor old.store s
+      parts : (line : Line) (s : State) (offered : List ℕ) → Keeps config.max_upload line offered reading → Represents old.store s
           → NextPart config offered moment line s [] old new now came.Open (IsNext Waiting)
-      parts Absent s offered k stands = absurd k.keeps
-      parts (Live stream) s offered k stands =
+      parts Absent s offered k represents = absurd k.keeps
+      parts (Live stream) s offered k represents =
           let r = reaches_none config.max_upload stream offered reading now k same w.same w.waits in
-          part_live config moment old new now settles (IsNext Waiting) stream offered s [] [] r.0 (refl, r.1, refl) refl (w.rests.stays.state s stands)
-      parts ShutLine s offered k stands = absurd (let bad : true ≡ false = sym (ended_dead config.max_upload offered reading k) ∙ w.lives in cc)
+          part_live config moment old new now settles (IsNext Waiting) stream offered s [] [] r.0 (refl, r.1, refl) refl (w.rests.stays.state s represents)
+      parts ShutLine s offered k represents = absurd (let bad : true ≡ false = sym (ended_dead config.max_upload offered reading k) ∙ w.lives in cc)
 
       still : (line : Line) (offered : List ℕ) → Keeps config.max_upload line offered reading → StillPart config offered moment line [] now came.Open (IsNext Waiting)
       still Absent offered k = absurd k.keeps
@@ -183,22 +183,22 @@ module _ (config : Config) (moment : ℕ) (old new : Outside) (reading now : Rea
     where
       arrives : (stream offered : List ℕ) (s : State) → Keeps config.max_upload (Live stream) offered reading → ArrivesAs outcome config offered moment (Live stream) s o.sent s ShutLine answer []
       arrives stream offered s k =
-          let at = place_with k.bare.place offered in (
-            at_live (gives_up [] at (beyond config.max_upload stream offered k.bare k.keeps [] at refl)
+          let at = place_with k.head_only.place offered in (
+            at_live (gives_up [] at (beyond config.max_upload stream offered k.head_only k.keeps [] at refl)
                 (subst (λ p. HasBytes p) (keeps_place config.max_upload offered reading (Live stream) k) o.some) o.sends),
             is,
           )
 
-      parts : (line : Line) (s : State) (offered : List ℕ) → Keeps config.max_upload line offered reading → StandsFor old.store s
+      parts : (line : Line) (s : State) (offered : List ℕ) → Keeps config.max_upload line offered reading → Represents old.store s
           → NextPart config offered moment line s o.sent old new now answer outcome
-      parts Absent s offered k stands = absurd k.keeps
-      parts (Live stream) s offered k stands =
-          let at = place_with k.bare.place offered in
+      parts Absent s offered k represents = absurd k.keeps
+      parts (Live stream) s offered k represents =
+          let at = place_with k.head_only.place offered in
           part_shut config moment old new now settles outcome (Live stream) offered s s o.sent answer
-          (at_live (gives_up [] at (beyond config.max_upload stream offered k.bare k.keeps [] at refl)
+          (at_live (gives_up [] at (beyond config.max_upload stream offered k.head_only k.keeps [] at refl)
           (subst (λ p. HasBytes p) (keeps_place config.max_upload offered reading (Live stream) k) o.some) o.sends))
-          is ends (λ _. o.stays.state s stands) (live_shut stream offered k shut) (stays_as new.store s settles (o.stays.state s stands)) (λ c. inl (o.cause c))
-      parts ShutLine s offered k stands = absurd (no_bytes reading.place o.some (ended_place config.max_upload offered reading k))
+          is ends (λ _. o.stays.state s represents) (live_shut stream offered k shut) (stays_as new.store s settles (o.stays.state s represents)) (λ c. inl (o.cause c))
+      parts ShutLine s offered k represents = absurd (no_bytes reading.place o.some (ended_place config.max_upload offered reading k))
 
       still : (line : Line) (offered : List ℕ) → Keeps config.max_upload line offered reading → StillPart config offered moment line o.sent now answer outcome
       still Absent offered k = absurd k.keeps
@@ -216,13 +216,13 @@ module _ (config : Config) (moment : ℕ) (old new : Outside) (reading now : Rea
     still = λ disk none. still;
   }
     where
-      parts : (line : Line) (s : State) (offered : List ℕ) → Keeps config.max_upload line offered reading → StandsFor old.store s
+      parts : (line : Line) (s : State) (offered : List ℕ) → Keeps config.max_upload line offered reading → Represents old.store s
           → NextPart config offered moment line s [] old new now came.Closed (IsNext Closed)
-      parts Absent s offered k stands = absurd k.keeps
-      parts (Live stream) s offered k stands = absurd (open_shut reading.place (live_open config.max_upload offered reading stream k) d.shut)
-      parts ShutLine s offered k stands =
+      parts Absent s offered k represents = absurd k.keeps
+      parts (Live stream) s offered k represents = absurd (open_shut reading.place (live_open config.max_upload offered reading stream k) d.shut)
+      parts ShutLine s offered k represents =
           part_shut config moment old new now settles (IsNext Closed) ShutLine offered s s [] came.Closed at_shut_line (none_of_one, refl) (λ e. cc)
-          (λ _. d.rests.stays.state s stands) (ended_shut offered k shut) (stays_as new.store s settles (d.rests.stays.state s stands)) (λ c. absurd (closed_cut c))
+          (λ _. d.rests.stays.state s represents) (ended_shut offered k shut) (stays_as new.store s settles (d.rests.stays.state s represents)) (λ c. absurd (closed_cut c))
 
       still : (line : Line) (offered : List ℕ) → Keeps config.max_upload line offered reading → StillPart config offered moment line [] now came.Closed (IsNext Closed)
       still Absent offered k = absurd k.keeps
@@ -243,19 +243,19 @@ module _ (config : Config) (moment : ℕ) (old new : Outside) (reading now : Rea
     where
       reads : (stream offered : List ℕ) → Keeps config.max_upload (Live stream) offered reading → ReadsBeyond config.max_upload stream offered (item ∷ []) Shut
       reads stream offered k =
-          beyond config.max_upload stream offered k.bare k.keeps (item ∷ []) Shut
-          (Shut, subst (λ p. FirstAt config.max_upload (place_with k.bare.place offered) item p) ends (first_of config.max_upload offered reading stream item next k f), refl)
+          beyond config.max_upload stream offered k.head_only k.keeps (item ∷ []) Shut
+          (Shut, subst (λ p. FirstAt config.max_upload (place_with k.head_only.place offered) item p) ends (first_of config.max_upload offered reading stream item next k f), refl)
 
-      parts : HasCleanDisk new.store → (line : Line) (s : State) (offered : List ℕ) → Keeps config.max_upload line offered reading → StandsFor old.store s
+      parts : HasCleanDisk new.store → (line : Line) (s : State) (offered : List ℕ) → Keeps config.max_upload line offered reading → Represents old.store s
           → NextPart config offered moment line s a.sent old new now came.Closed (IsNext Closed)
-      parts disk Absent s offered k stands = absurd k.keeps
-      parts disk (Live stream) s offered k stands =
-          let x = a.steps disk s stands in
+      parts disk Absent s offered k represents = absurd k.keeps
+      parts disk (Live stream) s offered k represents =
+          let x = a.steps disk s represents in
           subst (λ bytes. NextPart config offered moment (Live stream) s bytes old new now came.Closed (IsNext Closed)) (append-nil (sent_by (step config s item moment)) ∙ sym x.whole)
           (part_shut config moment old new now settles (IsNext Closed) (Live stream) offered s (step config s item moment).state (replies config s (item ∷ []) moment) came.Closed
-          (at_live (serves_all (item ∷ []) {at = Shut} (reads stream offered k) tt)) (one_of_one, refl) (λ e. cc) (λ _. x.stands) (live_shut stream offered k shut)
-          (stays_as new.store (step config s item moment).state settles x.stands) (λ c. absurd (closed_cut c)))
-      parts disk ShutLine s offered k stands = absurd (no_first config.max_upload offered reading item next k f)
+          (at_live (serves_all (item ∷ []) {at = Shut} (reads stream offered k) tt)) (one_of_one, refl) (λ e. cc) (λ _. x.represents) (live_shut stream offered k shut)
+          (stays_as new.store (step config s item moment).state settles x.represents) (λ c. absurd (closed_cut c)))
+      parts disk ShutLine s offered k represents = absurd (no_first config.max_upload offered reading item next k f)
 
       still : IsAnsweredShut item a.sent Sent → (line : Line) (offered : List ℕ) → Keeps config.max_upload line offered reading
           → StillPart config offered moment line a.sent now came.Closed (IsNext Closed)
@@ -272,7 +272,7 @@ module _ (config : Config) (moment : ℕ) (old new : Outside) (reading now : Rea
   -- it was not answered by all of its own reply
   over_failed : (item : Item) (next : Place) (how : Answered) (outcome : Outcome) → FirstAt reading.limit reading.place item next → how ≢ Sent
       → (a : Answers config old new item moment how) → outcome 1 [] a.sent → answer_after how ≢ came.Open → now.place ≡ Shut
-      → (HasCleanDisk new.store → (s : State) → StandsFor old.store s → FailsFrom config s item moment a.sent old new (answer_after how))
+      → (HasCleanDisk new.store → (s : State) → Represents old.store s → FailsFrom config s item moment a.sent old new (answer_after how))
       → NextOver config reading now moment old new (answer_after how) outcome
   over_failed item next how outcome f never a is ends shut fails = record {
     sent = a.sent;
@@ -284,16 +284,16 @@ module _ (config : Config) (moment : ℕ) (old new : Outside) (reading now : Rea
     where
       reads : (stream offered : List ℕ) → Keeps config.max_upload (Live stream) offered reading → ReadsBeyond config.max_upload stream offered (item ∷ []) next
       reads stream offered k =
-          beyond config.max_upload stream offered k.bare k.keeps (item ∷ []) next (next, first_of config.max_upload offered reading stream item next k f, refl)
+          beyond config.max_upload stream offered k.head_only k.keeps (item ∷ []) next (next, first_of config.max_upload offered reading stream item next k f, refl)
 
-      parts : HasCleanDisk new.store → (line : Line) (s : State) (offered : List ℕ) → Keeps config.max_upload line offered reading → StandsFor old.store s
+      parts : HasCleanDisk new.store → (line : Line) (s : State) (offered : List ℕ) → Keeps config.max_upload line offered reading → Represents old.store s
           → NextPart config offered moment line s a.sent old new now (answer_after how) outcome
-      parts disk Absent s offered k stands = absurd k.keeps
-      parts disk (Live stream) s offered k stands =
-          let x = fails disk s stands in
+      parts disk Absent s offered k represents = absurd k.keeps
+      parts disk (Live stream) s offered k represents =
+          let x = fails disk s represents in
           part_shut config moment old new now settles outcome (Live stream) offered s x.left a.sent (answer_after how)
-          (at_live (step_fails [] item next (reads stream offered k) x.fails)) is ends x.stands (live_shut stream offered k shut) x.stop x.cause
-      parts disk ShutLine s offered k stands = absurd (no_first config.max_upload offered reading item next k f)
+          (at_live (step_fails [] item next (reads stream offered k) x.fails)) is ends x.represents (live_shut stream offered k shut) x.stop x.cause
+      parts disk ShutLine s offered k represents = absurd (no_first config.max_upload offered reading item next k f)
 
       still : IsAnsweredShut item a.sent how → (line : Line) (offered : List ℕ) → Keeps config.max_upload line offered reading
           → StillPart config offered moment line a.sent now (answer_after how) outcome

@@ -4,15 +4,15 @@ use Rattle.std.proofs.lemmas.Bool.{eq-eqb, eqb-true}
 use Rattle.std.proofs.lemmas.Bool.Decides.{nat_tests}
 use Rattle.std.specs.List.{list_any}
 use Rattle.dep_types.specs.State.{State}
-use Rattle.dep_types.specs.Conditions.{Condition, StandsFor}
+use Rattle.dep_types.specs.Conditions.{Condition, Represents}
 use Rattle.dep_types.specs.declared.config.Config.{Config}
 use Rattle.dep_message.specs.Places.{Reading}
 use Rattle.dep_hub.specs.Numbers.{Ascends}
-use Rattle.dep_hub.specs.Standing.{intake_of}
+use Rattle.dep_hub.specs.Representing.{intake_of}
 use Rattle.dep_hub.specs.Holding.{IsHeldAs}
 use Rattle.dep_hub.specs.Owing.{IsOwed, later_than}
 use Rattle.dep_hub.specs.Claims.{any_waits_to_take, has_to_wait, is_any_pending, is_any_waiting, is_awaited_by, is_content, is_in_the_way, is_pending, is_waiting, sends_of, waits_to_take}
-use Rattle.dep_hub.specs.StandsOwing.{behind_at, is_looked_at, is_unsent, KeptBack, unsent, prepares_still, begins_to_prepare, waits_still, begins_to_wait, wants_memory, AnswersAtOnce, AwaitsContent, AwaitsTaker, ContentsStay, WaitingStands}
+use Rattle.dep_hub.specs.RepresentsOwing.{behind_at, is_looked_at, is_unsent, KeptBack, unsent, prepares_still, begins_to_prepare, waits_still, begins_to_wait, lacks_memory, AnswersAtOnce, AwaitsContent, AwaitsTaker, ContentsStay, WaitingRepresents}
 use Rattle.dep_hub.specs.Preparing.{is_preparing, most_steps}
 use Rattle.dep_hub.specs.declared.claim.Claim.{Claim}
 use Rattle.dep_hub.specs.declared.claim.Claim.TheVariants.{Takes, Reads, Neither}
@@ -187,7 +187,7 @@ owed_waiting : (s : State) (cs : List Connection) (reading : Reading) (was now :
 owed_waiting s cs reading was now owed (unsent u e) h = owed_as s was now owed e h
 owed_waiting s cs reading was now owed (waits_still claim w e t) h = owed_as s was now owed (e ∙ sym w) h
 owed_waiting s cs reading was now owed (begins_to_wait claim u c e t) h = owed_as s (Waits claim) now owed e (sent_all s was owed u.0 h)
-owed_waiting s cs reading was now owed (wants_memory u p f e) h = owed_as s Prepared now owed e (sent_all s was owed u.0 h)
+owed_waiting s cs reading was now owed (lacks_memory u p f e) h = owed_as s Prepared now owed e (sent_all s was owed u.0 h)
 owed_waiting s cs reading was now owed (prepares_still p e) h = owed_as s was now owed e h
 owed_waiting s cs reading was now owed (begins_to_prepare w n e) h = owed_as s (Prepares most_steps) now owed e (owed_as s was Nothing owed (sym w) h)
 
@@ -203,7 +203,7 @@ content_as : (cs : List Connection) (reading : Reading) (was now : Behind) → K
 content_as cs reading was now (unsent u e) = ap is_content e
 content_as cs reading was now (waits_still claim w e t) = ap is_content (e ∙ sym w)
 content_as cs reading was now (begins_to_wait claim u c e t) = ap is_content e ∙ sym (not_unsent was u.0)
-content_as cs reading was now (wants_memory u p f e) = ap is_content e ∙ sym (not_unsent was u.0)
+content_as cs reading was now (lacks_memory u p f e) = ap is_content e ∙ sym (not_unsent was u.0)
 content_as cs reading was now (prepares_still p e) = ap is_content e
 content_as cs reading was now (begins_to_prepare w n e) = ap is_content e ∙ sym (ap is_content w)
 
@@ -235,7 +235,7 @@ has_waited cs reading was now claim (waits_still other w e t) is =
     (subst (λ (x : Claim). has_to_wait cs x ≡ true) (one_claim now claim other is e) t, ap is_content w)
 has_waited cs reading was now claim (begins_to_wait other u c e t) is =
     (subst (λ (x : Claim). has_to_wait cs x ≡ true) (one_claim now claim other is e) t, not_unsent was u.0)
-has_waited cs reading was now claim (wants_memory u p f e) is = absurd (waits_prepared claim (sym e ∙ is))
+has_waited cs reading was now claim (lacks_memory u p f e) is = absurd (waits_prepared claim (sym e ∙ is))
 has_waited cs reading was now claim (prepares_still p e) is = absurd (waits_preparing claim was p (sym e ∙ is))
 has_waited cs reading was now claim (begins_to_prepare w n e) is = absurd (waits_preparing claim (Prepares most_steps) refl (sym e ∙ is))
 
@@ -277,8 +277,8 @@ kept_idle : (cs : List Connection) (reading : Reading) (was now : Behind) → Ke
 kept_idle cs reading was now (unsent u f) none e = inl (unsent_idle was u e)
 kept_idle cs reading was now (waits_still claim w f t) none e = absurd (true_false (sym t ∙ idle_waits cs claim none))
 kept_idle cs reading was now (begins_to_wait claim u c f t) none e = absurd (true_false (sym t ∙ idle_waits cs claim none))
-kept_idle cs reading was now (wants_memory u (inl first) f g) none e = inr (inr (first, g))
-kept_idle cs reading was now (wants_memory u (inr any) f g) none e = absurd (true_false (sym any ∙ none))
+kept_idle cs reading was now (lacks_memory u (inl first) f g) none e = inr (inr (first, g))
+kept_idle cs reading was now (lacks_memory u (inr any) f g) none e = absurd (true_false (sym any ∙ none))
 kept_idle cs reading was now (prepares_still p f) none e = inr (inl (ap is_preparing f ∙ p))
 kept_idle cs reading was now (begins_to_prepare w n f) none e = inr (inl (ap is_preparing f))
 
@@ -309,10 +309,10 @@ module _ {A : Type 0} (condition : A → Condition) (old new : Hub A) where
   answers_at_once taken takes failures failures_after n k none =
       kept_idle old.connections.items k.reading (behind_at old.connections.items n) (behind_at new.connections.items n) k.why none (pending_at old.connections.items n none)
 
-  pub waiting_stands : WaitingStands condition old new
-  waiting_stands taken takes failures failures_after n k w held owed at = record {
+  pub waiting_represents : WaitingRepresents condition old new
+  waiting_represents taken takes failures failures_after n k w held owed at = record {
     at = record {
-      state = subst (λ (x : A). StandsFor (condition x) w.state) (sym k.same_store) at.at.state;
+      state = subst (λ (x : A). Represents (condition x) w.state) (sym k.same_store) at.at.state;
       kept = λ m. subst (λ (x : Config). IsHeldAs x.max_upload (w.line m) (held m) (intake_of new.connections.items m)) (sym k.same_config)
           (subst (λ (o : Option Reading). IsHeldAs old.config.max_upload (w.line m) (held m) o) (sym (k.intakes m)) (at.at.kept m));
     };

@@ -19,11 +19,11 @@ use Rattle.dep_hub.specs.Claims.{is_content, is_pending, is_waiting}
 use Rattle.dep_hub.specs.Holding.{IsHeldAs}
 use Rattle.dep_hub.specs.Numbers.{index_of, Ascends}
 use Rattle.dep_hub.specs.Owing.{IsOwed}
-use Rattle.dep_hub.specs.Preparing.{BeginsToPrepare, MakesStepFor, goes_on, ends, HaveAtMost, is_preparing, names_uploads, steps_of, TellsUploads}
+use Rattle.dep_hub.specs.Preparing.{BeginsToPrepare, MakesStepFor, goes_on, ends, HaveAtMost, is_preparing, names_uploads, steps_of, ReportsUploads}
 use Rattle.dep_hub.specs.Records.{Run, stops, stopped, first_world}
-use Rattle.dep_hub.specs.Standing.{intake_of, store_of}
-use Rattle.dep_hub.specs.StandsOwing.{KeptBack, unsent, prepares_still, begins_to_prepare, waits_still, begins_to_wait, wants_memory, behind_at}
-use Rattle.dep_hub.specs.WorkingAhead.{AheadContents, AheadEnds, AheadStands, MakesOneStep, for_none, for_one, PreparesOnce, RestsAhead, steps_below}
+use Rattle.dep_hub.specs.Representing.{intake_of, store_of}
+use Rattle.dep_hub.specs.RepresentsOwing.{KeptBack, unsent, prepares_still, begins_to_prepare, waits_still, begins_to_wait, lacks_memory, behind_at}
+use Rattle.dep_hub.specs.WorkingAhead.{AheadContents, AheadEnds, AheadRepresents, MakesOneStep, for_none, for_one, PreparesOnce, RestsAhead, steps_below}
 use Rattle.dep_hub.specs.declared.claim.Claim.{Claim}
 use Rattle.dep_hub.specs.declared.connections.Connection.{Connection}
 use Rattle.dep_hub.specs.declared.hub.Hub.{Hub}
@@ -38,7 +38,7 @@ use Rattle.dep_hub.proofs.PendingLemmas.{true_false}
 -- an item names uploads
 abbrev head_named : Item → Bool
 head_named (Request m) = names_uploads m.head
-head_named (Fault refusal bare) = false
+head_named (Fault refusal head_only) = false
 head_named Continue = false
 
 -- a request that stands first begins with a head
@@ -52,13 +52,13 @@ request_head limit (Open continued bytes) next m f =
 request_head limit Shut next m f = absurd f
 
 -- what was told of it
-pub tells_named : (reading : Reading) (m : Message) (next : Place) (told : Result Bool AllocError) → FirstAt reading.limit reading.place (Request m) next
-    → IfOk told (λ named. named ≡ names_uploads m.head) → MatchResult told (TellsUploads reading) (λ _. HasFirstHead reading.place)
-tells_named reading m next (Ok true) first named = (m, next, first, sym named)
-tells_named reading m next (Ok false) first named = λ other after f.
+pub reports_named : (reading : Reading) (m : Message) (next : Place) (reported : Result Bool AllocError) → FirstAt reading.limit reading.place (Request m) next
+    → IfOk reported (λ named. named ≡ names_uploads m.head) → MatchResult reported (ReportsUploads reading) (λ _. HasFirstHead reading.place)
+reports_named reading m next (Ok true) first named = (m, next, first, sym named)
+reports_named reading m next (Ok false) first named = λ other after f.
     let same = (one_at reading.limit reading.place (Request m) (Request other) next after first f).0 in
     ap head_named (sym same) ∙ sym named
-tells_named reading m next (Err fault) first named = request_head reading.limit reading.place next m first
+reports_named reading m next (Err fault) first named = request_head reading.limit reading.place next m first
 
 -- ---- a connection whose next request is prepared
 
@@ -185,7 +185,7 @@ module _ {A : Type 0} (condition : A → Condition) (old new : Hub A) where
   pub works_ahead : new.config ≡ old.config → new.next ≡ old.next → ((m : ℕ) → intake_of new.connections.items m ≡ intake_of old.connections.items m)
       → MakesOneStep old.connections.items new.connections.items → KeepsEachState (store_of condition old) (store_of condition new) → RestsAhead condition old new
   works_ahead config next intakes step store = record {
-    stands = λ clean first records held h. record {
+    represents = λ clean first records held h. record {
       world = h.world;
       run = subst (λ (x : Config). Run x first records h.world) (sym config) h.run;
       at = record {
@@ -225,8 +225,8 @@ module _ {A : Type 0} (condition : A → Condition) (old new : Hub A) where
     by_number (λ (was now : Behind). now ≡ Broken → was ≡ Broken) (λ b h. h) step_whole w.step m,
   )
 
-  pub ahead_stands : AheadStands condition old new
-  ahead_stands w clean world held owed h = record {
+  pub ahead_represents : AheadRepresents condition old new
+  ahead_represents w clean world held owed h = record {
     at = record {
       state = w.store.kept clean world.state h.at.state;
       kept = λ m. subst (λ (x : Config). IsHeldAs x.max_upload (world.line m) (held m) (intake_of new.connections.items m)) (sym w.config)
@@ -258,7 +258,7 @@ once cs reading was now (prepares_still u e) p = inr e
 once cs reading was now (begins_to_prepare w n e) p = inl w
 once cs reading was now (waits_still claim w e t) p = absurd (waits_as now claim e p)
 once cs reading was now (begins_to_wait claim u c e t) p = absurd (waits_as now claim e p)
-once cs reading was now (wants_memory u f h e) p = absurd (prepared_as now e p)
+once cs reading was now (lacks_memory u f h e) p = absurd (prepared_as now e p)
 
 pub prepares_once : {A : Type 0} (condition : A → Condition) (old new : Hub A) → PreparesOnce condition old new
 prepares_once condition old new taken takes failures failures_after n k p =

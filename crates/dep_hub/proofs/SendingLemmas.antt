@@ -12,7 +12,7 @@ use Rattle.dep_answers.specs.Steps.{Stepped, sent_by}
 use Rattle.dep_answers.specs.Performing.{stored_in}
 use Rattle.dep_answers.specs.declared.performed.StoredFile.{StoredFile}
 use Rattle.dep_answers.specs.declared.performed.Performed.{Performed}
-use Rattle.dep_types.specs.Conditions.{Condition, StandsFor, HasCleanDisk, Leaves}
+use Rattle.dep_types.specs.Conditions.{Condition, Represents, HasCleanDisk, Leaves}
 use Rattle.dep_hub.specs.Performing.{Performs}
 use Rattle.dep_hub.specs.Sending.{SendsReply, Outside, Passes, SendsReady}
 use Rattle.dep_hub.specs.declared.sending.Answered.{Answered}
@@ -55,9 +55,9 @@ nothing_of whole some = record { rest = whole; joined = refl; short = some }
 -- ---- the content of a file, by its number
 
 -- a number is given to one file
-same_content : (c : Condition) (s : State) → StandsFor c s → (n m f : ℕ) (x y : File) → file_at s n f ≡ Some x → file_at s m f ≡ Some y → x.content ≡ y.content
-same_content c s stands n m f x y h k =
-    let one : n ≡ m = (c.sound_if_kept s stands).one_place n m f x y h k in
+same_content : (c : Condition) (s : State) → Represents c s → (n m f : ℕ) (x y : File) → file_at s n f ≡ Some x → file_at s m f ≡ Some y → x.content ≡ y.content
+same_content c s represents n m f x y h k =
+    let one : n ≡ m = (c.sound_if_kept s represents).one_place n m f x y h k in
     let both : Some x ≡ Some y = sym h ∙ (ap (λ (i : ℕ). file_at s i f) one ∙ k) in
     ap (λ (o : Option File). option_map_or (λ (file : File). file.content) o []) both
 
@@ -66,11 +66,11 @@ there : (o : Option File) (stored : List ℕ) → option_map_or (λ (file : File
 there None stored e some = absurd (some (sym e))
 there (Some file) stored e some = (file, refl, e)
 
-module _ (d : Condition) (s : State) (stands : StandsFor d s) (id : StoredFile) (stored : List ℕ) (is : stored_in s (Some id) ≡ stored) (some : stored ≢ []) where
+module _ (d : Condition) (s : State) (represents : Represents d s) (id : StoredFile) (stored : List ℕ) (is : stored_in s (Some id) ≡ stored) (some : stored ≢ []) where
   whole_content : (bytes : List ℕ) → HasContent s id.file bytes → bytes ≡ stored
   whole_content bytes h =
       let t = there (file_at s id.object id.file) stored is some in
-      sym h.is ∙ (same_content d s stands h.object id.object id.file h.file t.0 h.held t.1 ∙ t.2)
+      sym h.is ∙ (same_content d s represents h.object id.object id.file h.file t.0 h.held t.1 ∙ t.2)
 
   part_of : (sent : List ℕ) → IsPartOfContent s id.file sent → IsProperPrefix sent stored
   part_of sent h = subst (λ (l : List ℕ). IsProperPrefix sent l) (whole_content h.whole h.has) h.front
@@ -105,14 +105,14 @@ module _ (old mid new : Outside) (p : Performed) (id : StoredFile) (is : p.store
   passes sent a = record { appends = Appends-trans old.taken mid.taken new.taken first.0 sent first.1 a; honest = honest; clean = clean }
 
   pub ready_all : (x : (sent : List ℕ) × Appends mid.taken new.taken sent
-      × (HasCleanDisk new.store → (s : State) → StandsFor old.store s → HasContent s id.file sent))
-      → (HasCleanDisk new.store → (s : State) → StandsFor old.store s → StandsFor new.store s) → new.failures ≡ mid.failures
+      × (HasCleanDisk new.store → (s : State) → Represents old.store s → HasContent s id.file sent))
+      → (HasCleanDisk new.store → (s : State) → Represents old.store s → Represents new.store s) → new.failures ≡ mid.failures
       → SendsReady old new p Sent
   ready_all x ok then = record {
     sent = first.0 ++ x.0;
     passes = passes x.0 x.1;
     sends = λ disk stepped perf. record {
-      stands = ok disk stepped.state perf.state;
+      represents = ok disk stepped.state perf.state;
       whole = ap (λ l. l ++ x.0) (at_step stepped perf)
           ∙ ap (λ l. stepped.front ++ l) (whole_content old.store stepped.state perf.state id stepped.stored (stored_is stepped perf) (some_stored stepped perf) x.0 (x.2 disk stepped.state perf.state));
       failures = then ∙ kept;
@@ -120,9 +120,9 @@ module _ (old mid new : Outside) (p : Performed) (id : StoredFile) (is : p.store
   }
 
   pub ready_cut : (fault : StreamFault) (x : (sent : List ℕ) × Appends mid.taken new.taken sent
-      × (HasCleanDisk new.store → (s : State) → StandsFor old.store s → IsStreamed {X = Unit {0}} s id.file sent (Err fault)))
-      → (IsTrue new.store.is_open → (s : State) → StandsFor old.store s → StandsFor new.store s)
-      → (HasCleanDisk new.store → (s : State) → StandsFor old.store s → Leaves new.store (λ left. left ≡ s))
+      × (HasCleanDisk new.store → (s : State) → Represents old.store s → IsStreamed {X = Unit {0}} s id.file sent (Err fault)))
+      → (IsTrue new.store.is_open → (s : State) → Represents old.store s → Represents new.store s)
+      → (HasCleanDisk new.store → (s : State) → Represents old.store s → Leaves new.store (λ left. left ≡ s))
       → SendsReady old new p CutShort
   ready_cut fault x err stop = record {
     sent = first.0 ++ x.0;
@@ -133,7 +133,7 @@ module _ (old mid new : Outside) (p : Performed) (id : StoredFile) (is : p.store
         part_sent old.store stepped.state perf.state id stepped.stored (stored_is stepped perf) (some_stored stepped perf) x.0 fault (x.2 disk stepped.state perf.state) in
         record {
           part = subst (λ (l : List ℕ). IsProperPrefix (l ++ x.0) (sent_by stepped)) (sym e) (prefix_behind stepped.front x.0 stepped.stored part);
-          stands = λ is_open. err is_open stepped.state perf.state;
+          represents = λ is_open. err is_open stepped.state perf.state;
           stop = stop disk stepped.state perf.state;
           cause = inr (x.0, part, ap (λ l. l ++ x.0) e);
         };
@@ -151,7 +151,7 @@ ready_front held holds before after store p bytes ready none first kept = record
   sent = first.0;
   passes = passes_at held holds before after store first.0 first.1;
   sends = λ disk stepped perf. record {
-    stands = perf.state;
+    represents = perf.state;
     whole = first.2 ∙ (ready ∙ (perf.ready.front ∙ (sym (append-nil stepped.front) ∙ ap (λ l. stepped.front ++ l) (sym (nothing_behind stepped.state p.stored stepped.stored none perf.ready.stored)))));
     failures = kept;
   };
@@ -168,7 +168,7 @@ front_cut held holds before after store p bytes CutShort ready settles never fir
   passes = passes_at held holds before after store first.0 first.1;
   sends = λ disk stepped perf. record {
     part = prefix_before first.0 stepped.front stepped.stored (subst (λ (l : List ℕ). IsProperPrefix first.0 l) (ready ∙ perf.ready.front) first.2);
-    stands = λ _. perf.state;
+    represents = λ _. perf.state;
     stop = stays_as store stepped.state settles perf.state;
     cause = inl (cause refl);
   };

@@ -12,7 +12,7 @@ use Rattle.dep_message.specs.Stream.{Item, Fault, Continue, Request, FirstAt, Wa
 use Rattle.dep_message.specs.declared.message.Message.{Message}
 use Rattle.dep_message.proofs.Reading.{reads_one}
 use Rattle.dep_answers.specs.Steps.{sent_by}
-use Rattle.dep_types.specs.Conditions.{Condition, StandsFor, HasCleanDisk, Leaves}
+use Rattle.dep_types.specs.Conditions.{Condition, Represents, HasCleanDisk, Leaves}
 use Rattle.dep_hub.specs.Machine.{starting_state, step, replies, state_after, continue_line, Fails, Serves, given_up, cut_short, serves_all, step_fails, gives_up, answer_at_place}
 use Rattle.dep_hub.specs.Causes.{IsCutInContent}
 use Rattle.dep_hub.specs.Sending.{IsReplySent, SendsOver, SendsReply, Outside, Passes, SendsStep, reply_to}
@@ -49,7 +49,7 @@ served_none config came at = record {
   sent = [];
   reads = refl;
   passes = passes_none at;
-  replied = λ disk s stands. record { stands = stands; whole = refl; failures = refl };
+  replied = λ disk s represents. record { represents = represents; whole = refl; failures = refl };
   shut = λ disk none. ((0, refl), leaves_same at.store);
   still = λ disk none s. (refl, refl);
 }
@@ -62,7 +62,7 @@ still_more config items Continue moment front sent still h s = (
   state_after_more config s items Continue moment ∙ (still s).0,
   replies_more config s items Continue moment ∙ ap (λ bytes. bytes ++ (continue_line ++ [])) (still s).1 ∙ ap (λ bytes. front ++ bytes) (append-nil continue_line ∙ sym h),
 )
-still_more config items (Fault r bare) moment front sent still h s = absurd h.2
+still_more config items (Fault r head_only) moment front sent still h s = absurd h.2
 still_more config items (Request m) moment front sent still h s = absurd h.2
 
 -- the last item fails, and any state stays
@@ -72,8 +72,8 @@ unfolding step
 fails_still config s item moment sent Sent never h = absurd (never refl)
 fails_still config s Continue moment sent GaveUp never h = absurd h
 fails_still config s Continue moment sent CutShort never h = cut_short (subst (λ (bytes : List ℕ). IsProperPrefix sent bytes) (sym (append-nil continue_line)) h) refl
-fails_still config s (Fault r bare) moment sent GaveUp never h = given_up h.1 (sends_up_to h.0 sent GaveUp h.2) (inl refl)
-fails_still config s (Fault r bare) moment sent CutShort never h = given_up h.1 (sends_up_to h.0 sent CutShort h.2) (inl refl)
+fails_still config s (Fault r head_only) moment sent GaveUp never h = given_up h.1 (sends_up_to h.0 sent GaveUp h.2) (inl refl)
+fails_still config s (Fault r head_only) moment sent CutShort never h = given_up h.1 (sends_up_to h.0 sent CutShort h.2) (inl refl)
 fails_still config s (Request m) moment sent GaveUp never h = given_up h.1 (sends_up_to h.0 sent GaveUp h.2) (inl refl)
 fails_still config s (Request m) moment sent CutShort never h = given_up h.1 (sends_up_to h.0 sent CutShort h.2) (inl refl)
 
@@ -87,11 +87,11 @@ served_more {config} {came} {old} {mid} {new} {at} {next} item v f a =
       sent = v.sent ++ a.sent;
       reads = reads_one came.reading.limit v.items item (place_with came.reading.place came.piece) at next v.reads f;
       passes = passes_both v.passes a.passes;
-      replied = λ disk s stands.
-          let b = v.replied (a.passes.honest disk) s stands in
-          let x = a.steps disk (state_after config s v.items came.moment) b.stands in
+      replied = λ disk s represents.
+          let b = v.replied (a.passes.honest disk) s represents in
+          let x = a.steps disk (state_after config s v.items came.moment) b.represents in
           record {
-            stands = subst (λ t. StandsFor new.store t) (sym (state_after_more config s v.items item came.moment)) x.stands;
+            represents = subst (λ t. Represents new.store t) (sym (state_after_more config s v.items item came.moment)) x.represents;
             whole = ap (λ bytes. bytes ++ a.sent) b.whole ∙ (ap (λ bytes. replies config s v.items came.moment ++ bytes) x.whole ∙ sym (replies_more config s v.items item came.moment));
             failures = x.failures ∙ b.failures;
           };
@@ -107,13 +107,13 @@ served_more {config} {came} {old} {mid} {new} {at} {next} item v f a =
 pub record GivesUp (config : Config) (s : State) (item : Item) (moment : ℕ) (new : Condition) : Type 0 where
   pub left : State
   pub is_left : (left ≡ s) ⊎ (left ≡ starting_state config s item moment)
-  pub stands : IsTrue new.is_open → StandsFor new left
+  pub represents : IsTrue new.is_open → Represents new left
   pub stop : Leaves new (λ found. (found ≡ s) ⊎ ((found ≡ starting_state config s item moment) ⊎ (found ≡ (step config s item moment).state)))
 
 -- a fixed reply in place of the step's
 module _ (config : Config) (old new : Outside) (item : Item) (moment : ℕ) (fault : StoreFault)
     (honest : HasCleanDisk new.store → HasCleanDisk old.store) (clean : IsTrue new.store.is_open → IsTrue old.store.is_open)
-    (gives : HasCleanDisk new.store → (s : State) → StandsFor old.store s → GivesUp config s item moment new.store)
+    (gives : HasCleanDisk new.store → (s : State) → Represents old.store s → GivesUp config s item moment new.store)
     (asks : (sent : List ℕ) (answer : Answered) → IsFixedSent sent answer → IsAnsweredShut item sent answer)
     (shut : IfShut old.store new.store (LeavesNoMore old.store new.store)) where
   pub answers_fixed : (answer : Answered) → SendsOver old.taken new.taken old.failures new.failures (reply_to fault) answer
@@ -122,10 +122,10 @@ module _ (config : Config) (old new : Outside) (item : Item) (moment : ℕ) (fau
   answers_fixed GaveUp x = record {
     sent = x.0;
     passes = record { appends = x.1; honest = honest; clean = clean };
-    steps = λ disk s stands. let v = gives disk s stands in record {
+    steps = λ disk s represents. let v = gives disk s represents in record {
       left = v.left;
       fails = given_up (is_fixed fault) (sends_up_to (reply_to fault) x.0 GaveUp x.2) v.is_left;
-      stands = v.stands;
+      represents = v.represents;
       stop = v.stop;
       cause = λ e. cc;
     };
@@ -134,10 +134,10 @@ module _ (config : Config) (old new : Outside) (item : Item) (moment : ℕ) (fau
   answers_fixed CutShort x = record {
     sent = x.0;
     passes = record { appends = x.1; honest = honest; clean = clean };
-    steps = λ disk s stands. let v = gives disk s stands in record {
+    steps = λ disk s represents. let v = gives disk s represents in record {
       left = v.left;
       fails = given_up (is_fixed fault) (sends_up_to (reply_to fault) x.0 CutShort x.2) v.is_left;
-      stands = v.stands;
+      represents = v.represents;
       stop = v.stop;
       cause = λ e. inl (x.3 refl);
     };
@@ -152,7 +152,7 @@ answers_from config s item moment sent old new GaveUp h = absurd h
 answers_from config s item moment sent old new CutShort h = record {
   left = (step config s item moment).state;
   fails = cut_short h.part refl;
-  stands = h.stands;
+  represents = h.represents;
   stop = h.stop;
   cause = λ e. h.cause;
 }
@@ -160,18 +160,18 @@ answers_from config s item moment sent old new CutShort h = record {
 -- a step is made over one store, and its reply sent over it
 pub made_from : (config : Config) (s : State) (item : Item) (moment : ℕ) (sent : List ℕ) (old mid new : Outside) (answer : Answered)
     → mid.failures ≡ old.failures → IsAnsweredBy config s item moment sent mid new answer → IsAnsweredBy config s item moment sent old new answer
-made_from config s item moment sent old mid new Sent e h = record { stands = h.stands; whole = h.whole; failures = h.failures ∙ e }
+made_from config s item moment sent old mid new Sent e h = record { represents = h.represents; whole = h.whole; failures = h.failures ∙ e }
 made_from config s item moment sent old mid new GaveUp e h = record {
   left = h.left;
   fails = h.fails;
-  stands = h.stands;
+  represents = h.represents;
   stop = h.stop;
   cause = λ c. subst (λ n. HasRisen n new.failures ⊎ IsCutInContent h.fails) e (h.cause c);
 }
 made_from config s item moment sent old mid new CutShort e h = record {
   left = h.left;
   fails = h.fails;
-  stands = h.stands;
+  represents = h.represents;
   stop = h.stop;
   cause = λ c. subst (λ n. HasRisen n new.failures ⊎ IsCutInContent h.fails) e (h.cause c);
 }
@@ -179,23 +179,23 @@ made_from config s item moment sent old mid new CutShort e h = record {
 -- a reply without a stored content, over a store that stays
 pub answers_reply : (config : Config) (held holds : Option (List ℕ)) (before after : ℕ) (store : Condition) (item : Item) (moment : ℕ) (answer : Answered) (reply : List ℕ)
     → Settles store → SendsReply held holds reply answer → (answer ≡ Sent → after ≡ before) → (answer ≡ CutShort → HasRisen before after)
-    → ((s : State) → StandsFor store s → StandsFor store (step config s item moment).state × (reply ≡ sent_by (step config s item moment)))
+    → ((s : State) → Represents store s → Represents store (step config s item moment).state × (reply ≡ sent_by (step config s item moment)))
     → ((sent : List ℕ) → IsReplySent reply sent answer → IsAnsweredShut item sent answer)
     → Answers config (record { taken = held; failures = before; store = store }) (record { taken = holds; failures = after; store = store }) item moment answer
 answers_reply config held holds before after store item moment Sent reply settles x kept cause made asks = record {
   sent = x.0;
   passes = passes_at held holds before after store x.0 x.1;
-  steps = λ disk s stands. let b = made s stands in record { stands = b.0; whole = x.2 ∙ b.1; failures = kept refl };
+  steps = λ disk s represents. let b = made s represents in record { represents = b.0; whole = x.2 ∙ b.1; failures = kept refl };
   shut = λ disk none. (asks x.0 x.2, leaves_same store);
 }
 answers_reply config held holds before after store item moment GaveUp reply settles x kept cause made asks = absurd x.2
 answers_reply config held holds before after store item moment CutShort reply settles x kept cause made asks = record {
   sent = x.0;
   passes = passes_at held holds before after store x.0 x.1;
-  steps = λ disk s stands. let b = made s stands in record {
+  steps = λ disk s represents. let b = made s represents in record {
     left = (step config s item moment).state;
     fails = cut_short (subst (λ (bytes : List ℕ). IsProperPrefix x.0 bytes) b.1 x.2) refl;
-    stands = λ _. b.0;
+    represents = λ _. b.0;
     stop = stays_as store (step config s item moment).state settles b.0;
     cause = λ e. inl (cause refl);
   };
@@ -221,17 +221,17 @@ module _ (config : Config) (came : Arrival) (old now : Outside) (at : Place) (v 
   serves_waiting settles p e answer r never ends w = record {
     sent = v.sent;
     passes = v.passes;
-    serves = λ same dead disk s stands.
-        let b = v.replied disk s stands in
+    serves = λ same dead disk s represents.
+        let b = v.replied disk s represents in
         subst (λ q. ServesFrom config came s v.sent old now q answer) (sym e)
         (subst (λ a. ServesFrom config came s v.sent old now at a) (sym (r dead))
         (subst (λ bytes. ServesFrom config came s bytes old now at (answer_at_place at)) (sym b.whole)
         (record {
           left = state_after config s v.items came.moment;
           serves = serves_all v.items v.reads (w same);
-          stands = λ _. b.stands;
-          stays_clean = λ _. now.store.open_if_kept (state_after config s v.items came.moment) b.stands;
-          stop = stays_as now.store (state_after config s v.items came.moment) settles b.stands;
+          represents = λ _. b.represents;
+          stays_clean = λ _. now.store.open_if_kept (state_after config s v.items came.moment) b.represents;
+          stop = stays_as now.store (state_after config s v.items came.moment) settles b.represents;
           cause = λ c. absurd (never (r dead ∙ c));
         })));
     shut = λ disk none. let so_far = v.shut disk none in (sends_no_more v.sent answer ends so_far.0, so_far.1);
@@ -247,20 +247,20 @@ module _ (config : Config) (came : Arrival) (old now : Outside) (at : Place) (v 
   -- a step fails
   pub serves_failed : (new : Outside) (next : Place) (item : Item) (answer : Arrived) (sent : List ℕ) → answer ≢ StaysOpen
       → FirstAt came.reading.limit at item next → Passes now new sent
-      → (HasCleanDisk new.store → (s : State) → StandsFor now.store s → FailsFrom config s item came.moment sent now new answer)
+      → (HasCleanDisk new.store → (s : State) → Represents now.store s → FailsFrom config s item came.moment sent now new answer)
       → IfShut now.store new.store (EndsFixed sent answer × LeavesNoMore now.store new.store × ((s : State) → Fails config s item came.moment sent s answer))
       → ServesOver config came old new Shut answer
   serves_failed new next item answer sent ends f p fails shut = record {
     sent = v.sent ++ sent;
     passes = passes_both v.passes p;
-    serves = λ same dead disk s stands.
-        let b = v.replied (p.honest disk) s stands in
-        let x = fails disk (state_after config s v.items came.moment) b.stands in
+    serves = λ same dead disk s represents.
+        let b = v.replied (p.honest disk) s represents in
+        let x = fails disk (state_after config s v.items came.moment) b.represents in
         subst (λ bytes. ServesFrom config came s (bytes ++ sent) old new Shut answer) (sym b.whole)
         (record {
           left = x.left;
           serves = step_fails v.items item next (reads_one came.reading.limit v.items item (place_with came.reading.place came.piece) at next v.reads f) x.fails;
-          stands = x.stands;
+          represents = x.represents;
           stays_clean = λ c. absurd (ends c);
           stop = x.stop;
           cause = λ c. subst (λ n. HasRisen n new.failures ⊎ IsCutInContent x.fails) b.failures (x.cause c);
@@ -281,15 +281,15 @@ module _ (config : Config) (came : Arrival) (old now : Outside) (at : Place) (v 
   serves_gives_up new answer settles o p e = record {
     sent = v.sent ++ o.sent;
     passes = passes_both v.passes o.stays.passes;
-    serves = λ same dead disk s stands.
-        let b = v.replied (o.stays.passes.honest disk) s stands in
-        let kept = o.stays.state (state_after config s v.items came.moment) b.stands in
+    serves = λ same dead disk s represents.
+        let b = v.replied (o.stays.passes.honest disk) s represents in
+        let kept = o.stays.state (state_after config s v.items came.moment) b.represents in
         subst (λ q. ServesFrom config came s (v.sent ++ o.sent) old new q answer) (sym e)
         (subst (λ bytes. ServesFrom config came s (bytes ++ o.sent) old new Shut answer) (sym b.whole)
         (record {
           left = state_after config s v.items came.moment;
           serves = gives_up v.items at v.reads o.some o.sends;
-          stands = λ _. kept;
+          represents = λ _. kept;
           stays_clean = λ _. new.store.open_if_kept (state_after config s v.items came.moment) kept;
           stop = stays_as new.store (state_after config s v.items came.moment) settles kept;
           cause = λ c. inl (subst (λ n. HasRisen n new.failures) b.failures (o.cause c));
@@ -329,9 +329,9 @@ pub first_at : (old limit : ℕ) (at next : Place) (item : Item) → old ≡ lim
 first_at old limit at next item e f = subst (λ n. FirstAt n at item next) e f
 
 -- a fault is the end of a stream
-pub fault_shuts : (limit : ℕ) (at next : Place) (refusal : Refusal) (bare : Bool) → FirstAt limit at (Fault refusal bare) next → next ≡ Shut
-fault_shuts limit (Open continued bytes) next refusal bare f = f.goes_on
-fault_shuts limit Shut next refusal bare f = absurd f
+pub fault_shuts : (limit : ℕ) (at next : Place) (refusal : Refusal) (head_only : Bool) → FirstAt limit at (Fault refusal head_only) next → next ≡ Shut
+fault_shuts limit (Open continued bytes) next refusal head_only f = f.goes_on
+fault_shuts limit Shut next refusal head_only f = absurd f
 
 -- so is a request that closes, and no other
 request_at : (limit : ℕ) (at next : Place) (m : Message) (ends : Bool) → closes m.head ≡ ends → FirstAt limit at (Request m) next

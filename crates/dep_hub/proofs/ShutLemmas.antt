@@ -62,7 +62,7 @@ is_fixed Memory = inl refl
 -- only what tells a client to go on is answered, and no fixed reply is sent
 pub continues_more : (item : Item) (front sent : List ℕ) → OnlyContinues front → IsAnsweredShut item sent Sent → OnlyContinues (front ++ sent)
 continues_more Continue front sent so_far h = (suc so_far.0, λ i. so_far.1 i ++ h i)
-continues_more (Fault r bare) front sent so_far h = absurd h.2
+continues_more (Fault r head_only) front sent so_far h = absurd h.2
 continues_more (Request m) front sent so_far h = absurd h.2
 
 -- the last item
@@ -70,8 +70,8 @@ pub ends_fixed : (item : Item) (sent : List ℕ) (answer : Answered) → answer 
 ends_fixed item sent Sent never h = absurd (never refl)
 ends_fixed Continue sent GaveUp never h = absurd h
 ends_fixed Continue sent CutShort never h = cuts_continue h
-ends_fixed (Fault r bare) sent GaveUp never h = gives_up h.1 (sends_up_to h.0 sent GaveUp h.2)
-ends_fixed (Fault r bare) sent CutShort never h = gives_up h.1 (sends_up_to h.0 sent CutShort h.2)
+ends_fixed (Fault r head_only) sent GaveUp never h = gives_up h.1 (sends_up_to h.0 sent GaveUp h.2)
+ends_fixed (Fault r head_only) sent CutShort never h = gives_up h.1 (sends_up_to h.0 sent CutShort h.2)
 ends_fixed (Request m) sent GaveUp never h = gives_up h.1 (sends_up_to h.0 sent GaveUp h.2)
 ends_fixed (Request m) sent CutShort never h = gives_up h.1 (sends_up_to h.0 sent CutShort h.2)
 

@@ -7,7 +7,7 @@ use Rattle.dep_types.specs.declared.refusal.Refusal.{Refusal}
 use Rattle.dep_types.specs.declared.refusal.Refusal.TheVariants as why
 use Rattle.dep_types.specs.declared.target.Target.{Target}
 use Rattle.dep_head.specs.Head.{HeadParts}
-use Rattle.dep_message.specs.Heads.{is_bare, closes}
+use Rattle.dep_message.specs.Heads.{is_head_only, closes}
 use Rattle.dep_message.specs.declared.message.Message.{Message}
 use Rattle.dep_router.specs.Targets.{target}
 use Rattle.dep_router.specs.declared.routed.Routed.{Routed}
@@ -18,17 +18,17 @@ use Rattle.dep_answers.specs.Steps.{Stepped, refused_step, operation_step}
 use Rattle.dep_answers.specs.Performing.{IsReady, IsReply}
 use Rattle.dep_answers.specs.declared.performed.Delivery.{Delivery}
 use Rattle.dep_answers.specs.declared.performed.Performed.{Performed}
-use Rattle.dep_types.specs.Conditions.{Condition, StandsFor}
-use Rattle.dep_hub.specs.Archives.{TriesTo, MakesStep, Tells, Always}
+use Rattle.dep_types.specs.Conditions.{Condition, Represents}
+use Rattle.dep_hub.specs.Archives.{TriesTo, MakesStep, Reports, Always}
 use Rattle.dep_hub.specs.Machine.{operation_of, routed_step}
 use Rattle.dep_hub.proofs.Leaving.{Settles, stays_as, leaves_wider}
 
 -- a refusal at a clock
 pub refusal_ready : (s : State) (d : Delivery) (p : Performed) (r : Refusal) (allow : Option (List ℕ)) (b c : Bool)
-    → d.clock ≡ s.clock → d.is_bare ≡ b → d.closes ≡ c → ((t : State) → IsReply t (refused_answer d.clock r allow) d p)
+    → d.clock ≡ s.clock → d.is_head_only ≡ b → d.closes ≡ c → ((t : State) → IsReply t (refused_answer d.clock r allow) d p)
     → IsReady (refused_step s r allow b c) p
-refusal_ready s d p r allow b c clock bare close e =
-    subst (λ (x : Delivery). IsReply s (refused_answer x.clock r allow) x p) (λ i. record { clock = clock i; is_bare = bare i; closes = close i }) (e s)
+refusal_ready s d p r allow b c clock head_only close e =
+    subst (λ (x : Delivery). IsReply s (refused_answer x.clock r allow) x p) (λ i. record { clock = clock i; is_head_only = head_only i; closes = close i }) (e s)
 
 -- ---- what a step comes to on an archive
 
@@ -37,11 +37,11 @@ on_err (Ok answer) P h = tt
 on_err (Err fault) P h = h
 
 -- the archive wasn't asked, and the state stays
-pub tells_still : {A E : Type 0} (store : Condition) → Settles store → (told : State → A → Type 0) (r : Result A E) → ((s : State) → IfOk r (told s))
-    → Tells store store told r
-tells_still store settles told r tells = record {
-  ok = λ clean s at _. IfOk-weaker r (told s) (λ answer. told s answer × StandsFor store s) (λ answer h. (h, at)) (tells s);
-  err = λ is_open s at. on_err r (StandsFor store s) at;
+pub reports_still : {A E : Type 0} (store : Condition) → Settles store → (reported : State → A → Type 0) (r : Result A E) → ((s : State) → IfOk r (reported s))
+    → Reports store store reported r
+reports_still store settles reported r reports = record {
+  ok = λ clean s at _. IfOk-weaker r (reported s) (λ answer. reported s answer × Represents store s) (λ answer h. (h, at)) (reports s);
+  err = λ is_open s at. on_err r (Represents store s) at;
   honest = λ clean. clean;
   was_open = λ is_open. is_open;
   stop = λ clean s at _. leaves_wider store _ _ (λ found e. inl e) (stays_as store s settles at);
@@ -58,9 +58,9 @@ step_unasked store settles stepped fault = record {
 }
 
 -- what holds of each state need not be asked for
-pub tries_always : {A E : Type 0} (old new : Condition) (holds : State → Type 0) (told : State → A → Type 0) (next : State → State) (r : Result A E)
-    → ((s : State) → holds s) → TriesTo old new holds told next r → TriesTo old new Always told next r
-tries_always old new holds told next r each it = record {
+pub tries_always : {A E : Type 0} (old new : Condition) (holds : State → Type 0) (reported : State → A → Type 0) (next : State → State) (r : Result A E)
+    → ((s : State) → holds s) → TriesTo old new holds reported next r → TriesTo old new Always reported next r
+tries_always old new holds reported next r each it = record {
   ok = λ clean s at _. it.ok clean s at (each s);
   err = it.err;
   honest = it.honest;
@@ -69,9 +69,9 @@ tries_always old new holds told next r each it = record {
 }
 
 -- what is told of a state is told where more is known
-told_where : {A E : Type 0} (old new : Condition) (told : State → A → Type 0) (knows : State → Type 0) (next : State → State) (r : Result A E)
-    → TriesTo old new Always told next r → TriesTo old new Always (λ s answer. knows s → told s answer) next r
-told_where old new told knows next r it = record {
+reported_where : {A E : Type 0} (old new : Condition) (reported : State → A → Type 0) (knows : State → Type 0) (next : State → State) (r : Result A E)
+    → TriesTo old new Always reported next r → TriesTo old new Always (λ s answer. knows s → reported s answer) next r
+reported_where old new reported knows next r it = record {
   ok = λ clean s at always. IfOk-weaker r _ _ (λ answer h. (λ _. h.0, h.1)) (it.ok clean s at always);
   err = it.err;
   honest = it.honest;
@@ -89,20 +89,20 @@ module _ {E : Type 0} (config : Config) (m : Message) (old new : Condition) (clo
       → MakesStep old new Always (λ s. operation_step config s op) r → AnswersIt (target m.head.method m.head.path)
   operation_answered op t same named it =
       let made = subst (λ (x : Operation). MakesStep old new Always (λ s. operation_step config s x) r) same it in
-      subst AnswersIt named (told_where old new (λ s p. IsReady (operation_step config s (operation_of m t)) p) (λ s. clock ≡ s.clock)
+      subst AnswersIt named (reported_where old new (λ s p. IsReady (operation_step config s (operation_of m t)) p) (λ s. clock ≡ s.clock)
       (λ s. (operation_step config s (operation_of m t)).state) r made)
 
 -- none is named
-module _ {E : Type 0} (config : Config) (m : Message) (clock : ℕ) (bare close : Bool) (bare_is : bare ≡ is_bare m.head) (close_is : close ≡ closes m.head)
+module _ {E : Type 0} (config : Config) (m : Message) (clock : ℕ) (head_only close : Bool) (head_only_is : head_only ≡ is_head_only m.head) (close_is : close ≡ closes m.head)
     (store : Condition) (settles : Settles store) (r : Result Performed E) where
   abbrev Refuses : Refusal → Option (List ℕ) → Type 0
-  Refuses refusal allow = IfOk r (λ p. (s : State) → clock ≡ s.clock → IsReady (refused_step s refusal allow bare close) p)
+  Refuses refusal allow = IfOk r (λ p. (s : State) → clock ≡ s.clock → IsReady (refused_step s refusal allow head_only close) p)
 
   refused_still : (refusal : Refusal) (allow : Option (List ℕ)) → Refuses refusal allow
-      → Tells store store (λ s p. clock ≡ s.clock → IsReady (refused_step s refusal allow (is_bare m.head) (closes m.head)) p) r
-  refused_still refusal allow e = tells_still store settles _ r
-      (λ s. IfOk-weaker r _ _ (λ p h at. subst (λ (b : Bool). IsReady (refused_step s refusal allow b (closes m.head)) p) bare_is
-      (subst (λ (c : Bool). IsReady (refused_step s refusal allow bare c) p) close_is (h s at))) e)
+      → Reports store store (λ s p. clock ≡ s.clock → IsReady (refused_step s refusal allow (is_head_only m.head) (closes m.head)) p) r
+  refused_still refusal allow e = reports_still store settles _ r
+      (λ s. IfOk-weaker r _ _ (λ p h at. subst (λ (b : Bool). IsReady (refused_step s refusal allow b (closes m.head)) p) head_only_is
+      (subst (λ (c : Bool). IsReady (refused_step s refusal allow head_only c) p) close_is (h s at))) e)
 
   pub none_answered : NotFound ≡ target m.head.method m.head.path → Refuses why.NotFound None → AnswersIt config m store store clock r (target m.head.method m.head.path)
   none_answered named e = subst (AnswersIt config m store store clock r) named (refused_still why.NotFound None e)

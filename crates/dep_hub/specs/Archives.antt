@@ -4,7 +4,7 @@ use Rattle.std.specs.Io.KnownBytes.{Appends}
 use Rattle.dep_types.specs.State.{State, tick}
 use Rattle.dep_types.specs.Streams.{IsStreamed}
 use Rattle.dep_types.specs.Writing.{HasRisen}
-use Rattle.dep_types.specs.Conditions.{Condition, StandsFor, HasCleanDisk, Leaves}
+use Rattle.dep_types.specs.Conditions.{Condition, Represents, HasCleanDisk, Leaves}
 use Rattle.dep_types.specs.Methods.{is_safe}
 use Rattle.dep_types.specs.declared.config.Config.{Config}
 use Rattle.dep_types.specs.declared.stream_fault.StreamFault.{StreamFault}
@@ -18,17 +18,17 @@ use Rattle.dep_hub.specs.Shut.{LeavesNoMore, IfShut}
 -- It goes on from the state to the next one, from each of which this holds, and returns this of it; or it
 -- fails, and the state stays.
 pub record TriesTo {A E : Type 0} (old new : Condition) (holds : State → Type 0)
-    (told : State → A → Type 0) (next : State → State) (result : Result A E) : Type 0 where
+    (reported : State → A → Type 0) (next : State → State) (result : Result A E) : Type 0 where
   -- an Ok has done it, unless the disk has told a lie that was taken as true
-  pub ok : HasCleanDisk new → (s : State) → StandsFor old s → holds s
-      → IfOk result (λ answer. told s answer × StandsFor new (next s))
+  pub ok : HasCleanDisk new → (s : State) → Represents old s → holds s
+      → IfOk result (λ answer. reported s answer × Represents new (next s))
   -- an Err has changed nothing, while the archive is open
-  pub err : IsTrue new.is_open → (s : State) → StandsFor old s → OnErr result (StandsFor new s)
+  pub err : IsTrue new.is_open → (s : State) → Represents old s → OnErr result (Represents new s)
   -- the disk was honest before where it is so now, and the archive open where it is so now
   pub honest : HasCleanDisk new → HasCleanDisk old
   pub was_open : IsTrue new.is_open → IsTrue old.is_open
   -- a crash leaves the one state or the other, whatever was answered
-  pub stop : HasCleanDisk new → (s : State) → StandsFor old s → holds s
+  pub stop : HasCleanDisk new → (s : State) → Represents old s → holds s
       → Leaves new (λ left. (left ≡ s) ⊎ (left ≡ next s))
 
 -- this holds of every state
@@ -50,34 +50,34 @@ MakesStep old new holds stepped result =
     TriesTo old new holds (λ s p. IsReady (stepped s) p) (λ s. (stepped s).state) result
 
 -- this is returned of the state, which stays
-abbrev pub Tells : {A E : Type 0} → (old new : Condition) → (told : State → A → Type 0)
+abbrev pub Reports : {A E : Type 0} → (old new : Condition) → (reported : State → A → Type 0)
     → Result A E → Type 0
-Tells old new told result = TriesTo old new Always told (λ s. s) result
+Reports old new reported result = TriesTo old new Always reported (λ s. s) result
 
 -- the state stays, whatever is returned
 abbrev pub KeepsState : {A E : Type 0} → (old new : Condition) → Result A E → Type 0
-KeepsState old new result = Tells old new (λ s answer. Unit {0}) result
+KeepsState old new result = Reports old new (λ s answer. Unit {0}) result
 
 -- on an archive that was shut it fails, and a crash leaves what it could leave before
 pub record FailsIfShut {A E : Type 0} (old new : Condition) (result : Result A E) : Type 0 where
   pub opened : HasCleanDisk new → OnOk result (IsTrue old.is_open)
   pub left : IfShut old new (LeavesNoMore old new)
 
--- Nothing is asked of what it keeps: it stands for what it stood for, while it is open, and a crash
+-- Nothing is asked of what it keeps: it represents what it represented, while it is open, and a crash
 -- leaves no more than before.
 pub record KeepsAll (old new : Condition) : Type 0 where
-  pub kept : IsTrue new.is_open → (s : State) → StandsFor old s → StandsFor new s
+  pub kept : IsTrue new.is_open → (s : State) → Represents old s → Represents new s
   pub honest : HasCleanDisk new → HasCleanDisk old
   pub was_open : IsTrue new.is_open → IsTrue old.is_open
   pub left : HasCleanDisk new → LeavesNoMore old new
 
--- What it keeps may be committed once more: it stands for each state for which it stood, while it is open,
+-- What it keeps may be committed once more: it represents each state for which it stood, while it is open,
 -- and a crash leaves just that state. Of one that was shut a crash leaves no more than before.
 pub record KeepsEachState (old new : Condition) : Type 0 where
-  pub kept : IsTrue new.is_open → (s : State) → StandsFor old s → StandsFor new s
+  pub kept : IsTrue new.is_open → (s : State) → Represents old s → Represents new s
   pub honest : HasCleanDisk new → HasCleanDisk old
   pub was_open : IsTrue new.is_open → IsTrue old.is_open
-  pub stop : HasCleanDisk new → (s : State) → StandsFor old s → Leaves new (λ left. left ≡ s)
+  pub stop : HasCleanDisk new → (s : State) → Represents old s → Leaves new (λ left. left ≡ s)
   pub left : IfShut old new (LeavesNoMore old new)
 
 -- What work ahead commits. Where nothing is due nothing is committed, and nothing falls due. Where it is due,
@@ -101,7 +101,7 @@ abbrev pub Streams : {A : Type 0} → (old new : Condition) → (taken takes : O
     → (file : ℕ) → Result A StreamFault → Type 0
 Streams old new taken takes file result =
     (sent : List ℕ) × Appends taken takes sent
-    × (HasCleanDisk new → (s : State) → StandsFor old s → IsStreamed s file sent result)
+    × (HasCleanDisk new → (s : State) → Represents old s → IsStreamed s file sent result)
 
 -- the outlet failed where that is returned, and nowhere else
 pub record CountsFailures {A : Type 0} (failures failures_after : ℕ) (result : Result A StreamFault)

@@ -4,12 +4,12 @@ use Rattle.std.specs.Prelude.{◌≡◌, ◌==◌, ◌≤◌, ◌+◌, ℕ, List
 use Rattle.std.specs.Io.KnownBytes.{Appends, Keeps}
 use Rattle.dep_types.specs.State.{State}
 use Rattle.dep_types.specs.declared.config.Config.{Config}
-use Rattle.dep_types.specs.Conditions.{Condition, StandsFor, Leaves}
+use Rattle.dep_types.specs.Conditions.{Condition, Represents, Leaves}
 use Rattle.dep_message.specs.Places.{Place, Reading, place_with}
 use Rattle.dep_message.specs.Stream.{Item}
-use Rattle.dep_hub.specs.Machine.{Serves, serves_all, step_fails, gives_up, SendsUpTo, want_of_memory}
+use Rattle.dep_hub.specs.Machine.{Serves, serves_all, step_fails, gives_up, SendsUpTo, out_of_memory}
 use Rattle.dep_hub.specs.Records.{Event, Arrive, Record, stopped, Run, Line, World, first_world, with_line, Arrives, at_live, at_shut_line, LeftByArrival}
-use Rattle.dep_hub.specs.Standing.{IsKeptAs, intake_of, store_of, IsClean, IsHonest, IsNoSuch}
+use Rattle.dep_hub.specs.Representing.{IsKeptAs, intake_of, store_of, IsClean, IsHonest, IsNoSuch}
 use Rattle.dep_hub.specs.Causes.{HasCause}
 use Rattle.dep_hub.specs.Shut.{LeavesNoMore, IfShut, SendsFixed}
 use Rattle.dep_hub.specs.declared.arrived.Arrived.{Arrived}
@@ -31,7 +31,7 @@ fed reading bytes = record reading { place = place_with reading.place bytes }
 abbrev pub IsHeldAs : ℕ → Line → (held : List ℕ) → Option Reading → Type 0
 IsHeldAs limit line held None = IsKeptAs limit line None × (held ≡ [])
 IsHeldAs limit line held (Some reading) =
-    (bare : Reading) × IsKeptAs limit line (Some bare) × (reading ≡ fed bare held)
+    (head_only : Reading) × IsKeptAs limit line (Some head_only) × (reading ≡ fed head_only held)
 
 -- how many items an arrival answers
 abbrev pub items_served : {config : Config} {reads : List Item → Place → Type 0} {s : State}
@@ -70,7 +70,7 @@ IsNext NoSuch items rest sent = ⊥
 
 -- memory ran out for a piece that was offered: no item was answered, and nothing is held
 abbrev pub IsRefused : Arrived → Outcome
-IsRefused answer items rest sent = (items ≡ 0) × (rest ≡ []) × SendsUpTo want_of_memory sent answer
+IsRefused answer items rest sent = (items ≡ 0) × (rest ≡ []) × SendsUpTo out_of_memory sent answer
 
 -- an arrival with such an outcome
 abbrev pub ArrivesAs : Outcome → Config → (part : List ℕ) → (moment : ℕ) → (line : Line) → (s : State)
@@ -87,27 +87,27 @@ module _ {A : Type 0} (condition : A → Condition) where
       (intake_of hub.connections.items number)
 
   -- the hub keeps what the machine is, and holds these bytes of each connection
-  pub record StandsHolding (hub : Hub A) (w : World) (held : ℕ → List ℕ) : Type 0 where
-    pub state : StandsFor (store_of condition hub) w.state
+  pub record RepresentsHolding (hub : Hub A) (w : World) (held : ℕ → List ℕ) : Type 0 where
+    pub state : Represents (store_of condition hub) w.state
     pub kept : KeepsHolding hub w.line held
 
   -- the machine may be there after these records, and the hub holds these bytes
-  pub record StandsHoldingAfter (hub : Hub A) (first : State) (records : List Record)
+  pub record RepresentsHoldingAfter (hub : Hub A) (first : State) (records : List Record)
       (held : ℕ → List ℕ) : Type 0 where
     pub world : World
     pub run : Run hub.config first records world
-    pub at : StandsHolding hub world held
+    pub at : RepresentsHolding hub world held
 
-  -- the hub stands for the same records, and holds the same bytes, while its store is open
-  abbrev pub StandsOn : Hub A → Hub A → Type 0
-  StandsOn old new = IsClean condition new → (first : State) (records : List Record)
-      → (held : ℕ → List ℕ) → StandsHoldingAfter old first records held
-      → StandsHoldingAfter new first records held
+  -- the hub represents the same records, and holds the same bytes, while its store is open
+  abbrev pub RepresentsOn : Hub A → Hub A → Type 0
+  RepresentsOn old new = IsClean condition new → (first : State) (records : List Record)
+      → (held : ℕ → List ℕ) → RepresentsHoldingAfter old first records held
+      → RepresentsHoldingAfter new first records held
 
-  -- what a stop now leaves stands for the same records and a stop
+  -- what a stop now leaves represents the same records and a stop
   abbrev pub StopsOn : Hub A → Hub A → Type 0
   StopsOn old new = IsHonest condition new → (first : State) (records : List Record)
-      → (held : ℕ → List ℕ) → StandsHoldingAfter old first records held
+      → (held : ℕ → List ℕ) → RepresentsHoldingAfter old first records held
       → Leaves (store_of condition new)
       (λ found. Run old.config first (records ++ stopped ∷ []) (first_world found))
 
@@ -117,15 +117,15 @@ module _ {A : Type 0} (condition : A → Condition) where
       → KeepsHolding old lines held → KeepsHolding new lines held
 
   -- whatever lines the hub kept, and whatever it held, this line is another now
-  abbrev pub MovesLine : Hub A → Hub A → (number : ℕ) → Line → (left : (ℕ → List ℕ) → ℕ → List ℕ)
+  abbrev pub LineTransition : Hub A → Hub A → (number : ℕ) → Line → (left : (ℕ → List ℕ) → ℕ → List ℕ)
       → Type 0
-  MovesLine old new number line left = (lines : ℕ → Line) → (held : ℕ → List ℕ)
+  LineTransition old new number line left = (lines : ℕ → Line) → (held : ℕ → List ℕ)
       → KeepsHolding old lines held → KeepsHolding new (with_line number line lines) (left held)
 
-  -- No connection had a part in it: the hub stands for the same records, holds the same bytes, and
-  -- what a stop now leaves stands for them too. The store keeps what it kept, in this sense.
+  -- No connection had a part in it: the hub represents the same records, holds the same bytes, and
+  -- what a stop now leaves represents them too. The store keeps what it kept, in this sense.
   pub record RestsOn (Keeps : Condition → Condition → Type 0) (old new : Hub A) : Type 0 where
-    pub stands : StandsOn old new
+    pub represents : RepresentsOn old new
     pub stops : StopsOn old new
     pub store : Keeps (store_of condition old) (store_of condition new)
     pub config : new.config ≡ old.config
@@ -143,8 +143,8 @@ module _ {A : Type 0} (condition : A → Condition) where
     pub left : State
     pub line : Line
     pub arrives : Arrives config part moment (w.line number) w.state sent left line answer
-    pub stands : IsClean condition new
-        → StandsHolding new (record { state = left; line = with_line number line w.line })
+    pub represents : IsClean condition new
+        → RepresentsHolding new (record { state = left; line = with_line number line w.line })
         (with_held number rest held)
     pub rests : IsClean condition new → Leaves (store_of condition new) (λ found. found ≡ left)
     pub stays_clean : answer ≡ came.Open → IsClean condition new
@@ -180,7 +180,7 @@ module _ {A : Type 0} (condition : A → Condition) where
     pub sent : List ℕ
     pub appends : Appends taken takes sent
     pub answers : IsHonest condition new → (w : World) → (held : ℕ → List ℕ)
-        → StandsHolding old w held
+        → RepresentsHolding old w held
         → (a : PartArrives old.config new number (offered (held number)) moment sent failures
         failures_after answer w held)
         × outcome (items_answered a.arrives) a.rest sent
@@ -233,17 +233,17 @@ module _ {A : Type 0} (condition : A → Condition) where
   abbrev pub AnswersAdd : Hub A → Hub A → Type 0
   AnswersAdd old new = (n : ℕ) (offered : List ℕ) (moment : ℕ) (sent : List ℕ)
       (failures failures_after : ℕ) (answer : Arrived) (first : State) (records : List Record)
-      (held : ℕ → List ℕ) (h : StandsHoldingAfter old first records held)
+      (held : ℕ → List ℕ) (h : RepresentsHoldingAfter old first records held)
       (a : PartArrives old.config new n offered moment sent failures failures_after answer h.world held)
       → new.config ≡ old.config → IsClean condition new
-      → StandsHoldingAfter new first
+      → RepresentsHoldingAfter new first
       (records ++ record { event = Arrive n a.part moment; sent = sent } ∷ []) (with_held n a.rest held)
 
-  -- what a stop at its end leaves stands for that record and a stop
+  -- what a stop at its end leaves represents that record and a stop
   abbrev pub AnswersStop : Hub A → Hub A → Type 0
   AnswersStop old new = (n : ℕ) (offered : List ℕ) (moment : ℕ) (sent : List ℕ)
       (failures failures_after : ℕ) (answer : Arrived) (first : State) (records : List Record)
-      (held : ℕ → List ℕ) (h : StandsHoldingAfter old first records held)
+      (held : ℕ → List ℕ) (h : RepresentsHoldingAfter old first records held)
       (a : PartArrives old.config new n offered moment sent failures failures_after answer h.world held)
       → Leaves (store_of condition new) (λ found. Run old.config first
       (records ++ record { event = Arrive n a.part moment; sent = sent } ∷ stopped ∷ [])
@@ -254,13 +254,13 @@ module _ {A : Type 0} (condition : A → Condition) where
   abbrev pub LineAdds : Hub A → Hub A → Event → (number : ℕ) → Line
       → (left : (ℕ → List ℕ) → ℕ → List ℕ) → Type 0
   LineAdds old new event number line left = (first : State) (records : List Record)
-      (held : ℕ → List ℕ) → StandsHoldingAfter old first records held
-      → new.config ≡ old.config → new.store ≡ old.store → MovesLine old new number line left
-      → StandsHoldingAfter new first (records ++ record { event = event; sent = [] } ∷ []) (left held)
+      (held : ℕ → List ℕ) → RepresentsHoldingAfter old first records held
+      → new.config ≡ old.config → new.store ≡ old.store → LineTransition old new number line left
+      → RepresentsHoldingAfter new first (records ++ record { event = event; sent = [] } ∷ []) (left held)
 
-  -- what a stop leaves stands for the records that were answered and a stop
+  -- what a stop leaves represents the records that were answered and a stop
   abbrev pub StopsAnswered : Hub A → Type 0
   StopsAnswered hub = (first : State) (records : List Record) (held : ℕ → List ℕ)
-      → StandsHoldingAfter hub first records held
+      → RepresentsHoldingAfter hub first records held
       → Leaves (store_of condition hub)
       (λ found. Run hub.config first (records ++ stopped ∷ []) (first_world found))

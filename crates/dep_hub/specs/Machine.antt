@@ -10,9 +10,9 @@ use Rattle.dep_router.specs.declared.routed.Routed.{Routed}
 use Rattle.dep_router.specs.declared.routed.Routed.TheVariants.{To, NotFound, NotAllowed}
 use Rattle.dep_message.specs.declared.message.Message.{Message}
 use Rattle.dep_message.specs.Places.{Place, Open, Shut, HasBytes}
-use Rattle.dep_message.specs.Heads.{is_bare, closes}
+use Rattle.dep_message.specs.Heads.{is_head_only, closes}
 use Rattle.dep_message.specs.Stream.{Item, Fault, Continue, Request, Waits}
-use Rattle.dep_fields.specs.Told.{fields_of}
+use Rattle.dep_fields.specs.Reported.{fields_of}
 use Rattle.dep_tags.specs.Tags.{if_match_of}
 use Rattle.dep_decisions.specs.declared.operation.Operation.{Operation}
 use Rattle.dep_answers.specs.Steps.{Stepped, sent_by, refused_step, operation_step}
@@ -33,9 +33,9 @@ operation_of m t = record {
 -- no such resource comes before no such method, and both before the rules (3 and 4 of the order of
 -- refusals in docs/PROFILE.md)
 abbrev pub routed_step : Config → State → Message → Routed → Stepped
-routed_step config s m NotFound = refused_step s why.NotFound None (is_bare m.head) (closes m.head)
+routed_step config s m NotFound = refused_step s why.NotFound None (is_head_only m.head) (closes m.head)
 routed_step config s m (NotAllowed methods) =
-    refused_step s why.MethodNotAllowed (Some methods) (is_bare m.head) (closes m.head)
+    refused_step s why.MethodNotAllowed (Some methods) (is_head_only m.head) (closes m.head)
 routed_step config s m (To t) = operation_step config s (operation_of m t)
 
 -- what a whole message asks for, by the resource and the method that it names
@@ -48,13 +48,13 @@ continue_line = codes "HTTP/1.1 100 Continue\r\n\r\n"
 
 -- the state that a step begins with: the tick's, but telling a client to go on takes no tick
 abbrev pub starting_state : Config → State → Item → ℕ → State
-starting_state config s (Fault r bare) moment = tick config s moment
+starting_state config s (Fault r head_only) moment = tick config s moment
 starting_state config s Continue moment = s
 starting_state config s (Request m) moment = tick config s moment
 
 -- one step at a moment: the tick, and then what the item asks for
 unfoldable pub step : Config → State → Item → ℕ → Stepped
-step config s (Fault r bare) moment = refused_step (tick config s moment) r None bare true
+step config s (Fault r head_only) moment = refused_step (tick config s moment) r None head_only true
 step config s Continue moment =
     record { state = s; front = continue_line; stored = []; closes = false }
 step config s (Request m) moment = message_step config (tick config s moment) m
@@ -73,8 +73,8 @@ replies config s (item ∷ items) moment =
     ++ replies config (step config s item moment).state items moment
 
 -- the replies in place of a step's own (RFC 9110, sections 15.6.4 and 15.6.1)
-abbrev pub want_of_memory : List ℕ
-want_of_memory =
+abbrev pub out_of_memory : List ℕ
+out_of_memory =
     codes "HTTP/1.1 503 Service Unavailable\r\nContent-Length: 0\r\nConnection: close\r\n\r\n"
 
 -- the fixed reply where the store failed
@@ -93,7 +93,7 @@ pub data Fails (config : Config) (s : State) (item : Item) (moment : ℕ)
   -- a fixed reply in place of its own: the state is that of before, or that with which the step
   -- begins
   given_up : {fixed sent : List ℕ} {left : State} {answer : Arrived}
-      → (fixed ≡ want_of_memory) ⊎ (fixed ≡ store_fault)
+      → (fixed ≡ out_of_memory) ⊎ (fixed ≡ store_fault)
       → SendsUpTo fixed sent answer
       → (left ≡ s) ⊎ (left ≡ starting_state config s item moment)
       → Fails config s item moment sent left answer
@@ -126,6 +126,6 @@ pub data Serves (config : Config) (reads : List Item → Place → Type 0) (s : 
   -- memory ran out over bytes that may be no whole item
   gives_up : (items : List Item) (at : Place) {sent : List ℕ} {answer : Arrived}
       → reads items at → HasBytes at
-      → SendsUpTo want_of_memory sent answer
+      → SendsUpTo out_of_memory sent answer
       → Serves config reads s moment (replies config s items moment ++ sent)
       (state_after config s items moment) Shut answer

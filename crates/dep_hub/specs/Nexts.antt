@@ -4,10 +4,10 @@ use Rattle.std.specs.Io.KnownBytes.{Appends}
 use Rattle.dep_types.specs.State.{State}
 use Rattle.dep_types.specs.Writing.{HasRisen}
 use Rattle.dep_types.specs.declared.config.Config.{Config}
-use Rattle.dep_types.specs.Conditions.{StandsFor}
+use Rattle.dep_types.specs.Conditions.{Represents}
 use Rattle.dep_message.specs.Places.{Place, Shut, Reading, shut_reading, left_to_read, IsOpen, HasBytes}
 use Rattle.dep_message.specs.Stream.{Item, FirstAt, Waits}
-use Rattle.dep_hub.specs.Machine.{SendsUpTo, want_of_memory}
+use Rattle.dep_hub.specs.Machine.{SendsUpTo, out_of_memory}
 use Rattle.dep_hub.specs.Sending.{Outside, Passes}
 use Rattle.dep_hub.specs.Shut.{LeavesNoMore}
 use Rattle.dep_hub.specs.Serving.{Answers, KeepsIntake, answer_after}
@@ -21,7 +21,7 @@ use Rattle.dep_hub.specs.declared.sending.Answered.TheVariants.{Sent, GaveUp, Cu
 -- these bytes were sent, and nothing was asked of the store
 pub record Stays (old new : Outside) (sent : List ℕ) : Type 0 where
   pub passes : Passes old new sent
-  pub state : (s : State) → StandsFor old.store s → StandsFor new.store s
+  pub state : (s : State) → Represents old.store s → Represents new.store s
   pub leaves : LeavesNoMore old.store new.store
 
 -- nothing was sent
@@ -34,7 +34,7 @@ pub record RunsOut (place : Place) (old new : Outside) (answer : Arrived) : Type
   pub sent : List ℕ
   pub some : HasBytes place
   pub stays : Stays old new sent
-  pub sends : SendsUpTo want_of_memory sent answer
+  pub sends : SendsUpTo out_of_memory sent answer
   pub cause : answer ≡ came.Cut → HasRisen old.failures new.failures
 
 -- an item was answered, and it was the last
@@ -95,9 +95,9 @@ pub record TakesNext (config : Config) (reading now : Reading) (moment : ℕ) (o
 
 -- Memory ran out, by what an outlet shows before and after: the fixed reply for it was sent, or a part of
 -- it, and nothing is read any more.
-pub record TellsWant (taken takes : Option (List ℕ)) (failures failures_after : ℕ)
+pub record ReportsLackOfMemory (taken takes : Option (List ℕ)) (failures failures_after : ℕ)
     (reading now : Reading) (answer : Arrived) : Type 0 where
-  pub sent : (bytes : List ℕ) × Appends taken takes bytes × SendsUpTo want_of_memory bytes answer
+  pub sent : (bytes : List ℕ) × Appends taken takes bytes × SendsUpTo out_of_memory bytes answer
   pub cause : answer ≡ came.Cut → HasRisen failures failures_after
   pub shut : now ≡ shut_reading reading
 

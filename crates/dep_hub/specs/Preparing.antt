@@ -1,7 +1,7 @@
 -- Requests whose uploads are hashed before they are answered.
 use Rattle.std.specs.Prelude.{◌≡◌, ◌⊎◌, ◌<◌, ◌≤◌, ℕ, ◌+◌, ◌&&◌, ◌||◌, Bool, true, false, List, length, get_or, Option, Some, None, codes, bytes_eq}
 use Rattle.dep_head.specs.Head.{HeadParts}
-use Rattle.dep_fields.specs.Told.{fields_of}
+use Rattle.dep_fields.specs.Reported.{fields_of}
 use Rattle.dep_fields.specs.declared.field.Field.{Field}
 use Rattle.dep_fields.specs.declared.field.Field.TheVariants.{Value}
 use Rattle.dep_fields.specs.declared.kind.Kind.{Kind}
@@ -13,7 +13,7 @@ use Rattle.dep_message.specs.Stream.{Request, FirstAt}
 use Rattle.dep_message.specs.declared.message.Message.{Message}
 use Rattle.dep_types.specs.Conditions.{Condition}
 use Rattle.dep_hub.specs.Archives.{CommitsIfDue, KeepsEachState}
-use Rattle.dep_hub.specs.Errands.{Account, Runs, WorkedAhead}
+use Rattle.dep_hub.specs.ArchiveCalls.{CallLog, Runs, WorkedAhead}
 use Rattle.dep_hub.specs.declared.connections.Connection.{Connection}
 use Rattle.dep_hub.specs.declared.rest.Behind.{Behind}
 use Rattle.dep_hub.specs.declared.rest.Behind.TheVariants.{Nothing, Prepares, Prepared}
@@ -39,9 +39,9 @@ abbrev pub NamesNone : Reading → Type 0
 NamesNone reading = IsNoNext names_uploads reading.limit reading.place
 
 -- whether it does
-abbrev pub TellsUploads : Reading → Bool → Type 0
-TellsUploads reading true = NamesUploads reading
-TellsUploads reading false = NamesNone reading
+abbrev pub ReportsUploads : Reading → Bool → Type 0
+ReportsUploads reading true = NamesUploads reading
+ReportsUploads reading false = NamesNone reading
 
 -- how many steps may be made for a request
 abbrev pub most_steps : ℕ
@@ -83,10 +83,10 @@ pub data MakesStepFor (was now : Behind) : Type 0 where
   goes_on : (left : ℕ) → was ≡ Prepares (left + 1) → now ≡ Prepares left → MakesStepFor was now
   ends : (left : ℕ) → was ≡ Prepares left → now ≡ Prepared → MakesStepFor was now
 
-module _ {A : Type 0} (account : A → Account) (may_commit : A → Bool) (condition : A → Condition) where
+module _ {A : Type 0} (call_log : A → CallLog) (may_commit : A → Bool) (condition : A → Condition) where
   -- an archive worked ahead once, and returned whether more is left
   pub record Works (old new : A) (is_left : Bool) : Type 0 where
-    pub asked : Runs (WorkedAhead is_left) (account old) (account new)
+    pub asked : Runs (WorkedAhead is_left) (call_log old) (call_log new)
     pub commits : CommitsIfDue (may_commit old) (may_commit new) (condition old) (condition new)
     pub rests : KeepsEachState (condition old) (condition new)
 

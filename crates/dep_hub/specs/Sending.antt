@@ -7,9 +7,9 @@ use Rattle.dep_types.specs.declared.store_fault.StoreFault.{StoreFault}
 use Rattle.dep_types.specs.declared.store_fault.StoreFault.TheVariants.{Store, Memory}
 use Rattle.dep_answers.specs.Steps.{Stepped, sent_by}
 use Rattle.dep_answers.specs.declared.performed.Performed.{Performed}
-use Rattle.dep_types.specs.Conditions.{Condition, StandsFor, HasCleanDisk, Leaves}
+use Rattle.dep_types.specs.Conditions.{Condition, Represents, HasCleanDisk, Leaves}
 use Rattle.dep_hub.specs.Performing.{Performs}
-use Rattle.dep_hub.specs.Machine.{want_of_memory, store_fault}
+use Rattle.dep_hub.specs.Machine.{out_of_memory, store_fault}
 use Rattle.dep_hub.specs.Causes.{CutsStored}
 use Rattle.dep_hub.specs.declared.sending.Answered.{Answered}
 use Rattle.dep_hub.specs.declared.sending.Answered.TheVariants.{Sent, GaveUp, CutShort}
@@ -40,7 +40,7 @@ SendsReply held holds whole answer =
 -- the fixed reply for a fault
 abbrev pub reply_to : StoreFault → List ℕ
 reply_to Store = store_fault
-reply_to Memory = want_of_memory
+reply_to Memory = out_of_memory
 
 -- what lies outside the machine: the bytes that the outlet took, where it shows them, how often it
 -- has failed, and the store
@@ -67,13 +67,13 @@ pub record Passes (old new : Outside) (sent : List ℕ) : Type 0 where
 -- what of the reply to a step was sent, once the step was made
 pub record CutsStep (stepped : Stepped) (old new : Outside) (sent : List ℕ) : Type 0 where
   pub part : IsProperPrefix sent (sent_by stepped)
-  pub stands : IsTrue new.store.is_open → StandsFor new.store stepped.state
+  pub represents : IsTrue new.store.is_open → Represents new.store stepped.state
   pub stop : Leaves new.store (λ found. found ≡ stepped.state)
   pub cause : HasRisen old.failures new.failures ⊎ CutsStored stepped sent
 
 -- a step was made, and all of its reply sent without a failure
 pub record SendsAll (stepped : Stepped) (old new : Outside) (sent : List ℕ) : Type 0 where
-  pub stands : StandsFor new.store stepped.state
+  pub represents : Represents new.store stepped.state
   pub whole : sent ≡ sent_by stepped
   pub failures : new.failures ≡ old.failures
 

@@ -6,7 +6,7 @@ use Rattle.dep_types.specs.declared.config.Config.{Config}
 use Rattle.dep_message.specs.Heads.{closes}
 use Rattle.dep_message.specs.Places.{Place, Shut, Reading, place_with}
 use Rattle.dep_message.specs.Stream.{Item, Fault, Continue, Request, Reads}
-use Rattle.dep_types.specs.Conditions.{StandsFor, HasCleanDisk, Leaves}
+use Rattle.dep_types.specs.Conditions.{Represents, HasCleanDisk, Leaves}
 use Rattle.dep_hub.specs.Machine.{step, replies, state_after, continue_line, Fails, Serves}
 use Rattle.dep_hub.specs.Stops.{LeftByFailure, LeftByServing}
 use Rattle.dep_hub.specs.Causes.{IsCutInContent, EndsInContent}
@@ -25,14 +25,14 @@ answer_after CutShort = Cut
 answer_after GaveUp = Closed
 answer_after Sent = Closed
 
--- A step that failed, from a state that the store stood for. While the store is open it stands for
+-- A step that failed, from a state that the store represented. While the store is open it represents
 -- what the failure left; and whether it is or not, a stop leaves what it may leave there. A cut has
 -- a cause.
 pub record FailsFrom (config : Config) (s : State) (item : Item) (moment : ℕ) (sent : List ℕ)
     (old new : Outside) (answer : Arrived) : Type 0 where
   pub left : State
   pub fails : Fails config s item moment sent left answer
-  pub stands : IsTrue new.store.is_open → StandsFor new.store left
+  pub represents : IsTrue new.store.is_open → Represents new.store left
   pub stop : Leaves new.store (LeftByFailure fails)
   pub cause : answer ≡ Cut → HasRisen old.failures new.failures ⊎ IsCutInContent fails
 
@@ -53,17 +53,17 @@ IsFixedSent sent answer = (fixed : List ℕ) × IsFixed fixed × IsSentUpTo fixe
 -- over an archive that was shut a step fails, but telling a client to go on asks nothing of it
 abbrev pub IsAnsweredShut : Item → List ℕ → Answered → Type 0
 IsAnsweredShut Continue sent answer = IsReplySent continue_line sent answer
-IsAnsweredShut (Fault r bare) sent answer = IsFixedSent sent answer
+IsAnsweredShut (Fault r head_only) sent answer = IsFixedSent sent answer
 IsAnsweredShut (Request m) sent answer = IsFixedSent sent answer
 
--- An item is answered. The bytes are known without the state: whatever state the store stood for,
+-- An item is answered. The bytes are known without the state: whatever state the store represented,
 -- they are sent for it.
 pub record Answers (config : Config) (old new : Outside) (item : Item) (moment : ℕ)
     (answer : Answered)
     : Type 0 where
   pub sent : List ℕ
   pub passes : Passes old new sent
-  pub steps : HasCleanDisk new.store → (s : State) → StandsFor old.store s
+  pub steps : HasCleanDisk new.store → (s : State) → Represents old.store s
       → IsAnsweredBy config s item moment sent old new answer
   pub shut : IfShut old.store new.store
       (IsAnsweredShut item sent answer × LeavesNoMore old.store new.store)
@@ -98,10 +98,10 @@ pub record KeepsIntake (old new : Reading) : Type 0 where
 abbrev pub ReadsWith : Arrival → List Item → Place → Type 0
 ReadsWith a items at = Reads a.reading.limit (place_with a.reading.place a.piece) items at
 
--- the store stands for the state after these items, and their replies are what was sent
+-- the store represents the state after these items, and their replies are what was sent
 pub record Replied (config : Config) (a : Arrival) (s : State) (items : List Item) (sent : List ℕ)
     (old now : Outside) : Type 0 where
-  pub stands : StandsFor now.store (state_after config s items a.moment)
+  pub represents : Represents now.store (state_after config s items a.moment)
   pub whole : sent ≡ replies config s items a.moment
   pub failures : now.failures ≡ old.failures
 
@@ -120,19 +120,19 @@ pub record Progress (config : Config) (a : Arrival) (old now : Outside) (at : Pl
   pub sent : List ℕ
   pub reads : ReadsWith a items at
   pub passes : Passes old now sent
-  pub replied : HasCleanDisk now.store → (s : State) → StandsFor old.store s
+  pub replied : HasCleanDisk now.store → (s : State) → Represents old.store s
       → Replied config a s items sent old now
   pub shut : IfShut old.store now.store (OnlyContinues sent × LeavesNoMore old.store now.store)
   pub still : IfShut old.store now.store (IsStill config items a.moment sent)
 
--- it was served from what the intake keeps and from a state that the store stood for; a connection
+-- it was served from what the intake keeps and from a state that the store represented; a connection
 -- that stays open has an open store
 pub record ServesFrom (config : Config) (a : Arrival) (s : State) (sent : List ℕ)
     (old new : Outside) (at : Place)
     (answer : Arrived) : Type 0 where
   pub left : State
   pub serves : Serves config (ReadsWith a) s a.moment sent left at answer
-  pub stands : IsTrue new.store.is_open → StandsFor new.store left
+  pub represents : IsTrue new.store.is_open → Represents new.store left
   pub stays_clean : answer ≡ StaysOpen → IsTrue new.store.is_open
   pub stop : Leaves new.store (LeftByServing serves)
   pub cause : answer ≡ Cut → HasRisen old.failures new.failures ⊎ EndsInContent serves
@@ -146,7 +146,7 @@ pub record ServesOver (config : Config) (a : Arrival) (old new : Outside) (at : 
   pub passes : Passes old new sent
   pub serves : a.reading.limit ≡ config.max_upload → IsDeadIfShut a.reading
       → HasCleanDisk new.store → (s : State)
-      → StandsFor old.store s → ServesFrom config a s sent old new at answer
+      → Represents old.store s → ServesFrom config a s sent old new at answer
   pub shut : IfShut old.store new.store
       (SendsFixed sent answer × LeavesNoMore old.store new.store)
   -- over a store that was shut it may go so from any state, and that state stays

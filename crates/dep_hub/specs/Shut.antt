@@ -3,7 +3,7 @@ use Rattle.std.specs.Prelude.{◌≡◌, ◌⊎◌, ◌↔◌, ℕ, zero, suc, B
 use Rattle.dep_types.specs.State.{State}
 use Rattle.dep_types.specs.Conditions.{Condition, HasCleanDisk}
 use Rattle.dep_types.specs.Writing.{IsProperPrefix}
-use Rattle.dep_hub.specs.Machine.{continue_line, want_of_memory, store_fault, SendsUpTo}
+use Rattle.dep_hub.specs.Machine.{continue_line, out_of_memory, store_fault, SendsUpTo}
 use Rattle.dep_hub.specs.declared.arrived.Arrived.{Arrived}
 use Rattle.dep_hub.specs.declared.arrived.Arrived.TheVariants.{Open as StaysOpen, Closed, Cut}
 
@@ -19,9 +19,9 @@ IfShut old new P = HasCleanDisk new → ¬ IsTrue old.is_open → P
 
 -- What is returned of an archive: that it is open, unless its disk has told a lie that was taken as
 -- true, or that it is shut.
-abbrev pub TellsOpen : Condition → Bool → Type 0
-TellsOpen c true = HasCleanDisk c → IsTrue c.is_open
-TellsOpen c false = ¬ IsTrue c.is_open
+abbrev pub ReportsOpen : Condition → Bool → Type 0
+ReportsOpen c true = HasCleanDisk c → IsTrue c.is_open
+ReportsOpen c false = ¬ IsTrue c.is_open
 
 -- a client was sent `100 Continue`, so often
 abbrev pub continues : ℕ → List ℕ
@@ -29,7 +29,7 @@ continues zero = []
 continues (suc n) = continues n ++ continue_line
 
 abbrev pub IsFixed : List ℕ → Type 0
-IsFixed reply = (reply ≡ want_of_memory) ⊎ (reply ≡ store_fault)
+IsFixed reply = (reply ≡ out_of_memory) ⊎ (reply ≡ store_fault)
 
 -- what is sent behind that, by what the arrival returns
 pub data EndsFixed : List ℕ → Arrived → Type 0 where

@@ -4,11 +4,11 @@ use Rattle.dep_types.specs.Conditions.{Condition}
 use Rattle.dep_message.specs.Places.{Reading}
 use Rattle.dep_hub.specs.Records.{World}
 use Rattle.dep_hub.specs.Archives.{KeepsEachState}
-use Rattle.dep_hub.specs.Standing.{store_of, intake_of, IsClean}
-use Rattle.dep_hub.specs.Holding.{StandsOn, StopsOn}
+use Rattle.dep_hub.specs.Representing.{store_of, intake_of, IsClean}
+use Rattle.dep_hub.specs.Holding.{RepresentsOn, StopsOn}
 use Rattle.dep_hub.specs.Claims.{is_content}
 use Rattle.dep_hub.specs.Preparing.{BeginsToPrepare as Begins, MakesStepFor, is_preparing, steps_of}
-use Rattle.dep_hub.specs.StandsOwing.{KeepsBack, OthersStay, StandsOwing, behind_at}
+use Rattle.dep_hub.specs.RepresentsOwing.{KeepsBack, OthersStay, RepresentsOwing, behind_at}
 use Rattle.dep_hub.specs.declared.rest.Behind.TheVariants.{Nothing, Broken}
 use Rattle.dep_hub.specs.declared.connections.Connection.{Connection}
 use Rattle.dep_hub.specs.declared.hub.Hub.{Hub}
@@ -44,10 +44,10 @@ abbrev pub steps_left : {A : Type 0} → Hub A → ℕ
 steps_left hub = steps_below hub.connections.items hub.next
 
 module _ {A : Type 0} (condition : A → Condition) where
-  -- Nothing is answered: the hub stands for the same records, holds the same bytes, and what a stop now leaves
-  -- stands for them too. Nothing of a connection changes, but for the one for which a step is made.
+  -- Nothing is answered: the hub represents the same records, holds the same bytes, and what a stop now leaves
+  -- represents them too. Nothing of a connection changes, but for the one for which a step is made.
   pub record RestsAhead (old new : Hub A) : Type 0 where
-    pub stands : StandsOn condition old new
+    pub represents : RepresentsOn condition old new
     pub stops : StopsOn condition old new
     pub store : KeepsEachState (store_of condition old) (store_of condition new)
     pub config : new.config ≡ old.config
@@ -57,10 +57,10 @@ module _ {A : Type 0} (condition : A → Condition) where
     pub step : MakesOneStep old.connections.items new.connections.items
 
   -- what is owed stays
-  abbrev pub AheadStands : Hub A → Hub A → Type 0
-  AheadStands old new = RestsAhead old new → IsClean condition new
-      → (w : World) (held owed : ℕ → List ℕ) → StandsOwing condition old w held owed
-      → StandsOwing condition new w held owed
+  abbrev pub AheadRepresents : Hub A → Hub A → Type 0
+  AheadRepresents old new = RestsAhead old new → IsClean condition new
+      → (w : World) (held owed : ℕ → List ℕ) → RepresentsOwing condition old w held owed
+      → RepresentsOwing condition new w held owed
 
   -- a content is being sent where one was, and broken off where it was
   abbrev pub AheadContents : Hub A → Hub A → Type 0

@@ -4,9 +4,9 @@ ghost use Rattle.std.specs.Prelude.{◌≡◌, Bool, IsTrue, IfOk, IfErr};
 ghost use Rattle.dep_types.specs.State.{State};
 ghost use Rattle.dep_fields.specs.Fit.{AreFit};
 ghost use Rattle.dep_answers.specs.Steps.{operation_step};
-ghost use Rattle.dep_types.specs.Conditions.{Condition, StandsFor, HasCleanDisk, Leaves};
-ghost use Rattle.dep_hub.specs.Shut.{TellsOpen};
-ghost use Rattle.dep_hub.specs.Errands.{Account, Asked, WorkedAhead, Runs, FailsToTell};
+ghost use Rattle.dep_types.specs.Conditions.{Condition, Represents, HasCleanDisk, Leaves};
+ghost use Rattle.dep_hub.specs.Shut.{ReportsOpen};
+ghost use Rattle.dep_hub.specs.ArchiveCalls.{CallLog, Asked, WorkedAhead, Runs, FailsToReport};
 ghost use Rattle.dep_hub.specs.Archives.{Ticks, MakesStep, Streams, KeepsState, KeepsAll, KeepsEachState, CommitsIfDue, FallsDue, FailsIfShut, CountsFailures};
 ghost use Rattle.dep_hub.specs.Owing.{Begins, StreamsOn, TakesFew};
 
@@ -26,7 +26,7 @@ pub trait Archive {
     ghost condition: { Self → Condition };
 
     /// What it shows of what it is asked for beside the steps.
-    ghost account: { Self → Account };
+    ghost call_log: { Self → CallLog };
 
     /// Whether a commit by `work_ahead` is due.
     ghost may_commit: { Self → Bool };
@@ -90,10 +90,10 @@ pub trait Archive {
     /// Whether it is open, as far as that can be known: `false` where a fault has shut it, for good. Before
     /// that is known memory may run out, or the disk fail once more: ask again then.
     fn is_open(&mut self) -> Result<bool, StoreFault>
-        ensures told { IfOk result (TellsOpen (condition self.new)) }
+        ensures reported { IfOk result (ReportsOpen (condition self.new)) }
         ensures cause { HasCleanDisk (condition self.new)
-            → IfErr result (FailsToTell (account self.old) (account self.new)) }
-        ensures asked { Runs (Asked result) (account self.old) (account self.new) }
+            → IfErr result (FailsToReport (call_log self.old) (call_log self.new)) }
+        ensures asked { Runs (Asked result) (call_log self.old) (call_log self.new) }
         ensures commits { may_commit self.new ≡ may_commit self.old }
         ensures rests { KeepsAll (condition self.old) (condition self.new) };
 
@@ -103,7 +103,7 @@ pub trait Archive {
     /// more, as a long log is copied by the next commit: once behind an accepted change, and not behind what only reads,
     /// is refused or fails. What it returns is about time alone, and noted among what it was asked for.
     fn work_ahead(&mut self, service: &Service, next: Option<&Operation<'_>>) -> bool
-        ensures asked { Runs (WorkedAhead result) (account self.old) (account self.new) }
+        ensures asked { Runs (WorkedAhead result) (call_log self.old) (call_log self.new) }
         ensures commits { CommitsIfDue (may_commit self.old) (may_commit self.new)
             (condition self.old) (condition self.new) }
         ensures rests { KeepsEachState (condition self.old) (condition self.new) };
@@ -112,7 +112,7 @@ pub trait Archive {
     ghost honest_if_open: { (a : Self) → IsTrue (condition a).is_open
         → HasCleanDisk (condition a) };
 
-    // While it stands for a state, a crash leaves that state.
-    ghost settled: { (a : Self) (s : State) → StandsFor (condition a) s
+    // While it represents a state, a crash leaves that state.
+    ghost settled: { (a : Self) (s : State) → Represents (condition a) s
         → Leaves (condition a) (λ left. left ≡ s) };
 }

@@ -2,7 +2,7 @@
 ghost use Rattle.std.specs.Prelude.{◌+◌, ◌≡◌, ◌≤◌, [], ◌∷◌, ◌++◌, List, length, MatchResult, IfOk, IfErr, OnErr, IfSome, None, IsErrOf, IsSome, ◌⊎◌, ◌≢◌};
 ghost use Rattle.dep_types.specs.State.{State};
 ghost use Rattle.dep_types.specs.Config.{IsChecked};
-ghost use Rattle.dep_types.specs.Conditions.{StandsFor, Leaves};
+ghost use Rattle.dep_types.specs.Conditions.{Represents, Leaves};
 ghost use Rattle.dep_hub.specs.Records.{Connect, Close, Record, World, Run, Absent, Live, stopped, first_world};
 ghost use Rattle.dep_hub.specs.Claims.{is_any_pending, is_any_waiting};
 ghost use Rattle.dep_hub.specs.Numbers.{Ascends, Ascends-prop, HasPlace, most_connections, last_number};
@@ -51,21 +51,21 @@ const MOST_CONNECTIONS: usize = 1_024;
 const LAST_NUMBER: u64 = 4_000_000_000_000_000_000;
 
 impl<A: Archive> Hub<A> {
-    ghost use Rattle.dep_hub.specs.Standing.{StandsAfter, StandsAt, GoesOnFrom, GoesOnAs, IsHonest, KeepsStore, LeavesStore, LeavesItsState, store_of, Adds, Moves, ComesTo, intake_of};
-    ghost use Rattle.dep_hub.specs.Holding.{HoldsOn, RestsOn, MovesLine, OffersTo, with_held};
-    ghost use Rattle.dep_hub.specs.StandsOwing.{behind_at, is_awaited_at, KeepsBack, NextIsFree, NextIsPrepared, RepliesOver, SendsOn};
+    ghost use Rattle.dep_hub.specs.Representing.{RepresentsAfter, RepresentsAt, GoesOnFrom, GoesOnAs, IsHonest, KeepsStore, LeavesStore, LeavesItsState, store_of, Adds, Transition, ComesTo, intake_of};
+    ghost use Rattle.dep_hub.specs.Holding.{HoldsOn, RestsOn, LineTransition, OffersTo, with_held};
+    ghost use Rattle.dep_hub.specs.RepresentsOwing.{behind_at, is_awaited_at, KeepsBack, NextIsFree, NextIsPrepared, RepliesOver, SendsOn};
     ghost use Rattle.dep_hub.specs.Claims.{is_content};
     ghost use Rattle.dep_hub.specs.WorkingAhead.{BeginsToPrepare, RestsAhead};
     ghost use Rattle.dep_hub.specs.Numbers.{index_of};
     ghost use Rattle.std.specs.Prelude.{ℕ, Some, ◌==◌, ◌<◌, if◌then◌else◌, true, false};
     ghost use Rattle.dep_hub.specs.Archives.{KeepsAll, CommitsIfDue};
-    ghost use Rattle.dep_hub.specs.Shut.{TellsOpen};
-    ghost use Rattle.dep_hub.specs.Errands.{Asked, WorkedAhead, Runs, FailsToTell};
+    ghost use Rattle.dep_hub.specs.Shut.{ReportsOpen};
+    ghost use Rattle.dep_hub.specs.ArchiveCalls.{Asked, WorkedAhead, Runs, FailsToReport};
 
     /// A hub over the store, without connections. A refusal hands the store back.
     pub fn new(alloc: Global, config: Config, store: A) -> Result<Hub<A>, (HubFault, A)>
-        ensures stands { IfOk result (λ hub. (first : State) → StandsFor (A.condition store) first
-            → StandsAfter A.condition hub first []) }
+        ensures represents { IfOk result (λ hub. (first : State) → Represents (A.condition store) first
+            → RepresentsAfter A.condition hub first []) }
         // Also after a stop.
         ensures again { IfOk result (GoesOnFrom A.condition config store) }
         ensures config { IfOk result (λ hub. hub.config ≡ config) }
@@ -104,12 +104,12 @@ impl<A: Archive> Hub<A> {
         ensures adds { IfOk result
             (λ number. Adds A.condition self.old self.new (Connect number) []) }
         ensures moves { IfOk result
-            (λ number. Moves A.condition self.old self.new (Connect number) []) }
-        ensures same { OnErr result ((w : World) → StandsAt A.condition self.old w
-            → StandsAt A.condition self.new w) }
+            (λ number. Transition A.condition self.old self.new (Connect number) []) }
+        ensures same { OnErr result ((w : World) → RepresentsAt A.condition self.old w
+            → RepresentsAt A.condition self.new w) }
         // What the others hold stays.
         ensures holding { MatchResult result
-            (λ number. MovesLine A.condition self.old self.new number (Live []) (λ held. held))
+            (λ number. LineTransition A.condition self.old self.new number (Live []) (λ held. held))
             (λ _. HoldsOn A.condition self.old self.new) }
         ensures config { self.new.config ≡ self.old.config }
         ensures store { self.new.store ≡ self.old.store }
@@ -394,11 +394,11 @@ impl<A: Archive> Hub<A> {
     /// Whether the store is open, as far as that can be known (`Archive::is_open`). No connection has a part
     /// in it, so it is no event of a run.
     pub fn is_open(&mut self) -> Result<bool, StoreFault>
-        ensures told { IfOk result (TellsOpen (store_of A.condition self.new)) }
+        ensures reported { IfOk result (ReportsOpen (store_of A.condition self.new)) }
         ensures cause { IsHonest A.condition self.new
-            → IfErr result (FailsToTell (A.account self.old.store) (A.account self.new.store)) }
-        ensures asked { Runs (Asked result) (A.account self.old.store)
-            (A.account self.new.store) }
+            → IfErr result (FailsToReport (A.call_log self.old.store) (A.call_log self.new.store)) }
+        ensures asked { Runs (Asked result) (A.call_log self.old.store)
+            (A.call_log self.new.store) }
         ensures rests { RestsOn A.condition KeepsAll self.old self.new }
     {
         self.store.is_open()
@@ -409,8 +409,8 @@ impl<A: Archive> Hub<A> {
     /// one of them for which the fewest were made; it is answered by `reply` once no more of it is left, or so many steps
     /// were made as may be. It is no event of a run.
     pub fn work_ahead(&mut self) -> bool
-        ensures asked { Runs (WorkedAhead result) (A.account self.old.store)
-            (A.account self.new.store) }
+        ensures asked { Runs (WorkedAhead result) (A.call_log self.old.store)
+            (A.call_log self.new.store) }
         // It commits only what is due.
         ensures commits { CommitsIfDue (A.may_commit self.old.store)
             (A.may_commit self.new.store)
@@ -426,9 +426,9 @@ impl<A: Archive> Hub<A> {
     /// Forgets a connection. What it holds is dropped, and one that isn't there changes nothing.
     pub fn close(&mut self, connection: ConnId)
         ensures adds { Adds A.condition self.old self.new (Close connection) [] }
-        ensures moves { Moves A.condition self.old self.new (Close connection) [] }
+        ensures moves { Transition A.condition self.old self.new (Close connection) [] }
         // What it held never arrives, and what the others hold stays.
-        ensures holding { MovesLine A.condition self.old self.new connection Absent
+        ensures holding { LineTransition A.condition self.old self.new connection Absent
             (with_held connection []) }
         ensures gone { intake_of self.new.connections.items connection ≡ None }
         // What it was still to be sent is forgotten.
@@ -448,12 +448,12 @@ impl<A: Archive> Hub<A> {
     /// Hands back the store.
     pub fn into_store(self) -> A
         ensures same { result ≡ self.store }
-        ensures stands { (w : World) → StandsAt A.condition self w
-            → StandsFor (A.condition result) w.state }
-        // What a stop now leaves is what the machine keeps, and stands for the records with a stop.
+        ensures represents { (w : World) → RepresentsAt A.condition self w
+            → Represents (A.condition result) w.state }
+        // What a stop now leaves is what the machine keeps, and represents the records with a stop.
         ensures rests { LeavesItsState A.condition self (A.condition result) }
         ensures stop { (first : State) (records : List Record)
-            → StandsAfter A.condition self first records
+            → RepresentsAfter A.condition self first records
             → Leaves (A.condition result)
             (λ found. Run self.config first (records ++ stopped ∷ []) (first_world found)) }
     {

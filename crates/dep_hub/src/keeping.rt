@@ -1,7 +1,7 @@
 //! Requests that are kept back.
 ghost use Rattle.std.specs.Prelude.{◌≡◌, None, IfSome};
 ghost use Rattle.dep_hub.specs.Claims.{is_any_pending};
-ghost use Rattle.dep_hub.specs.StandsOwing.{IsAnswerable, IsFree, IsReady, KeptBack};
+ghost use Rattle.dep_hub.specs.RepresentsOwing.{IsAnswerable, IsFree, IsReady, KeptBack};
 
 use crate::claim::AskClaim;
 use crate::connections::Connection;

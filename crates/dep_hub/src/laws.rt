@@ -1,23 +1,23 @@
 //! What follows for the runs of a hub that is offered pieces and answers one item at a time, apart from any code.
 ghost use Rattle.std.specs.Prelude.{◌≡◌, ℕ, List, []};
 ghost use Rattle.dep_hub.specs.Records.{Connect, Close, Absent, Live, World};
-ghost use Rattle.dep_hub.specs.Standing.{StandsAt};
-ghost use Rattle.dep_hub.specs.Holding.{StandsHolding, AnswersAdd, AnswersStop, LineAdds, StopsAnswered, with_held};
-ghost use Rattle.dep_hub.specs.StandsOwing.{AnswersAtOnce, AwaitsContent, AwaitsTaker, ContentsStay, RepliesAdd, RepliesKeep, SendingStands, WaitingStands};
-ghost use Rattle.dep_hub.specs.WorkingAhead.{AheadContents, AheadEnds, AheadStands, PreparesOnce};
+ghost use Rattle.dep_hub.specs.Representing.{RepresentsAt};
+ghost use Rattle.dep_hub.specs.Holding.{RepresentsHolding, AnswersAdd, AnswersStop, LineAdds, StopsAnswered, with_held};
+ghost use Rattle.dep_hub.specs.RepresentsOwing.{AnswersAtOnce, AwaitsContent, AwaitsTaker, ContentsStay, RepliesAdd, RepliesKeep, SendingRepresents, WaitingRepresents};
+ghost use Rattle.dep_hub.specs.WorkingAhead.{AheadContents, AheadEnds, AheadRepresents, PreparesOnce};
 ghost use Rattle.dep_hub.specs.declared.hub.Hub.{Hub as AnyHub};
 
 use crate::archive::Archive;
 
 /// A hub stands at a world just where it stands there and holds nothing.
 pub fn nothing_held<A: Archive>()
-    ensures holds { (hub : AnyHub A) (w : World) → StandsAt A.condition hub w
-        → StandsHolding A.condition hub w (λ n. []) }
-    ensures stands { (hub : AnyHub A) (w : World) (held : ℕ → List ℕ) → ((n : ℕ) → held n ≡ [])
-        → StandsHolding A.condition hub w held → StandsAt A.condition hub w }
+    ensures holds { (hub : AnyHub A) (w : World) → RepresentsAt A.condition hub w
+        → RepresentsHolding A.condition hub w (λ n. []) }
+    ensures represents { (hub : AnyHub A) (w : World) (held : ℕ → List ℕ) → ((n : ℕ) → held n ≡ [])
+        → RepresentsHolding A.condition hub w held → RepresentsAt A.condition hub w }
 {}
 
-/// Answering the next item, and a piece that is refused for want of memory, is a run's next record:
+/// Answering the next item, and a piece that is refused for lack of memory, is a run's next record:
 /// an arrival of a part of what was held. A stop at its end leaves what a run allows.
 pub fn answers_make_a_run<A: Archive>()
     ensures adds { (old new : AnyHub A) → AnswersAdd A.condition old new }
@@ -50,18 +50,18 @@ pub fn replies_make_a_run<A: Archive>()
 
 /// Sending on what is owed of a reply is no event of a run: the records stay, and less is owed.
 pub fn sending_is_no_event<A: Archive>()
-    ensures { (old new : AnyHub A) → SendingStands A.condition old new }
+    ensures { (old new : AnyHub A) → SendingRepresents A.condition old new }
 {}
 
 /// Keeping a request back is no event of a run: what is owed stays, and what is being sent.
 pub fn waiting_is_no_event<A: Archive>()
-    ensures stands { (old new : AnyHub A) → WaitingStands A.condition old new }
+    ensures represents { (old new : AnyHub A) → WaitingRepresents A.condition old new }
     ensures contents { (old new : AnyHub A) → ContentsStay A.condition old new }
 {}
 
 /// Working ahead is no event of a run: what is owed stays, and what is being sent.
 pub fn working_ahead_is_no_event<A: Archive>()
-    ensures stands { (old new : AnyHub A) → AheadStands A.condition old new }
+    ensures represents { (old new : AnyHub A) → AheadRepresents A.condition old new }
     ensures contents { (old new : AnyHub A) → AheadContents A.condition old new }
 {}
 

@@ -33,7 +33,7 @@ impl<'a, A: Archive> Preview for Ahead<'a, A> {
 
     ghost sees = { λ before after m. (after ≡ before)
         ⊎ ((after.store.ghost_name ≡ before.store.ghost_name)
-        × WorksAs A.account A.may_commit A.condition before.store.now after.store.now after.is_left) };
+        × WorksAs A.call_log A.may_commit A.condition before.store.now after.store.now after.is_left) };
 
     fn preview(&mut self, message: Message) -> Message {
         match read_operation(self.site, &message.head) {
@@ -70,7 +70,7 @@ fn work_for<A: Archive>(
     named: (Target, SwordFields),
 ) -> (Message, bool)
     ensures same { result.0 ≡ message }
-    ensures works { Works A.account A.may_commit A.condition store.old store.new result.1 }
+    ensures works { Works A.call_log A.may_commit A.condition store.old store.new result.1 }
 {
     let Message { head, content } = message;
     let (target, fields) = named;
@@ -98,7 +98,7 @@ fn work_for<A: Archive>(
 fn work_for_next<A: Archive>(site: &Site, store: &mut A, intake: &mut Intake) -> Option<bool>
     ensures same { intake.new ≡ intake.old }
     ensures works { MatchOption result (store.new ≡ store.old)
-        (Works A.account A.may_commit A.condition store.old store.new) }
+        (Works A.call_log A.may_commit A.condition store.old store.new) }
 {
     let mut ahead = Ahead {
         site,
@@ -112,7 +112,7 @@ fn work_for_next<A: Archive>(site: &Site, store: &mut A, intake: &mut Intake) ->
 /// Makes a step for the next request of a connection that is prepared, and returns whether the archive has more to do.
 pub(crate) fn prepare<A: Archive>(site: &Site, store: &mut A, connection: &mut Connection) -> bool
     requires { is_preparing connection.old.behind ≡ true }
-    ensures works { Works A.account A.may_commit A.condition store.old store.new result }
+    ensures works { Works A.call_log A.may_commit A.condition store.old store.new result }
     ensures number { connection.new.number ≡ connection.old.number }
     ensures intake { connection.new.intake ≡ connection.old.intake }
     ensures step { MakesStepFor connection.old.behind connection.new.behind }

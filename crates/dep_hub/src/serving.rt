@@ -4,7 +4,7 @@ ghost use Rattle.dep_message.specs.Places.{shut_reading};
 ghost use Rattle.dep_hub.specs.Sending.{outside_of};
 ghost use Rattle.dep_hub.specs.Serving.{ServesOver, KeepsIntake, arrival_with, answer_after};
 ghost use Rattle.dep_hub.specs.Owing.{Owing};
-ghost use Rattle.dep_hub.specs.Nexts.{TakesNext, TellsWant, ended_as, next_behind, reading_behind};
+ghost use Rattle.dep_hub.specs.Nexts.{TakesNext, ReportsLackOfMemory, ended_as, next_behind, reading_behind};
 
 use crate::access_log::{AccessLog, NoLog};
 use crate::archive::Archive;
@@ -93,8 +93,11 @@ pub(crate) fn take_next<A: Archive, O: Outlet, L: AccessLog, C: Contents>(
         Err(AllocError) => last(give_up(intake, out, log)),
         Ok(Step::NeedMore) => Next::Waiting,
         Ok(Step::Dead) => Next::Closed,
-        Ok(Step::Refused(refusal, is_bare)) => {
-            let fault = StreamRefusal { refusal, is_bare };
+        Ok(Step::Refused(refusal, is_head_only)) => {
+            let fault = StreamRefusal {
+                refusal,
+                is_head_only,
+            };
             let answer = answer_fault(context, store, fault, out, log, contents);
             next_after(intake, answer, true)
         }
@@ -131,13 +134,13 @@ fn last(ended: Arrived) -> Next
     }
 }
 
-/// Ends a connection for want of memory: the fixed reply for it is sent, and nothing is read any more.
+/// Ends a connection for lack of memory: the fixed reply for it is sent, and nothing is read any more.
 pub(crate) fn give_up<O: Outlet, L: AccessLog>(
     intake: &mut Intake,
     out: &mut O,
     log: &mut L,
 ) -> Arrived
-    ensures { TellsWant (O.taken out.old) (O.taken out.new)
+    ensures { ReportsLackOfMemory (O.taken out.old) (O.taken out.new)
         (O.failures out.old) (O.failures out.new) intake.old intake.new result }
 {
     let answer = send_fault(StoreFault::Memory, out, log);

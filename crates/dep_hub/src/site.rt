@@ -32,7 +32,7 @@ impl Model for Site {
 }
 
 impl Site {
-    /// The site of a configuration. An `Err` is want of memory.
+    /// The site of a configuration. An `Err` is lack of memory.
     pub fn new(alloc: Global, config: Config) -> Result<Site, AllocError>
         ensures { IfOk result (λ site. site ≡ config) }
     {

@@ -34,7 +34,7 @@ use std::alloc::{AllocError, Global};
 #[derive(Clone, Copy)]
 pub(crate) struct StreamRefusal {
     pub refusal: Refusal,
-    pub is_bare: bool,
+    pub is_head_only: bool,
 }
 
 /// A whole message, and whether the connection is closed after its reply.
@@ -99,7 +99,7 @@ pub(crate) fn answer_fault<A: Archive, O: Outlet, L: AccessLog, C: Contents>(
     requires { C.rest contents.old ≡ None }
     ensures { Owing O.Outlet out.old out.new (A.condition store.new) (C.rest contents.new) (λ new.
         Answers context.now.site.now (outside_of O.Outlet out.old (A.condition store.old)) new
-        (Fault fault.refusal fault.is_bare) context.now.moment result) }
+        (Fault fault.refusal fault.is_head_only) context.now.moment result) }
 {
     match store.tick(context.site.service().config(), context.moment) {
         Ok(clock) => match refuse(context.site.alloc(), clock, fault, None, true) {
@@ -127,7 +127,7 @@ fn answer_routed<A: Archive>(
         (λ s. (message_step site.now s item.message).state) result }
 {
     let WholeMessage { message, is_last } = item;
-    let is_bare = is_without_body(&message.head);
+    let is_head_only = is_without_body(&message.head);
     let alloc = site.alloc();
     let mut message = message;
     let path = message.head.take_path();
@@ -140,7 +140,7 @@ fn answer_routed<A: Archive>(
             drop(message);
             let why = StreamRefusal {
                 refusal: Refusal::NotFound,
-                is_bare,
+                is_head_only,
             };
             refuse(alloc, clock, why, None, is_last)
         }
@@ -148,7 +148,7 @@ fn answer_routed<A: Archive>(
             drop(message);
             let why = StreamRefusal {
                 refusal: Refusal::MethodNotAllowed,
-                is_bare,
+                is_head_only,
             };
             refuse(alloc, clock, why, Some(methods.as_str()), is_last)
         }
@@ -164,9 +164,9 @@ fn refuse(
     closes: bool,
 ) -> Result<Performed, StoreFault>
     ensures { IfOk result (λ p. (s : State) → clock ≡ s.clock → IsReady
-        (refused_step s why.refusal (option_copied allow.entry) why.is_bare closes) p) }
+        (refused_step s why.refusal (option_copied allow.entry) why.is_head_only closes) p) }
 {
-    let delivery = Delivery::new(clock, why.is_bare, closes);
+    let delivery = Delivery::new(clock, why.is_head_only, closes);
     refused(alloc, why.refusal, allow, delivery)
 }
 

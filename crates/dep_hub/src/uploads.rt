@@ -2,7 +2,7 @@
 ghost use Rattle.std.specs.Prelude.{◌≡◌, None, IfOk, IfSome, MatchResult, codes, bytes_eq, ◌||◌};
 ghost use Rattle.dep_message.specs.Giving.{HasFirstHead};
 ghost use Rattle.dep_hub.specs.Preparing as spec;
-ghost use Rattle.dep_hub.specs.Preparing.{BeginsToPrepare, IsLookedAt, TellsUploads, is_by_reference};
+ghost use Rattle.dep_hub.specs.Preparing.{BeginsToPrepare, IsLookedAt, ReportsUploads, is_by_reference};
 
 use crate::connections::Connection;
 use crate::preparing::MOST_STEPS;
@@ -52,7 +52,7 @@ pub(crate) fn looked_at(alloc: Global, connection: &mut Connection) -> Option<Be
 // memory.
 fn next_names_uploads(alloc: Global, intake: &mut Intake) -> Result<bool, AllocError>
     ensures same { intake.new ≡ intake.old }
-    ensures told { MatchResult result (TellsUploads intake.old) (λ _. HasFirstHead intake.old.place) }
+    ensures reported { MatchResult result (ReportsUploads intake.old) (λ _. HasFirstHead intake.old.place) }
 {
     let mut asks = AskUploads {
         alloc,
@@ -66,7 +66,7 @@ fn next_names_uploads(alloc: Global, intake: &mut Intake) -> Result<bool, AllocE
 }
 
 // Whether a request deposits by reference (SWORD 3.0, by-reference deposit): a POST or a PUT whose Content-Disposition
-// says so. An `Err` is want of memory.
+// says so. An `Err` is lack of memory.
 fn names_uploads(alloc: Global, head: &Head) -> Result<bool, AllocError>
     ensures { IfOk result (λ named. named ≡ spec.names_uploads head.now) }
 {

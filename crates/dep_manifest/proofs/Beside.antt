@@ -3,7 +3,7 @@ use Rattle.std.proofs.Common.{◌≡◌, ℕ, suc, ◌+◌, ◌<◌, List, [], �
 use Rattle.std.specs.Prelude.{get_or}
 use Rattle.dep_types.specs.declared.rows.FileRow.{FileRow}
 use Rattle.dep_manifest.specs.Manifest.{manifest, manifest_line}
-use Rattle.dep_manifest.specs.Told.{row_checksum, row_checksums}
+use Rattle.dep_manifest.specs.Reported.{row_checksum, row_checksums}
 use Rattle.dep_manifest.specs.declared.algorithm.Algorithm.TheVariants.{Sha512}
 
 abbrev lines : List FileRow → (values : List (List ℕ)) → List ℕ

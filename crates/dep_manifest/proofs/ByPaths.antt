@@ -13,7 +13,7 @@ use Rattle.dep_types.specs.declared.rows.FileRow.{FileRow}
 use Rattle.dep_types.specs.declared.rows.ObjectView.{ObjectView}
 use Rattle.dep_manifest.specs.Lengths.{line_length}
 use Rattle.dep_manifest.specs.Manifest.{checksum_of, digest_by, encoded_byte, encoded_path, manifest_line, manifest_of}
-use Rattle.dep_manifest.specs.Told.{row_path, told_listed}
+use Rattle.dep_manifest.specs.Reported.{row_path, reported_listed}
 use Rattle.dep_manifest.specs.declared.algorithm.Algorithm.{Algorithm}
 use Rattle.dep_manifest.specs.declared.algorithm.Algorithm.TheVariants.{Sha256, Sha512}
 
@@ -71,10 +71,10 @@ abbrev pub tag_length : Algorithm → ℕ
 tag_length Sha256 = 413
 tag_length Sha512 = 733
 
-sum_of_listed : (a : Algorithm) (view : ObjectView) → sum_by (line_length (digest_by a)) (map (λ file. file.0) (told_listed view)) ≡ tag_length a
+sum_of_listed : (a : Algorithm) (view : ObjectView) → sum_by (line_length (digest_by a)) (map (λ file. file.0) (reported_listed view)) ≡ tag_length a
 sum_of_listed Sha256 view = refl
 sum_of_listed Sha512 view = refl
 
-pub listed_length : (a : Algorithm) (view : ObjectView) (files : List Entry) → map (λ file. file.0) files ≡ map (λ file. file.0) (told_listed view)
+pub listed_length : (a : Algorithm) (view : ObjectView) (files : List Entry) → map (λ file. file.0) files ≡ map (λ file. file.0) (reported_listed view)
     → length (manifest_of (digest_by a) files) ≡ tag_length a
 listed_length a view files e = manifest_length a files ∙ ap (sum_by (line_length (digest_by a))) e ∙ sum_of_listed a view

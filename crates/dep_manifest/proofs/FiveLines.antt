@@ -4,7 +4,7 @@ use Rattle.dep_types.specs.Sinks.{Entry}
 use Rattle.dep_manifest.specs.Manifest.{Digest, checksum_of, manifest_line, manifest_of}
 use Rattle.dep_manifest.specs.declared.algorithm.Algorithm.{Algorithm}
 use Rattle.dep_manifest.specs.declared.algorithm.Algorithm.TheVariants.{Sha256, Sha512}
-use Rattle.dep_manifest.specs.Told.{text_by}
+use Rattle.dep_manifest.specs.Reported.{text_by}
 
 -- texts without a line
 pub no_text : (a : Algorithm) (x y : Vec ℕ Global) → x.items ≡ [] → y.items ≡ [] → text_by a (record { sha256 = x; sha512 = y }) ≡ []

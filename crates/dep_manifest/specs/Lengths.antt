@@ -10,8 +10,8 @@ OfLength a paths holds = (files : List Entry) → map (λ file. file.0) files �
     → holds (length (manifest_of (digest_by a) files))
 
 -- the length is told, unless it is 2^64 - 1 or more
-abbrev pub TellsLength : (length : ℕ) → Option ℕ → Type 0
-TellsLength length told = MatchOption told (2 ^ 64 ≤ length + 1) (λ it. it ≡ length)
+abbrev pub ReportsLength : (length : ℕ) → Option ℕ → Type 0
+ReportsLength length reported = MatchOption reported (2 ^ 64 ≤ length + 1) (λ it. it ≡ length)
 
 -- a number, as far as 64 bits hold it
 abbrev pub in_64_bits : ℕ → ℕ

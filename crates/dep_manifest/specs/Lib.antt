@@ -4,4 +4,4 @@ pub mod Manifest
 pub mod Lengths
 pub mod ExampleManifests
 pub mod TagFiles
-pub mod Told
+pub mod Reported

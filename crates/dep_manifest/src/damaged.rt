@@ -16,7 +16,7 @@ pub struct KeptDigests {
 }
 
 /// Notes the number of a file whose bytes have these digests, unless they are those that are kept of it. A file of which
-/// no SHA-512 is kept is noted. It fails for want of memory alone.
+/// no SHA-512 is kept is noted. It fails for lack of memory alone.
 pub fn note_damaged(
     damaged: &mut Vec<u64>,
     file: u64,

@@ -1,9 +1,9 @@
 //! How many bytes manifests have. Digests of one algorithm have as many digits, so what is digested isn't asked.
 ghost use Rattle.std.specs.Prelude.{◌≡◌, map};
 ghost use Rattle.dep_types.specs.declared.rows.ObjectView.{ObjectView as AView};
-ghost use Rattle.dep_manifest.specs.Lengths.{OfLength, TellsLength, fixed_length, in_64_bits, line_length};
+ghost use Rattle.dep_manifest.specs.Lengths.{OfLength, ReportsLength, fixed_length, in_64_bits, line_length};
 ghost use Rattle.dep_manifest.specs.Manifest.{digest_by};
-ghost use Rattle.dep_manifest.specs.Told.{row_path, told_listed};
+ghost use Rattle.dep_manifest.specs.Reported.{row_path, reported_listed};
 
 use crate::algorithm::Algorithm;
 use crate::lines::encoded_length;
@@ -13,7 +13,7 @@ use itoa::Buffer;
 /// Returns how many bytes the manifest of these files has, whatever their contents are. It is `None` where that is
 /// 2^64 - 1 or more, which no text has. No digest is read, and it takes no memory.
 pub fn payload_manifest_length(rows: &[FileRow], algorithm: Algorithm) -> Option<u64>
-    ensures { OfLength algorithm (map row_path rows.now) (λ length. TellsLength length result) }
+    ensures { OfLength algorithm (map row_path rows.now) (λ length. ReportsLength length result) }
 {
     let mut length = 0u64;
     for row in rows {
@@ -52,7 +52,7 @@ fn fixed_length(algorithm: Algorithm) -> u64
 /// Returns how many bytes the tag manifest of an algorithm has, which is the same in each bag: it has five lines, of a
 /// digest, two blanks, a path and a line feed, and the paths have 78 bytes.
 pub fn tag_manifest_length(algorithm: Algorithm) -> u64
-    ensures { (view : AView) → OfLength algorithm (map (λ file. file.0) (told_listed view))
+    ensures { (view : AView) → OfLength algorithm (map (λ file. file.0) (reported_listed view))
         (λ length. result ≡ length) }
 {
     match algorithm {

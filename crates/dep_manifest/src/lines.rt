@@ -8,7 +8,7 @@ use std::alloc::AllocError;
 use std::slice;
 
 /// Adds the line of a file: its digest, of which these are the hexadecimal digits, two blanks, and its path
-/// (RFC 8493, section 2.1.3). It fails for want of memory alone.
+/// (RFC 8493, section 2.1.3). It fails for lack of memory alone.
 pub(crate) fn add_line(text: &mut Vec<u8>, path: &[u8], digits: &[u8]) -> Result<(), AllocError>
     ensures { OnOk result (Grows text.old text.new (line_of digits.now path.now)) }
 {

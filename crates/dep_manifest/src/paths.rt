@@ -1,6 +1,6 @@
 //! Where the files of a bag stand.
 ghost use Rattle.std.specs.Prelude.{◌≡◌, IfOk};
-ghost use Rattle.dep_manifest.specs.Told.{row_path};
+ghost use Rattle.dep_manifest.specs.Reported.{row_path};
 
 use dep_types::{FileRow, Text};
 use itoa::Buffer;
@@ -27,7 +27,7 @@ pub const TAG_MANIFEST_SHA256: &str = "tagmanifest-sha256.txt";
 /// The manifest of the tag files by SHA-512.
 pub const TAG_MANIFEST_SHA512: &str = "tagmanifest-sha512.txt";
 
-/// Returns the path of a payload file in its object's bag: `data/NUMBER/NAME`. An `Err` is want of memory.
+/// Returns the path of a payload file in its object's bag: `data/NUMBER/NAME`. An `Err` is lack of memory.
 pub fn payload_path(alloc: Global, row: &FileRow) -> Result<Text, AllocError>
     ensures { IfOk result (λ path. path ≡ row_path row.now) }
 {

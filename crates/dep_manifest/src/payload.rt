@@ -2,7 +2,7 @@
 ghost use Rattle.std.specs.Prelude.{[]};
 ghost use Rattle.dep_docs_out.specs.Made.{Makes};
 ghost use Rattle.dep_manifest.specs.Manifest.{manifest};
-ghost use Rattle.dep_manifest.specs.Told.{row_checksums, told_manifest};
+ghost use Rattle.dep_manifest.specs.Reported.{row_checksums, reported_manifest};
 ghost use Rattle.dep_manifest.specs.declared.algorithm.Algorithm.TheVariants.{Sha256, Sha512};
 
 use crate::algorithm::Algorithm;
@@ -19,7 +19,7 @@ pub fn payload_manifest(
     view: &ObjectView,
     algorithm: Algorithm,
 ) -> Result<Vec<u8>, AllocError>
-    ensures { Makes result (told_manifest algorithm view.now) }
+    ensures { Makes result (reported_manifest algorithm view.now) }
 {
     let rows = view.files.as_slice();
     match algorithm {

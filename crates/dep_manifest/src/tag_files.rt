@@ -2,7 +2,7 @@
 ghost use Rattle.std.specs.Prelude.{◌≡◌, sum_by};
 ghost use Rattle.dep_docs_out.specs.Made.{Makes};
 ghost use Rattle.dep_manifest.specs.TagFiles.{bagit_text};
-ghost use Rattle.dep_manifest.specs.Told.{told_info};
+ghost use Rattle.dep_manifest.specs.Reported.{reported_info};
 
 use dep_moment::Moment;
 use dep_types::{FileRow, ObjectView};
@@ -21,7 +21,7 @@ pub fn declaration(alloc: Global) -> Result<Vec<u8>, AllocError>
 /// Returns the text of `bag-info.txt`: the day of the last change in UTC, and how many bytes and files the
 /// payload has.
 pub fn information(alloc: Global, view: &ObjectView) -> Result<Vec<u8>, AllocError>
-    ensures { Makes result (told_info view.now) }
+    ensures { Makes result (reported_info view.now) }
 {
     let rows = view.files.as_slice();
     let day = Moment::new(view.object.changed).civil_date();

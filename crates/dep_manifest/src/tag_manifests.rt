@@ -1,7 +1,7 @@
 //! The tag manifests of a bag (RFC 8493, section 2.2.1).
 ghost use Rattle.std.specs.Prelude.{IfOk};
 ghost use Rattle.dep_docs_out.specs.Made.{Makes};
-ghost use Rattle.dep_manifest.specs.Told.{AreTagManifests, told_tag_manifest};
+ghost use Rattle.dep_manifest.specs.Reported.{AreTagManifests, reported_tag_manifest};
 
 use crate::algorithm::Algorithm;
 use crate::lines::add_line;
@@ -25,7 +25,7 @@ pub struct TagManifests {
 impl TagManifests {
     ghost use Rattle.std.specs.Prelude.{ℕ, List, OnOk};
     ghost use Rattle.dep_docs_out.specs.Made.{Makes};
-    ghost use Rattle.dep_manifest.specs.Told.{AddsLines, AddsTagFiles};
+    ghost use Rattle.dep_manifest.specs.Reported.{AddsLines, AddsTagFiles};
 
     // Adds the lines of a file with these bytes, where they could be made.
     fn add_file(&mut self, path: &str, made: Result<Vec<u8>, AllocError>) -> Result<(), AllocError>
@@ -78,7 +78,7 @@ pub fn tag_manifest(
     view: &ObjectView,
     algorithm: Algorithm,
 ) -> Result<Vec<u8>, AllocError>
-    ensures { Makes result (told_tag_manifest algorithm view.now) }
+    ensures { Makes result (reported_tag_manifest algorithm view.now) }
 {
     let TagManifests { sha256, sha512 } = both_tag_manifests(alloc, view)?;
     match algorithm {

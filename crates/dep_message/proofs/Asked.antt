@@ -7,7 +7,7 @@ use Rattle.dep_body.specs.Body.{IsPartOfBody}
 use Rattle.dep_body.specs.declared.frame.Framing.{Framing}
 use Rattle.dep_body.specs.declared.frame.Framing.TheVariants.{Chunked as InChunks}
 use Rattle.dep_types.specs.declared.refusal.Refusal.{Refusal}
-use Rattle.dep_message.specs.Asking.{HasNextHead, IsNoNext, IsNoRequest, TellsNext}
+use Rattle.dep_message.specs.Asking.{HasNextHead, IsNoNext, IsNoRequest, ReportsNext}
 use Rattle.dep_message.specs.Giving.{Begins, BeginsWithHead}
 use Rattle.dep_message.specs.Places.{Place, Open, Shut}
 use Rattle.dep_message.specs.Stream.{Request, FirstAt, IsContinueText, IsFaultText, IsRequestText}
@@ -69,16 +69,16 @@ module _ (limit : ℕ) (continued : Bool) where
   pub continue_no : (bytes : List ℕ) → Begins (IsContinueText limit continued) bytes → IsNoRequest limit (Open continued bytes)
   continue_no bytes b m next f = continue_request limit continued b.0 f.text b.1 f.behind m (sym b.2 ∙ f.whole) b.3 f.spelled
 
-  pub fault_no : (refusal : Refusal) (bare : Bool) (bytes : List ℕ) → Begins (λ text. IsFaultText limit continued text refusal bare) bytes → IsNoRequest limit (Open continued bytes)
-  fault_no refusal bare bytes b m next f = fault_request limit continued b.0 f.text b.1 f.behind m (sym b.2 ∙ f.whole) b.3 f.spelled
+  pub fault_no : (refusal : Refusal) (head_only : Bool) (bytes : List ℕ) → Begins (λ text. IsFaultText limit continued text refusal head_only) bytes → IsNoRequest limit (Open continued bytes)
+  fault_no refusal head_only bytes b m next f = fault_request limit continued b.0 f.text b.1 f.behind m (sym b.2 ∙ f.whole) b.3 f.spelled
 
   pub nothing_no : (bytes : List ℕ) → head_end bytes ≡ None → length bytes < head_limit → IsNoRequest limit (Open continued bytes)
   nothing_no bytes none short m next f = waits_none limit (Open continued bytes) next (Request m) (inl (none, short)) f
 
   -- what is told of a head that stands first
-  pub tells_head : {X : Type 0} (answer : HeadParts → X) (bytes : List ℕ) (head : HeadParts) → HasNextHead limit (Open continued bytes) head → BeginsWithHead bytes
-      → (result : Result (Option X) AllocError) → IfOk result (λ told. told ≡ Some (answer head))
-      → MatchResult result (TellsNext answer limit (Open continued bytes)) (λ _. BeginsWithHead bytes)
-  tells_head {X = X} answer bytes head h begins (Ok told) e =
-      subst (λ (o : Option X). TellsNext answer limit (Open continued bytes) o) (sym e) (head, h, refl)
-  tells_head answer bytes head h begins (Err fault) e = begins
+  pub reports_head : {X : Type 0} (answer : HeadParts → X) (bytes : List ℕ) (head : HeadParts) → HasNextHead limit (Open continued bytes) head → BeginsWithHead bytes
+      → (result : Result (Option X) AllocError) → IfOk result (λ reported. reported ≡ Some (answer head))
+      → MatchResult result (ReportsNext answer limit (Open continued bytes)) (λ _. BeginsWithHead bytes)
+  reports_head {X = X} answer bytes head h begins (Ok reported) e =
+      subst (λ (o : Option X). ReportsNext answer limit (Open continued bytes) o) (sym e) (head, h, refl)
+  reports_head answer bytes head h begins (Err fault) e = begins

@@ -7,7 +7,7 @@ use Rattle.dep_body.specs.Framing.{framing}
 use Rattle.dep_body.specs.Body.{IsBodyText, IsBodyFault, IsPartOfBody}
 use Rattle.dep_body.specs.declared.frame.Framing.{Framing}
 use Rattle.dep_body.specs.declared.frame.FrameFault.{FrameFault}
-use Rattle.dep_message.specs.Heads.{is_due, is_bare}
+use Rattle.dep_message.specs.Heads.{is_due, is_head_only}
 use Rattle.dep_message.specs.Places.{Open, HasBytes}
 use Rattle.dep_message.specs.Stream.{HasHead, IsFaultText, bad_body, IsRequestText, IsContinueText, Waits, refusal_of}
 use Rattle.dep_message.specs.Giving.{Begins, BeginsWithHead}
@@ -47,7 +47,7 @@ waits_for_body limit continued front body head frame b part =
 
 pub body_fault : (limit : ℕ) (continued : Bool) (front text behind : List ℕ) (head : HeadParts) (frame : Framing) (fault : FrameFault)
     → IsBegun limit continued front head frame → IsBodyFault limit frame text fault
-    → Begins (λ whole. IsFaultText limit continued whole (refusal_of fault) (is_bare head)) (front ++ (text ++ behind))
+    → Begins (λ whole. IsFaultText limit continued whole (refusal_of fault) (is_head_only head)) (front ++ (text ++ behind))
 body_fault limit continued front text behind head frame fault b is_fault = (
   front ++ text,
   behind,

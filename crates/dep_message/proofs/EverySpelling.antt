@@ -8,7 +8,7 @@ use Rattle.dep_types.specs.declared.refusal.Refusal.TheVariants.{BadRequest}
 use Rattle.dep_body.specs.Framing.{framing}
 use Rattle.dep_body.specs.declared.frame.Framing.{Framing}
 use Rattle.dep_body.specs.declared.frame.FrameFault.{FrameFault}
-use Rattle.dep_message.specs.Heads.{is_bare, closes, is_due, awaits_continue}
+use Rattle.dep_message.specs.Heads.{is_head_only, closes, is_due, awaits_continue}
 use Rattle.dep_message.specs.Places.{Place, Open, Shut, left_to_read}
 use Rattle.dep_message.specs.Stream.{Item, Fault, Continue, Request, after_item, IsItemText, First, Reads, Waits, Spells, no_head, bad_framing, refusal_of}
 use Rattle.dep_message.specs.Giving.{Begins}
@@ -17,7 +17,7 @@ use Rattle.dep_message.specs.declared.message.Message.{Message}
 use Rattle.dep_message.proofs.BodyCases.{BodyCase, is_whole, is_faulty, is_part, body_cases}
 use Rattle.dep_message.proofs.Bodies.{waiting_head, body_fault, whole_request}
 use Rattle.dep_message.proofs.Keeping.{waits_behind}
-use Rattle.dep_message.proofs.Taking.{not_told, some_left, less_told, less_behind}
+use Rattle.dep_message.proofs.Taking.{not_reported, some_left, less_reported, less_behind}
 
 -- what can't be refused
 abbrev NotNot : Type 0 → Type 0
@@ -45,8 +45,8 @@ module _ (limit : ℕ) (continued : Bool) (bytes : List ℕ) where
         whole_request limit continued (take n bytes) text m frame begun body,
       )
   behind_head n head frame begun (is_faulty text behind fault is shown) =
-      stands_first (Fault (refusal_of fault) (is_bare head))
-      (subst (Begins (λ text. IsItemText limit continued text (Fault (refusal_of fault) (is_bare head))))
+      stands_first (Fault (refusal_of fault) (is_head_only head))
+      (subst (Begins (λ text. IsItemText limit continued text (Fault (refusal_of fault) (is_head_only head))))
       (ap (λ t. take n bytes ++ t) (sym is) ∙ take-append-drop n bytes)
       (body_fault limit continued (take n bytes) text behind head frame fault begun shown))
   behind_head n head frame begun (is_part part) = inr (waits_behind limit continued bytes n head frame begun part)
@@ -60,7 +60,7 @@ module _ (limit : ℕ) (continued : Bool) (bytes : List ℕ) where
   some_head : (n : ℕ) (head : HeadParts) → IsHeadText (take n bytes) head → (r : Result Framing FrameFault) → framing limit head ≡ r
       → FirstOrWaits limit continued bytes
   some_head n head is_head (Err fault) bad =
-      stands_first (Fault (refusal_of fault) (is_bare head)) (take n bytes, drop n bytes, sym (take-append-drop n bytes), bad_framing fault is_head bad)
+      stands_first (Fault (refusal_of fault) (is_head_only head)) (take n bytes, drop n bytes, sym (take-append-drop n bytes), bad_framing fault is_head bad)
   some_head n head is_head (Ok frame) framed = good_head n head frame is_head framed (is_due continued head frame) refl
 
   -- the limit is reached without an end
@@ -97,11 +97,11 @@ module _ (limit : ℕ) (continued : Bool) (bytes : List ℕ) where
 
 first_less : (limit : ℕ) (continued : Bool) (bytes : List ℕ) (item : Item) (next : Place) → First limit continued bytes item next
     → left_to_read next < left_to_read (Open continued bytes)
-first_less limit continued bytes (Fault refusal bare) next f =
+first_less limit continued bytes (Fault refusal head_only) next f =
     subst (λ (p : Place). left_to_read p < left_to_read (Open continued bytes)) (sym f.goes_on) (some_left continued (length bytes + length bytes))
 first_less limit continued bytes Continue next f =
-    let untold = not_told continued (awaits_continue f.spelled.head f.spelled.frame) f.spelled.has_head.due_is in
-    rw (f.goes_on, untold, ← f.whole) (less_told (length bytes))
+    let unreported = not_reported continued (awaits_continue f.spelled.head f.spelled.frame) f.spelled.has_head.due_is in
+    rw (f.goes_on, unreported, ← f.whole) (less_reported (length bytes))
 first_less limit continued bytes (Request m) next f =
     let four = (end_within f.spelled.has_head.front (length f.spelled.has_head.front) f.spelled.has_head.is_head.ends).0 in
     let size : length f.text ≡ length f.spelled.has_head.front + length f.spelled.body =

@@ -11,7 +11,7 @@ use Rattle.dep_body.specs.declared.frame.Framing.{Framing}
 use Rattle.dep_body.specs.declared.frame.FrameFault.{FrameFault}
 use Rattle.dep_body.proofs.Splits.{fronts_same, backs_same}
 use Rattle.dep_body.proofs.OneBody.{one_body, one_fault as one_body_fault, body_no_fault, body_no_part, fault_no_part}
-use Rattle.dep_message.specs.Heads.{is_bare, is_due}
+use Rattle.dep_message.specs.Heads.{is_head_only, is_due}
 use Rattle.dep_message.specs.Places.{Place, Open, Shut}
 use Rattle.dep_message.specs.Stream.{Item, Fault, Continue, Request, after_item, refusal_of, HasHead, IsNoHead, IsFaultText, no_head, bad_framing, bad_body, IsContinueText, IsRequestText, IsItemText, FirstAt, Reads, HasPartOfBody, Waits, Spells}
 use Rattle.dep_message.specs.declared.message.Message.{Message}
@@ -132,7 +132,7 @@ one_fault limit continued a b x y e (no_head n) (bad_body {head} {frame} {body} 
 one_fault limit continued a b x y e (bad_framing {head} fault t bad) (no_head m) = absurd (no_head_first b a y x head (sym e) m t)
 one_fault limit continued a b x y e (bad_framing {head} fault t bad) (bad_framing {head = other} second u worse) =
     let same = heads a b x y head other e t u in
-    (ap refusal_of (cc (sym bad ∙ (ap (framing limit) same.head ∙ worse))), ap is_bare same.head)
+    (ap refusal_of (cc (sym bad ∙ (ap (framing limit) same.head ∙ worse))), ap is_head_only same.head)
 one_fault limit continued a b x y e (bad_framing {head} fault t bad) (bad_body {head = other} {frame} {body} second p worse) =
     absurd (good_or_bad limit continued false a b x y body head other frame e t bad p)
 one_fault limit continued a b x y e (bad_body {head} {frame} {body} fault p bad) (no_head m) = absurd (good_or_none limit continued false b a y x body head frame (sym e) m p)
@@ -141,7 +141,7 @@ one_fault limit continued a b x y e (bad_body {head} {frame} {body} fault p bad)
 one_fault limit continued a b x y e (bad_body {head} {frame} {body} fault p bad) (bad_body {head = other} {frame = also} {body = others} second q worse) =
     let same = good_heads limit continued false false a b x y body others head other frame also e p q in
     let one = one_body_fault limit also body others x y fault second same.rest (subst (λ (f : Framing). IsBodyFault limit f body fault) same.frame bad) worse in
-    (ap refusal_of one.1, ap is_bare same.head)
+    (ap refusal_of one.1, ap is_head_only same.head)
 
 -- where an item stands, no other does
 one_first : (limit : ℕ) (continued : Bool) (i j : Item) (a b x y : List ℕ) → a ++ x ≡ b ++ y

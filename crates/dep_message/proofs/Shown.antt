@@ -15,7 +15,7 @@ use Rattle.dep_message.specs.declared.progress.Found.{Found}
 use Rattle.dep_message.specs.declared.progress.Found.TheVariants as F
 use Rattle.dep_message.specs.declared.progress.Progress.{Progress}
 use Rattle.dep_message.specs.declared.progress.Progress.TheVariants.{Searched, Sized, Chunked, First}
-use Rattle.dep_message.specs.declared.work.Work.{Work}
+use Rattle.dep_message.specs.declared.unparsed.Unparsed.{Unparsed}
 use Rattle.dep_message.proofs.Asked.{continue_no, fault_no}
 use Rattle.dep_message.proofs.Bodies.{request_size}
 use Rattle.dep_message.proofs.Keeping.{keeps_fresh}
@@ -47,40 +47,40 @@ shows_found sees before after limit continued used buffer (F.Message m) is shown
 shows_found sees before after limit continued used buffer F.Continue is shown s =
     subst (ShowsNext sees before after limit (Open continued (used ++ buffer))) (sym s.0)
     (subst (λ (l : List ℕ). IsNoRequest limit (Open continued (l ++ buffer))) (sym is.0) (continue_no limit continued buffer is.1), s.1)
-shows_found sees before after limit continued used buffer (F.Fault refusal bare) is shown s =
-    subst (ShowsNext sees before after limit (Open continued (used ++ buffer))) (sym s.0) (fault_no limit continued refusal bare (used ++ buffer) is, s.1)
+shows_found sees before after limit continued used buffer (F.Fault refusal head_only) is shown s =
+    subst (ShowsNext sees before after limit (Open continued (used ++ buffer))) (sym s.0) (fault_no limit continued refusal head_only (used ++ buffer) is, s.1)
 
 -- what is shown of the bytes that are kept
-pub shows_kept : {X : Type 0} (sees : X → X → Message → Type 0) (before after : X) (limit : ℕ) (continued : Bool) (bytes : List ℕ) (work : Work)
-    → Keeps limit continued bytes work → (first : FirstItem) → work.progress ≡ First first → (shown : Bool) → ShowsFound sees before after first.item shown
+pub shows_kept : {X : Type 0} (sees : X → X → Message → Type 0) (before after : X) (limit : ℕ) (continued : Bool) (bytes : List ℕ) (unparsed : Unparsed)
+    → Keeps limit continued bytes unparsed → (first : FirstItem) → unparsed.progress ≡ First first → (shown : Bool) → ShowsFound sees before after first.item shown
     → ShowsNext sees before after limit (Open continued bytes) shown
-shows_kept sees before after limit continued bytes work keeps first is shown s =
-    let known = subst (λ (p : Progress). IsKnown work.limit work.continued work.buffer p) is keeps.known in
-    let same : first.used.items ++ work.buffer ≡ bytes = sym (ap (λ (p : Progress). bytes_with p work.buffer) is) ∙ keeps.bytes_are in
+shows_kept sees before after limit continued bytes unparsed keeps first is shown s =
+    let known = subst (λ (p : Progress). IsKnown unparsed.limit unparsed.continued unparsed.buffer p) is keeps.known in
+    let same : first.used.items ++ unparsed.buffer ≡ bytes = sym (ap (λ (p : Progress). bytes_with p unparsed.buffer) is) ∙ keeps.bytes_are in
     subst (λ (r : Reading). ShowsNext sees before after r.limit r.place shown)
     (λ i. record { limit = keeps.limit_is i; place = Open (keeps.continued_is i) (same i); is_dead = false })
-    (shows_found sees before after work.limit work.continued first.used.items work.buffer first.item known shown s)
+    (shows_found sees before after unparsed.limit unparsed.continued first.used.items unparsed.buffer first.item known shown s)
 
 -- what was found is taken
-pub takes_found : (work : Work) (used : List ℕ) (item : Found) → IsItem work.limit work.continued used work.buffer item
-    → (progress : Progress) → progress ≡ Searched 0 → (told : Bool)
-    → ((item ≡ F.Continue) × (told ≡ true)) ⊎ ((item ≡ F.Continue → ⊥) × (told ≡ false))
-    → Finds work.limit work.continued (used ++ work.buffer) (record work { progress = progress; continued = told }) (Some item)
-takes_found work used (F.Message m) is progress fresh told (inl t) = absurd (cc (t.0))
-takes_found work used (F.Message m) is progress fresh told (inr t) = (
+pub takes_found : (unparsed : Unparsed) (used : List ℕ) (item : Found) → IsItem unparsed.limit unparsed.continued used unparsed.buffer item
+    → (progress : Progress) → progress ≡ Searched 0 → (reported : Bool)
+    → ((item ≡ F.Continue) × (reported ≡ true)) ⊎ ((item ≡ F.Continue → ⊥) × (reported ≡ false))
+    → Finds unparsed.limit unparsed.continued (used ++ unparsed.buffer) (record unparsed { progress = progress; continued = reported }) (Some item)
+takes_found unparsed used (F.Message m) is progress fresh reported (inl t) = absurd (cc (t.0))
+takes_found unparsed used (F.Message m) is progress fresh reported (inr t) = (
   used,
-  work.buffer,
+  unparsed.buffer,
   refl,
   is,
-  request_size work.limit work.continued used m is,
-  keeps_fresh work.limit false work.buffer (record work { progress = progress; continued = told }) fresh refl t.1 refl,
+  request_size unparsed.limit unparsed.continued used m is,
+  keeps_fresh unparsed.limit false unparsed.buffer (record unparsed { progress = progress; continued = reported }) fresh refl t.1 refl,
 )
-takes_found work used F.Continue is progress fresh told (inl t) =
-    subst (λ (l : List ℕ). Finds work.limit work.continued (l ++ work.buffer) (record work { progress = progress; continued = told }) (Some F.Continue)) (sym is.0)
-    (is.1, keeps_fresh work.limit true work.buffer (record work { progress = progress; continued = told }) fresh refl t.1 refl)
-takes_found work used F.Continue is progress fresh told (inr t) = absurd (t.0 refl)
-takes_found work used (F.Fault refusal bare) is progress fresh told t =
-    (is, refl, (keeps_fresh work.limit told work.buffer (record work { progress = progress; continued = told }) fresh refl refl refl).known)
+takes_found unparsed used F.Continue is progress fresh reported (inl t) =
+    subst (λ (l : List ℕ). Finds unparsed.limit unparsed.continued (l ++ unparsed.buffer) (record unparsed { progress = progress; continued = reported }) (Some F.Continue)) (sym is.0)
+    (is.1, keeps_fresh unparsed.limit true unparsed.buffer (record unparsed { progress = progress; continued = reported }) fresh refl t.1 refl)
+takes_found unparsed used F.Continue is progress fresh reported (inr t) = absurd (t.0 refl)
+takes_found unparsed used (F.Fault refusal head_only) is progress fresh reported t =
+    (is, refl, (keeps_fresh unparsed.limit reported unparsed.buffer (record unparsed { progress = progress; continued = reported }) fresh refl refl refl).known)
 
 -- behind a preview the next step is the request that was shown
 pub shown_next : (old new : Reading) (m : Message) (next : Place) (step : Step) → FirstAt old.limit old.place (Request m) next → Gives old new step
@@ -94,6 +94,6 @@ shown_next old new m next (S.Message k is_last) f g =
   where
     same_request : (a b : Message) → Request a ≡ Request b → a ≡ b
     same_request a b e = cc e
-shown_next old new m next (S.Refused refusal bare) f g = let o = one_at old.limit old.place (Request m) (Fault refusal bare) next new.place f g.first in absurd (cc (o.0))
+shown_next old new m next (S.Refused refusal head_only) f g = let o = one_at old.limit old.place (Request m) (Fault refusal head_only) next new.place f g.first in absurd (cc (o.0))
 shown_next old new m next S.NeedMore f g = absurd (waits_none old.limit old.place next (Request m) g.1 f)
 shown_next old new m next S.Dead f g = absurd (subst (λ (p : Place). FirstAt old.limit p (Request m) next) g.1 f)

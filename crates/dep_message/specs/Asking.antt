@@ -22,8 +22,8 @@ HasNextHead limit (Open continued bytes) head =
 HasNextHead limit Shut head = ⊥
 
 -- what was told of the head that stands first; or nothing, and no request stands there
-abbrev pub TellsNext : {X : Type 0} → (answer : HeadParts → X) → (limit : ℕ) → Place → Option X
+abbrev pub ReportsNext : {X : Type 0} → (answer : HeadParts → X) → (limit : ℕ) → Place → Option X
     → Type 0
-TellsNext answer limit at (Some told) =
-    (head : HeadParts) × HasNextHead limit at head × (told ≡ answer head)
-TellsNext answer limit at None = IsNoRequest limit at
+ReportsNext answer limit at (Some reported) =
+    (head : HeadParts) × HasNextHead limit at head × (reported ≡ answer head)
+ReportsNext answer limit at None = IsNoRequest limit at

@@ -22,7 +22,7 @@ HasFirstHead Shut = ⊥
 
 -- behind a fault the intake is dead, and behind a request it never is
 abbrev pub is_fault : Item → Bool
-is_fault (Fault refusal bare) = true
+is_fault (Fault refusal head_only) = true
 is_fault Continue = false
 is_fault (Request m) = false
 
@@ -37,6 +37,6 @@ pub record Takes (old new : Reading) (item : Item) : Type 0 where
 abbrev pub Gives : Reading → Reading → Step → Type 0
 Gives old new Continue100 = Takes old new Continue
 Gives old new (Message m is_last) = Takes old new (Request m) × (is_last ≡ closes m.head)
-Gives old new (Refused refusal bare) = Takes old new (Fault refusal bare)
+Gives old new (Refused refusal head_only) = Takes old new (Fault refusal head_only)
 Gives old new NeedMore = (new ≡ old) × Waits old.limit old.place × (old.is_dead ≡ false)
 Gives old new Dead = (new ≡ old) × (old.place ≡ Shut) × (old.is_dead ≡ true)

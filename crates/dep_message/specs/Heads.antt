@@ -8,8 +8,8 @@ use Rattle.dep_body.specs.declared.frame.Framing.{Framing}
 use Rattle.dep_body.specs.declared.frame.Framing.TheVariants.{Empty, Length, Chunked}
 
 -- the reply to a HEAD has no body
-abbrev pub is_bare : HeadParts → Bool
-is_bare head = bytes_eq head.method (codes "HEAD")
+abbrev pub is_head_only : HeadParts → Bool
+is_head_only head = bytes_eq head.method (codes "HEAD")
 
 -- the word that closes a connection, in any letter case
 abbrev pub is_close : List ℕ → Bool

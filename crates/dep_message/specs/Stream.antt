@@ -10,20 +10,20 @@ use Rattle.dep_body.specs.Body.{IsBodyText, IsBodyFault, IsPartOfBody}
 use Rattle.dep_body.specs.declared.frame.Framing.{Framing}
 use Rattle.dep_body.specs.declared.frame.FrameFault.{FrameFault}
 use Rattle.dep_body.specs.declared.frame.FrameFault.TheVariants.{Bad, TooLarge}
-use Rattle.dep_message.specs.Heads.{is_bare, closes, is_due}
+use Rattle.dep_message.specs.Heads.{is_head_only, closes, is_due}
 use Rattle.dep_message.specs.Places.{Place, Open, Shut}
 use Rattle.dep_message.specs.declared.message.Message.{Message}
 
 -- what a stream spells next: a fault, whose reply has no body where it is bare; that the client may
 -- send the body; a request
 pub data Item : Type 0 where
-  Fault : (refusal : Refusal) (bare : Bool) → Item
+  Fault : (refusal : Refusal) (head_only : Bool) → Item
   Continue : Item
   Request : (message : Message) → Item
 
 -- where the reading stands behind an item of this text
 abbrev pub after_item : Item → (text behind : List ℕ) → Place
-after_item (Fault refusal bare) text behind = Shut
+after_item (Fault refusal head_only) text behind = Shut
 after_item Continue text behind = Open true (text ++ behind)
 after_item (Request m) text behind = if closes m.head then Shut else Open false behind
 
@@ -52,10 +52,10 @@ pub data IsFaultText (limit : ℕ) (continued : Bool) (text : List ℕ) : Refusa
   no_head : IsNoHead text → IsFaultText limit continued text BadRequest false
   bad_framing : {head : HeadParts} (fault : FrameFault) → IsHeadText text head
       → framing limit head ≡ Err fault
-      → IsFaultText limit continued text (refusal_of fault) (is_bare head)
+      → IsFaultText limit continued text (refusal_of fault) (is_head_only head)
   bad_body : {head : HeadParts} {frame : Framing} {body : List ℕ} (fault : FrameFault)
       → HasHead limit continued false text head frame body → IsBodyFault limit frame body fault
-      → IsFaultText limit continued text (refusal_of fault) (is_bare head)
+      → IsFaultText limit continued text (refusal_of fault) (is_head_only head)
 
 -- the head of a request whose client waits for `100 Continue`
 pub record IsContinueText (limit : ℕ) (continued : Bool) (text : List ℕ) : Type 0 where
@@ -71,7 +71,7 @@ pub record IsRequestText (limit : ℕ) (continued : Bool) (text : List ℕ) (m :
   pub is_body : IsBodyText limit frame body m.content
 
 abbrev pub IsItemText : ℕ → Bool → List ℕ → Item → Type 0
-IsItemText limit continued text (Fault refusal bare) = IsFaultText limit continued text refusal bare
+IsItemText limit continued text (Fault refusal head_only) = IsFaultText limit continued text refusal head_only
 IsItemText limit continued text Continue = IsContinueText limit continued text
 IsItemText limit continued text (Request m) = IsRequestText limit continued text m
 

@@ -7,7 +7,7 @@ use Rattle.dep_body.specs.Body.{IsPartOfBody}
 use Rattle.dep_body.specs.Feeding.{HasFed}
 use Rattle.dep_body.specs.declared.frame.Framing.{Framing}
 use Rattle.dep_body.specs.declared.frame.Framing.TheVariants.{Length, Chunked as InChunks}
-use Rattle.dep_message.specs.Asking.{TellsNext}
+use Rattle.dep_message.specs.Asking.{ReportsNext}
 use Rattle.dep_message.specs.Giving.{Begins, BeginsWithHead}
 use Rattle.dep_message.specs.Heads.{is_due}
 use Rattle.dep_message.specs.Places.{Reading, Open, Shut}
@@ -24,7 +24,7 @@ use Rattle.dep_message.specs.declared.progress.Found.TheVariants as F
 use Rattle.dep_message.specs.declared.progress.Progress.{Progress}
 use Rattle.dep_message.specs.declared.progress.Progress.TheVariants.{Searched, Sized, Chunked, First}
 use Rattle.dep_message.specs.declared.used.UsedBytes.{UsedBytes}
-use Rattle.dep_message.specs.declared.work.Work.{Work}
+use Rattle.dep_message.specs.declared.unparsed.Unparsed.{Unparsed}
 
 -- no head ends in so many bytes
 pub record IsSearched (searched : ℕ) (bytes : List ℕ) : Type 0 where
@@ -57,16 +57,16 @@ bytes_with (Chunked request) buffer = request.used.items ++ buffer
 bytes_with (First first) buffer = first.used.items ++ buffer
 
 -- all bytes that no item has used
-abbrev pub kept_bytes : Work → List ℕ
-kept_bytes work = bytes_with work.progress work.buffer
+abbrev pub kept_bytes : Unparsed → List ℕ
+kept_bytes unparsed = bytes_with unparsed.progress unparsed.buffer
 
 -- it stands first: a request is just the bytes that were used, and where a `100 Continue` is due, none were
 abbrev pub IsItem : ℕ → Bool → (used buffer : List ℕ) → Found → Type 0
 IsItem limit continued used buffer (F.Message m) = IsRequestText limit continued used m
 IsItem limit continued used buffer F.Continue =
     (used ≡ []) × Begins (IsContinueText limit continued) buffer
-IsItem limit continued used buffer (F.Fault refusal bare) =
-    Begins (λ text. IsFaultText limit continued text refusal bare) (used ++ buffer)
+IsItem limit continued used buffer (F.Fault refusal head_only) =
+    Begins (λ text. IsFaultText limit continued text refusal head_only) (used ++ buffer)
 
 abbrev pub IsFound : ℕ → Bool → (buffer : List ℕ) → FirstItem → Type 0
 IsFound limit continued buffer first = IsItem limit continued first.used.items buffer first.item
@@ -80,37 +80,37 @@ IsKnown limit continued buffer (Chunked request) = ReadsChunks limit continued r
 IsKnown limit continued buffer (First first) = IsFound limit continued buffer first
 
 -- the request before is done with, and nothing is known of the next
-abbrev pub IsFresh : Work → Type 0
-IsFresh work = work.progress ≡ Searched 0
+abbrev pub IsFresh : Unparsed → Type 0
+IsFresh unparsed = unparsed.progress ≡ Searched 0
 
 -- this was known of the first request, and was taken out of what is kept
-pub record HasLeft (work : Work) (progress : Progress) : Type 0 where
-  pub fresh : IsFresh work
-  pub known : IsKnown work.limit work.continued work.buffer progress
+pub record HasLeft (unparsed : Unparsed) (progress : Progress) : Type 0 where
+  pub fresh : IsFresh unparsed
+  pub known : IsKnown unparsed.limit unparsed.continued unparsed.buffer progress
 
 -- nothing is known of the first request yet, whose head is the first bytes of the buffer, so many
-pub record IsAtHead (work : Work) (size : ℕ) (head : HeadParts) (frame : Framing) : Type 0 where
-  pub fresh : IsFresh work
-  pub within : size ≤ length work.buffer
-  pub begun : IsBegun work.limit work.continued (take size work.buffer) head frame
+pub record IsAtHead (unparsed : Unparsed) (size : ℕ) (head : HeadParts) (frame : Framing) : Type 0 where
+  pub fresh : IsFresh unparsed
+  pub within : size ≤ length unparsed.buffer
+  pub begun : IsBegun unparsed.limit unparsed.continued (take size unparsed.buffer) head frame
 
 -- what the intake knows of the first request in its buffer is so
-abbrev pub IsWorking : Work → Type 0
-IsWorking work = IsKnown work.limit work.continued work.buffer work.progress
+abbrev pub IsWorking : Unparsed → Type 0
+IsWorking unparsed = IsKnown unparsed.limit unparsed.continued unparsed.buffer unparsed.progress
 
 -- where the reading stands
-abbrev pub reading_of : Standing → Work → Reading
-reading_of Live work =
-    record { limit = work.limit; place = Open work.continued (kept_bytes work); is_dead = false }
-reading_of Closed work = record { limit = work.limit; place = Shut; is_dead = false }
-reading_of Dead work = record { limit = work.limit; place = Shut; is_dead = true }
+abbrev pub reading_of : Standing → Unparsed → Reading
+reading_of Live unparsed =
+    record { limit = unparsed.limit; place = Open unparsed.continued (kept_bytes unparsed); is_dead = false }
+reading_of Closed unparsed = record { limit = unparsed.limit; place = Shut; is_dead = false }
+reading_of Dead unparsed = record { limit = unparsed.limit; place = Shut; is_dead = true }
 
 -- just these bytes are kept
-pub record Keeps (limit : ℕ) (continued : Bool) (bytes : List ℕ) (work : Work) : Type 0 where
-  pub limit_is : work.limit ≡ limit
-  pub continued_is : work.continued ≡ continued
-  pub bytes_are : kept_bytes work ≡ bytes
-  pub known : IsWorking work
+pub record Keeps (limit : ℕ) (continued : Bool) (bytes : List ℕ) (unparsed : Unparsed) : Type 0 where
+  pub limit_is : unparsed.limit ≡ limit
+  pub continued_is : unparsed.continued ≡ continued
+  pub bytes_are : kept_bytes unparsed ≡ bytes
+  pub known : IsWorking unparsed
 
 -- the head that stands first in the bytes
 abbrev pub FindsHead : ℕ → Bool → List ℕ → FirstHead → Type 0
@@ -118,8 +118,8 @@ FindsHead limit continued bytes (H.Head first) =
     (first.length ≤ length bytes)
     × IsBegun limit continued (take first.length bytes) first.head first.framing
 FindsHead limit continued bytes H.Continue = Begins (IsContinueText limit continued) bytes
-FindsHead limit continued bytes (H.Fault refusal bare) =
-    Begins (λ text. IsFaultText limit continued text refusal bare) bytes
+FindsHead limit continued bytes (H.Fault refusal head_only) =
+    Begins (λ text. IsFaultText limit continued text refusal head_only) bytes
 FindsHead limit continued bytes H.Nothing = (head_end bytes ≡ None) × (length bytes < head_limit)
 
 -- a request that was found was shown, and nothing else is
@@ -127,7 +127,7 @@ abbrev pub ShowsFound : {X : Type 0} → (sees : X → X → Message → Type 0)
     → Found → (shown : Bool) → Type 0
 ShowsFound sees before after (F.Message m) shown = (shown ≡ true) × sees before after m
 ShowsFound sees before after F.Continue shown = (shown ≡ false) × (after ≡ before)
-ShowsFound sees before after (F.Fault refusal bare) shown = (shown ≡ false) × (after ≡ before)
+ShowsFound sees before after (F.Fault refusal head_only) shown = (shown ≡ false) × (after ≡ before)
 
 -- the first item was found
 abbrev pub first_of : Found → UsedBytes → Progress
@@ -140,40 +140,40 @@ IsReadTo limit continued bytes (Sized request) = Waits limit (Open continued byt
 IsReadTo limit continued bytes (Chunked request) = Waits limit (Open continued bytes)
 IsReadTo limit continued bytes (First first) = Unit {0}
 
-abbrev pub IsReadOn : Work → Type 0
-IsReadOn work = IsReadTo work.limit work.continued (kept_bytes work) work.progress
+abbrev pub IsReadOn : Unparsed → Type 0
+IsReadOn unparsed = IsReadTo unparsed.limit unparsed.continued (kept_bytes unparsed) unparsed.progress
 
--- the same bytes are kept, and the first item was read as far as they go: for want of memory it isn't,
+-- the same bytes are kept, and the first item was read as far as they go: for lack of memory it isn't,
 -- and a head is there to be copied
-abbrev pub ReadsOn : (old : Work) (bytes : List ℕ) (new : Work) → Result Unit AllocError → Type 0
+abbrev pub ReadsOn : (old : Unparsed) (bytes : List ℕ) (new : Unparsed) → Result Unit AllocError → Type 0
 ReadsOn old bytes new result =
     Keeps old.limit old.continued bytes new
     × MatchResult result (λ _. IsReadTo old.limit old.continued bytes new.progress)
     (λ _. BeginsWithHead bytes)
 
 -- what stands first in the bytes, and what is kept then
-abbrev pub Finds : ℕ → Bool → List ℕ → Work → Option Found → Type 0
+abbrev pub Finds : ℕ → Bool → List ℕ → Unparsed → Option Found → Type 0
 Finds limit continued bytes new (Some (F.Message m)) =
     (text : List ℕ) × (behind : List ℕ) × (bytes ≡ text ++ behind)
     × IsRequestText limit continued text m × (0 < length text) × Keeps limit false behind new
 Finds limit continued bytes new (Some F.Continue) =
     Begins (IsContinueText limit continued) bytes × Keeps limit true bytes new
-Finds limit continued bytes new (Some (F.Fault refusal bare)) =
-    Begins (λ text. IsFaultText limit continued text refusal bare) bytes × (new.limit ≡ limit)
+Finds limit continued bytes new (Some (F.Fault refusal head_only)) =
+    Begins (λ text. IsFaultText limit continued text refusal head_only) bytes × (new.limit ≡ limit)
     × IsWorking new
 Finds limit continued bytes new None =
     Waits limit (Open continued bytes) × Keeps limit continued bytes new
 
--- what is found over these bytes: for want of memory nothing changes, and a head is there to be copied
-abbrev pub FindsNext : (old : Work) (bytes : List ℕ) (new : Work)
+-- what is found over these bytes: for lack of memory nothing changes, and a head is there to be copied
+abbrev pub FindsNext : (old : Unparsed) (bytes : List ℕ) (new : Unparsed)
     → Result (Option Found) AllocError → Type 0
 FindsNext old bytes new result =
     MatchResult result (Finds old.limit old.continued bytes new)
     (λ _. Keeps old.limit old.continued bytes new × BeginsWithHead bytes)
 
--- what is told of the head that stands first in these bytes: for want of memory nothing is, and a head is there
-abbrev pub TellsFirst : {X : Type 0} → (answer : HeadParts → X) → Work → (bytes : List ℕ)
+-- what is told of the head that stands first in these bytes: for lack of memory nothing is, and a head is there
+abbrev pub ReportsFirst : {X : Type 0} → (answer : HeadParts → X) → Unparsed → (bytes : List ℕ)
     → Result (Option X) AllocError → Type 0
-TellsFirst answer work bytes result =
-    MatchResult result (TellsNext answer work.limit (Open work.continued bytes))
+ReportsFirst answer unparsed bytes result =
+    MatchResult result (ReportsNext answer unparsed.limit (Open unparsed.continued bytes))
     (λ _. BeginsWithHead bytes)

@@ -85,9 +85,9 @@ fn framed(limit: u64, continued: bool, head: Head, end: usize, bytes: &[u8]) -> 
 {
     match framing(&head, limit) {
         Err(fault) => {
-            let bare = is_without_body(&head);
+            let head_only = is_without_body(&head);
             drop(head);
-            FirstHead::Fault(refusal_for(fault), bare)
+            FirstHead::Fault(refusal_for(fault), head_only)
         }
         Ok(framing) if !continued && awaits_continue(&head, framing) => {
             drop(head);

@@ -9,7 +9,7 @@ use dep_octets::split_list;
 
 /// Whether the reply has no body, as that to a HEAD (RFC 9110, section 9.3.2).
 pub fn is_without_body(head: &Head) -> bool
-    ensures { result ≡ spec.is_bare head.now }
+    ensures { result ≡ spec.is_head_only head.now }
 {
     head.method() == b"HEAD".as_slice()
 }

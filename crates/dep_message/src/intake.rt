@@ -1,7 +1,7 @@
 //! Takes the items of a connection's bytes, in whatever pieces these come.
 ghost use Rattle.std.specs.Prelude.{◌≡◌, ◌<◌, [], length, false, MatchResult, OnOk, OnErr};
 ghost use Rattle.dep_message.specs.Places.{Reading, Open, Shut, place_with, shut_reading, HasBytes};
-ghost use Rattle.dep_message.specs.Asking.{TellsNext};
+ghost use Rattle.dep_message.specs.Asking.{ReportsNext};
 ghost use Rattle.dep_message.specs.Giving.{Gives, HasFirstHead};
 ghost use Rattle.dep_message.specs.Showing.{ShowsNext};
 
@@ -10,7 +10,7 @@ use crate::message::Message;
 use crate::preview::Preview;
 use crate::progress::Found;
 use crate::question::Question;
-use crate::work::Work;
+use crate::unparsed::Unparsed;
 use dep_types::Refusal;
 use std::alloc::{AllocError, Global};
 use std::marker::Model;
@@ -45,7 +45,7 @@ pub(crate) enum Standing {
 /// again for a later piece. Of a body in chunks the bytes that were read are in memory no more, and its content is.
 #[derive(Drop)]
 pub struct Intake {
-    work: Work,
+    unparsed: Unparsed,
     standing: Standing,
 }
 
@@ -56,9 +56,9 @@ impl Model for Intake {
 
     ghost use Rattle.dep_message.specs.Working.{reading_of, IsWorking};
 
-    ghost view = { λ i. reading_of i.standing i.work };
+    ghost view = { λ i. reading_of i.standing i.unparsed };
 
-    ghost invariant = { λ i. IsWorking i.work };
+    ghost invariant = { λ i. IsWorking i.unparsed };
 }
 
 impl Intake {
@@ -67,7 +67,7 @@ impl Intake {
         ensures { result ≡ record { limit = max_upload; place = Open false []; is_dead = false } }
     {
         Intake {
-            work: Work::new(alloc, max_upload),
+            unparsed: Unparsed::new(alloc, max_upload),
             standing: Standing::Live,
         }
     }
@@ -81,7 +81,7 @@ impl Intake {
         ensures copied { OnErr result (0 < length piece.now) }
     {
         match self.standing {
-            Standing::Live if !piece.is_empty() => self.work.feed(piece),
+            Standing::Live if !piece.is_empty() => self.unparsed.feed(piece),
             _ => Ok(()),
         }
     }
@@ -98,8 +98,8 @@ impl Intake {
     fn end(&mut self, is_dead: bool)
         ensures { self.new ≡ record self.old { place = Shut; is_dead = is_dead } }
     {
-        let work = Work::new(self.work.alloc, self.work.limit);
-        drop(mem::replace(&mut self.work, work));
+        let unparsed = Unparsed::new(self.unparsed.alloc, self.unparsed.limit);
+        drop(mem::replace(&mut self.unparsed, unparsed));
         self.standing = if is_dead {
             Standing::Dead
         } else {
@@ -108,21 +108,21 @@ impl Intake {
     }
 
     /// What is answered for the head of the next request: where its body has a known length, once it has come
-    /// whole, and where that is in chunks, once its head has. Nothing is taken. An `Err` is want of memory.
+    /// whole, and where that is in chunks, once its head has. Nothing is taken. An `Err` is lack of memory.
     pub fn ask_next<Q: Question>(&self, question: &Q) -> Result<Option<Q::Answer>, AllocError>
         ensures { MatchResult result
-            (TellsNext (Q.answer question.now) self.now.limit self.now.place)
+            (ReportsNext (Q.answer question.now) self.now.limit self.now.place)
             (λ _. HasFirstHead self.now.place) }
     {
         match self.standing {
-            Standing::Live => self.work.ask_next(question),
+            Standing::Live => self.unparsed.ask_next(question),
             Standing::Closed | Standing::Dead => Ok(None),
         }
     }
 
     /// Shows the next request, where it has come whole, before `next` takes it, and returns whether one was shown. Nothing
     /// is taken: `next` gives a request, a fault or a `100 Continue` that stands first as before, and reads no byte of it
-    /// again. An `Err` is want of memory.
+    /// again. An `Err` is lack of memory.
     pub fn preview<P: Preview>(&mut self, by: &mut P) -> Result<bool, AllocError>
         ensures stays { self.new ≡ self.old }
         ensures shows { MatchResult result
@@ -130,12 +130,12 @@ impl Intake {
             (λ _. HasFirstHead self.old.place × (by.new ≡ by.old)) }
     {
         match self.standing {
-            Standing::Live => self.work.preview(by),
+            Standing::Live => self.unparsed.preview(by),
             Standing::Closed | Standing::Dead => Ok(false),
         }
     }
 
-    /// Takes the first item, where one is complete. An `Err` is want of memory, and changes nothing. Behind a
+    /// Takes the first item, where one is complete. An `Err` is lack of memory, and changes nothing. Behind a
     /// fault the intake is `Dead`. Behind a request that closes the connection (`closes`) no byte is read,
     /// and it returns `NeedMore`.
     pub fn next(&mut self) -> Result<Step, AllocError>
@@ -147,12 +147,12 @@ impl Intake {
             Standing::Closed => return Ok(Step::NeedMore),
             Standing::Dead => return Ok(Step::Dead),
         }
-        match self.work.next()? {
+        match self.unparsed.next()? {
             None => Ok(Step::NeedMore),
             Some(Found::Continue) => Ok(Step::Continue100),
-            Some(Found::Fault(refusal, bare)) => {
+            Some(Found::Fault(refusal, head_only)) => {
                 self.shut();
-                Ok(Step::Refused(refusal, bare))
+                Ok(Step::Refused(refusal, head_only))
             }
             Some(Found::Message(message)) => {
                 let is_last = closes(&message.head);

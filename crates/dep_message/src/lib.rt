@@ -10,8 +10,8 @@ mod message;
 mod preview;
 mod progress;
 mod question;
+mod unparsed;
 mod used;
-mod work;
 
 pub use heads::{closes, is_without_body};
 pub use intake::{Intake, Step};

@@ -89,8 +89,8 @@ impl FirstItem {
                 self.item = Found::Message(by.preview(message));
                 true
             }
-            Found::Fault(refusal, bare) => {
-                self.item = Found::Fault(refusal, bare);
+            Found::Fault(refusal, head_only) => {
+                self.item = Found::Fault(refusal, head_only);
                 false
             }
             Found::Continue => false,

@@ -14,7 +14,7 @@ pub trait Question {
     /// The answer for a head.
     ghost answer: { Self → HeadParts → Self.Answer };
 
-    /// The answer for this one. An `Err` is want of memory.
+    /// The answer for this one. An `Err` is lack of memory.
     fn ask(&self, head: &Head) -> Result<Self::Answer, AllocError>
-        ensures { IfOk result (λ told. told ≡ answer self.now head.now) };
+        ensures { IfOk result (λ reported. reported ≡ answer self.now head.now) };
 }

@@ -6,7 +6,7 @@ use std::marker::Model;
 
 /// Bytes that were used and are in memory no more. Proofs alone read them: it takes no memory, and its functions do
 /// nothing. Nothing here ties it to what came. The clauses of `Intake` do: `feed` adds just the piece to the bytes that an
-/// intake stands for, and what `next` gives is spelled by them.
+/// intake represents, and what `next` gives is spelled by them.
 #[derive(Drop)]
 pub(crate) struct UsedBytes {
     pub ghost items: { List ℕ },

@@ -22,7 +22,7 @@ struct NamedTexts {
 // Begins another name. It is a fault of the store where the name was there before, as rows of a name
 // stand together.
 fn begin(alloc: Global, metadata: &Metadata, row: MetadataRow) -> Result<NamedTexts, StoreFault>
-    ensures told { IfOk result (λ now.
+    ensures reported { IfOk result (λ now.
         closed metadata.now (Some now) ≡ added metadata.now (pair_of row)) }
     ensures name { IfOk result (λ now. now.name ≡ row.name) }
 {
@@ -44,7 +44,7 @@ fn gather(
     last: Option<NamedTexts>,
     row: MetadataRow,
 ) -> Result<NamedTexts, StoreFault>
-    ensures told { IfOk result (λ now.
+    ensures reported { IfOk result (λ now.
         closed metadata.new (Some now) ≡ added (closed metadata.old last) (pair_of row)) }
     ensures name { IfOk result (λ now. now.name ≡ row.name) }
 {
@@ -59,7 +59,7 @@ fn gather(
 }
 
 fn gathered(alloc: Global, rows: Vec<MetadataRow>) -> Result<Metadata, StoreFault>
-    ensures told { IfOk result (λ metadata. metadata ≡ grouped (each pair_of rows.items)) }
+    ensures reported { IfOk result (λ metadata. metadata ≡ grouped (each pair_of rows.items)) }
 {
     let mut metadata = Metadata::new(alloc);
     let mut last = None;

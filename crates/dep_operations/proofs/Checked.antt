@@ -35,11 +35,11 @@ promised_are op Bad = tt
 promised_are op (Value list) = of_content op (promises list)
 
 -- the rules on a content, by what each comes to
-pub content_told : (config : Config) (view : View) (op : Operation) (fields digest document size : Option Refusal)
+pub content_reported : (config : Config) (view : View) (op : Operation) (fields digest document size : Option Refusal)
     → fields ≡ fields_refusal op → digest ≡ digest_rule op → document ≡ document_rule config (in_view view) op → size ≡ size_rule config (in_view view) op
     → content_by config (in_view view) op ≡ first_of (fields ∷ digest ∷ document ∷ size ∷ [])
 unfolding content_by
-content_told config view op fields digest document size a b c d = (λ i. first_of (sym a i ∷ sym b i ∷ sym c i ∷ sym d i ∷ []))
+content_reported config view op fields digest document size a b c d = (λ i. first_of (sym a i ∷ sym b i ∷ sym c i ∷ sym d i ∷ []))
 
 -- a method with a content is checked by its rules
 pub checked_by : (config : Config) (view : View) (op : Operation) (checked : Checked) → has_content op.target.method ≡ true → IsCheckedBy config view op checked → IsChecked config view op checked

@@ -2,7 +2,7 @@
 use Rattle.std.proofs.Common.{◌≡◌, ◌∙◌, ◌==◌, ◌||◌, ℕ, Bool, true, false, not, cond, List, [], ◌∷◌, nat_eq, nat_cmp, refl, sym, ap}
 use Rattle.std.specs.Ordering.{is_eq}
 use Rattle.std.specs.List.{list_any}
-use Rattle.dep_decisions.specs.Rules.{stands_twice}
+use Rattle.dep_decisions.specs.Rules.{occurs_twice}
 use Rattle.dep_operations.specs.Walks.{stands_again}
 use Rattle.dep_operations.proofs.Tests.{test_is}
 
@@ -22,12 +22,12 @@ any_either p u (k ∷ us) = ap (λ b. (p k || u == k) || b) (any_either p u us) 
     shuffled false true true d = refl
     shuffled _ _ _ _ = refl
 
-again_is : (p : ℕ → Bool) (us : List ℕ) → stands_again p us ≡ (list_any p us || stands_twice us)
-unfolding stands_again stands_twice
+again_is : (p : ℕ → Bool) (us : List ℕ) → stands_again p us ≡ (list_any p us || occurs_twice us)
+unfolding stands_again occurs_twice
 again_is p [] = refl
 again_is p (u ∷ us) =
-    ap (λ b. p u || b) (again_is (λ k. p k || u == k) us ∙ ap (λ b. b || stands_twice us) (any_either p u us))
-    ∙ joined (p u) (list_any p us) (list_any (nat_eq u) us) (stands_twice us)
+    ap (λ b. p u || b) (again_is (λ k. p k || u == k) us ∙ ap (λ b. b || occurs_twice us) (any_either p u us))
+    ∙ joined (p u) (list_any p us) (list_any (nat_eq u) us) (occurs_twice us)
   where
     joined : (a b c d : Bool) → (a || ((b || c) || d)) ≡ ((a || b) || (c || d))
     joined false true c d = refl
@@ -38,9 +38,9 @@ nothing_before [] = refl
 nothing_before (u ∷ us) = nothing_before us
 
 -- at the start nothing stands before
-pub again_from_start : (p : ℕ → Bool) (us : List ℕ) → ((k : ℕ) → p k ≡ false) → stands_twice us ≡ stands_again p us
+pub again_from_start : (p : ℕ → Bool) (us : List ℕ) → ((k : ℕ) → p k ≡ false) → occurs_twice us ≡ stands_again p us
 again_from_start p us none =
-    sym (again_same p (λ k. false) us none ∙ again_is (λ k. false) us ∙ ap (λ b. b || stands_twice us) (nothing_before us))
+    sym (again_same p (λ k. false) us none ∙ again_is (λ k. false) us ∙ ap (λ b. b || occurs_twice us) (nothing_before us))
 
 pub again_empty : (p : ℕ → Bool) → stands_again p [] ≡ false
 unfolding stands_again

@@ -27,7 +27,7 @@ use Rattle.dep_decisions.specs.Kinds.{kind_of}
 use Rattle.dep_decisions.specs.Laws as laws
 use Rattle.dep_decisions.specs.Laws.{refusal_before_room}
 use Rattle.dep_decisions.specs.LookUps.{Entry, Known, LookUps, assembled_digests, entry_at, has_bag_path, in_state, known_of, repeats, tag_at, without_digests, without_entries}
-use Rattle.dep_decisions.specs.Rules.{access_refusal, behalf_rule, content_by, content_refusal, digest_rule, digests_refusal, document_refusal, document_rule, each, entries_refusal, fields_refusal, has_content, has_digests, has_length, is_binary, length_refusal, missing_refusal, presence_refusal, presence_rule, reads_alone, received_refusal, references_refusal, refusal, refusal_by, room_rule, segment_by, segment_refusal, size_refusal, size_rule, stands_twice, tag_refusal, tag_rule, there_refusal, unless, upload_refusal, when, whole_refusal}
+use Rattle.dep_decisions.specs.Rules.{access_refusal, behalf_rule, content_by, content_refusal, digest_rule, digests_refusal, document_refusal, document_rule, each, entries_refusal, fields_refusal, has_content, has_digests, has_length, is_binary, length_refusal, missing_refusal, presence_refusal, presence_rule, reads_alone, received_refusal, references_refusal, refusal, refusal_by, room_rule, segment_by, segment_refusal, size_refusal, size_rule, occurs_twice, tag_refusal, tag_rule, there_refusal, unless, upload_refusal, when, whole_refusal}
 use Rattle.dep_decisions.specs.declared.operation.Operation.{Operation}
 use Rattle.dep_decisions.specs.declared.decision.Decision.{Decision}
 use Rattle.dep_operations.specs.Checks.{IsRoomRuling}
@@ -98,47 +98,47 @@ module _ (hashed : Bool) (s : State) where
   abbrev seen : (by_reference : Bool) → ℕ → UploadView
   seen by u = record { upload = u; state = with_digests hashed (upload_state by s u) }
 
-  abbrev told_by : (Entry LiveUpload → Option Refusal) → (Entry state.Upload → Option Refusal) → Type 0
-  told_by rule told = (r : Reference) (u : ℕ) → rule (entry_seen r (with_digests hashed (upload_state true s u))) ≡ told (entry_at s r u)
+  abbrev reported_by : (Entry LiveUpload → Option Refusal) → (Entry state.Upload → Option Refusal) → Type 0
+  reported_by rule reported = (r : Reference) (u : ℕ) → rule (entry_seen r (with_digests hashed (upload_state true s u))) ≡ reported (entry_at s r u)
 
-  module _ (rule : Entry LiveUpload → Option Refusal) (told : Entry state.Upload → Option Refusal) (same : told_by rule told) where
-    entries_are : (refs : List Reference) → each rule (entries_seen refs (map (seen true) (uploads_named refs))) ≡ each told ((in_state s).entries refs)
+  module _ (rule : Entry LiveUpload → Option Refusal) (reported : Entry state.Upload → Option Refusal) (same : reported_by rule reported) where
+    entries_are : (refs : List Reference) → each rule (entries_seen refs (map (seen true) (uploads_named refs))) ≡ each reported ((in_state s).entries refs)
     unfolding entries_seen
     entries_are [] = refl
     entries_are (r ∷ refs) = one_more r.target (entries_are refs)
       where
-        one_more : (t : Pointed) → each rule (entries_seen refs (map (seen true) (uploads_named refs))) ≡ each told ((in_state s).entries refs)
+        one_more : (t : Pointed) → each rule (entries_seen refs (map (seen true) (uploads_named refs))) ≡ each reported ((in_state s).entries refs)
             → each rule (entry_before (entries_seen refs) r t (map (seen true) (cons_option (upload_number t) (uploads_named refs))))
-            ≡ each told (cons_option (option_map (entry_at s r) (upload_number t)) ((in_state s).entries refs))
+            ≡ each reported (cons_option (option_map (entry_at s r) (upload_number t)) ((in_state s).entries refs))
         one_more Elsewhere later = later
         one_more (AnUpload u) later = first_same _ _ _ _ (same r u) later
 
-  there_is : told_by there_refusal there_refusal
+  there_is : reported_by there_refusal there_refusal
   there_is r u = missing_is hashed true u (finmap.get s.uploads u) (set.contains s.timed_out u)
 
-  whole_is : told_by (whole_refusal known_live) (whole_refusal (known_with hashed))
+  whole_is : reported_by (whole_refusal known_live) (whole_refusal (known_with hashed))
   whole_is r u = ap (λ b. unless b BadRequest) (passes_is (λ l. l.is_whole) hashed true u (finmap.get s.uploads u) (set.contains s.timed_out u))
 
-  length_is : told_by (length_refusal known_live) (length_refusal (known_with hashed))
+  length_is : reported_by (length_refusal known_live) (length_refusal (known_with hashed))
   length_is r u = ap (λ b. unless b BadRequest) (passes_is (λ l. has_length r.length l.row.size) hashed true u (finmap.get s.uploads u) (set.contains s.timed_out u))
 
-  digests_is : told_by (digests_refusal known_live) (digests_refusal (known_with hashed))
+  digests_is : reported_by (digests_refusal known_live) (digests_refusal (known_with hashed))
   digests_is r u = ap (λ b. unless b DigestMismatch) (passes_is (λ l. has_digests (promised_in l.row) r.digest l.digests) hashed true u (finmap.get s.uploads u) (set.contains s.timed_out u))
 
-  entries_told : (view : View) (refs : List Reference) → view.uploads ≡ map (seen true) (uploads_named refs)
+  entries_reported : (view : View) (refs : List Reference) → view.uploads ≡ map (seen true) (uploads_named refs)
       → entries_refusal (in_view view) refs ≡ entries_refusal (looked_up hashed s) refs
   unfolding entries_refusal
-  entries_told view refs are =
+  entries_reported view refs are =
       let there = ap (λ us. each there_refusal (entries_seen refs us)) are ∙ entries_are there_refusal there_refusal there_is refs in
       let whole = ap (λ us. each (whole_refusal known_live) (entries_seen refs us)) are ∙ entries_are (whole_refusal known_live) (whole_refusal (known_with hashed)) whole_is refs in
       let long = ap (λ us. each (length_refusal known_live) (entries_seen refs us)) are ∙ entries_are (length_refusal known_live) (length_refusal (known_with hashed)) length_is refs in
       let same = ap (λ us. each (digests_refusal known_live) (entries_seen refs us)) are ∙ entries_are (digests_refusal known_live) (digests_refusal (known_with hashed)) digests_is refs in
       rw (there, whole, long, same) refl
 
-  references_told : (view : View) (o : Option (List Reference)) → view.uploads ≡ map (seen (is_some o)) (uploads_in Service o)
+  references_reported : (view : View) (o : Option (List Reference)) → view.uploads ≡ map (seen (is_some o)) (uploads_in Service o)
       → references_refusal (in_view view) o ≡ references_refusal (looked_up hashed s) o
-  references_told view None are = refl
-  references_told view (Some refs) are = entries_told view refs are
+  references_reported view None are = refl
+  references_reported view (Some refs) are = entries_reported view refs are
 
 -- ---- the rules
 
@@ -196,7 +196,7 @@ module _ (hashed : Bool) (config : Config) (s : State) (op : Operation) where
 
   document_for : (o : Option Kind) → kind_of op ≡ o → option_and_then (document_refusal config (in_view view_seen) op) o ≡ option_and_then (document_refusal config (looked_up hashed s) op) o
   document_for (Some of.References) is =
-      references_told hashed s view_seen (references_in config op)
+      references_reported hashed s view_seen (references_in config op)
       (ap (map (seen hashed s (is_some (references_in config op)))) (by_reference_elsewhere config op is))
   document_for _ is = refl
 
@@ -235,9 +235,9 @@ module _ (config : Config) (s : State) (op : Operation) where
   pub seen_undigested_truly : refusal_before_room config (in_view (undigested_view config s op)) op ≡ refusal_before_room config (without_digests (in_state s)) op
   seen_undigested_truly = seen_by_parts false config s op
 
-  told : (ruling : Ruling) → IsSeen config (true_view config s op) op ruling → IsRuling config s op ruling
-  told (Refuse r) is = sym seen_truly ∙ is
-  told (Do d) is = (sym seen_truly ∙ is.0, is.1)
+  reported : (ruling : Ruling) → IsSeen config (true_view config s op) op ruling → IsRuling config s op ruling
+  reported (Refuse r) is = sym seen_truly ∙ is
+  reported (Do d) is = (sym seen_truly ∙ is.0, is.1)
 
 -- ---- before any upload that references name is looked up
 
@@ -251,65 +251,65 @@ no_entries (r ∷ refs) = one_more r.target (no_entries refs)
     one_more (AnUpload u) later = later
 
 module _ (config : Config) (s : State) (op : Operation) (is : kind_of op ≡ Some of.References) where
-  abbrev bare : View
-  bare = unnamed_view config s op
+  abbrev head_only : View
+  head_only = unnamed_view config s op
 
-  presence_bare : (resource : Resource) → op.target.resource ≡ resource → presence_refusal (in_view bare) resource ≡ presence_refusal (in_view (true_view config s op)) resource
-  presence_bare (Upload u) at = absurd (not_to_upload op u is at)
-  presence_bare _ at = refl
+  presence_head_only : (resource : Resource) → op.target.resource ≡ resource → presence_refusal (in_view head_only) resource ≡ presence_refusal (in_view (true_view config s op)) resource
+  presence_head_only (Upload u) at = absurd (not_to_upload op u is at)
+  presence_head_only _ at = refl
 
-  tag_bare : (resource : Resource) → tag_seen bare resource ≡ tag_seen (true_view config s op) resource
-  tag_bare (Object n) = refl
-  tag_bare _ = refl
+  tag_head_only : (resource : Resource) → tag_seen head_only resource ≡ tag_seen (true_view config s op) resource
+  tag_head_only (Object n) = refl
+  tag_head_only _ = refl
 
-  access_bare : access_refusal config (in_view bare) op ≡ access_refusal config (in_view (true_view config s op)) op
+  access_head_only : access_refusal config (in_view head_only) op ≡ access_refusal config (in_view (true_view config s op)) op
   unfolding access_refusal presence_rule tag_rule
-  access_bare =
-      let presence = presence_bare op.target.resource refl in
-      let tag = tag_bare op.target.resource in
+  access_head_only =
+      let presence = presence_head_only op.target.resource refl in
+      let tag = tag_head_only op.target.resource in
       (λ i. first_of (behalf_rule config op ∷ presence i
       ∷ (if reads_alone op.target.resource op.target.method then None else tag_refusal config.require_if_match op.if_match (tag i)) ∷ []))
 
-  entries_bare : (refs : List Reference) → entries_refusal (in_view bare) refs ≡ entries_refusal (without_entries (in_state s)) refs
+  entries_head_only : (refs : List Reference) → entries_refusal (in_view head_only) refs ≡ entries_refusal (without_entries (in_state s)) refs
   unfolding entries_refusal
-  entries_bare refs =
+  entries_head_only refs =
       let none = no_entries refs in
       (λ i. first_of
       (each (λ (r : Reference). unless (is_some (upload_number r.target)) ByReferenceNotAllowed) refs
       ∷ each (λ (r : Reference). unless (is_binary r.packaging) PackagingFormatNotAcceptable) refs
-      ∷ when (stands_twice (uploads_named refs)) BadRequest
+      ∷ when (occurs_twice (uploads_named refs)) BadRequest
       ∷ each there_refusal (none i) ∷ each (whole_refusal known_live) (none i) ∷ each (length_refusal known_live) (none i) ∷ each (digests_refusal known_live) (none i) ∷ []))
 
-  references_bare : (o : Option (List Reference)) → references_refusal (in_view bare) o ≡ references_refusal (without_entries (in_state s)) o
-  references_bare None = refl
-  references_bare (Some refs) = entries_bare refs
+  references_head_only : (o : Option (List Reference)) → references_refusal (in_view head_only) o ≡ references_refusal (without_entries (in_state s)) o
+  references_head_only None = refl
+  references_head_only (Some refs) = entries_head_only refs
 
-  document_bare : (o : Option Kind) → o ≡ Some of.References → option_and_then (document_refusal config (in_view bare) op) o ≡ option_and_then (document_refusal config (without_entries (in_state s)) op) o
-  document_bare (Some of.References) e = references_bare (references_in config op)
-  document_bare _ e = absurd (cc e)
+  document_head_only : (o : Option Kind) → o ≡ Some of.References → option_and_then (document_refusal config (in_view head_only) op) o ≡ option_and_then (document_refusal config (without_entries (in_state s)) op) o
+  document_head_only (Some of.References) e = references_head_only (references_in config op)
+  document_head_only _ e = absurd (cc e)
 
-  size_bare : (o : Option Kind) → o ≡ Some of.References → option_and_then (size_refusal config (in_view bare) op) o ≡ option_and_then (size_refusal config (without_entries (in_state s)) op) o
-  size_bare (Some of.References) e = refl
-  size_bare _ e = absurd (cc e)
+  size_head_only : (o : Option Kind) → o ≡ Some of.References → option_and_then (size_refusal config (in_view head_only) op) o ≡ option_and_then (size_refusal config (without_entries (in_state s)) op) o
+  size_head_only (Some of.References) e = refl
+  size_head_only _ e = absurd (cc e)
 
-  content_bare : content_refusal config (in_view bare) op ≡ content_refusal config (without_entries (in_state s)) op
+  content_head_only : content_refusal config (in_view head_only) op ≡ content_refusal config (without_entries (in_state s)) op
   unfolding content_refusal content_by document_rule size_rule
-  content_bare =
-      let document = document_bare (kind_of op) is in
-      let size = size_bare (kind_of op) is in
+  content_head_only =
+      let document = document_head_only (kind_of op) is in
+      let size = size_head_only (kind_of op) is in
       (λ i. if has_content op.target.method then first_of (fields_refusal op ∷ digest_rule op ∷ document i ∷ size i ∷ []) else None)
 
   access_unseen : access_refusal config (without_entries (in_state s)) op ≡ access_refusal config (in_state s) op
   access_unseen = access_same config (in_state s) op (λ refs. []) (in_state s).known.digests
 
-  seen_unnamed_truly : refusal_before_room config (in_view bare) op ≡ refusal_before_room config (without_entries (in_state s)) op
+  seen_unnamed_truly : refusal_before_room config (in_view head_only) op ≡ refusal_before_room config (without_entries (in_state s)) op
   seen_unnamed_truly =
-      let access = access_bare ∙ access_is true config s op ∙ sym access_unseen in
-      (λ i. first_of (access i ∷ content_bare i ∷ []))
+      let access = access_head_only ∙ access_is true config s op ∙ sym access_unseen in
+      (λ i. first_of (access i ∷ content_head_only i ∷ []))
 
 -- a ruling by what is seen is right in each state that the view tells truly
 pub rules_by : (config : Config) (view : View) (op : Operation) (ruling : Ruling) → IsSeen config view op ruling → RulesBy config view op ruling
-rules_by config view op ruling is s truly = told config s op ruling (subst (λ v. IsSeen config v op ruling) truly is)
+rules_by config view op ruling is s truly = reported config s op ruling (subst (λ v. IsSeen config v op ruling) truly is)
 
 -- so is a refusal by what is seen before any digest is taken, whatever the rules on a content come to
 pub refuses_undigested : (config : Config) (view : View) (op : Operation) (access content : Option Refusal) → access ≡ access_refusal config (in_view view) op
@@ -381,8 +381,8 @@ module _ (config : Config) (view : View) (op : Operation) where
   has_room_by (Do d) room = ap (λ (x : Decision). room_for view.next (numbers_for x)) room.1 ∙ room_left room.0
 
   -- what the last rule says, once what is asked for is known
-  pub room_told : (d : Decision) (taken : Counters) (b : Bool) → d ≡ decision_with view.references op → taken ≡ numbers_for d
+  pub room_reported : (d : Decision) (taken : Counters) (b : Bool) → d ≡ decision_with view.references op → taken ≡ numbers_for d
       → b ≡ room_for view.next taken → room_rule config (in_view view) op ≡ unless b StoreFull
   unfolding room_rule
-  room_told d taken b asked numbers room =
+  room_reported d taken b asked numbers room =
       ap (λ x. unless x StoreFull) (sym (room ∙ ap (room_for view.next) (numbers ∙ ap (λ (x : Decision). numbers_for x) asked)))

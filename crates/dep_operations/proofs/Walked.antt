@@ -6,7 +6,7 @@ use Rattle.dep_types.specs.declared.refusal.Refusal.{Refusal}
 use Rattle.dep_types.specs.declared.refusal.Refusal.TheVariants.{BadRequest, ByReferenceNotAllowed, PackagingFormatNotAcceptable}
 use Rattle.dep_docs_in.specs.declared.reference.Reference.{Reference}
 use Rattle.dep_decisions.specs.Decisions.{upload_number}
-use Rattle.dep_decisions.specs.Rules.{each, entries_refusal, is_binary, stands_twice, unless, when}
+use Rattle.dep_decisions.specs.Rules.{each, entries_refusal, is_binary, occurs_twice, unless, when}
 use Rattle.dep_operations.specs.Rules.{is_other_packaging, points_elsewhere, rule_of}
 use Rattle.dep_operations.specs.Seen.{entries_seen, in_view}
 use Rattle.dep_operations.specs.Views.{uploads_named}
@@ -34,13 +34,13 @@ targets_are refs = some_fails (λ r. is_some (upload_number r.target)) ByReferen
 packagings_are : (refs : List Reference) → when (list_any is_other_packaging refs) PackagingFormatNotAcceptable ≡ each (λ (r : Reference). unless (is_binary r.packaging) PackagingFormatNotAcceptable) refs
 packagings_are refs = some_fails (λ r. is_binary r.packaging) PackagingFormatNotAcceptable refs
 
-pub entries_told : (view : View) (refs : List Reference) (views : List UploadView) (elsewhere other twice : Bool) (there whole long same : Option Refusal)
-    → views ≡ view.uploads → elsewhere ≡ list_any points_elsewhere refs → other ≡ list_any is_other_packaging refs → twice ≡ stands_twice (uploads_named refs)
+pub entries_reported : (view : View) (refs : List Reference) (views : List UploadView) (elsewhere other twice : Bool) (there whole long same : Option Refusal)
+    → views ≡ view.uploads → elsewhere ≡ list_any points_elsewhere refs → other ≡ list_any is_other_packaging refs → twice ≡ occurs_twice (uploads_named refs)
     → there ≡ each (rule_of IsThere) (entries_seen refs views) → whole ≡ each (rule_of IsWhole) (entries_seen refs views)
     → long ≡ each (rule_of HasLength) (entries_seen refs views) → same ≡ each (rule_of HasDigests) (entries_seen refs views)
     → first_of (when elsewhere ByReferenceNotAllowed ∷ when other PackagingFormatNotAcceptable ∷ when twice BadRequest ∷ there ∷ whole ∷ long ∷ same ∷ []) ≡ entries_refusal (in_view view) refs
 unfolding entries_refusal
-entries_told view refs views elsewhere other twice there whole long same is a b c d e f g =
+entries_reported view refs views elsewhere other twice there whole long same is a b c d e f g =
     let targets = ap (λ x. when x ByReferenceNotAllowed) a ∙ targets_are refs in
     let packagings = ap (λ x. when x PackagingFormatNotAcceptable) b ∙ packagings_are refs in
     let of = λ (rule : UploadRule). ap (λ us. each (rule_of rule) (entries_seen refs us)) is in

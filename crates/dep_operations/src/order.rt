@@ -25,7 +25,7 @@ use std::alloc::{AllocError, Global};
 
 /// Returns the ruling on a request, where the archive is seen so at the numbers that it touches: the first
 /// rule that applies, from rule 5 of the order of refusals in docs/PROFILE.md on, or what the request asks
-/// for, whose content is for this purpose (`content_purpose`). An `Err` is want of memory, which is asked for only where the content is held and no rule before it
+/// for, whose content is for this purpose (`content_purpose`). An `Err` is lack of memory, which is asked for only where the content is held and no rule before it
 /// refuses.
 pub fn decide(
     alloc: Global,
@@ -53,7 +53,7 @@ pub fn decide(
 /// whatever they are (`some_are_refused_before_digests`). For a document of references the view may show no upload
 /// at all: then it is the first of those rules that applies whatever the uploads are
 /// (`some_are_refused_before_uploads`). It costs what the same rules cost in [`decide`]: time in the length of the
-/// content, and memory for the references in it. An `Err` is want of memory.
+/// content, and memory for the references in it. An `Err` is lack of memory.
 pub fn refusal_before_digests(
     alloc: Global,
     config: &Config,

@@ -2,7 +2,7 @@
 ghost use Rattle.std.specs.Prelude.{◌≡◌, IfOk, Some};
 ghost use Rattle.std.specs.List.{list_any};
 ghost use Rattle.std.specs.Option.{option_copied};
-ghost use Rattle.dep_decisions.specs.Rules.{digests_refusal, each, entries_refusal, length_refusal, missing_refusal, references_refusal, stands_twice, whole_refusal};
+ghost use Rattle.dep_decisions.specs.Rules.{digests_refusal, each, entries_refusal, length_refusal, missing_refusal, references_refusal, occurs_twice, whole_refusal};
 ghost use Rattle.dep_operations.specs.Rules.{is_other_packaging, points_elsewhere, rule_of, segments_refusal};
 ghost use Rattle.dep_operations.specs.Seen.{entries_seen, entry_seen, in_view, is_timed_out, known_live, live_in, promised_in};
 ghost use Rattle.dep_operations.specs.Views.{uploads_named};
@@ -56,7 +56,7 @@ fn entries_rule(
     if some_is_other_packaging(references) {
         return Ok(Some(Refusal::PackagingFormatNotAcceptable));
     }
-    if stands_twice(alloc, references)? {
+    if occurs_twice(alloc, references)? {
         return Ok(Some(Refusal::BadRequest));
     }
     let views = view.uploads.as_slice();
@@ -103,8 +103,8 @@ fn is_other_packaging(reference: &Reference) -> bool
 }
 
 // Whether an upload is named twice.
-fn stands_twice(alloc: Global, references: &[Reference]) -> Result<bool, AllocError>
-    ensures { IfOk result (λ twice. twice ≡ stands_twice (uploads_named references.now)) }
+fn occurs_twice(alloc: Global, references: &[Reference]) -> Result<bool, AllocError>
+    ensures { IfOk result (λ twice. twice ≡ occurs_twice (uploads_named references.now)) }
 {
     let mut named: BTreeSet<u64> = BTreeSet::new(alloc);
     let mut rest = references;

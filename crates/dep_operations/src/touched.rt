@@ -13,7 +13,7 @@ use dep_types::{Config, Octets, Resource};
 use std::alloc::{AllocError, Global};
 
 /// Returns the numbers at which a request looks at the archive, whose content is for this purpose
-/// (`content_purpose`). A document of references is read here, and only here. An `Err` is want of memory.
+/// (`content_purpose`). A document of references is read here, and only here. An `Err` is lack of memory.
 pub fn touches(
     alloc: Global,
     config: &Config,

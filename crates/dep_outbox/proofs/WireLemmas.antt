@@ -12,7 +12,7 @@ appends_behind (Some x) None k bs p = tt
 appends_behind (Some x) (Some y) None bs p = absurd p
 appends_behind (Some x) (Some y) (Some z) bs p = ap (λ l. x ++ l) p ∙ sym (append_assoc x y bs)
 
--- a front of what is in memory waits no more
+-- a prefix of what is in memory waits no more
 pub consumes_front : (h : Option (List ℕ)) (items : List ℕ) (s n : ℕ) → Consumes (prepend_known (drop s items) h) (prepend_known (drop (s + n) items) h) (take n (drop s items))
 consumes_front None items s n = tt
 consumes_front (Some y) items s n =
@@ -53,7 +53,7 @@ none_counted (Some []) n counts none = refl
 none_counted (Some (x ∷ xs)) n counts none = absurd (let bad : suc (length xs) ≡ 0 = counts ∙ none in cc)
 
 -- a wire over a socket that took nothing has taken nothing, where none wait
-pub nothing_told : (a h : Option (List ℕ)) → IsAtEnd a → IsAtEnd h → IsAtEnd (joined a h)
-nothing_told None h p q = tt
-nothing_told (Some x) None p q = tt
-nothing_told (Some x) (Some y) p q = rw p q
+pub nothing_reported : (a h : Option (List ℕ)) → IsAtEnd a → IsAtEnd h → IsAtEnd (joined a h)
+nothing_reported None h p q = tt
+nothing_reported (Some x) None p q = tt
+nothing_reported (Some x) (Some y) p q = rw p q

@@ -43,8 +43,8 @@ module _ {K S : Type 0} where
   owed_count size w = waiting_count size w.backlog
 
   -- the bytes that the wire took: those that the socket took, and those that are owed behind them
-  abbrev pub told : (K → Option (List ℕ)) → (S → Option (List ℕ)) → Wire K S → Option (List ℕ)
-  told taken held w = joined (taken w.sink) (owed held w)
+  abbrev pub reported : (K → Option (List ℕ)) → (S → Option (List ℕ)) → Wire K S → Option (List ℕ)
+  reported taken held w = joined (taken w.sink) (owed held w)
 
 -- what is no longer owed was delivered, and is counted as far as 64 bits hold it
 abbrev pub CountsSent : (delivered owed after left : ℕ) → Type 0

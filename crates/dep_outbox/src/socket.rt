@@ -103,7 +103,7 @@ pub trait Sink {
     /// How often its sends took no byte, by why.
     ghost halts: { Self → Halts };
 
-    /// Sends a front of the bytes.
+    /// Sends a prefix of the bytes.
     fn send(&mut self, bytes: &[u8]) -> Delivered
         ensures bytes { Delivers (taken self.old) (taken self.new) bytes.now result }
         ensures counts { halts self.new ≡ after_send result (halts self.old) };

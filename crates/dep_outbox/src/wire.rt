@@ -37,17 +37,17 @@ pub struct Wire<K, S> {
 }
 
 impl<K: Sink, S: Spool> Wire<K, S> {
-    ghost use Rattle.dep_outbox.specs.Wires.{told, owed, owed_count, Blames, CountsSent, HasFailed, IsUnharmed};
+    ghost use Rattle.dep_outbox.specs.Wires.{reported, owed, owed_count, Blames, CountsSent, HasFailed, IsUnharmed};
 
     /// A wire that owes what the spool holds.
-    #[tactic(auto, using(crate::proofs::WireLemmas::nothing_told))]
+    #[tactic(auto, using(crate::proofs::WireLemmas::nothing_reported))]
     pub fn new(alloc: Global, sink: K, spool: S) -> Wire<K, S>
         ensures sink { result.sink ≡ sink }
         ensures spool { result.backlog.spool ≡ spool }
         ensures count { owed_count S.size result ≡ S.size spool }
         // Over a socket that took nothing and an empty spool it took nothing.
         ensures fresh { IsAtEnd (K.taken sink) → IsAtEnd (S.held spool)
-            → IsAtEnd (told K.taken S.held result) }
+            → IsAtEnd (reported K.taken S.held result) }
     {
         Wire {
             sink,
@@ -60,7 +60,7 @@ impl<K: Sink, S: Spool> Wire<K, S> {
 
     /// Sends what is owed, as far as the socket takes it.
     pub fn flush(&mut self) -> Flushed
-        ensures keeps { Keeps (told K.taken S.held self.old) (told K.taken S.held self.new) }
+        ensures keeps { Keeps (reported K.taken S.held self.old) (reported K.taken S.held self.new) }
         ensures all { result ≡ Flushed.All → IsAtEnd (owed S.held self.new) }
         ensures none { result ≡ Flushed.All → owed_count S.size self.new ≡ 0 }
         ensures fewer { result ≡ Flushed.Part
@@ -86,7 +86,7 @@ impl<K: Sink, S: Spool> Wire<K, S> {
 
     /// Sends what is in memory once, and before that fills it from the spool where all of it is sent.
     fn send_once(&mut self) -> Option<Flushed>
-        ensures keeps { Keeps (told K.taken S.held self.old) (told K.taken S.held self.new) }
+        ensures keeps { Keeps (reported K.taken S.held self.old) (reported K.taken S.held self.new) }
         ensures all { result ≡ Some Flushed.All → IsAtEnd (owed S.held self.new) }
         ensures none { result ≡ Some Flushed.All → owed_count S.size self.new ≡ 0 }
         ensures part { result ≢ Some Flushed.Part }
@@ -122,9 +122,9 @@ impl<K: Sink, S: Spool> Wire<K, S> {
     /// Takes the bytes behind those that it took.
     fn take(&mut self, bytes: &[u8]) -> Result<(), WriteFailed>
         ensures ok { OnOk result
-            (Appends (told K.taken S.held self.old) (told K.taken S.held self.new) bytes.now) }
+            (Appends (reported K.taken S.held self.old) (reported K.taken S.held self.new) bytes.now) }
         ensures err { OnErr result
-            (TakesPart (told K.taken S.held self.old) (told K.taken S.held self.new) bytes.now) }
+            (TakesPart (reported K.taken S.held self.old) (reported K.taken S.held self.new) bytes.now) }
         ensures failures { self.new.failures ≡ self.old.failures }
         ensures whole { OnOk result (IsUnharmed (K.halts self.old.sink) (K.halts self.new.sink)
             (S.failures self.old.backlog.spool) (S.failures self.new.backlog.spool)) }
@@ -140,7 +140,7 @@ impl<K: Sink, S: Spool> Wire<K, S> {
 
     /// Sends what is owed, where the bytes would be the first in the spool.
     fn make_room(&mut self, bytes: &[u8]) -> Result<(), WriteFailed>
-        ensures keeps { Keeps (told K.taken S.held self.old) (told K.taken S.held self.new) }
+        ensures keeps { Keeps (reported K.taken S.held self.old) (reported K.taken S.held self.new) }
         ensures failures { self.new.failures ≡ self.old.failures }
         ensures whole { OnOk result (IsUnharmed (K.halts self.old.sink) (K.halts self.new.sink)
             (S.failures self.old.backlog.spool) (S.failures self.new.backlog.spool)) }
@@ -177,7 +177,7 @@ impl<K: Sink, S: Spool> Wire<K, S> {
 
     /// Shuts down the half that sends, so that the client sees that nothing more comes.
     pub fn finish(&mut self)
-        ensures taken { told K.taken S.held self.new ≡ told K.taken S.held self.old }
+        ensures taken { reported K.taken S.held self.new ≡ reported K.taken S.held self.old }
         ensures halts { K.halts self.new.sink ≡ K.halts self.old.sink }
         ensures backlog { self.new.backlog ≡ self.old.backlog }
     {
@@ -187,18 +187,18 @@ impl<K: Sink, S: Spool> Wire<K, S> {
 
 impl<K: Sink, S: Spool> Outlet for Wire<K, S> {
     ghost use Rattle.dep_types.specs.Writing.{HasRisen};
-    ghost use Rattle.dep_outbox.specs.Wires.{told, HasFailed, IsUnharmed};
+    ghost use Rattle.dep_outbox.specs.Wires.{reported, HasFailed, IsUnharmed};
 
-    ghost taken = { λ w. told K.taken S.held w };
+    ghost taken = { λ w. reported K.taken S.held w };
 
     ghost failures = { λ w. w.failures };
 
     // A write fails only where the socket or the spool did.
     fn write(&mut self, bytes: &[u8]) -> Result<(), WriteFailed>
         ensures ok { OnOk result
-            (Appends (told K.taken S.held self.old) (told K.taken S.held self.new) bytes.now) }
+            (Appends (reported K.taken S.held self.old) (reported K.taken S.held self.new) bytes.now) }
         ensures err { OnErr result
-            (TakesPart (told K.taken S.held self.old) (told K.taken S.held self.new) bytes.now) }
+            (TakesPart (reported K.taken S.held self.old) (reported K.taken S.held self.new) bytes.now) }
         ensures count { OnOk result (self.new.failures ≡ self.old.failures) }
         ensures cause { OnErr result (HasRisen self.old.failures self.new.failures) }
         ensures whole { OnOk result (IsUnharmed (K.halts self.old.sink) (K.halts self.new.sink)

@@ -33,7 +33,7 @@ split text reading is =
     let rest : drop (token_len text) text ≡ is.rest = ap (λ (n : ℕ). drop n text) size ∙ ap (λ (t : List ℕ). drop (length is.form) t) is.written ∙ drop-append_seam is.form is.rest in
     record {
       named = λ none. name_length is.form is.rest is.token (ap token_len (sym is.written) ∙ none);
-      form = is.told ∙ ap str_to_ascii_lowercase (sym first);
+      form = is.reported ∙ ap str_to_ascii_lowercase (sym first);
       parameters = subst (λ (t : List ℕ). AreParameters t reading.parameters) (sym rest) is.parameters;
     }
 
@@ -45,6 +45,6 @@ joined text reading is =
       rest = drop (token_len text) text;
       token = rw (some, run-passes is_token_octet text) refl;
       written = sym (take-append-drop (token_len text) text);
-      told = is.form;
+      reported = is.form;
       parameters = is.parameters;
     }

@@ -53,7 +53,7 @@ pub record IsCut (text name : List ℕ) : Type 0 where
   pub second : cut_at_apostrophe rest ≡ Some (language, escaped)
   pub utf8 : str_eq_ignore_ascii_case charset (codes "UTF-8") ≡ true
   pub whole : HasWholeEscapes escaped
-  pub told : name ≡ percent_decode escaped
+  pub reported : name ≡ percent_decode escaped
 
 pub cuts : (text name : List ℕ) → IsExtended text name → IsCut text name
 cuts text name is =
@@ -67,7 +67,7 @@ cuts text name is =
       second = cut-complete is.language is.escaped is.in_language;
       utf8 = is.utf8;
       whole = is.whole;
-      told = is.told;
+      reported = is.reported;
     }
 
 pub extended : (text name : List ℕ) → IsCut text name → IsExtended text name
@@ -83,7 +83,7 @@ extended text name is =
       before_language = one.1;
       in_language = two.1;
       whole = is.whole;
-      told = is.told;
+      reported = is.reported;
     }
 
 same_pair : (a b : List ℕ × List ℕ) (o : Option (List ℕ × List ℕ)) → o ≡ Some a → o ≡ Some b → a ≡ b

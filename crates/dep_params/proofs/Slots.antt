@@ -100,22 +100,22 @@ holds_text before after name value more last =
     ∙ append_assoc before (59 ∷ after) (name ++ (61 ∷ (value ++ end)))
 
 -- parameters without the blanks in front of them
-pub record IsFront (text : List ℕ) (ps : List NamedValue) : Type 0 where
+pub record IsPrefix (text : List ℕ) (ps : List NamedValue) : Type 0 where
   pub stop : IsStop text
   pub none : token_len (trim_start text) ≡ 0
   pub trimmed : AreParameters (trim_start text) ps
 
 front_of : (text : List ℕ) (ps : List NamedValue) (slots : List ParameterSlot) (last : List ℕ) → AllByRecursion IsSlot slots → are_blanks last ≡ true
-    → text ≡ flat_map slot_text slots ++ last → ps ≡ filter_map slot_parameter slots → IsFront text ps
-front_of text ps [] last formed blank written told =
+    → text ≡ flat_map slot_text slots ++ last → ps ≡ filter_map slot_parameter slots → IsPrefix text ps
+front_of text ps [] last formed blank written reported =
     let trimmed : trim_start text ≡ [] = ap trim_start written ∙ trim_all last blank in
     let stop = stops last [] blank stop-end in
     record {
       stop = subst IsStop (ap (λ t. t) (append-nil last) ∙ sym written) stop;
       none = ap token_len trimmed;
-      trimmed = record { slots = []; last = []; well_formed = tt; blank = refl; written = trimmed; told = told };
+      trimmed = record { slots = []; last = []; well_formed = tt; blank = refl; written = trimmed; reported = reported };
     }
-front_of text ps (Empty before after ∷ more) last formed blank written told =
+front_of text ps (Empty before after ∷ more) last formed blank written reported =
     let tail = flat_map slot_text more ++ last in
     let is = written ∙ empty_text before after (flat_map slot_text more) last in
     let trimmed : trim_start text ≡ 59 ∷ (after ++ tail) = ap trim_start is ∙ trim_blanks before (59 ∷ (after ++ tail)) formed.0.0 in
@@ -128,10 +128,10 @@ front_of text ps (Empty before after ∷ more) last formed blank written told =
         well_formed = ((refl, formed.0.1), formed.1);
         blank = blank;
         written = trimmed ∙ sym (empty_text [] after (flat_map slot_text more) last);
-        told = told;
+        reported = reported;
       };
     }
-front_of text ps (Holds before after name value ∷ more) last formed blank written told =
+front_of text ps (Holds before after name value ∷ more) last formed blank written reported =
     let tail = flat_map slot_text more ++ last in
     let behind = after ++ (name ++ (61 ∷ (value_text value ++ tail))) in
     let is = written ∙ holds_text before after name (value_text value) (flat_map slot_text more) last in
@@ -145,12 +145,12 @@ front_of text ps (Holds before after name value ∷ more) last formed blank writ
         well_formed = ((refl, formed.0.1, formed.0.2, formed.0.3), formed.1);
         blank = blank;
         written = trimmed ∙ sym (holds_text [] after name (value_text value) (flat_map slot_text more) last);
-        told = told;
+        reported = reported;
       };
     }
 
-pub front : (text : List ℕ) (ps : List NamedValue) → AreParameters text ps → IsFront text ps
-front text ps h = front_of text ps h.slots h.last h.well_formed h.blank h.written h.told
+pub front : (text : List ℕ) (ps : List NamedValue) → AreParameters text ps → IsPrefix text ps
+front text ps h = front_of text ps h.slots h.last h.well_formed h.blank h.written h.reported
 
 -- the end, a semicolon with nothing behind it, or one with a parameter
 pub data First (text : List ℕ) (ps : List NamedValue) : Type 0 where
@@ -170,30 +170,30 @@ name_length (b ∷ name) rest h none =
 first_of : (text : List ℕ) (ps : List NamedValue) (slots : List ParameterSlot) (last : List ℕ) → AllByRecursion IsSlot slots → are_blanks last ≡ true
     → text ≡ flat_map slot_text slots ++ last → ps ≡ filter_map slot_parameter slots → First text ps
 unfolding semicolon_read
-first_of text ps [] last formed blank written told =
+first_of text ps [] last formed blank written reported =
     let trimmed : trim_start text ≡ [] = ap trim_start written ∙ trim_all last blank in
-    Ends (ap at_semicolon trimmed) told
-first_of text ps (Empty before after ∷ more) last formed blank written told =
+    Ends (ap at_semicolon trimmed) reported
+first_of text ps (Empty before after ∷ more) last formed blank written reported =
     let tail = flat_map slot_text more ++ last in
     let is = written ∙ empty_text before after (flat_map slot_text more) last in
     let trimmed : trim_start text ≡ 59 ∷ (after ++ tail) = ap trim_start is ∙ trim_blanks before (59 ∷ (after ++ tail)) formed.0.0 in
-    let rest : AreParameters tail ps = record { slots = more; last = last; well_formed = formed.1; blank = blank; written = refl; told = told } in
+    let rest : AreParameters tail ps = record { slots = more; last = last; well_formed = formed.1; blank = blank; written = refl; reported = reported } in
     let fronted = front tail ps rest in
     Passes (trim_start tail) (ap at_semicolon trimmed ∙ ap (λ r. Some (Some r)) (trim_blanks after tail formed.0.1)) fronted.none fronted.trimmed
-first_of text ps (Holds before after name value ∷ more) last formed blank written told =
+first_of text ps (Holds before after name value ∷ more) last formed blank written reported =
     let tail = flat_map slot_text more ++ last in
     let inner = name ++ (61 ∷ (value_text value ++ tail)) in
     let is = written ∙ holds_text before after name (value_text value) (flat_map slot_text more) last in
     let trimmed : trim_start text ≡ 59 ∷ (after ++ inner) = ap trim_start is ∙ trim_blanks before (59 ∷ (after ++ inner)) formed.0.0 in
     let others = filter_map slot_parameter more in
-    let rest : AreParameters tail others = record { slots = more; last = last; well_formed = formed.1; blank = blank; written = refl; told = refl } in
+    let rest : AreParameters tail others = record { slots = more; last = last; well_formed = formed.1; blank = blank; written = refl; reported = refl } in
     let fronted = front tail others rest in
     let behind : trim_start (after ++ inner) ≡ inner = trim_blanks after inner formed.0.1 ∙ trim_token name (61 ∷ (value_text value ++ tail)) formed.0.2 in
     Takes inner tail _ others (ap at_semicolon trimmed ∙ ap (λ r. Some (Some r)) behind) (name_length name _ formed.0.2)
-    (parameter_read-complete name value tail formed.0.2 formed.0.3 fronted.stop.bare) told rest
+    (parameter_read-complete name value tail formed.0.2 formed.0.3 fronted.stop.bare) reported rest
 
 pub first : (text : List ℕ) (ps : List NamedValue) → AreParameters text ps → First text ps
-first text ps h = first_of text ps h.slots h.last h.well_formed h.blank h.written h.told
+first text ps h = first_of text ps h.slots h.last h.well_formed h.blank h.written h.reported
 
 pub parameters-end : (text : List ℕ) → semicolon_read text ≡ Some None → AreParameters text []
 unfolding semicolon_read
@@ -206,7 +206,7 @@ parameters-end text h =
       well_formed = tt;
       blank = subst (λ (t : List ℕ). are_blanks t ≡ true) same (run-passes is_blank text);
       written = refl;
-      told = refl;
+      reported = refl;
     }
 
 -- the text is blanks, a semicolon, blanks and the rest
@@ -240,7 +240,7 @@ parameters-empty text r ps h rest =
       well_formed = ((found.2, found.3), rest.well_formed);
       blank = rest.blank;
       written = found.4 ∙ ap (λ t. found.0 ++ (59 ∷ (found.1 ++ t))) rest.written ∙ sym (empty_text found.0 found.1 (flat_map slot_text rest.slots) rest.last);
-      told = rest.told;
+      reported = rest.reported;
     }
 
 pub parameters-holds : (text r rest : List ℕ) (p : NamedValue) (ps : List NamedValue) → semicolon_read text ≡ Some (Some r) → IsParameter r p rest
@@ -255,7 +255,7 @@ parameters-holds text r rest p ps h is more =
       blank = more.blank;
       written = found.4 ∙ ap (λ t. found.0 ++ (59 ∷ (found.1 ++ t))) (is.written ∙ ap (λ t. is.name ++ (61 ∷ (value_text is.value ++ t))) more.written)
           ∙ sym (holds_text found.0 found.1 is.name (value_text is.value) (flat_map slot_text more.slots) more.last);
-      told = ap (λ q. q ∷ ps) is.told ∙ ap (λ qs. q ∷ qs) more.told;
+      reported = ap (λ q. q ∷ ps) is.reported ∙ ap (λ qs. q ∷ qs) more.reported;
     }
 
 same_rest : (text a b : List ℕ) → semicolon_read text ≡ Some (Some a) → semicolon_read text ≡ Some (Some b) → a ≡ b

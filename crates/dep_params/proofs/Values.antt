@@ -16,7 +16,7 @@ pub record IsQuoted (text octets rest : List ℕ) : Type 0 where
   pub between : List QuotedOctet
   pub good : list_all is_quoted_octet between ≡ true
   pub written : text ≡ flat_map quoted_octet_text between ++ 34 ∷ rest
-  pub told : octets ≡ map octet_of between
+  pub reported : octets ≡ map octet_of between
 
 with_octet_some : (b : ℕ) (read : Option (List ℕ × List ℕ)) (x : List ℕ × List ℕ) → with_octet b read ≡ Some x
     → (y : List ℕ × List ℕ) × (read ≡ Some y) × (x.0 ≡ b ∷ y.0) × (x.1 ≡ y.1)
@@ -46,7 +46,7 @@ quoted-sound (b ∷ rest) false x h = elim (chosen (b == 34) _ _ (Some x) h) [
         between = [];
         good = refl;
         written = rw (same_number b 34 quote.0, same) refl;
-        told = ap (λ z. z.0) same;
+        reported = ap (λ z. z.0) same;
       }
   | inr other ↦ elim (chosen (b == 92) _ _ (Some x) other.1) [
     | inl backslash ↦
@@ -56,7 +56,7 @@ quoted-sound (b ∷ rest) false x h = elim (chosen (b == 34) _ _ (Some x) h) [
           between = Escaped found.0 ∷ inner.between;
           good = rw (found.4, inner.good) refl;
           written = rw (same_number b 92 backslash.0, found.3, inner.written) refl;
-          told = found.5 ∙ ap (λ o. found.0 ∷ o) inner.told;
+          reported = found.5 ∙ ap (λ o. found.0 ∷ o) inner.reported;
         }
     | inr plain ↦ elim (chosen (is_plain_octet b) _ _ (Some x) plain.1) [
       | inl good ↦
@@ -66,7 +66,7 @@ quoted-sound (b ∷ rest) false x h = elim (chosen (b == 34) _ _ (Some x) h) [
             between = Plain b ∷ inner.between;
             good = rw (good.0, inner.good) refl;
             written = ap (λ t. b ∷ t) (inner.written ∙ ap (λ r. flat_map quoted_octet_text inner.between ++ 34 ∷ r) (sym read.3));
-            told = read.2 ∙ ap (λ o. b ∷ o) inner.told;
+            reported = read.2 ∙ ap (λ o. b ∷ o) inner.reported;
           }
       | inr bad ↦ cc (bad.1)
     ]
@@ -115,7 +115,7 @@ pub record IsValue (text octets rest : List ℕ) : Type 0 where
   pub value : Value
   pub good : is_value value ≡ true
   pub written : text ≡ value_text value ++ rest
-  pub told : octets ≡ value_octets value
+  pub reported : octets ≡ value_octets value
 
 pub is_some : (n : ℕ) → (n == 0) ≡ false → nat_lt 0 n ≡ true
 is_some n h = grind (arith, nat_tests)
@@ -131,7 +131,7 @@ bare-sound text x h = elim (chosen (prefix_len is_bare_octet text == 0) _ _ (Som
         value = Bare (take n text);
         good = rw (some, run-passes is_bare_octet text) refl;
         written = rw same (sym (take-append-drop n text));
-        told = ap (λ z. z.0) same;
+        reported = ap (λ z. z.0) same;
       }
 ]
 
@@ -145,7 +145,7 @@ value_read-sound (b ∷ rest) x h = elim (chosen (b == 34) _ _ (Some x) h) [
         value = Quoted found.between;
         good = found.good;
         written = ap (λ n. n ∷ rest) (same_number b 34 quote.0) ∙ ap (λ t. 34 ∷ t) (found.written ∙ sym (append_assoc (flat_map quoted_octet_text found.between) (34 ∷ []) x.1));
-        told = found.told;
+        reported = found.reported;
       }
   | inr other ↦ bare-sound (b ∷ rest) x other.1
 ]
@@ -157,7 +157,7 @@ pub record IsParameter (text : List ℕ) (p : NamedValue) (rest : List ℕ) : Ty
   pub token : is_token name ≡ true
   pub good : is_value value ≡ true
   pub written : text ≡ name ++ (61 ∷ (value_text value ++ rest))
-  pub told : p ≡ record { name = str_to_ascii_lowercase name; value = value_octets value }
+  pub reported : p ≡ record { name = str_to_ascii_lowercase name; value = value_octets value }
 
 pub parameter_read-complete : (name : List ℕ) (v : Value) (tail : List ℕ) → is_token name ≡ true → is_value v ≡ true → prefix_len is_bare_octet tail ≡ 0
     → parameter_read (name ++ (61 ∷ (value_text v ++ tail))) ≡ Some (record { name = str_to_ascii_lowercase name; value = value_octets v }, tail)
@@ -195,5 +195,5 @@ parameter_read-sound text x named h =
       token = rw (some, run-passes is_token_octet text) refl;
       good = found.good;
       written = sym (take-append-drop n text) ∙ ap (λ d. take n text ++ d) (behind.1 ∙ ap (λ r. 61 ∷ r) (found.written ∙ ap (λ t. value_text found.value ++ t) (sym read.3)));
-      told = read.2 ∙ ap (λ (o : List ℕ). let p : NamedValue = record { name = str_to_ascii_lowercase (take n text); value = o } in p) found.told;
+      reported = read.2 ∙ ap (λ (o : List ℕ). let p : NamedValue = record { name = str_to_ascii_lowercase (take n text); value = o } in p) found.reported;
     }

@@ -18,7 +18,7 @@ pub record DispositionValue : Type 0 where
 abbrev pub is_control : ℕ → Bool
 is_control b = nat_lt b 32 || b == 127
 
--- an octet of a quoted string, which stands for itself, or behind a backslash
+-- an octet of a quoted string, which represents itself, or behind a backslash
 pub data QuotedOctet : Type 0 where
   Plain : ℕ → QuotedOctet
   Escaped : ℕ → QuotedOctet
@@ -86,7 +86,7 @@ pub record AreParameters (text : List ℕ) (parameters : List NamedValue) : Type
   pub well_formed : AllByRecursion IsSlot slots
   pub blank : are_blanks last ≡ true
   pub written : text ≡ flat_map slot_text slots ++ last
-  pub told : parameters ≡ filter_map slot_parameter slots
+  pub reported : parameters ≡ filter_map slot_parameter slots
 
 -- the text is a type and then parameters, and says this
 pub record IsDisposition (text : List ℕ) (reading : DispositionValue) : Type 0 where
@@ -94,7 +94,7 @@ pub record IsDisposition (text : List ℕ) (reading : DispositionValue) : Type 0
   pub rest : List ℕ
   pub token : is_token form ≡ true
   pub written : text ≡ form ++ rest
-  pub told : reading.form ≡ str_to_ascii_lowercase form
+  pub reported : reading.form ≡ str_to_ascii_lowercase form
   pub parameters : AreParameters rest reading.parameters
 
 -- the names of its parameters

@@ -33,22 +33,22 @@ pub record IsExtended (text name : List ℕ) : Type 0 where
   pub before_language : has_no_apostrophe charset ≡ true
   pub in_language : has_no_apostrophe language ≡ true
   pub whole : HasWholeEscapes escaped
-  pub told : name ≡ percent_decode escaped
+  pub reported : name ≡ percent_decode escaped
 
 -- an extended name goes before a plain one
-abbrev pub IsTold : Option (List ℕ) → Option (List ℕ) → List ℕ → Type 0
-IsTold (Some text) plain name = IsExtended text name
-IsTold None (Some plain) name = name ≡ plain
-IsTold None None name = ⊥
+abbrev pub IsReported : Option (List ℕ) → Option (List ℕ) → List ℕ → Type 0
+IsReported (Some text) plain name = IsExtended text name
+IsReported None (Some plain) name = name ≡ plain
+IsReported None None name = ⊥
 
 -- its parameters give this name, whether it may stand or not
-abbrev pub IsToldName : DispositionValue → List ℕ → Type 0
-IsToldName reading name =
-    IsTold (value_of (codes "filename*") reading) (value_of (codes "filename") reading) name
+abbrev pub IsReportedName : DispositionValue → List ℕ → Type 0
+IsReportedName reading name =
+    IsReported (value_of (codes "filename*") reading) (value_of (codes "filename") reading) name
 
 -- the disposition gives this file name
 pub record IsFileName (reading : DispositionValue) (name : List ℕ) : Type 0 where
-  pub told : IsToldName reading name
+  pub reported : IsReportedName reading name
   pub good : is_good_name name ≡ true
 
 -- why there is no name: none may stand, or memory was refused

@@ -33,7 +33,7 @@ with_octet b read = option_map (λ p. (b ∷ p.0, p.1)) read
 abbrev pub with_octets : List ℕ → Option (List ℕ × List ℕ) → Option (List ℕ × List ℕ)
 with_octets front read = option_map (λ p. (front ++ p.0, p.1)) read
 
--- what stands for itself between quotation marks
+-- what represents itself between quotation marks
 abbrev pub is_plain_octet : ℕ → Bool
 is_plain_octet b = (not (is_control b) || b == 9) && not (b == 34) && not (b == 92)
 

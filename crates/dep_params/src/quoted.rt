@@ -6,7 +6,7 @@ ghost use Rattle.dep_params.specs.Reading.{Fails, Gives, quoted, stepped};
 use crate::disposition::ParamFault;
 use std::alloc::Global;
 
-// Reads a quoted string behind its first quotation mark: the octets that it stands for, and what follows it.
+// Reads a quoted string behind its first quotation mark: the octets that it represents, and what follows it.
 pub(crate) fn read_quoted(alloc: Global, text: &[u8]) -> Result<(Vec<u8>, &[u8]), ParamFault>
     ensures { Gives (λ x. (x.0.items, x.1.now)) result (quoted false text.now) }
 {
@@ -22,7 +22,7 @@ pub(crate) fn read_quoted(alloc: Global, text: &[u8]) -> Result<(Vec<u8>, &[u8])
     }
 }
 
-// The next octet that a quoted string stands for, or none at its last quotation mark, and what follows.
+// The next octet that a quoted string represents, or none at its last quotation mark, and what follows.
 #[tactic(auto, unfolding(crate::specs::Reading::quoted))]
 fn next_octet(text: &[u8]) -> Result<(Option<u8>, &[u8]), ParamFault>
     ensures read { MatchResult result (λ x. quoted false text.now ≡ stepped x.0 x.1.now)

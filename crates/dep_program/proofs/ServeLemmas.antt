@@ -23,13 +23,13 @@ folds_join r a (x ∷ xs) ys b c f g = (f.0, f.1, folds_join r f.0 xs ys b c f.2
 
 module _ {A : Type 0} (condition : A → Condition) {C : Type 0} (ticks : C → ℕ → C → Type 0) (clock : C) (old : Hub A) where
   -- so many connections were served, up to this hub and this clock
-  pub record Progress (now : C) (new : Hub A) (count : ℕ) : Type 0 where
+  pub record ProgressLine (now : C) (new : Hub A) (count : ℕ) : Type 0 where
     pub talks : List Conversation
     pub among : AreAmong talks count
     pub these : ServesThese condition old new talks
     pub moments : Clocks ticks clock (all_turns_of talks) now
 
-  pub none_served : Progress clock old 0
+  pub none_served : ProgressLine clock old 0
   none_served = record {
     talks = [];
     among = (0, refl);
@@ -40,8 +40,8 @@ module _ {A : Type 0} (condition : A → Condition) {C : Type 0} (ticks : C → 
     moments = refl;
   }
 
-  module _ (now later : C) (mid new : Hub A) (count : ℕ) (p : Progress now mid count) (back : IsClean condition new → IsClean condition mid) where
-    unserved_more : (may_commit : A → Bool) (before after : Wire) → ConversesOver condition may_commit AnyOut ticks (session mid before now) (session new after later) Unserved → Progress later new (count + 1)
+  module _ (now later : C) (mid new : Hub A) (count : ℕ) (p : ProgressLine now mid count) (back : IsClean condition new → IsClean condition mid) where
+    unserved_more : (may_commit : A → Bool) (before after : Wire) → ConversesOver condition may_commit AnyOut ticks (session mid before now) (session new after later) Unserved → ProgressLine later new (count + 1)
     unserved_more may_commit before after v = record {
       talks = p.talks;
       among = (p.among.0 + 1, let e = p.among.1 in omega arith);
@@ -53,7 +53,7 @@ module _ {A : Type 0} (condition : A → Condition) {C : Type 0} (ticks : C → 
       moments = subst (λ c. Clocks ticks clock (all_turns_of p.talks) c) (sym v.same_clock) p.moments;
     }
 
-    talk_more : (may_commit : A → Bool) (before after : Wire) (end : Served) → Converses condition may_commit AnyOut ticks (session mid before now) (session new after later) end → Progress later new (count + 1)
+    talk_more : (may_commit : A → Bool) (before after : Wire) (end : Served) → Converses condition may_commit AnyOut ticks (session mid before now) (session new after later) end → ProgressLine later new (count + 1)
     talk_more may_commit before after end v =
         let talk : Conversation = record { number = v.number; turns = v.turns } in
         let long = length-append p.talks (talk ∷ []) in
@@ -71,7 +71,7 @@ module _ {A : Type 0} (condition : A → Condition) {C : Type 0} (ticks : C → 
               (folds_join (λ before (t : Turn) after. ticks before t.moment after) clock (all_turns_of p.talks) v.turns now later p.moments v.moments);
         }
 
-    more : (may_commit : A → Bool) (served : Served) (before after : Wire) → ConversesOver condition may_commit AnyOut ticks (session mid before now) (session new after later) served → Progress later new (count + 1)
+    more : (may_commit : A → Bool) (served : Served) (before after : Wire) → ConversesOver condition may_commit AnyOut ticks (session mid before now) (session new after later) served → ProgressLine later new (count + 1)
     more may_commit Unserved before after v = unserved_more may_commit before after v
     more may_commit Ended before after v = talk_more may_commit before after Ended v
     more may_commit Closed before after v = talk_more may_commit before after Closed v
@@ -79,7 +79,7 @@ module _ {A : Type 0} (condition : A → Condition) {C : Type 0} (ticks : C → 
     more may_commit WriteFault before after v = talk_more may_commit before after WriteFault v
     more may_commit Bound before after v = talk_more may_commit before after Bound v
 
-    pub one_served : (may_commit : A → Bool) (served : Served) (v : ServesOne condition may_commit ticks now later mid new served) → Progress later new (count + 1)
+    pub one_served : (may_commit : A → Bool) (served : Served) (v : ServesOne condition may_commit ticks now later mid new served) → ProgressLine later new (count + 1)
     one_served may_commit served v = more may_commit served _ v.after v.converses
 
 -- a connection over a socket at which nothing was read, and to which nothing was written

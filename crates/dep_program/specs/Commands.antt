@@ -71,7 +71,7 @@ asked_of (name ∷ words) = named name words
 
 -- what a job over the store in a file is
 abbrev pub asked_over : (file : List ℕ) → Job → Asked
-asked_over file (job.Serve door) = serve door.port file door.count
+asked_over file (job.Serve options) = serve options.port file options.count
 asked_over file (job.Export object folder) = export file object folder.now
 asked_over file job.Audit = audit file
 

@@ -55,7 +55,7 @@ module _ {A : Type 0} (condition : A → Condition) where
         (session old socket_wire clock)
         (session new after now) served
 
-  -- For all records that it stood for, the hub stands for them with those of the connections behind
+  -- For all records that it represented, the hub represents them with those of the connections behind
   -- them, one connection after another.
   pub record ServesThese (old new : Hub A) (talks : List Conversation) : Type 0 where
     pub sizes : All (λ t. ArePieces t.turns) talks

@@ -3,7 +3,7 @@ ghost use Rattle.std.specs.Prelude.{◌≡◌, map, string_bytes, option_map};
 ghost use Rattle.dep_octets.specs.Octets.{decimal_number, value_of};
 ghost use Rattle.dep_program.specs.Commands.{asked_in, asked_of, replay_of, serve_of, export_of, audit_of, moment_of, from_one, unread_outcome};
 
-use crate::door::Door;
+use crate::listening::ListenOptions;
 use crate::outcome::Outcome;
 use dep_octets::{Number, decimal, positive_decimal};
 use dep_types::GREATEST_NUMBER;
@@ -23,7 +23,7 @@ pub enum Command<'a> {
 #[derive(Clone, Copy)]
 pub enum Job<'a> {
     /// Connections are served.
-    Serve(Door),
+    Serve(ListenOptions),
     /// The bag of an object goes into a new folder.
     Export { object: u64, folder: &'a str },
     /// All files are checked.
@@ -69,13 +69,13 @@ fn read_serve<'a>(words: &'a [String]) -> Option<Command<'a>>
     let [port, file, count] = words else {
         return None;
     };
-    let door = Door {
+    let options = ListenOptions {
         port: number_in(port.as_str(), GREATEST_PORT)? as u16,
         count: number_in(count.as_str(), MOST_SERVED)?,
     };
     Some(Command::WorkOn {
         file: file.as_str(),
-        job: Job::Serve(door),
+        job: Job::Serve(options),
     })
 }
 
@@ -133,7 +133,7 @@ pub fn words(rt: &HostRuntime) -> io::Result<Vec<String>> {
     Ok(env::args(rt)?.skip(1).collect(rt.alloc())?)
 }
 
-/// Returns the outcome where the words can't be had: `StoreFault` for want of memory, else `Usage`, as at a word
+/// Returns the outcome where the words can't be had: `StoreFault` for lack of memory, else `Usage`, as at a word
 /// that isn't UTF-8.
 pub fn unread(kind: ErrorKind) -> Outcome
     ensures { result ≡ unread_outcome kind }

@@ -3,7 +3,7 @@ ghost use Rattle.std.specs.Prelude.{◌≡◌, IfOk, OnOk, IsSome, None, string_
 ghost use Rattle.dep_program.specs.Folders.{path_in, without_folder};
 
 use crate::outcome::Outcome;
-use crate::progress::Progress;
+use crate::progress::ProgressLine;
 use std::alloc::AllocError;
 use std::fs::File;
 use std::io::{ErrorKind, Write};
@@ -26,7 +26,7 @@ pub struct Folder<'a> {
 #[derive(Drop)]
 pub(crate) struct LastFile<'a> {
     begun: Option<File>,
-    progress: Progress<'a>,
+    progress: ProgressLine<'a>,
 }
 
 impl<'a> Folder<'a> {
@@ -43,7 +43,7 @@ impl<'a> Folder<'a> {
             inside,
             file: LastFile {
                 begun: None,
-                progress: Progress::new(rt),
+                progress: ProgressLine::new(rt),
             },
         })
     }
@@ -110,7 +110,7 @@ fn put_path(inside: &mut String, folder: &str, path: &str) -> Result<(), AllocEr
     inside.push_str(path)
 }
 
-/// Returns the outcome of an export whose folder can't be made: `StoreFault` for want of memory, else
+/// Returns the outcome of an export whose folder can't be made: `StoreFault` for lack of memory, else
 /// `TransferFault`.
 pub fn without_folder(kind: ErrorKind) -> Outcome
     ensures { result ≡ without_folder kind }

@@ -4,12 +4,12 @@
 
 mod clock;
 mod command;
-mod door;
 mod folder;
 mod folder_sink;
 mod gathered;
 mod host_command;
 pub mod laws;
+mod listening;
 mod outcome;
 mod progress;
 mod serve;
@@ -17,12 +17,12 @@ mod setup;
 
 pub use clock::{microseconds_since, moment_of};
 pub use command::{Command, Job, unread, words};
-pub use door::{Door, address, serve_at};
 pub use folder::{Folder, without_folder};
 pub use folder_sink::FolderSink;
 pub use gathered::Gathered;
 pub use host_command::HostCommand;
+pub use listening::{ListenOptions, address, serve_at};
 pub use outcome::{Outcome, outcome_of, outcome_sent};
-pub use progress::Progress;
+pub use progress::ProgressLine;
 pub use serve::serve_on;
 pub use setup::{configuration, configuration_at};

@@ -9,16 +9,16 @@ const MEBIBYTE: u64 = 1_048_576;
 
 /// Counts bytes, and where standard error is a terminal prints each further 256 MiB there.
 #[derive(Drop)]
-pub struct Progress<'a> {
+pub struct ProgressLine<'a> {
     rt: &'a HostRuntime,
     is_shown: bool,
     octets: u64,
 }
 
-impl<'a> Progress<'a> {
+impl<'a> ProgressLine<'a> {
     /// Nothing is counted yet. Whether it is shown is asked once, here.
-    pub fn new(rt: &'a HostRuntime) -> Progress<'a> {
-        Progress {
+    pub fn new(rt: &'a HostRuntime) -> ProgressLine<'a> {
+        ProgressLine {
             rt,
             is_shown: rt.stderr().is_terminal(),
             octets: 0,

@@ -36,7 +36,7 @@ pub fn configuration(alloc: Global, base: &str) -> Result<Config, AllocError>
     })
 }
 
-/// Returns the configuration of the program at a port of 127.0.0.1. An `Err` is want of memory.
+/// Returns the configuration of the program at a port of 127.0.0.1. An `Err` is lack of memory.
 pub fn configuration_at(alloc: Global, port: u64) -> Result<Config, AllocError>
     ensures { IfOk result (λ config. config ≡ program_config (base_at port)) }
 {

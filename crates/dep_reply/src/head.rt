@@ -10,7 +10,7 @@ use itoa::Buffer;
 use std::alloc::{AllocError, Global};
 
 /// Returns the head of a reply with its empty line: a status line (RFC 9112, section 4) and a line for each field
-/// that the reply has (RFC 9112, section 5). An `Err` is want of memory.
+/// that the reply has (RFC 9112, section 5). An `Err` is lack of memory.
 #[tactic(auto, unfolding(crate::specs::Head::head_text))]
 pub fn spell_head(alloc: Global, reply: &Reply) -> Result<Vec<u8>, AllocError>
     ensures { IfOk result (λ bytes. bytes.items ≡ head_text reply.now) }

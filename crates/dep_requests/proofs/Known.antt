@@ -17,29 +17,29 @@ use Rattle.dep_decisions.specs.declared.decision.Deposit.{Deposit}
 use Rattle.dep_decisions.specs.declared.decision.Decision.{Decision}
 use Rattle.dep_decisions.specs.declared.decision.Decision.TheVariants.{Show, Create, Append, Replace, Complete, SetMetadata, SetFiles, SetFile, DropFile, DropObject, Open, Receive, DropUpload}
 use Rattle.dep_decisions.specs.declared.operation.Operation.{Operation}
-use Rattle.dep_answers.specs.Subjects.{shown_at, subject_of}
-use Rattle.dep_answers.specs.declared.subject.Subject.{Subject}
-use Rattle.dep_answers.specs.declared.subject.Subject.TheVariants as subject
-use Rattle.dep_answers.specs.declared.subject.Shown.{Shown}
-use Rattle.dep_answers.specs.declared.subject.Shown.TheVariants as shown
-use Rattle.dep_changes.specs.Known.{known_shown, known_subject}
+use Rattle.dep_answers.specs.ReadSets.{shown_at, read_set_of}
+use Rattle.dep_answers.specs.declared.read_set.ReadSet.{ReadSet}
+use Rattle.dep_answers.specs.declared.read_set.ReadSet.TheVariants as read_set
+use Rattle.dep_answers.specs.declared.read_set.Shown.{Shown}
+use Rattle.dep_answers.specs.declared.read_set.Shown.TheVariants as shown
+use Rattle.dep_changes.specs.Known.{known_shown, known_read_set}
 use Rattle.dep_requests.specs.Performing.{known_at, known_by}
 
 -- ---- what a request shows that asks for this, where it deletes nothing
 
 module _ (config : Config) (op : Operation) where
   -- of an object that it makes, it is the last one
-  abbrev MakesShown : Method → Subject → (next : Counters) → Decision → Type 0
-  MakesShown m shows next (Create d ingests) = shows ≡ subject.Files (next.object - 1)
-  MakesShown m shows next (Replace n d ingests) = shows ≡ subject.Files n
-  MakesShown m shows next (SetMetadata n texts) = m ≢ Delete → shows ≡ subject.ObjectRow n
-  MakesShown m shows next (SetFiles n new) = m ≢ Delete → shows ≡ subject.ObjectRow n
-  MakesShown m shows next (SetFile n f new) = shows ≡ subject.File (record { object = n; file = f })
+  abbrev MakesShown : Method → ReadSet → (next : Counters) → Decision → Type 0
+  MakesShown m shows next (Create d ingests) = shows ≡ read_set.Files (next.object - 1)
+  MakesShown m shows next (Replace n d ingests) = shows ≡ read_set.Files n
+  MakesShown m shows next (SetMetadata n texts) = m ≢ Delete → shows ≡ read_set.ObjectRow n
+  MakesShown m shows next (SetFiles n new) = m ≢ Delete → shows ≡ read_set.ObjectRow n
+  MakesShown m shows next (SetFile n f new) = shows ≡ read_set.File (record { object = n; file = f })
   MakesShown m shows next _ = ⊤
 
   module _ (next : Counters) where
     abbrev Asked : Resource → Method → Option Decision → Type 0
-    Asked r m o = MakesShown m (subject_of next r m) next (unwrap_or o Show)
+    Asked r m o = MakesShown m (read_set_of next r m) next (unwrap_or o Show)
 
     created : (o : Option Deposit) → Asked Service Post (option_map (λ d. Create d (ingests op)) o)
     created None = tt
@@ -50,7 +50,7 @@ module _ (config : Config) (op : Operation) where
     appended n false None = tt
     appended n false (Some d) = tt
 
-    mapped : {X : Type 0} (m : Method) (shows : Subject) (f : X → Decision) → ((x : X) → MakesShown m shows next (f x)) → (o : Option X) → MakesShown m shows next (unwrap_or (option_map f o) Show)
+    mapped : {X : Type 0} (m : Method) (shows : ReadSet) (f : X → Decision) → ((x : X) → MakesShown m shows next (f x)) → (o : Option X) → MakesShown m shows next (unwrap_or (option_map f o) Show)
     mapped m shows f makes None = tt
     mapped m shows f makes (Some x) = makes x
 
@@ -85,16 +85,16 @@ module _ (config : Config) (op : Operation) where
     asked Service Put = tt
     asked Service Delete = tt
     asked (Object n) Post = appended n (is_completion op) (deposit_of (references_in config op) op)
-    asked (Object n) Put = mapped Put (subject.Files n) (λ d. Replace n d (ingests op)) (λ d. refl) (deposit_of (references_in config op) op)
+    asked (Object n) Put = mapped Put (read_set.Files n) (λ d. Replace n d (ingests op)) (λ d. refl) (deposit_of (references_in config op) op)
     asked (Object n) Delete = tt
     asked (Object n) Get = tt
     asked (Object n) Head = tt
-    asked (Metadata n) Put = mapped Put (subject.ObjectRow n) (λ texts. SetMetadata n texts) (λ texts kept. refl) (option_and_then texts_of (deposit_of (references_in config op) op))
+    asked (Metadata n) Put = mapped Put (read_set.ObjectRow n) (λ texts. SetMetadata n texts) (λ texts kept. refl) (option_and_then texts_of (deposit_of (references_in config op) op))
     asked (Metadata n) Delete = λ kept. absurd (kept refl)
     asked (Metadata n) Get = tt
     asked (Metadata n) Head = tt
     asked (Metadata n) Post = tt
-    asked (FileSet n) Put = mapped Put (subject.ObjectRow n) (λ files. SetFiles n files) (λ files kept. refl) (option_and_then files_of (deposit_of (references_in config op) op))
+    asked (FileSet n) Put = mapped Put (read_set.ObjectRow n) (λ files. SetFiles n files) (λ files kept. refl) (option_and_then files_of (deposit_of (references_in config op) op))
     asked (FileSet n) Delete = λ kept. absurd (kept refl)
     asked (FileSet n) Get = tt
     asked (FileSet n) Head = tt
@@ -117,7 +117,7 @@ module _ (config : Config) (op : Operation) where
     asked (BagList n) method = tt
     asked (BagFile n path) method = tt
 
-    decided : MakesShown op.target.method (subject_of next op.target.resource op.target.method) next (decision config op)
+    decided : MakesShown op.target.method (read_set_of next op.target.resource op.target.method) next (decision config op)
     unfolding decision_with
     decided = asked op.target.resource op.target.method
 
@@ -128,19 +128,19 @@ last n = omega arith
 -- ---- so what is known is what is shown
 
 module _ (config : Config) (s : State) (op : Operation) (kept : op.target.method ≢ Delete) where
-  abbrev shows : (next : Counters) → Subject
-  shows next = subject_of next op.target.resource op.target.method
+  abbrev shows : (next : Counters) → ReadSet
+  shows next = read_set_of next op.target.resource op.target.method
 
   -- what is known stands where the reply looks
   abbrev IsLookedAt : Decision → Type 0
-  IsLookedAt d = (sub : Subject) → known_subject s.next d ≡ Some sub → shows (effect_of s op.content d).next ≡ sub
+  IsLookedAt d = (sub : ReadSet) → known_read_set s.next d ≡ Some sub → shows (effect_of s op.content d).next ≡ sub
 
   looked_at : (d : Decision) → MakesShown config op op.target.method (shows (effect_of s op.content d).next) (effect_of s op.content d).next d → IsLookedAt d
-  looked_at (Create d ingests) makes sub is = let same : subject.Files s.next.object ≡ sub = cc in makes ∙ ap (λ (n : ℕ). subject.Files n) (last s.next.object) ∙ same
-  looked_at (Replace n d ingests) makes sub is = let same : subject.Files n ≡ sub = cc in makes ∙ same
-  looked_at (SetMetadata n texts) makes sub is = let same : subject.ObjectRow n ≡ sub = cc in makes kept ∙ same
-  looked_at (SetFiles n new) makes sub is = let same : subject.ObjectRow n ≡ sub = cc in makes kept ∙ same
-  looked_at (SetFile n f new) makes sub is = let same : subject.File (record { object = n; file = f }) ≡ sub = cc in makes ∙ same
+  looked_at (Create d ingests) makes sub is = let same : read_set.Files s.next.object ≡ sub = cc in makes ∙ ap (λ (n : ℕ). read_set.Files n) (last s.next.object) ∙ same
+  looked_at (Replace n d ingests) makes sub is = let same : read_set.Files n ≡ sub = cc in makes ∙ same
+  looked_at (SetMetadata n texts) makes sub is = let same : read_set.ObjectRow n ≡ sub = cc in makes kept ∙ same
+  looked_at (SetFiles n new) makes sub is = let same : read_set.ObjectRow n ≡ sub = cc in makes kept ∙ same
+  looked_at (SetFile n f new) makes sub is = let same : read_set.File (record { object = n; file = f }) ≡ sub = cc in makes ∙ same
   looked_at Show makes sub is = absurd (cc)
   looked_at (Append n d ingests) makes sub is = absurd (cc)
   looked_at (Complete n) makes sub is = absurd (cc)
@@ -150,46 +150,46 @@ module _ (config : Config) (s : State) (op : Operation) (kept : op.target.method
   looked_at (Receive u k) makes sub is = absurd (cc)
   looked_at (DropUpload u) makes sub is = absurd (cc)
 
-  known_shows : (d : Decision) (told : Shown) → d ≡ decision config op → Some told ≡ known_shown s op.content d
-      → told ≡ shown_at (effect config s op) (shows (effect config s op).next)
+  known_shows : (d : Decision) (reported : Shown) → d ≡ decision config op → Some reported ≡ known_shown s op.content d
+      → reported ≡ shown_at (effect config s op) (shows (effect config s op).next)
   unfolding effect
-  known_shows d told is known =
+  known_shows d reported is known =
       let makes = subst (MakesShown config op op.target.method (shows (effect_of s op.content d).next) (effect_of s op.content d).next) (sym is) (decided config op (effect_of s op.content d).next) in
-      go (known_subject s.next d) refl known (looked_at d makes)
+      go (known_read_set s.next d) refl known (looked_at d makes)
       ∙ ap (λ (x : Decision). shown_at (effect_of s op.content x) (shows (effect_of s op.content x).next)) is
     where
-      go : (k : Option Subject) → known_subject s.next d ≡ k → Some told ≡ option_map (shown_at (effect_of s op.content d)) k → IsLookedAt d
-          → told ≡ shown_at (effect_of s op.content d) (shows (effect_of s op.content d).next)
+      go : (k : Option ReadSet) → known_read_set s.next d ≡ k → Some reported ≡ option_map (shown_at (effect_of s op.content d)) k → IsLookedAt d
+          → reported ≡ shown_at (effect_of s op.content d) (shows (effect_of s op.content d).next)
       go None at has looked = absurd (cc)
       go (Some sub) at has looked =
-          let same : told ≡ shown_at (effect_of s op.content d) sub = cc in
+          let same : reported ≡ shown_at (effect_of s op.content d) sub = cc in
           same ∙ ap (shown_at (effect_of s op.content d)) (sym (looked sub at))
 
 -- of a request that deletes, nothing is shown
-no_subject : (next : Counters) (r : Resource) → subject_of next r Delete ≡ subject.Nothing
-no_subject next Service = refl
-no_subject next (Object n) = refl
-no_subject next (Metadata n) = refl
-no_subject next (FileSet n) = refl
-no_subject next (File n f) = refl
-no_subject next Staging = refl
-no_subject next (Upload u) = refl
-no_subject next (BagList n) = refl
-no_subject next (BagFile n path) = refl
+no_read_set : (next : Counters) (r : Resource) → read_set_of next r Delete ≡ read_set.Nothing
+no_read_set next Service = refl
+no_read_set next (Object n) = refl
+no_read_set next (Metadata n) = refl
+no_read_set next (FileSet n) = refl
+no_read_set next (File n f) = refl
+no_read_set next Staging = refl
+no_read_set next (Upload u) = refl
+no_read_set next (BagList n) = refl
+no_read_set next (BagFile n path) = refl
 
-deleted : (s : State) (r : Resource) (m : Method) → m ≡ Delete → shown.Nothing ≡ shown_at s (subject_of s.next r m)
+deleted : (s : State) (r : Resource) (m : Method) → m ≡ Delete → shown.Nothing ≡ shown_at s (read_set_of s.next r m)
 deleted s r m is =
-    ap (shown_at s) (sym (no_subject s.next r)) ∙ ap (λ (x : Method). shown_at s (subject_of s.next r x)) (sym is)
+    ap (shown_at s) (sym (no_read_set s.next r)) ∙ ap (λ (x : Method). shown_at s (read_set_of s.next r x)) (sym is)
 
-module _ (config : Config) (s : State) (op : Operation) (d : Decision) (told : Shown) (is : d ≡ decision config op) where
-  pub known_shown_by : Some told ≡ known_by s op d → told ≡ shown_at (effect config s op) (subject_of (effect config s op).next op.target.resource op.target.method)
+module _ (config : Config) (s : State) (op : Operation) (d : Decision) (reported : Shown) (is : d ≡ decision config op) where
+  pub known_shown_by : Some reported ≡ known_by s op d → reported ≡ shown_at (effect config s op) (read_set_of (effect config s op).next op.target.resource op.target.method)
   known_shown_by known = go op.target.method refl known
     where
-      still : op.target.method ≢ Delete → Some told ≡ known_shown s op.content d → told ≡ shown_at (effect config s op) (subject_of (effect config s op).next op.target.resource op.target.method)
-      still kept has = known_shows config s op kept d told is has
+      still : op.target.method ≢ Delete → Some reported ≡ known_shown s op.content d → reported ≡ shown_at (effect config s op) (read_set_of (effect config s op).next op.target.resource op.target.method)
+      still kept has = known_shows config s op kept d reported is has
 
-      go : (m : Method) → op.target.method ≡ m → Some told ≡ known_at s op.content d m → told ≡ shown_at (effect config s op) (subject_of (effect config s op).next op.target.resource op.target.method)
-      go Delete at has = let same : told ≡ shown.Nothing = cc in same ∙ deleted (effect config s op) op.target.resource op.target.method at
+      go : (m : Method) → op.target.method ≡ m → Some reported ≡ known_at s op.content d m → reported ≡ shown_at (effect config s op) (read_set_of (effect config s op).next op.target.resource op.target.method)
+      go Delete at has = let same : reported ≡ shown.Nothing = cc in same ∙ deleted (effect config s op) op.target.resource op.target.method at
       go Get at has = still (λ (not : op.target.method ≡ Delete). let both : Get ≡ Delete = sym at ∙ not in cc both) has
       go Head at has = still (λ (not : op.target.method ≡ Delete). let both : Head ≡ Delete = sym at ∙ not in cc both) has
       go Post at has = still (λ (not : op.target.method ≡ Delete). let both : Post ≡ Delete = sym at ∙ not in cc both) has

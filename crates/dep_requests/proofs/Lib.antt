@@ -1,4 +1,4 @@
 pub mod Stepping
 pub mod LookingUp
 pub mod Known
-pub mod Recalling
+pub mod CacheLemmas

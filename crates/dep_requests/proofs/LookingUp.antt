@@ -35,11 +35,11 @@ module _ (config : Config) (s : State) (op : Operation) (loaded : LoadedView) wh
   -- what was seen but for digests, once the rules before them have told
   pub looked_on : (o : Option Refusal) → loaded ≡ loaded_undigested s op.content (touched_by config op) → RefusesUndigested config loaded.view op o
       → IsLookedUp config s op (record { loaded = loaded; refusal = o })
-  looked_on o seen told =
+  looked_on o seen reported =
       let view = ap (λ (l : LoadedView). l.view) seen in
       record {
         clock = ap (λ (v : View). v.clock) view;
-        refused = λ r is. refused_before config (in_state s) op r (sym (told s view) ∙ is);
+        refused = λ r is. refused_before config (in_state s) op r (sym (reported s view) ∙ is);
         passed = λ none. seen;
       }
 
@@ -55,7 +55,7 @@ module _ (config : Config) (s : State) (op : Operation) (loaded : LoadedView) wh
       passed = λ passed. seen_whole s op.content (touched_by config op) loaded same none;
     }
 
-    module _ (some : is_some loaded.view.references ≡ true) (early : Option Refusal) (told : RefusesUnnamed config loaded.view op early) where
+    module _ (some : is_some loaded.view.references ≡ true) (early : Option Refusal) (reported : RefusesUnnamed config loaded.view op early) where
       in_op : (refs : List Reference) × (references_in config op ≡ Some refs)
       in_op = found (references_in config op) (ap is_some (sym (ap (λ (l : LoadedView). l.view.references) same)) ∙ some)
 
@@ -63,7 +63,7 @@ module _ (config : Config) (s : State) (op : Operation) (loaded : LoadedView) wh
       kind = kind_is config op in_op.0 in_op.1
 
       early_is : early ≡ refusal_before_room config (without_entries (in_state s)) op
-      early_is = told s kind (seen_unnamed s op.content (touched_by config op) loaded same some)
+      early_is = reported s kind (seen_unnamed s op.content (touched_by config op) loaded same some)
 
       pub looked_early : is_some early ≡ true → IsLookedUp config s op (record { loaded = loaded; refusal = early })
       looked_early refuses =

@@ -37,13 +37,13 @@ use Rattle.dep_decisions.proofs.ReadAlone.{reads_keep}
 use Rattle.dep_answers.specs.Performing.{IsReady, IsReply}
 use Rattle.dep_answers.specs.Replies.{answer_to, refused_answer}
 use Rattle.dep_answers.specs.Steps.{operation_step, step_by, answered_step, accepted_answer, refused_step, accepted_step, is_head}
-use Rattle.dep_answers.specs.Subjects.{shown_at, subject_of}
+use Rattle.dep_answers.specs.ReadSets.{shown_at, read_set_of}
 use Rattle.dep_answers.specs.declared.performed.Delivery.{Delivery}
 use Rattle.dep_answers.specs.declared.performed.Performed.{Performed}
-use Rattle.dep_answers.specs.declared.subject.Shown.{Shown}
-use Rattle.dep_answers.specs.declared.subject.Shown.TheVariants as shown
-use Rattle.dep_answers.specs.declared.subject.Subject.{Subject}
-use Rattle.dep_answers.specs.declared.subject.Subject.TheVariants as subject
+use Rattle.dep_answers.specs.declared.read_set.Shown.{Shown}
+use Rattle.dep_answers.specs.declared.read_set.Shown.TheVariants as shown
+use Rattle.dep_answers.specs.declared.read_set.ReadSet.{ReadSet}
+use Rattle.dep_answers.specs.declared.read_set.ReadSet.TheVariants as read_set
 use Rattle.dep_tables.specs.Clauses.{ReadsOnly, StaysWithin}
 use Rattle.dep_tables.specs.Tables.{HasOurTables, IsOurs, tables_in}
 use Rattle.dep_tables.proofs.Results.{ok_then}
@@ -113,14 +113,14 @@ refused_early config s op looked r is e = record { clock = is.clock; ruling = is
 
 -- how the reply to a request goes out
 abbrev pub delivery_for : State → Operation → Delivery
-delivery_for s op = record { clock = s.clock; is_bare = is_head op.target.method; closes = op.closes }
+delivery_for s op = record { clock = s.clock; is_head_only = is_head op.target.method; closes = op.closes }
 
 pub delivered : (s : State) (op : Operation) (clock : ℕ) (d : Delivery) → IsSound s → clock ≡ s.clock → d.clock ≡ min clock greatest_moment
-    → d.is_bare ≡ is_head op.target.method → d.closes ≡ op.closes → d ≡ delivery_for s op
-delivered s op clock d sound same at bare closes =
+    → d.is_head_only ≡ is_head op.target.method → d.closes ≡ op.closes → d ≡ delivery_for s op
+delivered s op clock d sound same at head_only closes =
     let least : min s.clock greatest_moment ≡ s.clock = omega (arith, sound.clock) in
-    let told : d.clock ≡ s.clock = at ∙ ap (λ (n : ℕ). min n greatest_moment) same ∙ least in
-    λ i. record { clock = told i; is_bare = bare i; closes = closes i }
+    let reported : d.clock ≡ s.clock = at ∙ ap (λ (n : ℕ). min n greatest_moment) same ∙ least in
+    λ i. record { clock = reported i; is_head_only = head_only i; closes = closes i }
 
 -- a request that is refused leaves the state
 pub refused_then : (config : Config) (s : State) (op : Operation) (P : State → Type 0) (r : Refusal) (d : Delivery) (result : Result Performed StoreFault)
@@ -128,27 +128,27 @@ pub refused_then : (config : Config) (s : State) (op : Operation) (P : State →
     → IfOk result (λ p. (s : State) → IsReply s (refused_answer d.clock r None) d p)
     → IfOk result (λ p. IsReady (operation_step config s op) p × P (operation_step config s op).state)
 unfolding operation_step
-refused_then config s op P r d (Ok p) refused same sees told =
+refused_then config s op P r d (Ok p) refused same sees reported =
     let ready : IsReady (refused_step s r None (is_head op.target.method) op.closes) p =
-    subst (λ (way : Delivery). IsReady (answered_step s (refused_answer way.clock r None) way.clock way.is_bare way.closes) p) same (told s) in
+    subst (λ (way : Delivery). IsReady (answered_step s (refused_answer way.clock r None) way.clock way.is_head_only way.closes) p) same (reported s) in
     subst (λ (found : Option Refusal). IsReady (step_by config s op found) p × P (step_by config s op found).state) (sym refused) (ready, sees)
-refused_then config s op P r d (Err e) refused same sees told = tt
+refused_then config s op P r d (Err e) refused same sees reported = tt
 
 -- one that is accepted is answered at the state that its effect leaves
 pub accepted_then : (config : Config) (s : State) (op : Operation) (P : State → Type 0) (d : Delivery) (shown : Shown) (result : Result Performed StoreFault)
     → AreFit op.fields → IsSound s → refusal config s op ≡ None → d ≡ delivery_for s op
-    → P (effect config s op) × (shown ≡ shown_at (effect config s op) (subject_of (effect config s op).next op.target.resource op.target.method))
-    → IfOk result (λ p. (s : State) → IsSound s → shown ≡ shown_at s (subject_of s.next op.target.resource op.target.method)
+    → P (effect config s op) × (shown ≡ shown_at (effect config s op) (read_set_of (effect config s op).next op.target.resource op.target.method))
+    → IfOk result (λ p. (s : State) → IsSound s → shown ≡ shown_at s (read_set_of s.next op.target.resource op.target.method)
     → IsReply s (answer_to config s op.target.resource op.target.method) d p)
     → IfOk result (λ p. IsReady (operation_step config s op) p × P (operation_step config s op).state)
 unfolding operation_step accepted_answer
-accepted_then config s op P d shown (Ok p) fit sound accepted same carried told =
+accepted_then config s op P d shown (Ok p) fit sound accepted same carried reported =
     let after = effect config s op in
     let ready : IsReady (accepted_step config s op after) p =
-    subst (λ (way : Delivery). IsReady (answered_step after (answer_to config after op.target.resource op.target.method) way.clock way.is_bare way.closes) p) same
-    (told after (effect_sound config s op fit accepted sound) carried.1) in
+    subst (λ (way : Delivery). IsReady (answered_step after (answer_to config after op.target.resource op.target.method) way.clock way.is_head_only way.closes) p) same
+    (reported after (effect_sound config s op fit accepted sound) carried.1) in
     subst (λ (found : Option Refusal). IsReady (step_by config s op found) p × P (step_by config s op found).state) (sym accepted) (ready, carried.0)
-accepted_then config s op P d shown (Err e) fit sound accepted same carried told = tt
+accepted_then config s op P d shown (Err e) fit sound accepted same carried reported = tt
 
 -- the counters that an accepted request leaves
 pub next_after : (config : Config) (s : State) (op : Operation) (view : View) (d : Decision) (next : Counters)
@@ -158,15 +158,15 @@ next_after config s op view d next seen is e =
     e ∙ ap (λ (v : View). counters_after v.next (numbers_for d)) seen ∙ ap (λ (x : Decision). counters_after s.next (numbers_for x)) is
 
 -- what is shown of it then
-pub shown_after : (s : State) (op : Operation) (mid new : db.State) (next : Counters) (subject : Subject) (result : Result Shown StoreFault) → SeesState mid s
-    → subject ≡ subject_of next op.target.resource op.target.method → next ≡ s.next → OnOk result (new.now ≡ mid.now)
-    → IfOk result (λ shown. shown ≡ shown_at s subject)
-    → IfOk result (λ shown. SeesState new s × (shown ≡ shown_at s (subject_of s.next op.target.resource op.target.method)))
-shown_after s op mid new next subject (Ok shown) made of same still told = (
+pub shown_after : (s : State) (op : Operation) (mid new : db.State) (next : Counters) (read_set : ReadSet) (result : Result Shown StoreFault) → SeesState mid s
+    → read_set ≡ read_set_of next op.target.resource op.target.method → next ≡ s.next → OnOk result (new.now ≡ mid.now)
+    → IfOk result (λ shown. shown ≡ shown_at s read_set)
+    → IfOk result (λ shown. SeesState new s × (shown ≡ shown_at s (read_set_of s.next op.target.resource op.target.method)))
+shown_after s op mid new next read_set (Ok shown) made of same still reported = (
   sees_still mid new s still made,
-  told ∙ ap (shown_at s) (of ∙ ap (λ (n : Counters). subject_of n op.target.resource op.target.method) same),
+  reported ∙ ap (shown_at s) (of ∙ ap (λ (n : Counters). read_set_of n op.target.resource op.target.method) same),
 )
-shown_after s op mid new next subject (Err e) made of same still told = tt
+shown_after s op mid new next read_set (Err e) made of same still reported = tt
 
 -- ---- a file that the view has
 
@@ -180,7 +180,7 @@ file_looked_at s r = object_in r >>= (λ n. file_in r >>= (λ f. option_map (fil
 
 -- what is read of a file that is shown is the row that was looked at
 row_seen : (s : State) (next : Counters) (r : Resource) (m : Method) (row : FileRow) → IsTrue (is_safe m) → Some row ≡ file_looked_at s r
-    → shown.File row ≡ shown_at s (subject_of next r m)
+    → shown.File row ≡ shown_at s (read_set_of next r m)
 row_seen s next (resource.File n f) Get row h e = by_row n f row (file_at s n f) e
 row_seen s next (resource.File n f) Head row h e = by_row n f row (file_at s n f) e
 row_seen s next (resource.File n f) Post row h e = cc h
@@ -197,8 +197,8 @@ row_seen s next (resource.BagFile n path) m row h e = absurd (cc)
 
 -- ---- a payload file of a bag, whose row was looked at
 
-in_bag : (s : State) (n : ℕ) (row : FileRow) (k : Option ℕ) (tag : Subject) → Some row ≡ option_and_then (λ f. option_map (file_row n f) (file_at s n f)) k
-    → shown.File row ≡ shown_at s (option_map_or (λ f. subject.File (record { object = n; file = f })) k tag)
+in_bag : (s : State) (n : ℕ) (row : FileRow) (k : Option ℕ) (tag : ReadSet) → Some row ≡ option_and_then (λ f. option_map (file_row n f) (file_at s n f)) k
+    → shown.File row ≡ shown_at s (option_map_or (λ f. read_set.File (record { object = n; file = f })) k tag)
 in_bag s n row None tag e = absurd (cc)
 in_bag s n row (Some f) tag e = by_row n f row (file_at s n f) e
 
@@ -206,7 +206,7 @@ abbrev payload_looked_at : State → Resource → Option FileRow
 payload_looked_at s r = object_in r >>= (λ n. path_in r >>= file_at_path s n)
 
 payload_seen : (s : State) (next : Counters) (r : Resource) (m : Method) (row : FileRow) → IsTrue (is_safe m) → Some row ≡ payload_looked_at s r
-    → shown.File row ≡ shown_at s (subject_of next r m)
+    → shown.File row ≡ shown_at s (read_set_of next r m)
 payload_seen s next (resource.BagFile n path) Get row h e = in_bag s n row _ _ e
 payload_seen s next (resource.BagFile n path) Head row h e = in_bag s n row _ _ e
 payload_seen s next (resource.BagFile n path) Post row h e = cc h
@@ -224,13 +224,13 @@ payload_seen s next (resource.BagList n) m row h e = absurd (cc)
 -- ---- what is read of either is shown at the state that such a request leaves, which is the same
 
 abbrev ShowsRow : Config → State → Operation → FileRow → Type 0
-ShowsRow config s op row = (effect config s op ≡ s) × (shown.File row ≡ shown_at (effect config s op) (subject_of (effect config s op).next op.target.resource op.target.method))
+ShowsRow config s op row = (effect config s op ≡ s) × (shown.File row ≡ shown_at (effect config s op) (read_set_of (effect config s op).next op.target.resource op.target.method))
 
 module _ (config : Config) (s : State) (op : Operation) (ruled : Ruled) (row : FileRow) (read : IsTrue (is_safe op.target.method)) (rules : Sees config s op ruled) where
-  shown_still : shown.File row ≡ shown_at s (subject_of s.next op.target.resource op.target.method) → ShowsRow config s op row
-  shown_still told =
+  shown_still : shown.File row ≡ shown_at s (read_set_of s.next op.target.resource op.target.method) → ShowsRow config s op row
+  shown_still reported =
       let kept : effect config s op ≡ s = reads_keep config s op read in
-      (kept, told ∙ sym (ap (λ (after : State). shown_at after (subject_of after.next op.target.resource op.target.method)) kept))
+      (kept, reported ∙ sym (ap (λ (after : State). shown_at after (read_set_of after.next op.target.resource op.target.method)) kept))
 
   row_shown : ruled.view.file ≡ Some row → ShowsRow config s op row
   row_shown has =
@@ -244,21 +244,21 @@ module _ (config : Config) (s : State) (op : Operation) (ruled : Ruled) (row : F
 
 -- ---- so it is of the row that is known of the one or the other
 
-module _ (config : Config) (s : State) (op : Operation) (ruled : Ruled) (rules : Sees config s op ruled) (told : Shown) where
-  abbrev ShowsTold : Type 0
-  ShowsTold = (effect config s op ≡ s) × (told ≡ shown_at (effect config s op) (subject_of (effect config s op).next op.target.resource op.target.method))
+module _ (config : Config) (s : State) (op : Operation) (ruled : Ruled) (rules : Sees config s op ruled) (reported : Shown) where
+  abbrev ShowsReported : Type 0
+  ShowsReported = (effect config s op ≡ s) × (reported ≡ shown_at (effect config s op) (read_set_of (effect config s op).next op.target.resource op.target.method))
 
-  of_row : (row : FileRow) → told ≡ shown.File row → ShowsRow config s op row → ShowsTold
+  of_row : (row : FileRow) → reported ≡ shown.File row → ShowsRow config s op row → ShowsReported
   of_row row is shows = (shows.0, is ∙ shows.1)
 
-  pub row_known_shown : Some told ≡ option_map shown.File (row_for op ruled) → ShowsTold
+  pub row_known_shown : Some reported ≡ option_map shown.File (row_for op ruled) → ShowsReported
   row_known_shown known = go (is_safe op.target.method) refl known
     where
-      from : (a b : Option FileRow) → ruled.view.file ≡ a → ruled.payload ≡ b → IsTrue (is_safe op.target.method) → Some told ≡ option_map shown.File (option_or a b) → ShowsTold
-      from (Some row) b of_view of_bag read e = let same : told ≡ shown.File row = cc in of_row row same (row_shown config s op ruled row read rules of_view)
-      from None (Some row) of_view of_bag read e = let same : told ≡ shown.File row = cc in of_row row same (payload_shown config s op ruled row read rules of_bag)
+      from : (a b : Option FileRow) → ruled.view.file ≡ a → ruled.payload ≡ b → IsTrue (is_safe op.target.method) → Some reported ≡ option_map shown.File (option_or a b) → ShowsReported
+      from (Some row) b of_view of_bag read e = let same : reported ≡ shown.File row = cc in of_row row same (row_shown config s op ruled row read rules of_view)
+      from None (Some row) of_view of_bag read e = let same : reported ≡ shown.File row = cc in of_row row same (payload_shown config s op ruled row read rules of_bag)
       from None None of_view of_bag read e = absurd (cc)
 
-      go : (read : Bool) → is_safe op.target.method ≡ read → Some told ≡ option_map shown.File (if read then option_or ruled.view.file ruled.payload else None) → ShowsTold
+      go : (read : Bool) → is_safe op.target.method ≡ read → Some reported ≡ option_map shown.File (if read then option_or ruled.view.file ruled.payload else None) → ShowsReported
       go true is e = from ruled.view.file ruled.payload refl refl is e
       go false is e = absurd (cc)

@@ -14,11 +14,11 @@ use Rattle.dep_fields.specs.Fit.{AreFit}
 use Rattle.dep_answers.specs.Performing.{IsReady}
 use Rattle.dep_answers.specs.Replies.{answer_to}
 use Rattle.dep_answers.specs.Steps.{operation_step}
-use Rattle.dep_answers.specs.Subjects.{shown_at, subject_of}
+use Rattle.dep_answers.specs.ReadSets.{shown_at, read_set_of}
 use Rattle.dep_answers.specs.Answers.{Answer}
 use Rattle.dep_answers.specs.declared.performed.Performed.{Performed}
-use Rattle.dep_answers.specs.declared.subject.Shown.{Shown}
-use Rattle.dep_answers.specs.declared.subject.Shown.TheVariants.{Nothing}
+use Rattle.dep_answers.specs.declared.read_set.Shown.{Shown}
+use Rattle.dep_answers.specs.declared.read_set.Shown.TheVariants.{Nothing}
 use Rattle.dep_tables.specs.Tables.{IsOurs}
 use Rattle.dep_row_maps.specs.Clauses.{FromMaps, SeesState}
 use Rattle.dep_staging.specs.HashedAhead.{AreRunning}
@@ -84,7 +84,7 @@ ChangesNothing config s op = (refusal config s op ≢ None) ⊎ (decision config
 
 -- what the reply to a request that was accepted shows of a state
 abbrev pub shown_by : State → Operation → Shown
-shown_by s op = shown_at s (subject_of s.next op.target.resource op.target.method)
+shown_by s op = shown_at s (read_set_of s.next op.target.resource op.target.method)
 
 -- the answer that it gets there
 abbrev pub answered_at : Config → State → Operation → Answer

@@ -1,14 +1,14 @@
-//! Requests that are answered by what is remembered, and what the reply to one that only reads lets be remembered.
+//! Requests that are answered by what is cached, and what the reply to one that only reads lets be cached.
 
 ghost use Rattle.std.specs.Prelude.{◌≡◌, false, Some, IsTrue, IfOk, ◌↔◌};
 ghost use Rattle.dep_types.specs.State.{State};
 ghost use Rattle.dep_types.specs.Sound.{IsSound};
 ghost use Rattle.dep_fields.specs.Fit.{AreFit};
 ghost use Rattle.dep_operations.specs.Rulings.{IsRuling};
-ghost use Rattle.dep_requests.specs.Remembering.{Recalls, ReadsService, service_view, IsShown, is_plain_read};
+ghost use Rattle.dep_requests.specs.Caching.{IsCacheOf, ReadsService, service_view, IsShown, is_plain_read};
 
+use crate::caching::Cache;
 use crate::performing::{Done, accept, delivery_at};
-use crate::remembering::Remembered;
 use dep_answers::{Performed, Service, Shown, StoredFile, refused};
 use dep_decisions::{Operation, content_purpose};
 use dep_fields::Field;
@@ -24,12 +24,12 @@ pub(crate) fn reads_service(operation: &Operation<'_>) -> bool
 }
 
 /// What such a request touches of the archive: the clock and the counters.
-fn view_service(alloc: Global, remembered: &Remembered) -> View
-    ensures { result ≡ service_view remembered.now.clock remembered.now.next }
+fn view_service(alloc: Global, cache: &Cache) -> View
+    ensures { result ≡ service_view cache.now.clock cache.now.next }
 {
     View {
-        clock: remembered.clock,
-        next: remembered.next,
+        clock: cache.clock,
+        next: cache.next,
         object: None,
         file: None,
         has_path: false,
@@ -44,15 +44,15 @@ fn reply_service(
     alloc: Global,
     service: &Service,
     operation: &Operation<'_>,
-    remembered: &Remembered,
+    cache: &Cache,
     ruling: &Ruling,
 ) -> Result<Performed, StoreFault>
     requires { ReadsService operation.now }
-    ensures { AreFit operation.now.fields → (s : State) → IsSound s → Recalls remembered.now s
+    ensures { AreFit operation.now.fields → (s : State) → IsSound s → IsCacheOf cache.now s
         → IsRuling service.now s operation.now ruling.now
         → IfOk result (IsShown service.now operation.now s) }
 {
-    let delivery = delivery_at(remembered.clock, operation);
+    let delivery = delivery_at(cache.clock, operation);
     match ruling {
         Ruling::Refuse(refusal) => refused(alloc, *refusal, None, delivery),
         Ruling::Do(_) => accept(alloc, service, operation, &Shown::Nothing, delivery),
@@ -64,18 +64,18 @@ pub fn show_service(
     alloc: Global,
     service: &Service,
     operation: &Operation<'_>,
-    remembered: &Remembered,
+    cache: &Cache,
 ) -> Result<Performed, StoreFault>
     requires { ReadsService operation.now }
-    ensures { AreFit operation.now.fields → (s : State) → IsSound s → Recalls remembered.now s
+    ensures { AreFit operation.now.fields → (s : State) → IsSound s → IsCacheOf cache.now s
         → IfOk result (IsShown service.now operation.now s) }
 {
-    let view = view_service(alloc, remembered);
+    let view = view_service(alloc, cache);
     let purpose = content_purpose(operation);
     let decided = decide(alloc, service.config(), &view, operation, purpose);
     drop(view);
     let ruling = decided?;
-    let performed = reply_service(alloc, service, operation, remembered, &ruling);
+    let performed = reply_service(alloc, service, operation, cache, &ruling);
     drop(ruling);
     performed
 }
@@ -91,7 +91,7 @@ pub fn is_plain_read(operation: &Operation<'_>) -> bool
 
 /// The file whose content the reply has, where the request only reads.
 pub fn file_shown(operation: &Operation<'_>, done: &Done) -> Option<StoredFile>
-    ensures told { (it : StoredFile) → result ≡ Some it → IsTrue (is_plain_read operation.now)
+    ensures reported { (it : StoredFile) → result ≡ Some it → IsTrue (is_plain_read operation.now)
         × (done.now.has_changes ≡ false) × (done.now.performed.stored ≡ Some it) }
     ensures known { IsTrue (is_plain_read operation.now) → done.now.has_changes ≡ false
         → result ≡ done.now.performed.stored }

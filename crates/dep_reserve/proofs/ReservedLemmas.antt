@@ -6,12 +6,12 @@ use Rattle.dep_hub.specs.Archives.{TriesTo}
 use Rattle.dep_hub.proofs.Leaving.{Settles, leaves_wider}
 
 -- it fails without having been asked
-pub fails_unasked : {A E : Type 0} (c : Condition) (holds : State → Type 0) (told : State → A → Type 0) (next : State → State) (fault : E)
-    → Settles c → TriesTo c c holds told next (Err fault)
-fails_unasked c holds told next fault settles = record {
-  ok = λ clean s stands its. tt;
-  err = λ is_open s stands. stands;
+pub fails_unasked : {A E : Type 0} (c : Condition) (holds : State → Type 0) (reported : State → A → Type 0) (next : State → State) (fault : E)
+    → Settles c → TriesTo c c holds reported next (Err fault)
+fails_unasked c holds reported next fault settles = record {
+  ok = λ clean s represents its. tt;
+  err = λ is_open s represents. represents;
   honest = λ clean. clean;
   was_open = λ is_open. is_open;
-  stop = λ clean s stands its. leaves_wider c _ _ (λ left same. inl same) (settles s stands);
+  stop = λ clean s represents its. leaves_wider c _ _ (λ left same. inl same) (settles s represents);
 }

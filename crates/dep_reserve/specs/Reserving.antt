@@ -1,4 +1,4 @@
--- Which requests an archive turns away whose reserve was given up.
+-- Which requests an archive rejects whose reserve was given up.
 use Rattle.std.specs.Prelude.{Bool, true, false, not, ◌&&◌, nat_lt, length, Option, None, Some}
 use Rattle.dep_types.specs.declared.target.Method.{Method}
 use Rattle.dep_types.specs.declared.target.Method.TheVariants.{Get, Head, Post, Put, Delete}
@@ -21,6 +21,6 @@ abbrev pub is_low : {R : Type 0} → (is_standing : R → Bool) → Option R →
 is_low is_standing None = false
 is_low is_standing (Some reserve) = not (is_standing reserve)
 
--- the request is turned away
+-- the request is rejected
 abbrev pub turns_away : {R : Type 0} → (is_standing : R → Bool) → Option R → Operation → Bool
 turns_away is_standing reserve op = is_low is_standing reserve && brings_content op

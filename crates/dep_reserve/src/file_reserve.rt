@@ -83,7 +83,7 @@ fn noise(alloc: Global) -> Result<Vec<u8>, AllocError> {
 impl<R: Files> Reserve for FileReserve<'_, R> {
     ghost is_standing = { λ its. its.is_standing };
 
-    fn stands(&self) -> bool {
+    fn is_intact(&self) -> bool {
         self.is_standing
     }
 

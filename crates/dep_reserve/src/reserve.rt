@@ -8,7 +8,7 @@ pub trait Reserve {
     ghost is_standing: { Self → Bool };
 
     /// Whether it stands, and was not given up.
-    fn stands(&self) -> bool
+    fn is_intact(&self) -> bool
         ensures { result ≡ is_standing self.now };
 
     /// Gives it up.

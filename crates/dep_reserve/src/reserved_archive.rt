@@ -16,7 +16,7 @@ use dep_moment::Moment;
 use dep_types::{Config, Method, Outlet, StoreFault, StreamFault};
 
 /// An archive with a reserve, if it has one. Where a step fails by a fault of the store, as a commit does for want of room, the
-/// reserve is given up, and until it stands again what brings a content is turned away by the same fault. All else is served.
+/// reserve is given up, and until it stands again what brings a content is rejected by the same fault. All else is served.
 #[derive(Drop)]
 pub struct ReservedArchive<A, R> {
     archive: A,
@@ -59,12 +59,12 @@ impl<A: Archive, R: Reserve + Drop> ReservedArchive<A, R> {
         ensures { result ≡ is_low R.is_standing self.now.reserve }
     {
         match &self.reserve {
-            Some(reserve) => !reserve.stands(),
+            Some(reserve) => !reserve.is_intact(),
             None => false,
         }
     }
 
-    /// Whether the request is turned away: it brings a content, and the reserve was given up.
+    /// Whether the request is rejected: it brings a content, and the reserve was given up.
     pub fn turns_away(&self, operation: &Operation<'_>) -> bool
         ensures { result ≡ turns_away R.is_standing self.now.reserve operation.now }
     {
@@ -78,7 +78,7 @@ impl<A: Archive, R: Reserve + Drop> ReservedArchive<A, R> {
         ensures second { self.new.second ≡ self.old.second }
     {
         if let Some(reserve) = &mut self.reserve {
-            if reserve.stands() {
+            if reserve.is_intact() {
                 reserve.give_up();
             }
         }
@@ -92,7 +92,7 @@ impl<A: Archive, R: Reserve + Drop> ReservedArchive<A, R> {
         ensures second { self.new.second ≡ self.old.second }
     {
         if let Some(reserve) = &mut self.reserve {
-            if !reserve.stands() {
+            if !reserve.is_intact() {
                 reserve.restore();
             }
         }
@@ -110,7 +110,7 @@ fn brings_content(operation: &Operation<'_>) -> bool
 impl<A: Archive, R: Reserve + Drop> Archive for ReservedArchive<A, R> {
     ghost condition = { λ its. A.condition its.archive };
 
-    ghost account = { λ its. A.account its.archive };
+    ghost call_log = { λ its. A.call_log its.archive };
 
     ghost may_commit = { λ its. A.may_commit its.archive };
 
@@ -156,7 +156,7 @@ impl<A: Archive, R: Reserve + Drop> Archive for ReservedArchive<A, R> {
             operation.now result }
         ensures shut { FailsIfShut (A.condition self.old.archive) (A.condition self.new.archive)
             result }
-        // What is turned away is told by the fault of the store, before the archive is asked.
+        // What is rejected is told by the fault of the store, before the archive is asked.
         ensures away { IsTrue (turns_away R.is_standing self.old.reserve operation.now)
             → (result ≡ Err Store) × (self.new ≡ self.old) }
         ensures given_up { result ≡ Err Store
@@ -220,5 +220,5 @@ impl<A: Archive, R: Reserve + Drop> Archive for ReservedArchive<A, R> {
 
     ghost honest_if_open = { λ its is_open. A.honest_if_open its.archive is_open };
 
-    ghost settled = { λ its s stands. A.settled its.archive s stands };
+    ghost settled = { λ its s represents. A.settled its.archive s represents };
 }

@@ -4,7 +4,7 @@ use Rattle.std.proofs.lemmas.Bool.{cases_Bool}
 use Rattle.std.specs.Char.{digit_value}
 use Rattle.percent_encoding.specs.Percent.{percent_decode, is_escape}
 
--- where the front decodes to one octet, all of it stands for that octet
+-- where the front decodes to one octet, all of it represents that octet
 pub decodes_whole : (path : List ℕ) (octet : ℕ) → 0 < length path → percent_decode (take 3 path) ≡ octet ∷ [] → percent_decode path ≡ octet ∷ percent_decode (drop (length (take 3 path)) path)
 unfolding percent_decode
 decodes_whole [] octet some one = absurd (omega (arith, some))
@@ -15,7 +15,7 @@ decodes_whole (a ∷ b ∷ c ∷ rest) octet some one = elim (cases_Bool (is_esc
   | inr plain ↦ let is = rw plain at one in cc is
 ]
 
--- where it doesn't, the first octet stands for itself
+-- where it doesn't, the first octet represents itself
 pub decodes_first : (path : List ℕ) → 0 < length path → ((octet : ℕ) → percent_decode (take 3 path) ≡ octet ∷ [] → ⊥) → percent_decode path ≡ slice_index_or path 0 0 ∷ percent_decode (drop 1 path)
 unfolding percent_decode
 decodes_first [] some other = absurd (omega (arith, some))

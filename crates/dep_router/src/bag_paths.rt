@@ -25,7 +25,7 @@ pub(crate) fn decoded_from(path: Vec<u8>, start: usize) -> Vec<u8>
     path
 }
 
-// The first octet that is decoded from these, and how many it stands for: an escape decodes to one octet alone.
+// The first octet that is decoded from these, and how many it represents: an escape decodes to one octet alone.
 fn first_decoded(path: &[u8]) -> (u8, usize)
     requires { 0 < length path.now }
     ensures decodes { decoded path.now ≡ result.0 ∷ decoded (drop result.1 path.now) }

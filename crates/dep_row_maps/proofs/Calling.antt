@@ -17,30 +17,30 @@ module _ {T L : Type 0} {lenders : T → L} {state : T → db.State} {old new : 
 
   module _ {B : Type 0} {query : Query B} where
     -- its answer is returned as it is
-    pub queried : {r : Result B StoreFault} {told : State → B → Type 0} → Queries lenders state old new r query
-        → ((s : State) → TablesAre (tables_of (state old)) s → (found : B) → query.told (tables_of (state old)) found → told s found)
-        → ReadsMaps lenders state old new r told
-    queried {r = r} does tells = record {
-      map = λ clean ours s are. if_then r (does.ok clean ours) (tells s are);
+    pub queried : {r : Result B StoreFault} {reported : State → B → Type 0} → Queries lenders state old new r query
+        → ((s : State) → TablesAre (tables_of (state old)) s → (found : B) → query.reported (tables_of (state old)) found → reported s found)
+        → ReadsMaps lenders state old new r reported
+    queried {r = r} does reports = record {
+      map = λ clean ours s are. if_then r (does.ok clean ours) (reports s are);
       keeps = does.keeps;
     }
 
     -- something is made of it
-    pub queried_ok : {A : Type 0} {x : B} {y : A} {told : State → A → Type 0} → Queries lenders state old new (Ok x) query
-        → OverMaps (state old) (state new) (λ s. told s y)
-        → ReadsMaps lenders state old new (Ok y) told
-    queried_ok does tells = record { map = tells; keeps = reads_ok does.keeps }
+    pub queried_ok : {A : Type 0} {x : B} {y : A} {reported : State → A → Type 0} → Queries lenders state old new (Ok x) query
+        → OverMaps (state old) (state new) (λ s. reported s y)
+        → ReadsMaps lenders state old new (Ok y) reported
+    queried_ok does reports = record { map = reports; keeps = reads_ok does.keeps }
 
   -- ---- a failure is passed on
 
-  pub reads_failed : {A C : Type 0} {r : Result A StoreFault} {fault : StoreFault} {told : State → A → Type 0} → IsErrAnd r (λ e. e ≡ fault)
-      → ReadsWithin {A = C} {E = StoreFault} lenders state old new (Err fault) → ReadsMaps lenders state old new r told
+  pub reads_failed : {A C : Type 0} {r : Result A StoreFault} {fault : StoreFault} {reported : State → A → Type 0} → IsErrAnd r (λ e. e ≡ fault)
+      → ReadsWithin {A = C} {E = StoreFault} lenders state old new (Err fault) → ReadsMaps lenders state old new r reported
   reads_failed {r = Ok x} is keeps = absurd is
   reads_failed {r = Err e} is keeps = record { map = λ clean ours s are. tt; keeps = reads_err {s = Err e} refl keeps }
 
-  pub changes_failed : {A B : Type 0} {r : Result A StoreFault} {fault : StoreFault} {told : State → (State → Type 0) → Type 0} → IsErrAnd r (λ e. e ≡ fault)
-      → ((s : State) → told s (λ _. ⊤))
-      → StaysWithin {A = B} {E = StoreFault} lenders state old new (Err fault) → ChangesMaps lenders state old new r told
+  pub changes_failed : {A B : Type 0} {r : Result A StoreFault} {fault : StoreFault} {reported : State → (State → Type 0) → Type 0} → IsErrAnd r (λ e. e ≡ fault)
+      → ((s : State) → reported s (λ _. ⊤))
+      → StaysWithin {A = B} {E = StoreFault} lenders state old new (Err fault) → ChangesMaps lenders state old new r reported
   changes_failed {r = Ok x} is nothing stays = absurd is
   changes_failed {r = Err e} is nothing stays = record { map = λ clean inside ours s are. nothing s; keeps = changes_err {s = Err e} refl stays }
 
@@ -52,8 +52,8 @@ module _ {T L : Type 0} {lenders : T → L} {state : T → db.State} {old new : 
   -- ---- a statement
 
   -- its answer is returned as it is
-  pub written : {A : Type 0} {r : Result A StoreFault} {statement : Statement} {told : State → (State → Type 0) → Type 0} → Writes lenders state old new r statement
-      → Turns lenders state old new r told → WritesMaps lenders state old new r told
+  pub written : {A : Type 0} {r : Result A StoreFault} {statement : Statement} {reported : State → (State → Type 0) → Type 0} → Writes lenders state old new r statement
+      → Turns lenders state old new r reported → WritesMaps lenders state old new r reported
   written {statement = statement} does turns = record {
     map = turns;
     err = does.keeps.err;

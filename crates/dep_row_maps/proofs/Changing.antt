@@ -45,14 +45,14 @@ module _ {T L : Type 0} {lenders : T → L} {state : T → State} {old new : T} 
 
 -- a failure does nothing of what an Ok is told to do
 module _ {T L A B F : Type 0} {lenders : T → L} {state : T → State} {old new : T} {r : Result A StoreFault} {s : Result B F} where
-  pub does_failed : {told : Maps → Type 0} (next : Maps → Type 0) → IsErr r → StaysWithin lenders state old new s
-      → Does lenders state old new r (FromMaps (state old) (state new) (λ maps. told maps → OnOk r (next maps)))
-  does_failed next is stays = record { done = λ clean inside ours maps are told. IfOk-from_err r _ is; keeps = changes_err is stays }
+  pub does_failed : {reported : Maps → Type 0} (next : Maps → Type 0) → IsErr r → StaysWithin lenders state old new s
+      → Does lenders state old new r (FromMaps (state old) (state new) (λ maps. reported maps → OnOk r (next maps)))
+  does_failed next is stays = record { done = λ clean inside ours maps are reported. IfOk-from_err r _ is; keeps = changes_err is stays }
 
   -- the same of each object
-  pub each_failed : {O : Type 0} {told : O → Maps → Type 0} (next : O → Maps → Type 0) → IsErr r → StaysWithin lenders state old new s
-      → Does lenders state old new r ((o : O) → FromMaps (state old) (state new) (λ maps. told o maps → OnOk r (next o maps)))
-  each_failed next is stays = record { done = λ o clean inside ours maps are told. IfOk-from_err r _ is; keeps = changes_err is stays }
+  pub each_failed : {O : Type 0} {reported : O → Maps → Type 0} (next : O → Maps → Type 0) → IsErr r → StaysWithin lenders state old new s
+      → Does lenders state old new r ((o : O) → FromMaps (state old) (state new) (λ maps. reported o maps → OnOk r (next o maps)))
+  each_failed next is stays = record { done = λ o clean inside ours maps are reported. IfOk-from_err r _ is; keeps = changes_err is stays }
 
 -- a statement that makes what is left of its change, behind calls that made a part of it
 module _ {T L A X Y : Type 0} {lenders : T → L} {state : T → State} {old mid new : T} {r : Result A StoreFault} {x : X} {statement : Statement} where

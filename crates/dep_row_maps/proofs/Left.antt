@@ -20,7 +20,7 @@ use Rattle.dep_tables.specs.Rows.{left_values, shown_left}
 use Rattle.dep_tables.specs.Edits.{IsLeftBefore}
 use Rattle.dep_tables.specs.declared.uploads.LeftUpload.{LeftUpload}
 use Rattle.dep_row_maps.specs.Stored.{upload_stored}
-use Rattle.dep_row_maps.specs.Left.{was_left_before, TellsLeft, LeftBeforeRead}
+use Rattle.dep_row_maps.specs.Left.{was_left_before, ReportsLeft, LeftBeforeRead}
 use Rattle.dep_row_maps.proofs.Files.{same_number}
 use Rattle.dep_row_maps.proofs.Lens.{tied_not}
 use Rattle.dep_row_maps.proofs.Blocks.{number_order}
@@ -92,7 +92,7 @@ one_taken row (x ∷ xs) e = let same : row ≡ x = cc in inl same
 pub left_before_read : LeftBeforeRead
 left_before_read t s h moment found read = go found read
   where
-    go : (found : Option LeftUpload) → IsLeftBefore moment t found → TellsLeft moment s.uploads found
+    go : (found : Option LeftUpload) → IsLeftBefore moment t found → ReportsLeft moment s.uploads found
     go None first = λ u. none_at u (finmap.get s.uploads u) refl
       where
         empty : first.0 ≡ []

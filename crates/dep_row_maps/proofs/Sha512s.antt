@@ -21,7 +21,7 @@ use Rattle.dep_tables.specs.declared.owner.BlockOwner.{BlockOwner}
 use Rattle.dep_tables.specs.declared.owner.BlockOwner.TheVariants as owner
 use Rattle.dep_row_maps.specs.Stored.{shown_sha512, sha512_rows}
 use Rattle.dep_row_maps.specs.TablesAre.{TablesAre, TablesAreOf, Sha512s, Sha512sAre, HasSha512, AreFilesSha512s, AreUploadsSha512s, files_at, promised_at}
-use Rattle.dep_row_maps.specs.Laws.{TellsSha512, Sha512Read}
+use Rattle.dep_row_maps.specs.Laws.{ReportsSha512, Sha512Read}
 use Rattle.dep_row_maps.proofs.Blocks.{one_owner, same_owner, is_owner}
 use Rattle.dep_row_maps.proofs.Owners.{owners-put, owners-delete, with_at}
 use Rattle.dep_row_maps.proofs.Files.{same_number}
@@ -213,8 +213,8 @@ sha512_found rows values are o found is =
     sym (same_value (values o) found (short_permutation (sha512_rows found) (sha512_rows (values o)) (one_value found) (subst (λ rs. IsPermutation rs (sha512_rows (values o))) shown (are.of_each o))))
 
 pub sha512_read : Sha512Read
-sha512_read t s h o found is = tells o (sha512_found t.sha512s h.values h.sha512s o found is)
+sha512_read t s h o found is = reports o (sha512_found t.sha512s h.values h.sha512s o found is)
   where
-    tells : (q : BlockOwner) → found ≡ h.values q → TellsSha512 s q found
-    tells (owner.File f) its = (λ n file there. its ∙ h.files_sha512s.of_files n f file there, λ none. its ∙ h.files_sha512s.of_none f none)
-    tells (owner.Upload u) its = its ∙ h.uploads_sha512s u
+    reports : (q : BlockOwner) → found ≡ h.values q → ReportsSha512 s q found
+    reports (owner.File f) its = (λ n file there. its ∙ h.files_sha512s.of_files n f file there, λ none. its ∙ h.files_sha512s.of_none f none)
+    reports (owner.Upload u) its = its ∙ h.uploads_sha512s u

@@ -20,12 +20,12 @@ SeesState now s = TablesAre (tables_of now) s
 module _ (old new : db.State) where
   -- inside a transaction over tables that are a state's
   abbrev pub FromMaps : (State → Type 0) → Type 0
-  FromMaps told = HasCleanDisk new → IsTrue old.in_transaction → IsOurs old
-      → (s : State) → SeesState old s → told s
+  FromMaps reported = HasCleanDisk new → IsTrue old.in_transaction → IsOurs old
+      → (s : State) → SeesState old s → reported s
 
   -- the same of reading, in a transaction or not
   abbrev pub OverMaps : (State → Type 0) → Type 0
-  OverMaps told = HasCleanDisk new → IsOurs old → (s : State) → SeesState old s → told s
+  OverMaps reported = HasCleanDisk new → IsOurs old → (s : State) → SeesState old s → reported s
 
 module _ {A E : Type 0} (old new : db.State) (result : Result A E) where
   -- inside a transaction over our tables, an Ok makes this of them, were it by no statement
@@ -44,36 +44,36 @@ module _ {T L A E : Type 0} (lenders : T → L) (state : T → db.State) (old ne
     pub ours : KeepsOurs (state old) (state new) result
 
   -- inside a transaction over a state's tables this holds of the state, and nothing is changed
-  pub record Finds (told : State → Type 0) : Type 0 where
-    pub found : FromMaps (state old) (state new) told
+  pub record Finds (reported : State → Type 0) : Type 0 where
+    pub found : FromMaps (state old) (state new) reported
     pub keeps : ReadsWithin lenders state old new result
 
   -- the same of a call that reads, if anything
-  pub record MayFind (told : State → Type 0) : Type 0 where
-    pub found : FromMaps (state old) (state new) told
+  pub record MayFind (reported : State → Type 0) : Type 0 where
+    pub found : FromMaps (state old) (state new) reported
     pub keeps : MayReadWithin lenders state old new result
 
   -- the same in a transaction or not
-  pub record ReadsOver (told : State → Type 0) : Type 0 where
-    pub map : OverMaps (state old) (state new) told
+  pub record ReadsOver (reported : State → Type 0) : Type 0 where
+    pub map : OverMaps (state old) (state new) reported
     pub keeps : ReadsWithin lenders state old new result
 
   -- and of an open store
-  pub record MayReadOver (told : State → Type 0) : Type 0 where
-    pub map : IsTrue (state old).is_open → OverMaps (state old) (state new) told
+  pub record MayReadOver (reported : State → Type 0) : Type 0 where
+    pub map : IsTrue (state old).is_open → OverMaps (state old) (state new) reported
     pub keeps : MayReadWithin lenders state old new result
 
 module _ {T L A : Type 0} (lenders : T → L) (state : T → db.State) (old new : T)
     (result : Result A StoreFault) where
   -- what a call does that reads, and returns this of a state
-  pub record ReadsMaps (told : State → A → Type 0) : Type 0 where
-    pub map : OverMaps (state old) (state new) (λ s. IfOk result (told s))
+  pub record ReadsMaps (reported : State → A → Type 0) : Type 0 where
+    pub map : OverMaps (state old) (state new) (λ s. IfOk result (reported s))
     pub keeps : ReadsWithin lenders state old new result
 
   -- inside a transaction over a state's tables, an Ok makes them those of a state that is so
   abbrev pub Turns : (State → (State → Type 0) → Type 0) → Type 0
-  Turns told = FromMaps (state old) (state new)
-      (λ s. told s (λ next. OnOk result (SeesState (state new) next)))
+  Turns reported = FromMaps (state old) (state new)
+      (λ s. reported s (λ next. OnOk result (SeesState (state new) next)))
 
   -- what a call does, and what each keeps that changes our tables
   pub record Does (this : Type 0) : Type 0 where
@@ -81,13 +81,13 @@ module _ {T L A : Type 0} (lenders : T → L) (state : T → db.State) (old new 
     pub keeps : ChangesWithin lenders state old new result
 
   -- what one does that turns a state
-  pub record ChangesMaps (told : State → (State → Type 0) → Type 0) : Type 0 where
-    pub map : Turns told
+  pub record ChangesMaps (reported : State → (State → Type 0) → Type 0) : Type 0 where
+    pub map : Turns reported
     pub keeps : ChangesWithin lenders state old new result
 
   -- the same of one that runs a single statement, so that a failure has changed nothing, or is given back whole
-  pub record WritesMaps (told : State → (State → Type 0) → Type 0) : Type 0 where
-    pub map : Turns told
+  pub record WritesMaps (reported : State → (State → Type 0) → Type 0) : Type 0 where
+    pub map : Turns reported
     pub err : FailsWhole (state old) (state new) result
     pub keeps : ChangesWithin lenders state old new result
 

@@ -10,7 +10,7 @@ use Rattle.std.proofs.Common.{ℕ}
 use Rattle.sqlite.specs.Schema.{Schema}
 use Rattle.dep_tables.specs.Tables.{Tables, tables_of, IsOf}
 use Rattle.dep_tables.specs.Versions.{HasVersion}
-use Rattle.dep_schema.specs.Standing.{HoldsOf, HoldsNone, no_schema, SeesOf, StandsOf, CommitsBySchema, CommitsOpen}
+use Rattle.dep_schema.specs.OpenTables.{HoldsOf, HoldsNone, no_schema, SeesOf, IsOpenWithOf, CommitsBySchema, CommitsOpen}
 
 pub sees_trees : (its : Schema) (s : State) → IsDatabase s.now → (tables : Tables) → HoldsOf its s.now.trees tables → SeesOf its s tables
 sees_trees its s live tables held = record {
@@ -22,10 +22,10 @@ pub sees_none : (s : State) → IsDatabase s.now → HoldsNone s.now.trees → s
 sees_none s live none = lists_once (s.now.trees catalog_tree) s.now.schema no_schema live.lists none.lists
 
 pub finds_tables : (its : Schema) (version : ℕ) (s new : State) → IsDatabase s.now → (tables : Tables) → HoldsOf its s.now.trees tables
-    → (IsOf its s → HasVersion version (tables_of s) × StandsOf its new (tables_of s)) → HasVersion version tables × StandsOf its new tables
+    → (IsOf its s → HasVersion version (tables_of s) × IsOpenWithOf its new (tables_of s)) → HasVersion version tables × IsOpenWithOf its new tables
 finds_tables its version s new live tables held found =
     let sees = sees_trees its s live tables held in
-    subst (λ t. HasVersion version t × StandsOf its new t) sees.rows (found sees.ours)
+    subst (λ t. HasVersion version t × IsOpenWithOf its new t) sees.rows (found sees.ours)
 
 commits : (s : State) → IsLive s → (trees : Trees) → CommitsBySchema s trees → CommitsOpen s trees
 commits s live trees may = record {

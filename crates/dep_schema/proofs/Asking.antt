@@ -12,7 +12,7 @@ use Rattle.dep_statements.proofs.Asked.{shown_keeps, shown_mode, asks_keep, asks
 use Rattle.dep_tables.specs.Clauses.{StaysWithin}
 use Rattle.dep_tables.proofs.Chains.{left_whole}
 use Rattle.dep_tables.proofs.Results.{if_ok, if_failed, ok_then}
-use Rattle.dep_schema.specs.Standing.{StaysOn}
+use Rattle.dep_schema.specs.OpenTables.{StaysOn}
 use Rattle.dep_schema.specs.declared.lending.Lent.{Lent}
 
 failed_keeps : (old new : db.State) → IsUnchanged old new ⊎ IsRolledBack old new → KeepsCommit old new
@@ -52,9 +52,9 @@ module _ {S : Type 0} (g : Ghosts S) (old new : MutBor (Held S)) (same_reference
     }
 
     -- it has failed, which may be told as an answer where it has changed nothing
-    pub tells_stay : (e : Error) {A E : Type 0} {r : Result A E} → (HasCleanDisk (state g new.now) → Failed e)
+    pub reports_stay : (e : Error) {A E : Type 0} {r : Result A E} → (HasCleanDisk (state g new.now) → Failed e)
         → (HasCleanDisk (state g new.now) → OnOk r (IsUnchanged (state g old.now) (state g new.now))) → StaysOn g old new r
-    tells_stay e {r = r} failed same = record {
+    reports_stay e {r = r} failed same = record {
       same_reference = same_reference;
       survives = survives;
       inside = λ clean inside. ok_then r (same clean) (λ it. it.0.mode ∙ inside);
@@ -63,8 +63,8 @@ module _ {S : Type 0} (g : Ghosts S) (old new : MutBor (Held S)) (same_reference
     }
 
     -- a statement was run, and its result is told as it is
-    pub ran_stays : (r : Result ℕ Error) {A E : Type 0} (told : Result A E) → is_ok told ≡ is_ok r
-        → (HasCleanDisk (state g new.now) → IsTrue (state g old.now).in_transaction → ExecutesInside 0 sql params (state g old.now) (state g new.now) r) → StaysOn g old new told
+    pub ran_stays : (r : Result ℕ Error) {A E : Type 0} (reported : Result A E) → is_ok reported ≡ is_ok r
+        → (HasCleanDisk (state g new.now) → IsTrue (state g old.now).in_transaction → ExecutesInside 0 sql params (state g old.now) (state g new.now) r) → StaysOn g old new reported
     ran_stays (Ok count) (Ok x) same ran = record {
       same_reference = same_reference;
       survives = survives;
@@ -82,8 +82,8 @@ module _ {S : Type 0} (g : Ghosts S) (old new : MutBor (Held S)) (same_reference
       fails = λ clean inside is_open. left_whole (state g old.now) (state g new.now) inside is_open (left_by e (ran clean inside));
     }
 
-    pub ran_leaves : (r : Result ℕ Error) {A E : Type 0} (told : Result A E) → is_ok told ≡ is_ok r → ExecutesInside 0 sql params (state g old.now) (state g new.now) r
-        → OnErr told (IsUnchanged (state g old.now) (state g new.now) ⊎ IsRolledBack (state g old.now) (state g new.now))
+    pub ran_leaves : (r : Result ℕ Error) {A E : Type 0} (reported : Result A E) → is_ok reported ≡ is_ok r → ExecutesInside 0 sql params (state g old.now) (state g new.now) r
+        → OnErr reported (IsUnchanged (state g old.now) (state g new.now) ⊎ IsRolledBack (state g old.now) (state g new.now))
     ran_leaves r (Ok x) same ran = tt
     ran_leaves (Ok count) (Err fault) same ran = absurd (cc same)
     ran_leaves (Err e) (Err fault) same ran = left_by e ran

@@ -46,7 +46,7 @@ use Rattle.dep_schema.proofs.Placed.{ours, with_format, with_state, tables_are, 
 use Rattle.dep_schema.proofs.Placed.{format_named, format_listed, state_named, state_listed, indexed_schema, indexed_rows, free_indexes}
 use Rattle.dep_tables.specs.Tables.{Tables, tables_of, tables_from}
 use Rattle.dep_tables.specs.Versions.{our_version}
-use Rattle.dep_schema.specs.Standing.{Sees, no_schema, first_state, first_tables, IsBeside, GainsOurs}
+use Rattle.dep_schema.specs.OpenTables.{Sees, no_schema, first_state, first_tables, IsBeside, GainsOurs}
 
 -- ---- how an INSERT is understood, by the table that its name finds
 
@@ -217,8 +217,8 @@ module _ (old mid named next new : Database) (added : AddsAll our_tables old mid
       let low = table_below schema t here in
       all_has _ schema.tables t second_kept.0 here (λ e. omega (arith, e, low, state_tree schema)) ∙ all_has _ schema.tables t first_kept.0 here (λ e. omega (arith, e, low)) ∙ all_has _ schema.tables t indexes_kept.0 here ∙ all_has _ schema.tables t made.others here
 
-  pub stands_beside : (new.schema ≡ with_ours old.schema) × IsBeside old new.trees
-  stands_beside = (schema_is, record { sound = subst (λ s. IsSound s new.trees) schema_is state_put.sound; rows = rows_are; others = all_from _ schema.tables each_kept })
+  pub represents_beside : (new.schema ≡ with_ours old.schema) × IsBeside old new.trees
+  represents_beside = (schema_is, record { sound = subst (λ s. IsSound s new.trees) schema_is state_put.sound; rows = rows_are; others = all_from _ schema.tables each_kept })
 
 gains_if : {A E : Type 0} (r : Result A E) (old new : Database) → AreFree old.schema → (HasCounters old.schema → OnOk r ((new.schema ≡ with_ours old.schema) × IsBeside old new.trees)) → OnOk r (GainsOurs old new)
 gains_if (Ok x) old new free after = record { free = free; made = after }
@@ -239,7 +239,7 @@ gains r old mid named new added both rows =
     let all = free_all our_tables old mid added in
     let free = free_before old mid named added both in
     gains_if r old new free (λ has.
-    ok_then r (rows old.schema free (indexed_schema old.schema all.0 mid named (plainly_made old mid has added).schema both)) (λ put. stands_beside old mid named put.0 new added both has put.1 put.2))
+    ok_then r (rows old.schema free (indexed_schema old.schema all.0 mid named (plainly_made old mid has added).schema both)) (λ put. represents_beside old mid named put.0 new added both has put.1 put.2))
 
 -- ---- in an empty database
 

@@ -7,7 +7,7 @@ use Rattle.dep_types.specs.declared.store_fault.StoreFault.{StoreFault}
 use Rattle.dep_tables.specs.Clauses.{StaysWithin}
 use Rattle.dep_tables.proofs.Chains.{stays_err}
 use Rattle.dep_schema.specs.Causes.{FailsSince}
-use Rattle.dep_schema.specs.Standing.{WorksWithin}
+use Rattle.dep_schema.specs.OpenTables.{WorksWithin}
 
 -- a fault that is passed on
 pub if_err_is : {A E : Type 0} (P : E → Type 0) (r : Result A E) (fault : E) → IsErrAnd r (λ e. e ≡ fault) → P fault → IfErr r P

@@ -124,15 +124,15 @@ only_select (Err e) c h = absurd (cc)
 only_select (Ok x) c h = let is = only_this x c (is_select x.command) refl h in (ap Ok is.0, is.1)
 
 module _ (text : List ℕ) (table : Table) (index : Index) (it : ReadsIndex text table index) where
-  abbrev told : Command → Compiled
-  told made = with_command it.parsed ([], (made, None))
+  abbrev reported : Command → Compiled
+  reported made = with_command it.parsed ([], (made, None))
 
   compiled_in : (schema : Schema)
       → compiled schema text ≡ and_then (and_then (and_then (create_index schema it.def) (λ c. Ok (c, None))) (λ found. Ok ([], found))) (λ plan. Ok (with_command it.parsed plan))
   unfolding compiled planned meaning command returning timed
   compiled_in schema = rw (it.read, it.statement, it.formats) refl
 
-  compiles : (schema : Schema) (c : Compiled) → compiled schema text ≡ Ok c → (made : Command) × (c ≡ told made) × Creates schema it.def made
+  compiles : (schema : Schema) (c : Compiled) → compiled schema text ≡ Ok c → (made : Command) × (c ≡ reported made) × Creates schema it.def made
   compiles schema c h =
       let (plan, plan_is, last) = went_on (and_then (and_then (create_index schema it.def) (λ c. Ok (c, None))) (λ found. Ok ([], found))) (λ plan. Ok (with_command it.parsed plan)) c (sym (compiled_in schema) ∙ h) in
       let (found, found_is, next) = went_on (and_then (create_index schema it.def) (λ c. Ok (c, None))) (λ found. Ok ([], found)) plan plan_is in
@@ -146,11 +146,11 @@ module _ (text : List ℕ) (table : Table) (index : Index) (it : ReadsIndex text
       let no : is_select (CreateIndex does.at) ≡ true = subst (λ k. is_select k ≡ true) (ap (λ (x : Compiled). x.command) is ∙ does.is) only.1 in
       cc
 
-  understands : (schema : Schema) (c : Compiled) → understood schema text ≡ Ok c → (made : Command) × (c ≡ told made) × Creates schema it.def made
+  understands : (schema : Schema) (c : Compiled) → understood schema text ≡ Ok c → (made : Command) × (c ≡ reported made) × Creates schema it.def made
   unfolding understood
   understands schema c h = go (reads_listing schema text) h
     where
-      go : (b : Bool) → (if b then if_select (compiled listing_schema text) else compiled schema text) ≡ Ok c → (made : Command) × (c ≡ told made) × Creates schema it.def made
+      go : (b : Bool) → (if b then if_select (compiled listing_schema text) else compiled schema text) ≡ Ok c → (made : Command) × (c ≡ reported made) × Creates schema it.def made
       go false is = compiles schema c is
       go true is = absurd (listed_too c is)
 
@@ -163,7 +163,7 @@ module _ (text : List ℕ) (table : Table) (index : Index) (it : ReadsIndex text
       let schema = old.now.schema in
       let seen = understood_of text [] old new count h in
       let (made, is, does) = understands schema seen.0 seen.1 in
-      let goes : understood schema text ≡ Ok (told made) = seen.1 ∙ ap Ok is in
+      let goes : understood schema text ≡ Ok (reported made) = seen.1 ∙ ap Ok is in
       let command_is : command_of (understood schema text) ≡ CreateIndex does.at = ap command_of goes ∙ does.is in
       let plain : IsPlain (understood schema text) = subst IsPlain (sym goes) (refl, refl) in
       let whole : statement_of text (understood schema text) ≡ text = ap (statement_of text) goes ∙ it.whole made in

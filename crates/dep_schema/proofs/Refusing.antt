@@ -32,10 +32,10 @@ use Rattle.dep_tables.specs.Versions.{IsKnownVersion, HasVersion}
 use Rattle.dep_tables.proofs.Results.{if_ok}
 use Rattle.dep_statements.proofs.Asked.{asks_on}
 use Rattle.dep_schema.specs.Beside.{LacksFormat}
-use Rattle.dep_schema.specs.Standing.{HasKnownVersion}
+use Rattle.dep_schema.specs.OpenTables.{HasKnownVersion}
 use Rattle.dep_schema.specs.Texts.{find_format_text}
 use Rattle.dep_tables.specs.Faults.{fault_for}
-use Rattle.dep_schema.specs.OpenFaults.{open_fault_for, told_by, TellsError, ShowsVersion, ShowsNone, FailsToTell, FailsToFind, FailsToMake, FailsToFindOrMake, begun, GivesOut, RefusesKnown}
+use Rattle.dep_schema.specs.OpenFaults.{open_fault_for, reported_by, ReportsError, ShowsVersion, ShowsNone, FailsToReport, FailsToFind, FailsToMake, FailsToFindOrMake, begun, GivesOut, RefusesKnown}
 use Rattle.dep_schema.specs.declared.lending.Lent.{Lent}
 use Rattle.dep_schema.specs.declared.opening.OpenFault.{OpenFault}
 use Rattle.dep_schema.specs.declared.opening.OpenFault.TheVariants.{UnknownVersion}
@@ -69,58 +69,58 @@ match_err P Q (Err e) fault is q = subst Q (sym is) q
 -- ---- an error of the query for the version
 
 sorted : (e : Error)
-    → ((e ≡ SqlInputError NoSuchTable) × (told_by e ≡ Ok None))
-    ⊎ (((why : CompileError) × (e ≡ SqlInputError why) × (why ≢ NoSuchTable) × (told_by e ≡ Err UnknownVersion))
-    ⊎ (((why : CompileError) → e ≢ SqlInputError why) × (told_by e ≡ Err (open_fault_for (fault_for e)))))
+    → ((e ≡ SqlInputError NoSuchTable) × (reported_by e ≡ Ok None))
+    ⊎ (((why : CompileError) × (e ≡ SqlInputError why) × (why ≢ NoSuchTable) × (reported_by e ≡ Err UnknownVersion))
+    ⊎ (((why : CompileError) → e ≢ SqlInputError why) × (reported_by e ≡ Err (open_fault_for (fault_for e)))))
 sorted (SqlInputError NoSuchTable) = inl (refl, refl)
 sorted (SqlInputError why) = inr (inl (why, refl, (λ is. cc), refl))
 sorted e = inr (inr ((λ why is. cc), refl))
 
 -- it tells no version that is not known
-pub version_told : (e : Error) (r : Result (Option ℕ) OpenFault) → r ≡ told_by e → IfOk r (λ found. IfSome found IsKnownVersion)
-version_told e r is = elim (sorted e) [
+pub version_reported : (e : Error) (r : Result (Option ℕ) OpenFault) → r ≡ reported_by e → IfOk r (λ found. IfSome found IsKnownVersion)
+version_reported e r is = elim (sorted e) [
   | inl none ↦ subst (λ x. IfOk x (λ found. IfSome found IsKnownVersion)) (sym (is ∙ none.1)) tt
   | inr (inl text) ↦ subst (λ x. IfOk x (λ found. IfSome found IsKnownVersion)) (sym (is ∙ text.3)) tt
   | inr (inr other) ↦ subst (λ x. IfOk x (λ found. IfSome found IsKnownVersion)) (sym (is ∙ other.1)) tt
 ]
 
-module _ (old new : State) (e : Error) (r : Result (Option ℕ) OpenFault) (is : r ≡ told_by e) (failed : FailsToTell old new e) where
+module _ (old new : State) (e : Error) (r : Result (Option ℕ) OpenFault) (is : r ≡ reported_by e) (failed : FailsToReport old new e) where
   abbrev IsNoVersion : Result (Option ℕ) OpenFault → Type 0
   IsNoVersion x = MatchResult x (λ found. found ≡ None) (λ fault. fault ≢ UnknownVersion)
 
-  abbrev TellsKnown : Result (Option ℕ) OpenFault → Type 0
-  TellsKnown x = MatchResult x (λ found. (version : ℕ) × (found ≡ Some version) × HasVersion version (tables_of old)) (λ fault. fault ≡ UnknownVersion → HasKnownVersion (tables_of old) → ⊥)
+  abbrev ReportsKnown : Result (Option ℕ) OpenFault → Type 0
+  ReportsKnown x = MatchResult x (λ found. (version : ℕ) × (found ≡ Some version) × HasVersion version (tables_of old)) (λ fault. fault ≡ UnknownVersion → HasKnownVersion (tables_of old) → ⊥)
 
-  abbrev IsTold : Result (Option ℕ) OpenFault → Type 0
-  IsTold x = MatchResult x (λ found. MatchOption found (ShowsNone old new) (ShowsVersion old new)) (FailsToFind old new)
+  abbrev IsReported : Result (Option ℕ) OpenFault → Type 0
+  IsReported x = MatchResult x (λ found. MatchOption found (ShowsNone old new) (ShowsVersion old new)) (FailsToFind old new)
 
-  pub lacking_told : LacksFormat old.now.schema → MatchResult r (λ found. found ≡ None) (λ fault. fault ≢ UnknownVersion)
-  lacking_told lacks = elim (sorted e) [
+  pub lacking_reported : LacksFormat old.now.schema → MatchResult r (λ found. found ≡ None) (λ fault. fault ≢ UnknownVersion)
+  lacking_reported lacks = elim (sorted e) [
     | inl none ↦ subst IsNoVersion (sym (is ∙ none.1)) refl
     | inr (inl text) ↦ absurd (text.2 (missing_only old new e text.0 lacks failed text.1))
     | inr (inr other) ↦ subst IsNoVersion (sym (is ∙ other.1)) (named_fault (fault_for e) _ refl)
   ]
 
-  pub known_told : IsKnown old
+  pub known_reported : IsKnown old
       → MatchResult r (λ found. (version : ℕ) × (found ≡ Some version) × HasVersion version (tables_of old)) (λ fault. fault ≡ UnknownVersion → HasKnownVersion (tables_of old) → ⊥)
-  known_told known = elim (sorted e) [
+  known_reported known = elim (sorted e) [
     | inl none ↦ absurd (ours_asked old new e NoSuchTable known failed none.0)
     | inr (inl text) ↦ absurd (ours_asked old new e text.0 known failed text.1)
-    | inr (inr other) ↦ subst TellsKnown (sym (is ∙ other.1)) (λ said version. named_fault (fault_for e) _ refl said)
+    | inr (inr other) ↦ subst ReportsKnown (sym (is ∙ other.1)) (λ said version. named_fault (fault_for e) _ refl said)
   ]
 
-  pub unchanged_told : OnOk r (IsUnchanged old new)
-  unchanged_told = elim (sorted e) [
+  pub unchanged_reported : OnOk r (IsUnchanged old new)
+  unchanged_reported = elim (sorted e) [
     | inl none ↦ if_ok r (asks_on find_format_text [] old new e NoSuchTable none.0 failed)
     | inr (inl text) ↦ subst (λ x. OnOk x (IsUnchanged old new)) (sym (is ∙ text.3)) tt
     | inr (inr other) ↦ subst (λ x. OnOk x (IsUnchanged old new)) (sym (is ∙ other.1)) tt
   ]
 
-  pub finds_told : MatchResult r (λ found. MatchOption found (ShowsNone old new) (ShowsVersion old new)) (FailsToFind old new)
-  finds_told = elim (sorted e) [
-    | inl none ↦ subst IsTold (sym (is ∙ none.1)) (subst (FailsToTell old new) none.0 failed)
-    | inr (inl text) ↦ subst IsTold (sym (is ∙ text.3)) (inl (refl, inr (text.0, subst (FailsToTell old new) text.1 failed, text.2)))
-    | inr (inr other) ↦ subst IsTold (sym (is ∙ other.1)) (inr (e, failed, other.0, refl))
+  pub finds_reported : MatchResult r (λ found. MatchOption found (ShowsNone old new) (ShowsVersion old new)) (FailsToFind old new)
+  finds_reported = elim (sorted e) [
+    | inl none ↦ subst IsReported (sym (is ∙ none.1)) (subst (FailsToReport old new) none.0 failed)
+    | inr (inl text) ↦ subst IsReported (sym (is ∙ text.3)) (inl (refl, inr (text.0, subst (FailsToReport old new) text.1 failed, text.2)))
+    | inr (inr other) ↦ subst IsReported (sym (is ∙ other.1)) (inr (e, failed, other.0, refl))
   ]
 
 -- ---- the query for the version over the schema of one of our versions
@@ -163,15 +163,15 @@ OnlyStops its = (limit : Option ℕ) (e : Error) (trees : Trees) → RefusesQuer
 ours_stops : OnlyStops our_schema
 unfolding everything
 ours_stops limit e trees (inl mismatch) = let no : true ≡ false = mismatch.1 in absurd (cc)
-ours_stops limit e trees (inr (inl (told, inl none))) = absurd none
-ours_stops limit e trees (inr (inl (told, inr any))) = absurd any.4
+ours_stops limit e trees (inr (inl (reported, inl none))) = absurd none
+ours_stops limit e trees (inr (inl (reported, inr any))) = absurd any.4
 ours_stops limit e trees (inr (inr stopped)) = stopped
 
 older_stops : OnlyStops older_schema
 unfolding everything
 older_stops limit e trees (inl mismatch) = let no : true ≡ false = mismatch.1 in absurd (cc)
-older_stops limit e trees (inr (inl (told, inl none))) = absurd none
-older_stops limit e trees (inr (inl (told, inr any))) = absurd any.4
+older_stops limit e trees (inr (inl (reported, inl none))) = absurd none
+older_stops limit e trees (inr (inl (reported, inr any))) = absurd any.4
 older_stops limit e trees (inr (inr stopped)) = stopped
 
 stops_in : (its : Schema) → IsKnownSchema its → OnlyStops its
@@ -192,18 +192,18 @@ module _ (its : Schema) (is_known : IsKnownSchema its) (old new : State) (ours :
   refused db given command schema none is h =
       inr (stops_in its is_known old.step_limit e db.trees (subst₂ (λ (s : Schema) (p : Row). RefusesQuery old.step_limit (record { schema = s; trees = db.trees }) asked p e) schema none (subst (λ k. RefusesToRead old.step_limit k db given e) is h)))
 
-  stops : FailsToTell old new e → StopsBy old new e
+  stops : FailsToReport old new e → StopsBy old new e
   unfolding FailsToQuery IsNotRun
-  stops (inl (inl (inl (inl told, same)))) = absurd (no_text told.0 told.2)
+  stops (inl (inl (inl (inl reported, same)))) = absurd (no_text reported.0 reported.2)
   stops (inl (inl (inl (inr (c, is, inl whole), same)))) = absurd (whole.0 (omega (arith, (whole_in its is_known).whole, ap whole_of (known c is))))
   stops (inl (inl (inl (inr (c, is, inr (inl given)), same)))) = absurd (given.0 (ap length (sym (whole_in its is_known).given ∙ ap given_of (known c is))))
   stops (inl (inl (inl (inr (c, is, inr (inr clock)), same)))) = absurd (clock.0 (plain c is).1)
   stops (inl (inl (inr failed))) = inl (failed.0, failed.1, failed.2)
   stops (inl (inr h)) =
-      let bare = plain h.0 h.1.is in
-      let it = subst (FailsToShow old new find_format_text h.0 (timed [] h.0.formats h.1.now) e) bare.0 h.2 in
+      let head_only = plain h.0 h.1.is in
+      let it = subst (FailsToShow old new find_format_text h.0 (timed [] h.0.formats h.1.now) e) head_only.0 h.2 in
       let db : it.0 ≡ old.now = subst (λ b. IsSourceOf b old.now it.0) (ap (λ s. reads_listing s find_format_text) ours.schema ∙ finds.unlisted) it.1 in
-      refused it.0 (timed [] h.0.formats h.1.now) h.0.command (ap (λ (d : Database). d.schema) db ∙ ours.schema) (ap (λ formats. timed [] formats h.1.now) bare.1)
+      refused it.0 (timed [] h.0.formats h.1.now) h.0.command (ap (λ (d : Database). d.schema) db ∙ ours.schema) (ap (λ formats. timed [] formats h.1.now) head_only.1)
       (ap command_of (sym (known h.0 h.1.is)) ∙ finds.is) it.2
   stops (inr late) = absurd (let none = subst IsSome (plain late.0 late.1.is).0 late.2 in cc)
 
@@ -215,20 +215,20 @@ more a b c d before risen after = omega (arith, before, risen, after)
 
 module _ (old mid last new : State) (before : CommitsNothing old mid) (rises : mid.faults ≤ last.faults) (after : last.faults ≤ new.faults) (clean : HasCleanDisk mid) (fault : OpenFault) where
   -- a store that was shut since was shut by a fault
-  was_shut : (is_open : Bool) → old.is_open ≡ is_open → mid.is_open ≡ false → TellsError (store_error Broken) fault → GivesOut old new fault
-  was_shut false is shut tells = inl (Broken, is, tells)
-  was_shut true is shut tells = elim (before.closes clean is) [
+  was_shut : (is_open : Bool) → old.is_open ≡ is_open → mid.is_open ≡ false → ReportsError (store_error Broken) fault → GivesOut old new fault
+  was_shut false is shut reports = inl (Broken, is, reports)
+  was_shut true is shut reports = elim (before.closes clean is) [
     | inl is_open ↦ absurd (both_ways mid.is_open shut is_open)
-    | inr risen ↦ inl (Io, more old old mid new (omega arith) risen (omega (arith, rises, after)), tells)
+    | inr risen ↦ inl (Io, more old old mid new (omega arith) risen (omega (arith, rises, after)), reports)
   ]
 
-  pub gives_out : (cause : StoreError) → HasCause mid last ⊥ cause → TellsError (store_error cause) fault → GivesOut old new fault
-  gives_out OutOfMemory has tells = inl (OutOfMemory, tt, tells)
-  gives_out Io has tells = inl (Io, more old mid last new before.counts has after, tells)
-  gives_out Corrupt has tells = inl (Corrupt, more old mid last new before.counts has after, tells)
-  gives_out Full has tells = inl (Full, more old mid last new before.counts has after, tells)
-  gives_out Broken has tells = was_shut old.is_open refl has tells
-  gives_out Unstorable has tells = absurd has
+  pub gives_out : (cause : StoreError) → HasCause mid last ⊥ cause → ReportsError (store_error cause) fault → GivesOut old new fault
+  gives_out OutOfMemory has reports = inl (OutOfMemory, tt, reports)
+  gives_out Io has reports = inl (Io, more old mid last new before.counts has after, reports)
+  gives_out Corrupt has reports = inl (Corrupt, more old mid last new before.counts has after, reports)
+  gives_out Full has reports = inl (Full, more old mid last new before.counts has after, reports)
+  gives_out Broken has reports = was_shut old.is_open refl has reports
+  gives_out Unstorable has reports = absurd has
 
 -- ---- the schema of one of our versions is refused by its version, or SQLite gives out
 
@@ -248,10 +248,10 @@ module _ {S : Type 0} (g : Ghosts S) (old last new : Held S) (known : IsKnown (s
 
   found : FailsToFind start (state g last) fault → CommitsNothing start (state g last) → CommitsNothing (state g last) (state g new) → HasCleanDisk start → RefusesKnown (state g old) (state g new) fault
   found (inl (is, inl (rows, shown, other))) since after clean = inl (is, none_had start (state g last) rows known shown other)
-  found (inl (is, inr (why, told, other))) since after clean = absurd (ours_asked start (state g last) (SqlInputError why) why known told refl)
-  found (inr (e, told, no_text, tells)) since after clean = elim (stops known.0 known.1 start (state g last) known.2 e no_text told) [
-    | inl (cause, is, has) ↦ inr (gives_out (state g old) start (state g last) (state g new) (survives_begin g old start (λ _. ⊥) (survives_none start)) since.counts after.counts clean fault cause has (subst (λ x. TellsError x fault) is tells))
-    | inr (is, limited) ↦ inr (inr (tells ∙ ap (λ x. open_fault_for (fault_for x)) is, limited))
+  found (inl (is, inr (why, reported, other))) since after clean = absurd (ours_asked start (state g last) (SqlInputError why) why known reported refl)
+  found (inr (e, reported, no_text, reports)) since after clean = elim (stops known.0 known.1 start (state g last) known.2 e no_text reported) [
+    | inl (cause, is, has) ↦ inr (gives_out (state g old) start (state g last) (state g new) (survives_begin g old start (λ _. ⊥) (survives_none start)) since.counts after.counts clean fault cause has (subst (λ x. ReportsError x fault) is reports))
+    | inr (is, limited) ↦ inr (inr (reports ∙ ap (λ x. open_fault_for (fault_for x)) is, limited))
   ]
 
   pub refuses_known : FailsToFindOrMake g (begun old) last fault → CommitsNothing start (state g last) → CommitsNothing (state g last) (state g new) → HasCleanDisk start → RefusesKnown (state g old) (state g new) fault
@@ -259,9 +259,9 @@ module _ {S : Type 0} (g : Ghosts S) (old last new : Held S) (known : IsKnown (s
   refuses_known (inr it) since after clean = absurd (ours_asked start (state g it.0) (SqlInputError NoSuchTable) NoSuchTable known it.2 refl)
 
   -- a commit failed
-  pub uncommitted : (e : Error) → Fails (state g last) (state g new) ⊥ e → TellsError e fault → CommitsNothing (state g old) (state g last) → (state g last).faults ≤ (state g new).faults → HasCleanDisk (state g last) → RefusesKnown (state g old) (state g new) fault
-  uncommitted e failed tells since rises clean =
-      inr (gives_out (state g old) (state g last) (state g new) (state g new) since rises (omega arith) clean fault failed.0 failed.2 (subst (λ x. TellsError x fault) failed.1 tells))
+  pub uncommitted : (e : Error) → Fails (state g last) (state g new) ⊥ e → ReportsError e fault → CommitsNothing (state g old) (state g last) → (state g last).faults ≤ (state g new).faults → HasCleanDisk (state g last) → RefusesKnown (state g old) (state g new) fault
+  uncommitted e failed reports since rises clean =
+      inr (gives_out (state g old) (state g last) (state g new) (state g new) since rises (omega arith) clean fault failed.0 failed.2 (subst (λ x. ReportsError x fault) failed.1 reports))
 
 -- ---- a transaction that is lent is one of its connection
 

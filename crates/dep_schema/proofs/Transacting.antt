@@ -17,51 +17,51 @@ use Rattle.dep_types.specs.declared.store_fault.StoreFault.{StoreFault}
 use Rattle.dep_tables.specs.Tables.{Tables, tables_in, tables_of, AreOf, HasTablesOf, HasOurTables, IsOf}
 use Rattle.dep_tables.specs.Clauses.{CommitsNothing, StaysInside}
 use Rattle.dep_tables.proofs.Results.{if_failed, if_then}
-use Rattle.dep_schema.specs.Standing.{Holds, HoldsOf, Stands, StandsOf, EndsTransaction, StaysOn}
+use Rattle.dep_schema.specs.OpenTables.{Holds, HoldsOf, StaysFile, IsOpenWithOf, EndsTransaction, StaysOn}
 use Rattle.dep_schema.specs.declared.lending.Lent.{Lent}
 use Rattle.sqlite.proofs.Callers.{survives_begin}
 use Rattle.sqlite.proofs.StateLemmas.{survives_then}
 use Rattle.dep_schema.proofs.Asking.{LentStays}
-use Rattle.dep_schema.proofs.Transactions.{begins_open, stands_left}
-use Rattle.dep_schema.specs.States.{TablesStandFor, StandsFor, Leaves}
-use Rattle.dep_schema.specs.Transactions.{TransactsTo, Transacts, FailsToEnd, OnlyTells, IsBackAt, IsGivenBack}
+use Rattle.dep_schema.proofs.Transactions.{begins_open, represents_left}
+use Rattle.dep_schema.specs.States.{TablesRepresent, Represents, Leaves}
+use Rattle.dep_schema.specs.Transactions.{TransactsTo, Transacts, FailsToEnd, OnlyReports, IsBackAt, IsGivenBack}
 
 -- what a crash leaves while nothing is left to be settled
 abbrev pub IsSettled : db.State → Type 0
 IsSettled d = (trees : Trees) → d.may_leave trees → trees ≡ d.committed.trees
 
 -- the last commit has what the tables do
-held_as_was : {its : Schema} (d : db.State) (t : Tables) → StandsOf its d t → (trees : Trees) → trees ≡ d.committed.trees → HoldsOf its trees t
-held_as_was {its} d t stands trees e =
-    let same : trees ≡ d.now.trees = e ∙ ap (λ (b : Database). b.trees) (sym stands.committed) in
-    record { ours = subst (AreOf its) (sym same) stands.ours.trees; rows = ap tables_in same ∙ stands.rows }
+held_as_was : {its : Schema} (d : db.State) (t : Tables) → IsOpenWithOf its d t → (trees : Trees) → trees ≡ d.committed.trees → HoldsOf its trees t
+held_as_was {its} d t represents trees e =
+    let same : trees ≡ d.now.trees = e ∙ ap (λ (b : Database). b.trees) (sym represents.committed) in
+    record { ours = subst (AreOf its) (sym same) represents.ours.trees; rows = ap tables_in same ∙ represents.rows }
 
-pub left_as_was : {its : Schema} (d : db.State) (t : Tables) → IsSettled d → StandsOf its d t → (trees : Trees) → d.may_leave trees → HoldsOf its trees t
-left_as_was d t settled stands trees h = held_as_was d t stands trees (settled trees h)
+pub left_as_was : {its : Schema} (d : db.State) (t : Tables) → IsSettled d → IsOpenWithOf its d t → (trees : Trees) → d.may_leave trees → HoldsOf its trees t
+left_as_was d t settled represents trees h = held_as_was d t represents trees (settled trees h)
 
 -- nothing was committed since
-pub left_still : {its : Schema} (old new : db.State) (t : Tables) → IsSettled old → StandsOf its old t → Survives old new (λ _. ⊥) → HasCleanDisk new → (trees : Trees) → new.may_leave trees → HoldsOf its trees t
-left_still old new t settled stands survives clean trees h = elim (survives.crash clean trees h) [
-  | inl earlier ↦ left_as_was old t settled stands trees earlier
+pub left_still : {its : Schema} (old new : db.State) (t : Tables) → IsSettled old → IsOpenWithOf its old t → Survives old new (λ _. ⊥) → HasCleanDisk new → (trees : Trees) → new.may_leave trees → HoldsOf its trees t
+left_still old new t settled represents survives clean trees h = elim (survives.crash clean trees h) [
+  | inl earlier ↦ left_as_was old t settled represents trees earlier
   | inr none ↦ absurd none
 ]
 
-pub leaves_as_was : (d : db.State) (s : State) → IsSettled d → StandsFor d s → Leaves d (λ left. left ≡ s)
-leaves_as_was d s settled stands trees h =
-    (s, inl (stands.tables, left_as_was d stands.tables settled stands.stands trees h, stands.means), refl)
+pub leaves_as_was : (d : db.State) (s : State) → IsSettled d → Represents d s → Leaves d (λ left. left ≡ s)
+leaves_as_was d s settled represents trees h =
+    (s, inl (represents.tables, left_as_was d represents.tables settled represents.represents trees h, represents.means), refl)
 
-pub leaves_still : (old new : db.State) (s : State) → IsSettled old → StandsFor old s → Survives old new (λ _. ⊥) → HasCleanDisk new → Leaves new (λ left. left ≡ s)
-leaves_still old new s settled stands survives clean trees h =
-    (s, inl (stands.tables, left_still old new stands.tables settled stands.stands survives clean trees h, stands.means), refl)
+pub leaves_still : (old new : db.State) (s : State) → IsSettled old → Represents old s → Survives old new (λ _. ⊥) → HasCleanDisk new → Leaves new (λ left. left ≡ s)
+leaves_still old new s settled represents survives clean trees h =
+    (s, inl (represents.tables, left_still old new represents.tables settled represents.represents survives clean trees h, represents.means), refl)
 
 -- a commit that fails in a transaction has ended it as it began
 pub undone_by_commit : (inside new : db.State) (e : Error) → IsTrue inside.in_transaction → FailsToCommit inside new e → IsRolledBack inside new
 undone_by_commit inside new e within (inl fails) = fails.3
 undone_by_commit inside new e within (inr (_, ended, _)) = absurd (let it = (sym within) ∙ ended in cc)
 
-pub nothing_told : {A E : Type 0} (result : Result A E) (P : Type 0) → IsErr result → OnOk result P
-nothing_told (Ok answer) P failed = cc failed
-nothing_told (Err e) P failed = tt
+pub nothing_reported : {A E : Type 0} (result : Result A E) (P : Type 0) → IsErr result → OnOk result P
+nothing_reported (Ok answer) P failed = cc failed
+nothing_reported (Err e) P failed = tt
 
 -- what an Ok inside has made of the tables
 abbrev pub IsMade : (one two : Schema) {S A : Type 0} (g : Ghosts S) (old inside : Held S) → (Tables → A → Tables → Type 0) → A → Type 0
@@ -89,18 +89,18 @@ module _ {S : Type 0} (g : Ghosts S) (old inside new : Held S) where
 
   -- it was given back
   back_at : {its : Schema} (P : Trees → Type 0) → Works → Survives (state g inside) (state g new) P → (HasCleanDisk (state g new) → IsRolledBack (state g inside) (state g new))
-      → IsTrue (state g new).is_open → (t : Tables) → StandsOf its (state g old) t → StandsOf its (state g new) t
-  back_at P it survives undone is_open t stands =
+      → IsTrue (state g new).is_open → (t : Tables) → IsOpenWithOf its (state g old) t → IsOpenWithOf its (state g new) t
+  back_at P it survives undone is_open t represents =
       let clean = it.shut is_open in
       let ended = undone clean in
       let back = ended.undone is_open in
       let kept = (it.kept (clean_inside P survives clean) refl).committed (ended.was_open is_open) in
-      stands_left (state g old) (state g new) t stands is_open ended.autocommit (back.0 ∙ kept) (back.1 ∙ kept)
+      represents_left (state g old) (state g new) t represents is_open ended.autocommit (back.0 ∙ kept) (back.1 ∙ kept)
 
   -- a crash before its commit
-  left_before : {its : Schema} → Works → (t : Tables) → StandsOf its (state g old) t → HasCleanDisk (state g inside) → (trees : Trees) → (state g inside).may_leave trees → HoldsOf its trees t
-  left_before it t stands clean trees earlier = elim (it.survives.crash clean trees earlier) [
-    | inl first ↦ left_as_was (state g old) t (it.settled stands.is_open) stands trees first
+  left_before : {its : Schema} → Works → (t : Tables) → IsOpenWithOf its (state g old) t → HasCleanDisk (state g inside) → (trees : Trees) → (state g inside).may_leave trees → HoldsOf its trees t
+  left_before it t represents clean trees earlier = elim (it.survives.crash clean trees earlier) [
+    | inl first ↦ left_as_was (state g old) t (it.settled represents.is_open) represents trees first
     | inr none ↦ absurd none
   ]
 
@@ -142,33 +142,33 @@ module _ {S : Type 0} (g : Ghosts S) (old inside new : Held S) where
     -- the work failed, and the transaction was dropped
     pub gave_up : {E : Type 0} (result : Result A E) → IsErr result → Works → (HasCleanDisk (state g new) → IsRolledBack (state g inside) (state g new)) → Survives (state g inside) (state g new) (λ _. ⊥)
         → (last : Held S) → new ≡ last → TransactsTo one two (state g old) (state g last) result Makes
-    gave_up {E} (Ok answer) failed it undone survives last same = nothing_told {E = E} (Ok answer) _ failed
+    gave_up {E} (Ok answer) failed it undone survives last same = nothing_reported {E = E} (Ok answer) _ failed
     gave_up (Err fault) failed it undone survives last same = subst (λ (h : Held S). TransactsTo one two (state g old) (state g h) (Err fault) Makes) same (record {
-      ok = λ clean t stands. tt;
+      ok = λ clean t represents. tt;
       err = back_at (λ _. ⊥) it survives undone;
       honest = was_honest (λ _. ⊥) it survives;
       was_open = was_open it (wider (λ trees. trees ≡ (state g inside).now.trees) survives) (λ clean. inr (inr (undone clean)));
-      stop = λ clean t stands trees h. elim (survives.crash clean trees h) [
-        | inl earlier ↦ inl (left_before it t stands (clean_inside (λ _. ⊥) survives clean) trees earlier)
+      stop = λ clean t represents trees h. elim (survives.crash clean trees h) [
+        | inl earlier ↦ inl (left_before it t represents (clean_inside (λ _. ⊥) survives clean) trees earlier)
         | inr none ↦ absurd none
       ];
     })
 
     module _ (answer : A) where
-      made_of : IsMade one two g old inside Makes answer → HasCleanDisk (state g inside) → (t : Tables) → StandsOf one (state g old) t → IsOf two (state g inside) × Makes t answer (tables_of (state g inside))
-      made_of made clean t stands =
-          let it = made clean stands.ours in
-          (it.0, subst (λ (was : Tables). Makes was answer (tables_of (state g inside))) stands.rows it.1)
+      made_of : IsMade one two g old inside Makes answer → HasCleanDisk (state g inside) → (t : Tables) → IsOpenWithOf one (state g old) t → IsOf two (state g inside) × Makes t answer (tables_of (state g inside))
+      made_of made clean t represents =
+          let it = made clean represents.ours in
+          (it.0, subst (λ (was : Tables). Makes was answer (tables_of (state g inside))) represents.rows it.1)
 
       left_after : Works → IsMade one two g old inside Makes answer → Survives (state g inside) (state g new) (λ trees. trees ≡ (state g inside).now.trees) → HasCleanDisk (state g new)
-          → (t : Tables) → StandsOf one (state g old) t → (trees : Trees) → (state g new).may_leave trees
-          → HoldsOf one trees t ⊎ ((told : A) × (after : Tables) × HoldsOf two trees after × Makes t told after)
-      left_after it made survives clean t stands trees h =
+          → (t : Tables) → IsOpenWithOf one (state g old) t → (trees : Trees) → (state g new).may_leave trees
+          → HoldsOf one trees t ⊎ ((reported : A) × (after : Tables) × HoldsOf two trees after × Makes t reported after)
+      left_after it made survives clean t represents trees h =
           let then = clean_inside (λ trees. trees ≡ (state g inside).now.trees) survives clean in
           elim (survives.crash clean trees h) [
-            | inl earlier ↦ inl (left_before it t stands then trees earlier)
+            | inl earlier ↦ inl (left_before it t represents then trees earlier)
             | inr same ↦
-                let now = made_of made then t stands in
+                let now = made_of made then t represents in
                 inr (answer, tables_of (state g inside), record { ours = subst (AreOf two) (sym same) now.0.trees; rows = ap tables_in same }, now.1)
           ]
 
@@ -176,20 +176,20 @@ module _ {S : Type 0} (g : Ghosts S) (old inside new : Held S) where
       pub committed : {E : Type 0} → Works → IsMade one two g old inside Makes answer → (HasCleanDisk (state g new) → Commits (state g inside) (state g new)) → Survives (state g inside) (state g new) (λ trees. trees ≡ (state g inside).now.trees)
           → (last : Held S) → new ≡ last → TransactsTo one two {E = E} (state g old) (state g last) (Ok answer) Makes
       committed {E} it made commits survives last same = subst (λ (h : Held S). TransactsTo one two {E = E} (state g old) (state g h) (Ok answer) Makes) same (record {
-        ok = λ clean t stands.
-            let now = made_of made (clean_inside (λ trees. trees ≡ (state g inside).now.trees) survives clean) t stands in (
+        ok = λ clean t represents.
+            let now = made_of made (clean_inside (λ trees. trees ≡ (state g inside).now.trees) survives clean) t represents in (
               tables_of (state g inside),
-              stands_committed (commits clean).0 now.0,
+              represents_committed (commits clean).0 now.0,
               now.1,
             );
-        err = λ is_open t stands. tt;
+        err = λ is_open t represents. tt;
         honest = was_honest (λ trees. trees ≡ (state g inside).now.trees) it survives;
         was_open = was_open it survives (λ clean. inl (commits clean));
         stop = left_after it made survives;
       })
         where
-          stands_committed : Shows (state g inside) (state g new) (state g inside).now (state g inside).now false → IsOf two (state g inside) → StandsOf two (state g new) (tables_of (state g inside))
-          stands_committed shows ours = record {
+          represents_committed : Shows (state g inside) (state g new) (state g inside).now (state g inside).now false → IsOf two (state g inside) → IsOpenWithOf two (state g new) (tables_of (state g inside))
+          represents_committed shows ours = record {
             is_open = shows.is_open;
             settled = shows.mode;
             committed = shows.now_is ∙ sym shows.committed_is;
@@ -202,7 +202,7 @@ module _ {S : Type 0} (g : Ghosts S) (old inside new : Held S) where
           → (HasCleanDisk (state g new) → FailsToEnd (state g inside) (state g new) fault) → Survives (state g inside) (state g new) (λ trees. trees ≡ (state g inside).now.trees)
           → (last : Held S) → new ≡ last → TransactsTo one two (state g old) (state g last) (Err fault) Makes
       uncommitted fault it made goes_on fails survives last same = subst (λ (h : Held S). TransactsTo one two (state g old) (state g h) (Err fault) Makes) same (record {
-        ok = λ clean t stands. tt;
+        ok = λ clean t represents. tt;
         err = back_at (λ trees. trees ≡ (state g inside).now.trees) it survives undone;
         honest = was_honest (λ trees. trees ≡ (state g inside).now.trees) it survives;
         was_open = was_open it survives (λ clean. inr (inl ((fails clean).0, (fails clean).1)));
@@ -257,32 +257,32 @@ on_connection g stays is = sym is ∙ sym stays.same_reference
 -- ---- what it says of states
 
 pub err_state : {A E : Type 0} (old new : db.State) (result : Result A E) (Makes : Tables → A → Tables → Type 0)
-    → Transacts old new result Makes → IsTrue new.is_open → (s : State) → StandsFor old s → OnErr result (StandsFor new s)
-err_state {A} {E} old new result Makes it is_open s stands = each result (it.err is_open stands.tables stands.stands)
+    → Transacts old new result Makes → IsTrue new.is_open → (s : State) → Represents old s → OnErr result (Represents new s)
+err_state {A} {E} old new result Makes it is_open s represents = each result (it.err is_open represents.tables represents.represents)
   where
-    each : (r : Result A E) → OnErr r (Stands new stands.tables) → OnErr r (StandsFor new s)
+    each : (r : Result A E) → OnErr r (StaysFile new represents.tables) → OnErr r (Represents new s)
     each (Ok answer) h = tt
-    each (Err e) stand = record { tables = stands.tables; stands = stand; means = stands.means }
+    each (Err e) stand = record { tables = represents.tables; represents = stand; means = represents.means }
 
 module _ {A E : Type 0} (old new : db.State) (result : Result A E) (Makes : Tables → A → Tables → Type 0)
-    (told : State → A → Type 0) (next : State → State) where
+    (reported : State → A → Type 0) (next : State → State) where
   -- where it makes that of this state
   abbrev pub IsOver : State → Type 0
-  IsOver s = (t : Tables) (answer : A) (after : Tables) → Makes t answer after → TablesStandFor t s → told s answer × TablesStandFor after (next s)
+  IsOver s = (t : Tables) (answer : A) (after : Tables) → Makes t answer after → TablesRepresent t s → reported s answer × TablesRepresent after (next s)
 
-  pub ok_over_states : Transacts old new result Makes → HasCleanDisk new → (s : State) → IsOver s → StandsFor old s
-      → IfOk result (λ answer. told s answer × StandsFor new (next s))
-  ok_over_states it clean s over stands = if_then result (it.ok clean stands.tables stands.stands) (λ answer does.
-      let made = over stands.tables answer does.0 does.2 stands.means in
-      (made.0, record { tables = does.0; stands = does.1; means = made.1 }))
+  pub ok_over_states : Transacts old new result Makes → HasCleanDisk new → (s : State) → IsOver s → Represents old s
+      → IfOk result (λ answer. reported s answer × Represents new (next s))
+  ok_over_states it clean s over represents = if_then result (it.ok clean represents.tables represents.represents) (λ answer does.
+      let made = over represents.tables answer does.0 does.2 represents.means in
+      (made.0, record { tables = does.0; represents = does.1; means = made.1 }))
 
-  pub stop_over_states : Transacts old new result Makes → HasCleanDisk new → (s : State) → IsOver s → StandsFor old s
+  pub stop_over_states : Transacts old new result Makes → HasCleanDisk new → (s : State) → IsOver s → Represents old s
       → Leaves new (λ left. (left ≡ s) ⊎ (left ≡ next s))
-  stop_over_states it clean s over stands trees h = elim (it.stop clean stands.tables stands.stands trees h) [
-    | inl earlier ↦ (s, inl (stands.tables, earlier, stands.means), inl refl)
+  stop_over_states it clean s over represents trees h = elim (it.stop clean represents.tables represents.represents trees h) [
+    | inl earlier ↦ (s, inl (represents.tables, earlier, represents.means), inl refl)
     | inr (answer, after, holds, makes) ↦ (
       next s,
-      inl (after, holds, (over stands.tables answer after makes stands.means).1),
+      inl (after, holds, (over represents.tables answer after makes represents.means).1),
       inr refl,
     )
   ]
@@ -291,31 +291,31 @@ module _ {A E : Type 0} (old new : db.State) (result : Result A E) (Makes : Tabl
 
 -- the connection is as it was
 pub unmoved : {A E : Type 0} (d : db.State) (result : Result A E) (Makes : Tables → A → Tables → Type 0) → (IsTrue d.is_open → IsSettled d)
-    → ((t : Tables) → Stands d t → IfOk result (λ answer. Makes t answer t)) → Transacts d d result Makes
+    → ((t : Tables) → StaysFile d t → IfOk result (λ answer. Makes t answer t)) → Transacts d d result Makes
 unmoved d result Makes settled made = record {
-  ok = λ clean t stands. if_then result (made t stands) (λ answer it. (t, stands, it));
-  err = λ is_open t stands. if_failed result stands;
+  ok = λ clean t represents. if_then result (made t represents) (λ answer it. (t, represents, it));
+  err = λ is_open t represents. if_failed result represents;
   honest = λ clean. clean;
   was_open = λ is_open. is_open;
-  stop = λ clean t stands trees h. inl (left_as_was d t (settled stands.is_open) stands trees h);
+  stop = λ clean t represents trees h. inl (left_as_was d t (settled represents.is_open) represents trees h);
 }
 
 -- all was given back, and the store is open
-pub tables_back : {its : Schema} (old new : db.State) (t : Tables) → IsBackAt old new → IsTrue new.is_open → StandsOf its old t → StandsOf its new t
-tables_back old new t back is_open stands =
+pub tables_back : {its : Schema} (old new : db.State) (t : Tables) → IsBackAt old new → IsTrue new.is_open → IsOpenWithOf its old t → IsOpenWithOf its new t
+tables_back old new t back is_open represents =
     let it = back is_open in
-    stands_left old new t stands is_open it.3 (it.1 ∙ stands.committed) it.2
+    represents_left old new t represents is_open it.3 (it.1 ∙ represents.committed) it.2
 
 -- all was given back before it
 pub after_back : {A E : Type 0} (old mid new : db.State) (result : Result A E) (Makes : Tables → A → Tables → Type 0) → (IsTrue old.is_open → IsSettled old)
     → (IsTrue mid.is_open → HasCleanDisk mid) → IsBackAt old mid → Survives old mid (λ _. ⊥) → (HasCleanDisk mid → IsTrue mid.is_open)
     → Transacts mid new result Makes → Transacts old new result Makes
 after_back old mid new result Makes settled shut back survives opened it = record {
-  ok = λ clean t stands. it.ok clean t (tables_back old mid t back (opened (it.honest clean)) stands);
-  err = λ is_open t stands. it.err is_open t (tables_back old mid t back (it.was_open is_open) stands);
+  ok = λ clean t represents. it.ok clean t (tables_back old mid t back (opened (it.honest clean)) represents);
+  err = λ is_open t represents. it.err is_open t (tables_back old mid t back (it.was_open is_open) represents);
   honest = λ clean. let before = it.honest clean in omega (arith, before, survives.clean);
   was_open = λ is_open. (back (it.was_open is_open)).0;
-  stop = λ clean t stands trees h. it.stop clean t (tables_back old mid t back (opened (it.honest clean)) stands) trees h;
+  stop = λ clean t represents trees h. it.stop clean t (tables_back old mid t back (opened (it.honest clean)) represents) trees h;
 }
 
 -- it failed, and all was given back
@@ -323,38 +323,38 @@ pub fails_back : {its : Schema} {A E : Type 0} (old new : db.State) (r : Result 
     → IsBackAt old new → Survives old new (λ _. ⊥) → TransactsTo its its old new r Makes
 fails_back old new (Ok answer) Makes failed settled back survives = cc failed
 fails_back old new (Err e) Makes failed settled back survives = record {
-  ok = λ clean t stands. tt;
-  err = λ is_open t stands. tables_back old new t back is_open stands;
+  ok = λ clean t represents. tt;
+  err = λ is_open t represents. tables_back old new t back is_open represents;
   honest = λ clean. omega (arith, clean, survives.clean);
   was_open = λ is_open. (back is_open).0;
-  stop = λ clean t stands trees h. inl (left_still old new t (settled stands.is_open) stands survives clean trees h);
+  stop = λ clean t represents trees h. inl (left_still old new t (settled represents.is_open) represents survives clean trees h);
 }
 
 -- it was given back, and makes the tables that were there
 pub given_back : {A E : Type 0} (old new : db.State) (answer : A) (Makes : Tables → A → Tables → Type 0) → (IsTrue old.is_open → IsSettled old) → IsGivenBack old new
-    → (HasCleanDisk new → (t : Tables) → Stands old t → Makes t answer t) → Transacts {E = E} old new (Ok answer) Makes
+    → (HasCleanDisk new → (t : Tables) → StaysFile old t → Makes t answer t) → Transacts {E = E} old new (Ok answer) Makes
 given_back old new answer Makes settled it made = record {
-  ok = λ clean t stands. (t, tables_back old new t it.back (it.opened clean) stands, made clean t stands);
-  err = λ is_open t stands. tt;
+  ok = λ clean t represents. (t, tables_back old new t it.back (it.opened clean) represents, made clean t represents);
+  err = λ is_open t represents. tt;
   honest = λ clean. omega (arith, clean, it.survives.clean);
   was_open = λ is_open. (it.back is_open).0;
-  stop = λ clean t stands trees h. inl (left_still old new t (settled stands.is_open) stands it.survives clean trees h);
+  stop = λ clean t represents trees h. inl (left_still old new t (settled represents.is_open) represents it.survives clean trees h);
 }
 
--- what it stands for now, it stood for then
-pub stood_before : (old new : db.State) → IsBackAt old new → old.in_transaction ≡ false → (s : State) → StandsFor new s → StandsFor old s
-stood_before old new back settled s stands =
-    let it = back stands.stands.is_open in
+-- what it represents now, it represented then
+pub stood_before : (old new : db.State) → IsBackAt old new → old.in_transaction ≡ false → (s : State) → Represents new s → Represents old s
+stood_before old new back settled s represents =
+    let it = back represents.represents.is_open in
     record {
-      tables = stands.tables;
-      stands = record {
+      tables = represents.tables;
+      represents = record {
         is_open = it.0;
         settled = settled;
-        committed = sym it.1 ∙ stands.stands.committed ∙ it.2;
-        ours = subst HasOurTables it.1 stands.stands.ours;
-        rows = ap (λ (d : Database). tables_in d.trees) (sym it.1) ∙ stands.stands.rows;
+        committed = sym it.1 ∙ represents.represents.committed ∙ it.2;
+        ours = subst HasOurTables it.1 represents.represents.ours;
+        rows = ap (λ (d : Database). tables_in d.trees) (sym it.1) ∙ represents.represents.rows;
       };
-      means = stands.means;
+      means = represents.means;
     }
 
 pub back_then : (old mid new : db.State) → IsBackAt old mid → IsBackAt mid new → IsBackAt old new
@@ -391,31 +391,31 @@ not_run old new sql params e (inr fails) = inr fails.3
 
 -- ---- what it says where it only tells
 
-module _ {A E : Type 0} (old new : db.State) (result : Result A E) (told : Tables → A → Type 0) where
-  pub ok_tells : Transacts old new result (OnlyTells told) → HasCleanDisk new → (t : Tables) → Stands old t
-      → IfOk result (λ answer. told t answer × Stands new t)
-  ok_tells it clean t stands = if_then result (it.ok clean t stands) (λ answer does. (does.2.0, subst (Stands new) does.2.1 does.1))
+module _ {A E : Type 0} (old new : db.State) (result : Result A E) (reported : Tables → A → Type 0) where
+  pub ok_reports : Transacts old new result (OnlyReports reported) → HasCleanDisk new → (t : Tables) → StaysFile old t
+      → IfOk result (λ answer. reported t answer × StaysFile new t)
+  ok_reports it clean t represents = if_then result (it.ok clean t represents) (λ answer does. (does.2.0, subst (StaysFile new) does.2.1 does.1))
 
-  pub still_tells : Transacts old new result (OnlyTells told) → (IsTrue new.is_open → HasCleanDisk new) → IsTrue new.is_open
-      → (t : Tables) → Stands old t → Stands new t
-  still_tells it shut is_open t stands = each result (ok_tells it (shut is_open) t stands) (it.err is_open t stands)
+  pub still_reports : Transacts old new result (OnlyReports reported) → (IsTrue new.is_open → HasCleanDisk new) → IsTrue new.is_open
+      → (t : Tables) → StaysFile old t → StaysFile new t
+  still_reports it shut is_open t represents = each result (ok_reports it (shut is_open) t represents) (it.err is_open t represents)
     where
-      each : (r : Result A E) → IfOk r (λ answer. told t answer × Stands new t) → OnErr r (Stands new t) → Stands new t
+      each : (r : Result A E) → IfOk r (λ answer. reported t answer × StaysFile new t) → OnErr r (StaysFile new t) → StaysFile new t
       each (Ok answer) h none = h.1
       each (Err e) none h = h
 
-  pub left_tells : Transacts old new result (OnlyTells told) → HasCleanDisk new → (t : Tables) → Stands old t
+  pub left_reports : Transacts old new result (OnlyReports reported) → HasCleanDisk new → (t : Tables) → StaysFile old t
       → (trees : Trees) → new.may_leave trees → Holds trees t
-  left_tells it clean t stands trees h = elim (it.stop clean t stands trees h) [
+  left_reports it clean t represents trees h = elim (it.stop clean t represents trees h) [
     | inl earlier ↦ earlier
     | inr (answer, after, holds, made) ↦ subst (Holds trees) made.1 holds
   ]
 
 -- ---- one part of what an Ok says
 
-pub told_alone : {A E : Type 0} (r : Result A E) (P : A → Type 0) (Q : Type 0) → IfOk r (λ answer. P answer × Q) → IfOk r P
-told_alone (Ok answer) P Q h = h.0
-told_alone (Err e) P Q h = tt
+pub reported_alone : {A E : Type 0} (r : Result A E) (P : A → Type 0) (Q : Type 0) → IfOk r (λ answer. P answer × Q) → IfOk r P
+reported_alone (Ok answer) P Q h = h.0
+reported_alone (Err e) P Q h = tt
 
 pub kept_alone : {A E : Type 0} (r : Result A E) (P : A → Type 0) (Q : Type 0) → IfOk r (λ answer. P answer × Q) → OnOk r Q
 kept_alone (Ok answer) P Q h = h.1

@@ -36,7 +36,7 @@ use Rattle.dep_schema.proofs.Causes.{fails_then}
 use Rattle.dep_row_maps.specs.Owned.{put_each}
 use Rattle.dep_row_maps.specs.Sha512s.{upgraded, value_rows}
 use Rattle.dep_schema.specs.Beside.{with_tables, AddsIndexes, AreNewNamesFree}
-use Rattle.dep_schema.specs.Standing.{Sees, IsBack, no_schema}
+use Rattle.dep_schema.specs.OpenTables.{Sees, IsBack, no_schema}
 use Rattle.dep_schema.specs.OpenFaults.{begun}
 use Rattle.dep_schema.specs.Transactions.{FailsToEnd, TransactsTo}
 use Rattle.dep_schema.specs.Upgrading.{with_no_sha512s, with_sha512s, FailsToPut, FailsToRewrite, FailsToUpgrade}
@@ -129,8 +129,8 @@ one_more_value old mid new values k d within was now =
 
 -- ---- why an upgrade fails
 
-pub told_fault : {A : Type 0} {fault other : StoreFault} → ◌≡◌ {A = Result A StoreFault} (Err fault) (Err other) → fault ≡ other
-told_fault is = cc
+pub reported_fault : {A : Type 0} {fault other : StoreFault} → ◌≡◌ {A = Result A StoreFault} (Err fault) (Err other) → fault ≡ other
+reported_fault is = cc
 
 module _ {T : Type 0} (state : T → State) (values : List FileSha512) where
   abbrev Unput : FileSha512 → State → State → StoreFault → Type 0

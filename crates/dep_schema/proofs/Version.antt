@@ -32,8 +32,8 @@ use Rattle.dep_schema.specs.Beside.{LacksFormat}
 use Rattle.dep_schema.proofs.Missing.{find_missing, find_plain}
 use Rattle.dep_tables.specs.Tables.{tables_of, IsKnownSchema, IsKnown}
 use Rattle.dep_tables.specs.Versions.{our_version, older_version, HasVersion}
-use Rattle.dep_schema.specs.Standing.{no_schema, HasKnownVersion, Sees, Holds, IsBeside, GainsOurs, StandsBeside, CommitsBySchema, first_tables}
-use Rattle.dep_schema.specs.OpenFaults.{open_fault_for, AreVersion, AreKnownVersion, ShowsVersion, TellsVersion}
+use Rattle.dep_schema.specs.OpenTables.{no_schema, HasKnownVersion, Sees, Holds, IsBeside, GainsOurs, IsOpenBeside, CommitsBySchema, first_tables}
+use Rattle.dep_schema.specs.OpenFaults.{open_fault_for, AreVersion, AreKnownVersion, ShowsVersion, ReportsVersion}
 use Rattle.dep_types.specs.declared.store_fault.StoreFault.{StoreFault}
 use Rattle.dep_types.specs.declared.store_fault.StoreFault.TheVariants.{Store, Memory}
 use Rattle.dep_schema.specs.declared.opening.OpenFault.{OpenFault}
@@ -77,21 +77,21 @@ all_pass : (params : Row) (rows : List Row) → filter (passes params []) rows �
 all_pass params [] = refl
 all_pass params (r ∷ rows) = ap (λ xs. r ∷ xs) (all_pass params rows)
 
-abbrev pub told : List Row → List Row
-told rows = map (λ r. column r 0 ∷ column r 2 ∷ []) rows
+abbrev pub reported : List Row → List Row
+reported rows = map (λ r. column r 0 ∷ column r 2 ∷ []) rows
 
-finds_rows : (old new : State) (rows : List Row) → IsKnown old → Shown find_format_text [] old new rows → IsPermutation (told (tables_of old).format) rows
+finds_rows : (old new : State) (rows : List Row) → IsKnown old → Shown find_format_text [] old new rows → IsPermutation (reported (tables_of old).format) rows
 finds_rows old new rows (its, known, ours) h =
     let finds = finds_in its known in
     let picked = selected its find_format_text [] old new ours.schema finds.plain 0 [] shows [] no_limit names finds.is finds.unlisted refl rows h in
     subst (λ xs. IsPermutation (map (shown_of [] shows) xs) rows) (all_pass [] (old.now.trees 0)) (in_any_order 0 [] shows [] [] (filter (passes [] []) (old.now.trees 0)) rows picked)
 
-known_told : (version : ℕ) (format rows : List Row) → IsPermutation (told format) rows → AreVersion (pos version) rows → told format ≡ (Int (pos 1) ∷ Int (pos version) ∷ []) ∷ []
-known_told version format rows same known =
-    let one = one_permutation known.0 (told format) (IsPermutation-sym (told format) (known.0 ∷ []) (subst (IsPermutation (told format)) known.1 same)) in
+known_reported : (version : ℕ) (format rows : List Row) → IsPermutation (reported format) rows → AreVersion (pos version) rows → reported format ≡ (Int (pos 1) ∷ Int (pos version) ∷ []) ∷ []
+known_reported version format rows same known =
+    let one = one_permutation known.0 (reported format) (IsPermutation-sym (reported format) (known.0 ∷ []) (subst (IsPermutation (reported format)) known.1 same)) in
     go format one
   where
-    go : (all : List Row) → told all ≡ known.0 ∷ [] → told all ≡ (Int (pos 1) ∷ Int (pos version) ∷ []) ∷ []
+    go : (all : List Row) → reported all ≡ known.0 ∷ [] → reported all ≡ (Int (pos 1) ∷ Int (pos version) ∷ []) ∷ []
     go [] e = absurd (cc)
     go (r ∷ []) e =
         let is : column r 0 ∷ column r 2 ∷ [] ≡ known.0 = cc in
@@ -100,11 +100,11 @@ known_told version format rows same known =
         λ i. (first i ∷ second i ∷ []) ∷ []
     go (r ∷ x ∷ more) e = absurd (cc)
 
-told_known : (version : ℕ) (format rows : List Row) → IsPermutation (told format) rows → told format ≡ (Int (pos 1) ∷ Int (pos version) ∷ []) ∷ [] → AreVersion (pos version) rows
-told_known version format rows same is = (Int (pos 1) ∷ Int (pos version) ∷ [], one_permutation (Int (pos 1) ∷ Int (pos version) ∷ []) rows (subst (λ xs. IsPermutation xs rows) is same), refl, refl)
+reported_known : (version : ℕ) (format rows : List Row) → IsPermutation (reported format) rows → reported format ≡ (Int (pos 1) ∷ Int (pos version) ∷ []) ∷ [] → AreVersion (pos version) rows
+reported_known version format rows same is = (Int (pos 1) ∷ Int (pos version) ∷ [], one_permutation (Int (pos 1) ∷ Int (pos version) ∷ []) rows (subst (λ xs. IsPermutation xs rows) is same), refl, refl)
 
 pub found_version : (version : ℕ) (old new : State) (rows : List Row) → IsKnown old → Shown find_format_text [] old new rows → AreVersion (pos version) rows ↔ HasVersion version (tables_of old)
-found_version version old new rows known h = (known_told version (tables_of old).format rows (finds_rows old new rows known h), told_known version (tables_of old).format rows (finds_rows old new rows known h))
+found_version version old new rows known h = (known_reported version (tables_of old).format rows (finds_rows old new rows known h), reported_known version (tables_of old).format rows (finds_rows old new rows known h))
 
 -- it changes nothing, whatever tables there are
 pub find_stays : (old new : State) (rows : List Row) → Shown find_format_text [] old new rows → IsUnchanged old new
@@ -115,17 +115,17 @@ pub not_older : our_version ≡ older_version → ⊥
 not_older is = omega (arith, is)
 
 -- what it shows in a transaction it would show before
-pub shows_again : (start old new : State) → start.now ≡ old.now → (IsTrue start.is_open → IsTrue old.is_open) → (version : ℕ) → ShowsVersion start new version → TellsVersion old version
+pub shows_again : (start old new : State) → start.now ≡ old.now → (IsTrue start.is_open → IsTrue old.is_open) → (version : ℕ) → ShowsVersion start new version → ReportsVersion old version
 unfolding Shown
 shows_again start old new same opened version (rows, h, are) =
-    let bare = subst IsPlain h.1.is (find_plain start.now.schema h.0 h.1.is) in
+    let head_only = subst IsPlain h.1.is (find_plain start.now.schema h.0 h.1.is) in
     let given = timed [] h.0.formats h.1.now in
-    let it = subst (ShowsRows start new find_format_text h.0 given rows) bare.0 h.2 in (
+    let it = subst (ShowsRows start new find_format_text h.0 given rows) head_only.0 h.2 in (
       rows,
       (
         h.0,
         record { is = subst (λ (d : Database). understood d.schema find_format_text ≡ Ok h.0) same h.1.is; whole = h.1.whole; given = h.1.given; now = h.1.now },
-        subst (ShowsRows old old find_format_text h.0 given rows) (sym bare.0)
+        subst (ShowsRows old old find_format_text h.0 given rows) (sym head_only.0)
             (it.0, subst (λ (d : Database). IsSourceOf (reads_listing d.schema find_format_text) d it.0) same it.1, it.2, unchanged old (opened it.3.0.was_open)),
       ),
       are,
@@ -153,7 +153,7 @@ ours_asked old new e fault (its, known, ours) h said =
 
 pub missing_only : (old new : State) (e : Error) (fault : CompileError) → LacksFormat old.now.schema → FailsToQuery find_format_text [] old new e ⊎ IsTooLate find_format_text [] old new e → e ≡ SqlInputError fault → fault ≡ NoSuchTable
 missing_only old new e fault lacks h is = elim (none_asked old new e lacks h) [
-  | inl told ↦ let met = sym is ∙ told in cc
+  | inl reported ↦ let met = sym is ∙ reported in cc
   | inr stopped ↦ absurd (store_only stopped.0 fault (sym stopped.1 ∙ is))
 ]
 
@@ -168,13 +168,13 @@ pub never_refused : {A : Type 0} (given : A) (fault : OpenFault) → ◌≡◌ {
 never_refused given fault said = cc
 
 -- a fault that is passed on is the one that was told
-pub told_as : {A : Type 0} (r : Result A OpenFault) (fault e : OpenFault) → IsErrAnd r (λ x. x ≡ fault) → r ≡ Err e → fault ≡ e
-told_as (Ok x) fault e is said = absurd is
-told_as (Err x) fault e is said = let same : x ≡ e = cc in sym is ∙ same
+pub reported_as : {A : Type 0} (r : Result A OpenFault) (fault e : OpenFault) → IsErrAnd r (λ x. x ≡ fault) → r ≡ Err e → fault ≡ e
+reported_as (Ok x) fault e is said = absurd is
+reported_as (Err x) fault e is said = let same : x ≡ e = cc in sym is ∙ same
 
 -- so a fault of the store that is passed on tells no version
 pub never_passed : {A : Type 0} (r : Result A OpenFault) (fault : StoreFault) → IsErrAnd r (λ e. e ≡ open_fault_for fault) → r ≡ Err UnknownVersion → ⊥
-never_passed r fault is said = named_fault fault (open_fault_for fault) refl (told_as r (open_fault_for fault) UnknownVersion is said)
+never_passed r fault is said = named_fault fault (open_fault_for fault) refl (reported_as r (open_fault_for fault) UnknownVersion is said)
 
 -- what is committed at the end
 commits_open : (old last : State) → (old.now.schema ≡ no_schema → Sees last first_tables) → (IsKnown old → last.now ≡ old.now) → (LacksFormat old.now.schema → GainsOurs old.now last.now) → (db : Trees) → db ≡ last.now.trees → CommitsBySchema old db
@@ -194,7 +194,7 @@ survives_open old last new begun ended made there gains =
     commits_open old last (made sure) (there sure) (gains sure) db is) begun ended
 
 -- our first tables stand once they are committed
-pub stands_committed : (old last new : State) → GainsOurs old.now last.now → HasCounters old.now.schema → IsTrue new.is_open → new.in_transaction ≡ false → new.now ≡ new.committed → new.now ≡ last.now → StandsBeside old new
-stands_committed old last new gains has is_open settled committed same =
+pub represents_committed : (old last new : State) → GainsOurs old.now last.now → HasCounters old.now.schema → IsTrue new.is_open → new.in_transaction ≡ false → new.now ≡ new.committed → new.now ≡ last.now → IsOpenBeside old new
+represents_committed old last new gains has is_open settled committed same =
     let made = gains.made has in
     record { is_open = is_open; settled = settled; committed = committed; schema = ap (λ (d : Database). d.schema) same ∙ made.0; trees = subst (λ (d : Database). IsBeside old.now d.trees) (sym same) made.1 }

@@ -12,7 +12,7 @@ use Rattle.dep_tables.specs.Schema.{format_table}
 use Rattle.dep_tables.specs.Tables.{tables_of, IsKnown}
 use Rattle.dep_tables.specs.Versions.{our_version, HasVersion}
 use Rattle.dep_schema.specs.Beside.{LacksFormat, AreFree, with_ours}
-use Rattle.dep_schema.specs.Standing.{no_schema, first_tables, first_state, Sees, GainsOurs, HasKnownVersion}
+use Rattle.dep_schema.specs.OpenTables.{no_schema, first_tables, first_state, Sees, GainsOurs, HasKnownVersion}
 use Rattle.dep_schema.specs.OpenFaults.{ShowsNone, ShowsVersion, FailsToFind, ShowsOrMakes, FailsToFindOrMake}
 use Rattle.dep_schema.specs.declared.opening.OpenFault.{OpenFault}
 use Rattle.dep_schema.specs.declared.opening.OpenFault.TheVariants as open_fault

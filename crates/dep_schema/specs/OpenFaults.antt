@@ -20,7 +20,7 @@ use Rattle.dep_tables.specs.Schema.{our_tables}
 use Rattle.dep_tables.specs.Tables.{tables_of}
 use Rattle.dep_tables.specs.Versions.{our_version, IsKnownVersion}
 use Rattle.dep_schema.specs.Beside.{AreFree, AddsIndexes, LacksFormat}
-use Rattle.dep_schema.specs.Standing.{HasKnownVersion}
+use Rattle.dep_schema.specs.OpenTables.{HasKnownVersion}
 use Rattle.dep_schema.specs.Texts.{create_texts, index_files_text, index_uploads_text, find_format_text, add_format_text, add_state_text}
 use Rattle.dep_schema.specs.declared.opening.OpenFault.{OpenFault}
 use Rattle.dep_schema.specs.declared.opening.OpenFault.TheVariants as open_fault
@@ -36,15 +36,15 @@ open_fault_number open_fault.Store = 2
 open_fault_number open_fault.Memory = 3
 
 -- the fault is the one for this error of SQLite
-abbrev pub TellsError : Error → OpenFault → Type 0
-TellsError e fault = fault ≡ open_fault_for (fault_for e)
+abbrev pub ReportsError : Error → OpenFault → Type 0
+ReportsError e fault = fault ≡ open_fault_for (fault_for e)
 
 -- what an error of the query for the version means: there is no `format`, or it has no such columns;
 -- and else SQLite failed
-abbrev pub told_by : Error → Result (Option ℕ) OpenFault
-told_by (SqlInputError NoSuchTable) = Ok None
-told_by (SqlInputError _) = Err open_fault.UnknownVersion
-told_by e = Err (open_fault_for (fault_for e))
+abbrev pub reported_by : Error → Result (Option ℕ) OpenFault
+reported_by (SqlInputError NoSuchTable) = Ok None
+reported_by (SqlInputError _) = Err open_fault.UnknownVersion
+reported_by e = Err (open_fault_for (fault_for e))
 
 -- what the query for the version shows of a version: just one row, of id 1 and this version
 abbrev pub AreVersion : ℤ → List Row → Type 0
@@ -62,23 +62,23 @@ module _ (old new : State) where
       (rows : List Row) × Shown find_format_text [] old new rows × AreVersion (pos version) rows
 
   -- it fails with this error
-  abbrev pub FailsToTell : Error → Type 0
-  FailsToTell e = FailsToQuery find_format_text [] old new e ⊎ IsTooLate find_format_text [] old new e
+  abbrev pub FailsToReport : Error → Type 0
+  FailsToReport e = FailsToQuery find_format_text [] old new e ⊎ IsTooLate find_format_text [] old new e
 
   -- there is no `format`
   abbrev pub ShowsNone : Type 0
-  ShowsNone = FailsToTell (SqlInputError NoSuchTable)
+  ShowsNone = FailsToReport (SqlInputError NoSuchTable)
 
   -- it shows something else, or can't be asked of the `format` that is there
   abbrev pub ShowsOther : Type 0
   ShowsOther =
       ((rows : List Row) × Shown find_format_text [] old new rows × (AreKnownVersion rows → ⊥))
-      ⊎ ((why : CompileError) × FailsToTell (SqlInputError why) × (why ≢ NoSuchTable))
+      ⊎ ((why : CompileError) × FailsToReport (SqlInputError why) × (why ≢ NoSuchTable))
 
   -- it fails otherwise than by its text
   abbrev pub FailsOtherwise : OpenFault → Type 0
-  FailsOtherwise fault = (e : Error) × FailsToTell e
-      × ((why : CompileError) → e ≢ SqlInputError why) × TellsError e fault
+  FailsOtherwise fault = (e : Error) × FailsToReport e
+      × ((why : CompileError) → e ≢ SqlInputError why) × ReportsError e fault
 
   -- why the query for the version opens nothing
   abbrev pub FailsToFind : OpenFault → Type 0
@@ -88,7 +88,7 @@ module _ (old new : State) where
   -- query for the version was stopped at its limit of steps
   abbrev pub GivesOut : OpenFault → Type 0
   GivesOut fault =
-      ((cause : StoreError) × HasCause old new ⊥ cause × TellsError (store_error cause) fault)
+      ((cause : StoreError) × HasCause old new ⊥ cause × ReportsError (store_error cause) fault)
       ⊎ ((fault ≡ open_fault.Store) × IsSome old.step_limit)
 
   -- why a database with the schema of one of our versions is not opened: its version is none that is known,
@@ -99,8 +99,8 @@ module _ (old new : State) where
       ⊎ GivesOut fault
 
 -- the query for the version would show this one
-abbrev pub TellsVersion : State → ℕ → Type 0
-TellsVersion s = ShowsVersion s s
+abbrev pub ReportsVersion : State → ℕ → Type 0
+ReportsVersion s = ShowsVersion s s
 
 module _ {T : Type 0} (state : T → State) (old new : T) where
   -- one of the texts that make the tables failed, once those before it had made theirs
@@ -145,9 +145,9 @@ module _ {S : Type 0} (g : Ghosts S) (old new : Held S) where
   abbrev pub FailsToFindOrMake : OpenFault → Type 0
   FailsToFindOrMake fault =
       FailsToFind (state g old) (state g new) fault
-      ⊎ ((asked : Held S) × (told : StoreFault) × ShowsNone (state g old) (state g asked)
-      × CommitsNothing (state g old) (state g asked) × FailsToMake (state g) asked new told
-      × (fault ≡ open_fault_for told))
+      ⊎ ((asked : Held S) × (reported : StoreFault) × ShowsNone (state g old) (state g asked)
+      × CommitsNothing (state g old) (state g asked) × FailsToMake (state g) asked new reported
+      × (fault ≡ open_fault_for reported))
 
 -- the connection once a transaction was begun
 abbrev pub begun : {S : Type 0} → Held S → Held S
@@ -163,7 +163,7 @@ module _ {S : Type 0} (g : Ghosts S) (old new : Held S) where
       ⊎ ((last : Held S) × (e : Error)
       × (LacksFormat (state g old).now.schema → AreFree (state g old).now.schema)
       × CommitsNothing (state g old) (state g last)
-      × Fails (state g last) (state g new) ⊥ e × TellsError e fault)
+      × Fails (state g last) (state g new) ⊥ e × ReportsError e fault)
 
 module _ {S : Type 0} (g : Ghosts S) (old : Held S) (version : ℕ) where
   -- why there are tables of this version: it is shown, or there is no `format` and it is ours

@@ -8,37 +8,37 @@ use Rattle.dep_statements.specs.Adding.{HasCounters}
 use Rattle.dep_tables.specs.Tables.{Tables, tables_of, IsOf, IsKnownSchema}
 use Rattle.dep_tables.specs.Versions.{our_version, HasVersion}
 use Rattle.dep_schema.specs.Beside.{LacksFormat}
-use Rattle.dep_schema.specs.Standing.{first_tables, HoldsNone, HoldsOf, Stands, StandsOf, StandsBeside, CommitsOpen}
+use Rattle.dep_schema.specs.OpenTables.{first_tables, HoldsNone, HoldsOf, StaysFile, IsOpenWithOf, IsOpenBeside, CommitsOpen}
 use Rattle.dep_schema.specs.OpenFaults.{begun, ShowsOrMakes, FailsToOpen}
 use Rattle.dep_schema.specs.declared.opening.OpenFault.{OpenFault}
 
 module _ (old new : State) (result : Result ℕ OpenFault) where
   -- the tables of one of our versions stand, with that version
-  abbrev pub StandsKnown : Type 0
-  StandsKnown = HasCleanDisk new → (its : Schema) → IsKnownSchema its → IsOf its old
-      → IfOk result (λ version. HasVersion version (tables_of old) × StandsOf its new (tables_of old))
+  abbrev pub RepresentsKnown : Type 0
+  RepresentsKnown = HasCleanDisk new → (its : Schema) → IsKnownSchema its → IsOf its old
+      → IfOk result (λ version. HasVersion version (tables_of old) × IsOpenWithOf its new (tables_of old))
 
   -- with no `format` our first tables stand beside those of others
-  abbrev pub StandsMade : Type 0
-  StandsMade = HasCleanDisk new → LacksFormat old.now.schema → HasCounters old.now.schema
-      → OnOk result (StandsBeside old new)
+  abbrev pub RepresentsMade : Type 0
+  RepresentsMade = HasCleanDisk new → LacksFormat old.now.schema → HasCounters old.now.schema
+      → OnOk result (IsOpenBeside old new)
 
 module _ {S : Type 0} (g : Ghosts S) (old new : Held S) where
   -- the version and the tables of a new store, where there was no table at all
-  abbrev pub StandsFresh : ℕ → Type 0
-  StandsFresh version = HasCleanDisk (state g new) → HoldsNone (state g old).now.trees
-      → Stands (state g new) first_tables × (version ≡ our_version)
+  abbrev pub RepresentsFresh : ℕ → Type 0
+  RepresentsFresh version = HasCleanDisk (state g new) → HoldsNone (state g old).now.trees
+      → StaysFile (state g new) first_tables × (version ≡ our_version)
 
   -- the version and the tables that there were, where they were of one of our versions
-  abbrev pub StandsFound : ℕ → Type 0
-  StandsFound version = HasCleanDisk (state g new) → (its : Schema) → IsKnownSchema its
+  abbrev pub RepresentsFound : ℕ → Type 0
+  RepresentsFound version = HasCleanDisk (state g new) → (its : Schema) → IsKnownSchema its
       → (tables : Tables) → HoldsOf its (state g old).now.trees tables
-      → HasVersion version tables × StandsOf its (state g new) tables
+      → HasVersion version tables × IsOpenWithOf its (state g new) tables
 
   -- our first tables beside those of others, where there was no `format`
-  abbrev pub StandsAdded : Type 0
-  StandsAdded = HasCleanDisk (state g new) → LacksFormat (state g old).now.schema
-      → HasCounters (state g old).now.schema → StandsBeside (state g old) (state g new)
+  abbrev pub RepresentsAdded : Type 0
+  RepresentsAdded = HasCleanDisk (state g new) → LacksFormat (state g old).now.schema
+      → HasCounters (state g old).now.schema → IsOpenBeside (state g old) (state g new)
 
   -- why a database was opened with this version
   abbrev pub OpensBy : ℕ → Type 0

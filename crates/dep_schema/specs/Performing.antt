@@ -13,14 +13,14 @@ use Rattle.dep_requests.specs.Performing.{ChangesNothing}
 use Rattle.dep_requests.specs.declared.performing.Done.{Done}
 use Rattle.dep_answers.specs.Steps.{operation_step}
 use Rattle.dep_answers.specs.Performing.{IsReady}
-use Rattle.dep_schema.specs.States.{StandsFor}
+use Rattle.dep_schema.specs.States.{Represents}
 use Rattle.dep_schema.specs.Transactions.{OverStatesWhere, IsGivenBack}
 
 -- the reply of the step is ready
 abbrev pub IsAnswered : Config → Operation → State → Done → Type 0
 IsAnswered config op s done = IsReady (operation_step config s op) done.performed
 
--- what a request makes of the tables: those of the step's state, for each state that they stood for and of which what was
+-- what a request makes of the tables: those of the step's state, for each state that they represented and of which what was
 -- hashed ahead is true
 abbrev pub StepsOver : Config → Operation → RunningHashes → Tables → Done → Tables → Type 0
 StepsOver config op running before done after = AreFit op.fields
@@ -29,8 +29,8 @@ StepsOver config op running before done after = AreFit op.fields
 
 module _ (old new : db.State) (result : Result Done StoreFault) where
   -- it returns that nothing was changed just where it is refused, or only asks to be shown
-  abbrev pub TellsChanges : Config → Operation → RunningHashes → Type 0
-  TellsChanges config op running = db.HasCleanDisk new → (s : State) → StandsFor old s
+  abbrev pub ReportsChanges : Config → Operation → RunningHashes → Type 0
+  ReportsChanges config op running = db.HasCleanDisk new → (s : State) → Represents old s
       → AreRunning s running
       → IfOk result (λ done. done.has_changes ≡ false ↔ ChangesNothing config s op)
 
@@ -42,11 +42,11 @@ module _ (old new : db.State) (result : Result Done StoreFault) where
 -- it stood, while it is open.
 abbrev pub KeepsRunning : (old new : db.State) → (running_before running : RunningHashes) → Type 0
 KeepsRunning old new running_before running = IsTrue new.is_open
-    → (s : State) → StandsFor old s → AreRunning s running_before → AreRunning s running
+    → (s : State) → Represents old s → AreRunning s running_before → AreRunning s running
 
 -- what is refused, and what only shows, commits nothing and leaves the database as it was
 abbrev pub IsKeptUnchanged : {A : Type 0} → (old new : db.State) → Result A StoreFault
     → Config → Operation → RunningHashes → Type 0
 IsKeptUnchanged old new result config op running = db.HasCleanDisk new → (s : State)
-    → StandsFor old s → AreRunning s running → ChangesNothing config s op
+    → Represents old s → AreRunning s running → ChangesNothing config s op
     → OnOk result (IsGivenBack old new)

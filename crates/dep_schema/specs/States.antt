@@ -1,4 +1,4 @@
--- What the database of a store stands for, and what a crash leaves of it.
+-- What the database of a store represents, and what a crash leaves of it.
 use Rattle.std.specs.Prelude.{◌⊎◌}
 use Rattle.sqlite.specs.State as db
 use Rattle.sqlite.specs.Tree.{Trees}
@@ -6,42 +6,42 @@ use Rattle.dep_types.specs.State.{State}
 use Rattle.dep_types.specs.Sound.{IsSound}
 use Rattle.dep_tables.specs.Tables.{Tables}
 use Rattle.dep_row_maps.specs.TablesAre.{TablesAre, OlderTablesAre}
-use Rattle.dep_schema.specs.Standing.{Holds, HoldsOlder, Stands, StandsOlder}
+use Rattle.dep_schema.specs.OpenTables.{Holds, HoldsOlder, StaysFile, IsOpenWithOlder}
 
 -- the rows are those of a sound state
-pub record TablesStandFor (tables : Tables) (s : State) : Type 0 where
+pub record TablesRepresent (tables : Tables) (s : State) : Type 0 where
   pub are : TablesAre tables s
   pub sound : IsSound s
 
--- the store is open, between transactions, and its tables stand for the state
-pub record StandsFor (d : db.State) (s : State) : Type 0 where
+-- the store is open, between transactions, and its tables represent the state
+pub record Represents (d : db.State) (s : State) : Type 0 where
   pub tables : Tables
-  pub stands : Stands d tables
-  pub means : TablesStandFor tables s
+  pub represents : StaysFile d tables
+  pub means : TablesRepresent tables s
 
 -- the rows of version 1 are those of a sound state
-pub record OlderTablesStandFor (tables : Tables) (s : State) : Type 0 where
+pub record OlderTablesRepresent (tables : Tables) (s : State) : Type 0 where
   pub are : OlderTablesAre tables s
   pub sound : IsSound s
 
 -- the same of a store, whose tables are of version 1 still
-pub record OlderStandsFor (d : db.State) (s : State) : Type 0 where
+pub record OlderRepresents (d : db.State) (s : State) : Type 0 where
   pub tables : Tables
-  pub stands : StandsOlder d tables
-  pub means : OlderTablesStandFor tables s
+  pub represents : IsOpenWithOlder d tables
+  pub means : OlderTablesRepresent tables s
 
--- what a crash left stands for the state, in version 2 or in version 1
+-- what a crash left represents the state, in version 2 or in version 1
 abbrev pub IsLeftAs : Trees → State → Type 0
 IsLeftAs trees s =
-    ((t : Tables) × Holds trees t × TablesStandFor t s)
-    ⊎ ((t : Tables) × HoldsOlder trees t × OlderTablesStandFor t s)
+    ((t : Tables) × Holds trees t × TablesRepresent t s)
+    ⊎ ((t : Tables) × HoldsOlder trees t × OlderTablesRepresent t s)
 
--- whatever a crash leaves now stands for one of these states
+-- whatever a crash leaves now represents one of these states
 abbrev pub Leaves : db.State → (State → Type 0) → Type 0
 Leaves d allowed = (trees : Trees) → d.may_leave trees
     → (left : State) × IsLeftAs trees left × allowed left
 
--- for each state that it stood for, it stands for one that is so related to it
+-- for each state that it represented, it represents one that is so related to it
 abbrev pub Carries : (old new : db.State) → (State → State → Type 0) → Type 0
-Carries old new related = (s : State) → StandsFor old s
-    → (left : State) × StandsFor new left × related s left
+Carries old new related = (s : State) → Represents old s
+    → (left : State) × Represents new left × related s left

@@ -5,13 +5,13 @@ ghost use Rattle.sqlite.specs.State.{HasCleanDisk};
 ghost use Rattle.sqlite.specs.Held.{Held, state};
 ghost use Rattle.sqlite.specs.Tree.{Trees};
 ghost use Rattle.dep_tables.specs.Tables.{Tables};
-ghost use Rattle.dep_schema.specs.Standing.{Holds, Stands, WholeTransaction};
+ghost use Rattle.dep_schema.specs.OpenTables.{Holds, StaysFile, WholeTransaction};
 
 use sqlite::{Alter, Connection};
 
 /// While the store is open, a crash leaves the last commit and nothing else.
 pub fn settled<S: Alter>(connection: &Connection<S>)
-    ensures left { (tables : Tables) → Stands (state S.Store connection.now) tables
+    ensures left { (tables : Tables) → StaysFile (state S.Store connection.now) tables
         → (trees : Trees) → (state S.Store connection.now).may_leave trees → Holds trees tables }
     ensures clean { IsTrue (state S.Store connection.now).is_open
         → HasCleanDisk (state S.Store connection.now) }

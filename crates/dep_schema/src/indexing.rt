@@ -5,7 +5,7 @@ ghost use Rattle.dep_tables.specs.Schema.{files_table, files_index, uploads_tabl
 ghost use Rattle.dep_tables.specs.Clauses.{FailsToRun};
 ghost use Rattle.dep_schema.specs.Beside.{AddsIndex, AddsIndexes};
 ghost use Rattle.dep_schema.specs.OpenFaults.{FailsToIndex};
-ghost use Rattle.dep_schema.specs.Standing.{HasRun, Turns, WorksWithin};
+ghost use Rattle.dep_schema.specs.OpenTables.{HasRun, Turns, WorksWithin};
 ghost use Rattle.dep_schema.specs.Texts.{index_files_text, index_uploads_text};
 
 use dep_tables::Statements;

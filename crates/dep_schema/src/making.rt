@@ -6,7 +6,7 @@ ghost use Rattle.dep_tables.specs.Schema.{our_tables};
 ghost use Rattle.dep_tables.specs.Clauses.{FailsToRun};
 ghost use Rattle.dep_schema.specs.OpenFaults.{FailsToCreate, FailsToAddRows, FailsToMake};
 ghost use Rattle.dep_schema.specs.Texts.{add_format_text, add_state_text};
-ghost use Rattle.dep_schema.specs.Standing.{HasRun, Turns, WorksWithin, GainsOurs};
+ghost use Rattle.dep_schema.specs.OpenTables.{HasRun, Turns, WorksWithin, GainsOurs};
 ghost use Rattle.dep_schema.specs.Making.{FillsOurs, MakesFirst, PutsFormat, PutsState, PutsFirstRows};
 
 use crate::indexing::create_indexes;

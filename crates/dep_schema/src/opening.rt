@@ -7,11 +7,11 @@ ghost use Rattle.sqlite.specs.State.{HasCleanDisk, IsUnchanged, Survives};
 ghost use Rattle.sqlite.specs.Held.{state};
 ghost use Rattle.dep_tables.specs.Tables.{IsKnown};
 ghost use Rattle.dep_tables.specs.Versions.{our_version, older_version, IsKnownVersion};
-ghost use Rattle.dep_schema.specs.Standing.{no_schema, Stands, IsOpenable, CommitsBySchema, IsBack, IsStill, HasOtherVersion, StaysOn, first_tables};
+ghost use Rattle.dep_schema.specs.OpenTables.{no_schema, StaysFile, IsOpenable, CommitsBySchema, IsBack, IsStill, HasOtherVersion, StaysOn, first_tables};
 ghost use Rattle.dep_schema.specs.Beside.{LacksFormat, AreFree};
 ghost use Rattle.dep_schema.specs.Making.{FindsNone, FindsKnown, FindsShown, MakesFirst, AddsFirst, LeavesKnown, FindsOrMakes};
-ghost use Rattle.dep_schema.specs.Opening.{StandsKnown, StandsMade, StandsFresh, StandsFound, StandsAdded, WasOpen, SurvivesOpen, OpensBy, RefusesBy};
-ghost use Rattle.dep_schema.specs.OpenFaults.{open_fault_number, told_by, AreVersion, ShowsOrMakes, begun, FailsToOpen, RefusesKnown};
+ghost use Rattle.dep_schema.specs.Opening.{RepresentsKnown, RepresentsMade, RepresentsFresh, RepresentsFound, RepresentsAdded, WasOpen, SurvivesOpen, OpensBy, RefusesBy};
+ghost use Rattle.dep_schema.specs.OpenFaults.{open_fault_number, reported_by, AreVersion, ShowsOrMakes, begun, FailsToOpen, RefusesKnown};
 
 use crate::committing::commit;
 use crate::lending::Lent;
@@ -111,8 +111,8 @@ fn are_known(rows: &[Row], version: i64) -> bool
 }
 
 /// What an error of the query for the version means: that no table `format` is there, or a fault.
-fn told_by(error: Error) -> Result<Option<u64>, OpenFault>
-    ensures { result ≡ told_by error }
+fn reported_by(error: Error) -> Result<Option<u64>, OpenFault>
+    ensures { result ≡ reported_by error }
 {
     match error {
         Error::SqlInputError(CompileError::NoSuchTable) => Ok(None),
@@ -133,7 +133,7 @@ fn find_format<S: Alter>(tx: &mut Transaction<'_, S>) -> Result<Option<u64>, Ope
     // Whatever tables there are, it only reads.
     ensures same { HasCleanDisk (state S.Store tx.new.conn.now)
         → OnOk result (IsUnchanged (state S.Store tx.old.conn.now) (state S.Store tx.new.conn.now)) }
-    ensures told { FindsShown (state S.Store tx.old.conn.now) (state S.Store tx.new.conn.now)
+    ensures reported { FindsShown (state S.Store tx.old.conn.now) (state S.Store tx.new.conn.now)
         result }
     ensures stays { StaysOn S.Store tx.old.conn tx.new.conn result }
 {
@@ -147,7 +147,7 @@ fn find_format<S: Alter>(tx: &mut Transaction<'_, S>) -> Result<Option<u64>, Ope
                 Err(OpenFault::UnknownVersion)
             }
         }
-        Err(error) => told_by(error),
+        Err(error) => reported_by(error),
     }
 }
 
@@ -165,7 +165,7 @@ fn find_or_make<S: Alter>(tx: &mut Transaction<'_, S>) -> Result<u64, OpenFault>
     ensures lacking { HasCleanDisk (state S.Store tx.new.conn.now)
         → result ≡ Err OpenFault.UnknownVersion
         → LacksFormat (state S.Store tx.old.conn.now).now.schema → ⊥ }
-    ensures told { FindsOrMakes S.Store tx.old.conn.now tx.new.conn.now result }
+    ensures reported { FindsOrMakes S.Store tx.old.conn.now tx.new.conn.now result }
     ensures made { HasCleanDisk (state S.Store tx.new.conn.now)
         → LacksFormat (state S.Store tx.old.conn.now).now.schema
         → IfOk result (λ version. version ≡ our_version) }
@@ -187,8 +187,8 @@ fn prepare<S: Alter>(connection: &mut Connection<S>) -> Result<u64, OpenFault>
     requires settled { (state S.Store connection.old).in_transaction ≡ false }
     ensures fresh { HasCleanDisk (state S.Store connection.new)
         → (state S.Store connection.old).now.schema ≡ no_schema
-        → OnOk result (Stands (state S.Store connection.new) first_tables) }
-    ensures found { StandsKnown (state S.Store connection.old) (state S.Store connection.new)
+        → OnOk result (StaysFile (state S.Store connection.new) first_tables) }
+    ensures found { RepresentsKnown (state S.Store connection.old) (state S.Store connection.new)
         result }
     ensures made { HasCleanDisk (state S.Store connection.new)
         → LacksFormat (state S.Store connection.old).now.schema
@@ -203,7 +203,7 @@ fn prepare<S: Alter>(connection: &mut Connection<S>) -> Result<u64, OpenFault>
     ensures lacking { HasCleanDisk (state S.Store connection.new)
         → result ≡ Err OpenFault.UnknownVersion
         → LacksFormat (state S.Store connection.old).now.schema → ⊥ }
-    ensures told { HasCleanDisk (state S.Store connection.new)
+    ensures reported { HasCleanDisk (state S.Store connection.new)
         → MatchResult result (ShowsOrMakes S.Store (begun connection.old))
         (FailsToOpen S.Store connection.old connection.new) }
     ensures ours { HasCleanDisk (state S.Store connection.new)
@@ -213,7 +213,7 @@ fn prepare<S: Alter>(connection: &mut Connection<S>) -> Result<u64, OpenFault>
     ensures free { HasCleanDisk (state S.Store connection.new)
         → LacksFormat (state S.Store connection.old).now.schema
         → OnOk result (AreFree (state S.Store connection.old).now.schema) }
-    ensures beside { StandsMade (state S.Store connection.old) (state S.Store connection.new)
+    ensures beside { RepresentsMade (state S.Store connection.old) (state S.Store connection.new)
         result }
     ensures left { HasCleanDisk (state S.Store connection.new)
         → IsTrue (state S.Store connection.new).is_open
@@ -240,9 +240,9 @@ pub fn open<S: Alter>(
 ) -> Result<Schema<S>, (OpenFault, Connection<S>)>
     requires settled { (state S.Store connection).in_transaction ≡ false }
     ensures fresh { IfOk result
-        (λ schema. StandsFresh S.Store connection schema.connection schema.found) }
+        (λ schema. RepresentsFresh S.Store connection schema.connection schema.found) }
     ensures found { IfOk result
-        (λ schema. StandsFound S.Store connection schema.connection schema.found) }
+        (λ schema. RepresentsFound S.Store connection schema.connection schema.found) }
     // A database without a table `format`, such as an empty one, has version 2 then.
     ensures made { IfOk result (λ schema. HasCleanDisk (state S.Store schema.connection)
         → LacksFormat (state S.Store connection).now.schema → schema.found ≡ our_version) }
@@ -254,11 +254,11 @@ pub fn open<S: Alter>(
     ensures free { IfOk result (λ schema. HasCleanDisk (state S.Store schema.connection)
         → LacksFormat (state S.Store connection).now.schema
         → AreFree (state S.Store connection).now.schema) }
-    ensures beside { IfOk result (λ schema. StandsAdded S.Store connection schema.connection) }
+    ensures beside { IfOk result (λ schema. RepresentsAdded S.Store connection schema.connection) }
     ensures version { IfErr result (λ e. HasCleanDisk (state S.Store e.1)
         → e.0 ≡ OpenFault.UnknownVersion → IsOpenable (state S.Store connection) → ⊥) }
     // A fault has a cause, and an Ok has one: a database is opened only by a version that is known or for want of `format`.
-    ensures told { MatchResult result
+    ensures reported { MatchResult result
         (λ schema. OpensBy S.Store connection schema.connection schema.found)
         (λ e. RefusesBy S.Store connection e.1 e.0) }
     // The tables of one of our versions with none that is known are refused by that fault, unless SQLite gave out.

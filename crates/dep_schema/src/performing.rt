@@ -4,8 +4,8 @@ ghost use Rattle.std.specs.Prelude.{◌≡◌, false, IfOk};
 ghost use Rattle.sqlite.specs.Held.{state};
 ghost use Rattle.dep_requests.specs.Performing.{IsDone};
 ghost use Rattle.dep_requests.specs.Performing as within;
-ghost use Rattle.dep_schema.specs.Standing.{StaysOn};
-ghost use Rattle.dep_schema.specs.Performing.{KeepsRunning, StepsOver, TellsChanges, IsBackUnchanged};
+ghost use Rattle.dep_schema.specs.OpenTables.{StaysOn};
+ghost use Rattle.dep_schema.specs.Performing.{KeepsRunning, StepsOver, ReportsChanges, IsBackUnchanged};
 ghost use Rattle.dep_schema.specs.Transactions.{Transacts};
 
 use crate::committing::commit;
@@ -37,7 +37,7 @@ fn answer_within<S: Alter>(
 }
 
 /// Does what a request asks for. The reply is made before the commit. Where nothing was changed the transaction is given back.
-/// A fault of the store, also of the commit, and want of memory leave the tables as they were. What was hashed for it stays
+/// A fault of the store, also of the commit, and lack of memory leave the tables as they were. What was hashed for it stays
 /// known, whatever is returned.
 pub fn perform_request<S: Alter>(
     connection: &mut Connection<S>,
@@ -49,7 +49,7 @@ pub fn perform_request<S: Alter>(
     requires settled { (state S.Store connection.old).in_transaction ≡ false }
     ensures transacts { Transacts (state S.Store connection.old) (state S.Store connection.new) result
         (StepsOver service.now operation.now running.old) }
-    ensures changes { TellsChanges (state S.Store connection.old) (state S.Store connection.new) result
+    ensures changes { ReportsChanges (state S.Store connection.old) (state S.Store connection.new) result
         service.now operation.now running.old }
     ensures running { KeepsRunning (state S.Store connection.old) (state S.Store connection.new)
         running.old running.new }

@@ -11,7 +11,7 @@ ghost use Rattle.dep_schema.specs.Causes.{FailsSince};
 ghost use Rattle.dep_row_maps.specs.Clauses.{Becomes};
 ghost use Rattle.dep_row_maps.specs.Sha512s.{upgraded};
 ghost use Rattle.dep_schema.specs.Beside.{AreNewNamesFree};
-ghost use Rattle.dep_schema.specs.Standing.{Sees, Turns, WorksWithin, IsBack};
+ghost use Rattle.dep_schema.specs.OpenTables.{Sees, Turns, WorksWithin, IsBack};
 ghost use Rattle.dep_schema.specs.Texts.{create_sha512s_text};
 ghost use Rattle.dep_schema.specs.Transactions.{TransactsTo};
 ghost use Rattle.dep_schema.specs.Upgrading.{with_no_sha512s, with_sha512s, FailsToExtend, FailsToPut, FailsToRewrite, FailsToUpgrade};

@@ -21,7 +21,7 @@ use Rattle.dep_decisions.specs.declared.operation.Operation.{Operation}
 use Rattle.dep_decisions.proofs.FoundInMaps.{unless-none}
 use Rattle.dep_decisions.proofs.Passed.{content_passed}
 use Rattle.dep_answers.specs.Answers.{Answer, document_of, head_of}
-use Rattle.dep_answers.specs.Replies.{unless_bare, front_text, stored_text, refused_answer}
+use Rattle.dep_answers.specs.Replies.{unless_head_only, front_text, stored_text, refused_answer}
 use Rattle.dep_answers.specs.Steps.{sent_by, refused_step, is_head, step_by, operation_step}
 use Rattle.dep_message.specs.Stream.{Request}
 use Rattle.dep_message.specs.declared.message.Message.{Message}
@@ -83,23 +83,23 @@ regroup : (s a b c d e f g h document : List ℕ) → ((((((((s ++ a) ++ b) ++ c
     ≡ s ++ ((((((((a ++ b) ++ c) ++ d) ++ e) ++ f) ++ g) ++ h) ++ document)
 regroup s a b c d e f g h document = simp append_assoc
 
-pub front_begins : (a : Answer) (clock : ℕ) (bare ends : Bool)
-    → front_text a clock bare ends ≡ status_line a.status ++ (fields_text (head_of a clock ends) ++ unless_bare bare (document_of a.content))
+pub front_begins : (a : Answer) (clock : ℕ) (head_only ends : Bool)
+    → front_text a clock head_only ends ≡ status_line a.status ++ (fields_text (head_of a clock ends) ++ unless_head_only head_only (document_of a.content))
 unfolding front_text head_text fields_text
-front_begins a clock bare ends =
+front_begins a clock head_only ends =
     let r = head_of a clock ends in
     regroup (status_line a.status) (field (codes "Date") (http_text r.date)) (optional (codes "Content-Type") r.content_type)
     (optional (codes "Content-Length") (option_map decimal r.content_length)) (optional (codes "ETag") (option_map quoted_tag r.tag))
     (optional (codes "Location") r.location) (optional (codes "Allow") r.allow) (optional (codes "Connection") (connection r.closes)) (line [])
-    (unless_bare bare (document_of a.content))
+    (unless_head_only head_only (document_of a.content))
 
-not_refused : (s : State) (r : Refusal) (bare ends : Bool) → HasStatus 204 (sent_by (refused_step s r None bare ends)) → ⊥
-not_refused s r bare ends h =
+not_refused : (s : State) (r : Refusal) (head_only ends : Bool) → HasStatus 204 (sent_by (refused_step s r None head_only ends)) → ⊥
+not_refused s r head_only ends h =
     let a = refused_answer s.clock r None in
-    let behind : List ℕ = fields_text (head_of a s.clock ends) ++ unless_bare bare (document_of a.content) in
-    other_status r (behind ++ stored_text a bare) h.0
-    (sym (append_assoc (status_line a.status) behind (stored_text a bare))
-    ∙ (ap (λ t. t ++ stored_text a bare) (sym (front_begins a s.clock bare ends)) ∙ h.1))
+    let behind : List ℕ = fields_text (head_of a s.clock ends) ++ unless_head_only head_only (document_of a.content) in
+    other_status r (behind ++ stored_text a head_only) h.0
+    (sym (append_assoc (status_line a.status) behind (stored_text a head_only))
+    ∙ (ap (λ t. t ++ stored_text a head_only) (sym (front_begins a s.clock head_only ends)) ∙ h.1))
 
 -- ---- what is accepted names a segment
 
@@ -141,14 +141,14 @@ module _ (config : Config) (s : State) (m : Message) (u : ℕ) where
       → IsReceived (step_by config s (operation_of m (posted_to u)) o).state m u
   by_refusal None accepted h =
       let k = named_segment accepted in
-      record { segment = k.0; named = k.1; stands = received_by config s (operation_of m (posted_to u)) u k.0 refl k.1 accepted }
+      record { segment = k.0; named = k.1; represents = received_by config s (operation_of m (posted_to u)) u k.0 refl k.1 accepted }
   by_refusal (Some r) refused h = absurd (not_refused s r (is_head Post) (operation_of m (posted_to u)).closes h)
 
 -- what is answered with 204 stands in the state that the step leaves
-pub replied_stands : (config : Config) (s : State) (m : Message) (moment u : ℕ) → target m.head.method m.head.path ≡ To (posted_to u)
+pub replied_represents : (config : Config) (s : State) (m : Message) (moment u : ℕ) → target m.head.method m.head.path ≡ To (posted_to u)
     → HasStatus 204 (sent_by (step config s (Request m) moment)) → IsReceived (step config s (Request m) moment).state m u
 unfolding step operation_step
-replied_stands config s m moment u named h =
+replied_represents config s m moment u named h =
     let t = tick config s moment in
     subst (λ (r : Routed). HasStatus 204 (sent_by (routed_step config t m r)) → IsReceived (routed_step config t m r).state m u) (sym named)
     (by_refusal config t m u (refusal config t (operation_of m (posted_to u))) refl) h

@@ -1,13 +1,13 @@
--- A hub stands for the records of all calls on it.
+-- A hub represents the records of all calls on it.
 use Rattle.std.proofs.Common.{◌≡◌, ℕ, List, ◌++◌, IsTrue, sym, subst, append_assoc, append-nil}
 use Rattle.dep_types.specs.State.{State}
 use Rattle.dep_types.specs.Conditions.{Condition}
 use Rattle.dep_hub.specs.Records.{Record}
-use Rattle.dep_hub.specs.Standing.{StandsAfter, IsClean}
+use Rattle.dep_hub.specs.Representing.{RepresentsAfter, IsClean}
 use Rattle.dep_hub.specs.declared.hub.Hub.{Hub}
 use Rattle.dep_hub.specs.declared.arrived.Arrived.{Arrived}
 use Rattle.dep_hub.specs.declared.arrived.Arrived.TheVariants.{Open as StaysOpen, Closed, Cut, NoSuch}
-use Rattle.dep_hub.proofs.HubLemmas.{same_stands_for}
+use Rattle.dep_hub.proofs.HubLemmas.{same_represents}
 use Rattle.dep_server.specs.Calls.{Comes, Call, Calls, connects, refuses, closes, arrives, none, and_then, records_of}
 
 module _ {A : Type 0} (condition : A → Condition) where
@@ -23,10 +23,10 @@ module _ {A : Type 0} (condition : A → Condition) where
     came_clean Cut c clean = c.comes.arrival.clean clean
 
     came_adds : (answer : Arrived) (c : Comes condition old new number piece moment answer) → IsClean condition new
-        → (first : State) (before : List Record) → StandsAfter condition old first before
-        → StandsAfter condition new first (before ++ records_of condition old new number piece moment answer c)
+        → (first : State) (before : List Record) → RepresentsAfter condition old first before
+        → RepresentsAfter condition new first (before ++ records_of condition old new number piece moment answer c)
     came_adds NoSuch c clean first before h =
-        subst (λ rs. StandsAfter condition new first rs) (sym (append-nil before)) (subst (λ (x : Hub A). StandsAfter condition x first before) (sym c.comes.same) h)
+        subst (λ rs. RepresentsAfter condition new first rs) (sym (append-nil before)) (subst (λ (x : Hub A). RepresentsAfter condition x first before) (sym c.comes.same) h)
     came_adds StaysOpen c clean first before h = c.comes.arrival.adds clean first before h
     came_adds Closed c clean first before h = c.comes.arrival.adds clean first before h
     came_adds Cut c clean first before h = c.comes.arrival.adds clean first before h
@@ -38,18 +38,18 @@ module _ {A : Type 0} (condition : A → Condition) where
   call_clean {old} {new} (arrives number piece moment answer c) clean = came_clean old new number piece moment answer c clean
 
   call_adds : {old new : Hub A} {more : List Record} → Call condition old new more → IsClean condition new
-      → (first : State) (before : List Record) → StandsAfter condition old first before → StandsAfter condition new first (before ++ more)
+      → (first : State) (before : List Record) → RepresentsAfter condition old first before → RepresentsAfter condition new first (before ++ more)
   call_adds (connects number c) clean first before h = c.adds first before h
   call_adds {old} {new} (refuses c) clean first before h =
-      subst (λ rs. StandsAfter condition new first rs) (sym (append-nil before)) (same_stands_for condition old new c.config c.same first before h)
+      subst (λ rs. RepresentsAfter condition new first rs) (sym (append-nil before)) (same_represents condition old new c.config c.same first before h)
   call_adds (closes number c) clean first before h = c.adds first before h
   call_adds {old} {new} (arrives number piece moment answer c) clean first before h =
       came_adds old new number piece moment answer c clean first before h
 
-  -- a hub whose store is open stands for the records of all calls
+  -- a hub whose store is open represents the records of all calls
   pub calls_stand : (hub last : Hub A) (records : List Record) → Calls condition hub records last → IsClean condition last
-      → (first : State) (before : List Record) → StandsAfter condition hub first before → StandsAfter condition last first (before ++ records)
-  calls_stand hub last records none clean first before h = subst (λ rs. StandsAfter condition hub first rs) (sym (append-nil before)) h
+      → (first : State) (before : List Record) → RepresentsAfter condition hub first before → RepresentsAfter condition last first (before ++ records)
+  calls_stand hub last records none clean first before h = subst (λ rs. RepresentsAfter condition hub first rs) (sym (append-nil before)) h
   calls_stand hub last all (and_then {records} {more} {mid} calls call) clean first before h =
-      subst (λ rs. StandsAfter condition last first rs) (append_assoc before records more)
+      subst (λ rs. RepresentsAfter condition last first rs) (append_assoc before records more)
       (call_adds call clean first (before ++ records) (calls_stand hub mid records calls (call_clean call clean) first before h))

@@ -28,8 +28,8 @@ use Rattle.dep_server.specs.Deposited.{IsTaken, object_of, number_of, StaysUntil
 use Rattle.dep_server.proofs.MovesLead.{over_both, run_leads, moved_sound, moves_sound}
 
 module _ (config : Config) (n f : ℕ) (file : File) where
-  abbrev Stands : State → Type 0
-  Stands s = file_at s n f ≡ Some file
+  abbrev StaysFile : State → Type 0
+  StaysFile s = file_at s n f ≡ Some file
 
   -- a move replaces the file or deletes it
   record Takes (s : State) (move : Move) : Type 0 where
@@ -40,19 +40,19 @@ module _ (config : Config) (n f : ℕ) (file : File) where
     pub accepted : IsAccepted config (tick config s moment) message target
     pub takes : IsTrue (takes_file n f target)
 
-  by_refusal : (s : State) (op : Operation) (o : Option Refusal) (b : Bool) → refusal config s op ≡ o → takes_file n f op.target ≡ b → IsSound s → Stands s
-      → Stands (step_by config s op o).state ⊎ ((refusal config s op ≡ None) × IsTrue (takes_file n f op.target))
+  by_refusal : (s : State) (op : Operation) (o : Option Refusal) (b : Bool) → refusal config s op ≡ o → takes_file n f op.target ≡ b → IsSound s → StaysFile s
+      → StaysFile (step_by config s op o).state ⊎ ((refusal config s op ≡ None) × IsTrue (takes_file n f op.target))
   by_refusal s op (Some r) b refused e sound h = inl h
   by_refusal s op None true accepted e sound h = inr (accepted, e)
   by_refusal s op None false accepted e sound h = inl (file_stays config s op n f file sound h e)
 
-  by_operation : (s : State) (op : Operation) → IsSound s → Stands s
-      → Stands (operation_step config s op).state ⊎ ((refusal config s op ≡ None) × IsTrue (takes_file n f op.target))
+  by_operation : (s : State) (op : Operation) → IsSound s → StaysFile s
+      → StaysFile (operation_step config s op).state ⊎ ((refusal config s op ≡ None) × IsTrue (takes_file n f op.target))
   unfolding operation_step
   by_operation s op sound h = by_refusal s op (refusal config s op) (takes_file n f op.target) refl refl sound h
 
-  by_route : (s : State) (m : Message) (moment : ℕ) (r : Routed) → target m.head.method m.head.path ≡ r → IsSound (tick config s moment) → Stands (tick config s moment)
-      → Stands (routed_step config (tick config s moment) m r).state ⊎ Takes s (Made (Request m) moment)
+  by_route : (s : State) (m : Message) (moment : ℕ) (r : Routed) → target m.head.method m.head.path ≡ r → IsSound (tick config s moment) → StaysFile (tick config s moment)
+      → StaysFile (routed_step config (tick config s moment) m r).state ⊎ Takes s (Made (Request m) moment)
   by_route s m moment NotFound e sound h = inl h
   by_route s m moment (NotAllowed methods) e sound h = inl h
   by_route s m moment (To t) e sound h = elim (by_operation (tick config s moment) (operation_of m t) sound h) [
@@ -67,15 +67,15 @@ module _ (config : Config) (n f : ℕ) (file : File) where
     })
   ]
 
-  by_step : (s : State) (item : Item) (moment : ℕ) → IsSound s → Stands s → Stands (step config s item moment).state ⊎ Takes s (Made item moment)
+  by_step : (s : State) (item : Item) (moment : ℕ) → IsSound s → StaysFile s → StaysFile (step config s item moment).state ⊎ Takes s (Made item moment)
   unfolding step
-  by_step s (Fault r bare) moment sound h = inl h
+  by_step s (Fault r head_only) moment sound h = inl h
   by_step s Continue moment sound h = inl h
   by_step s (Request m) moment sound h = by_route s m moment (target m.head.method m.head.path) refl (keeps_sound config s moment sound) h
 
-  by_move : (s : State) (move : Move) → IsSound s → Stands s → Stands (moved config s move) ⊎ Takes s move
+  by_move : (s : State) (move : Move) → IsSound s → StaysFile s → StaysFile (moved config s move) ⊎ Takes s move
   by_move s (Made item moment) sound h = by_step s item moment sound h
-  by_move s (Begun (Fault r bare) moment) sound h = inl h
+  by_move s (Begun (Fault r head_only) moment) sound h = inl h
   by_move s (Begun Continue moment) sound h = inl h
   by_move s (Begun (Request m) moment) sound h = inl h
 
@@ -103,7 +103,7 @@ module _ (config : Config) (n f : ℕ) (file : File) where
     takes = t.takes;
   }
 
-  by_moves : (s : State) (moves : List Move) → IsSound s → Stands s → StaysUntilTaken config s moves (state_by config s moves) n f file
+  by_moves : (s : State) (moves : List Move) → IsSound s → StaysFile s → StaysUntilTaken config s moves (state_by config s moves) n f file
   by_moves s [] sound h = inl h
   by_moves s (move ∷ moves) sound h = elim (by_move s move sound h) [
     | inl stays ↦ elim (by_moves (moved config s move) moves (moved_sound config s move sound) stays) [
@@ -115,7 +115,7 @@ module _ (config : Config) (n f : ℕ) (file : File) where
 
   -- from a place in a run on
   pub stays : (first : State) (records : List Record) (w : World) (r : Run config first records w) (before behind : List Move) → IsSound first
-      → moves_of r ≡ before ++ behind → Stands (state_by config first before) → StaysUntilTaken config (state_by config first before) behind w.state n f file
+      → moves_of r ≡ before ++ behind → StaysFile (state_by config first before) → StaysUntilTaken config (state_by config first before) behind w.state n f file
   stays first records w r before behind sound split h =
       let last : w.state ≡ state_by config (state_by config first before) behind =
       run_leads config r ∙ ap (λ (l : List Move). state_by config first l) split ∙ over_both config first before behind in
@@ -144,7 +144,7 @@ module _ (q : AnyRequest) (t : Target) where
   made_of : (i : ℕ) (reference : Reference) → IsSound q.state → IsDeposit q t i reference → Made_of reference i (left_by q)
   made_of i reference sound d =
       subst (λ (now : State). Made_of reference i now) (sym (accepted_state d.accepted))
-      (deposited q.config found (operation_of q.message t) d.references d.read reference i (keeps_sound q.config q.state q.moment sound) d.accepted.passed d.told)
+      (deposited q.config found (operation_of q.message t) d.references d.read reference i (keeps_sound q.config q.state q.moment sound) d.accepted.passed d.reported)
 
 cons_moves : (before : List Move) (move : Move) (behind : List Move) → before ++ move ∷ behind ≡ (before ++ move ∷ []) ++ behind
 cons_moves [] move behind = refl

@@ -13,7 +13,7 @@ use Rattle.dep_types.specs.declared.target.Method.{Method}
 use Rattle.dep_types.proofs.TickSound.{keeps_sound}
 use Rattle.dep_head.specs.Head.{head_end}
 use Rattle.dep_head.proofs.HeadEnd.{end_more}
-use Rattle.dep_message.specs.Heads.{is_bare, closes}
+use Rattle.dep_message.specs.Heads.{is_head_only, closes}
 use Rattle.dep_message.specs.Stream.{Item, Fault, Continue, Request}
 use Rattle.dep_message.specs.declared.message.Message.{Message}
 use Rattle.dep_reply.specs.Head.{head_text}
@@ -26,18 +26,18 @@ use Rattle.dep_decisions.specs.Effects.{effect}
 use Rattle.dep_decisions.specs.declared.operation.Operation.{Operation}
 use Rattle.dep_decisions.proofs.Accepted.{effect_sound}
 use Rattle.dep_answers.specs.Answers.{Answer, document_of, head_of}
-use Rattle.dep_answers.specs.Replies.{unless_bare, front_text, refused_answer}
+use Rattle.dep_answers.specs.Replies.{unless_head_only, front_text, refused_answer}
 use Rattle.dep_answers.specs.Steps.{is_head, accepted_answer, step_by, operation_step}
 use Rattle.dep_answers.proofs.Unbroken.{answer_unbroken, refused_unbroken}
 use Rattle.dep_router.specs.Targets.{target, to_resource, to_method, method_of, segments, resource_of, allow_text}
 use Rattle.dep_hub.specs.Machine.{operation_of, routed_step, step}
 use Rattle.dep_server.specs.ReplyHeads.{IsWholeReply, IsUnsplit}
 
-whole_reply : (a : Answer) (clock : ℕ) (bare ends : Bool) → IsUnbroken (head_of a clock ends) → IsWholeReply (front_text a clock bare ends)
+whole_reply : (a : Answer) (clock : ℕ) (head_only ends : Bool) → IsUnbroken (head_of a clock ends) → IsWholeReply (front_text a clock head_only ends)
 unfolding front_text
-whole_reply a clock bare ends unbroken =
+whole_reply a clock head_only ends unbroken =
     let r = head_of a clock ends in
-    let document = unless_bare bare (document_of a.content) in
+    let document = unless_head_only head_only (document_of a.content) in
     record {
       head = r;
       document = document;
@@ -48,8 +48,8 @@ whole_reply a clock bare ends unbroken =
       lines = head_reads r unbroken;
     }
 
-refused_whole : (r : Refusal) (clock : ℕ) (bare ends : Bool) → IsWholeReply (front_text (refused_answer clock r None) clock bare ends)
-refused_whole r clock bare ends = whole_reply (refused_answer clock r None) clock bare ends (refused_unbroken r None tt clock ends)
+refused_whole : (r : Refusal) (clock : ℕ) (head_only ends : Bool) → IsWholeReply (front_text (refused_answer clock r None) clock head_only ends)
+refused_whole r clock head_only ends = whole_reply (refused_answer clock r None) clock head_only ends (refused_unbroken r None tt clock ends)
 
 allow_unbroken : (resource : Resource) → IsTrue (is_unbroken (allow_text resource))
 allow_unbroken at.Service = refl
@@ -78,15 +78,15 @@ module _ (config : Config) (checked : IsChecked config) where
   by_method : (s : State) (m : Message) (resource : Resource) (method : Option Method) → IsSound s → IsWholeReply (routed_step config s m (to_method resource method)).front
   by_method s m resource (Some method) sound = operation_whole s (operation_of m (record { resource = resource; method = method })) (fields_are_fit m.head.fields) sound
   by_method s m resource None sound =
-      whole_reply (refused_answer s.clock why.MethodNotAllowed (Some (allow_text resource))) s.clock (is_bare m.head) (closes m.head)
+      whole_reply (refused_answer s.clock why.MethodNotAllowed (Some (allow_text resource))) s.clock (is_head_only m.head) (closes m.head)
       (refused_unbroken why.MethodNotAllowed (Some (allow_text resource)) (allow_unbroken resource) s.clock (closes m.head))
 
   routed_whole : (s : State) (m : Message) (r : Option Resource) → IsSound s → IsWholeReply (routed_step config s m (to_resource m.head.method r)).front
-  routed_whole s m None sound = refused_whole why.NotFound s.clock (is_bare m.head) (closes m.head)
+  routed_whole s m None sound = refused_whole why.NotFound s.clock (is_head_only m.head) (closes m.head)
   routed_whole s m (Some resource) sound = by_method s m resource (method_of resource m.head.method) sound
 
   pub step_unsplit : (s : State) (item : Item) (moment : ℕ) → IsSound s → IsUnsplit item (step config s item moment).front
   unfolding step head_end target
-  step_unsplit s (Fault r bare) moment sound = refused_whole r (tick config s moment).clock bare true
+  step_unsplit s (Fault r head_only) moment sound = refused_whole r (tick config s moment).clock head_only true
   step_unsplit s Continue moment sound = refl
   step_unsplit s (Request m) moment sound = routed_whole (tick config s moment) m (resource_of (segments m.head.path)) (keeps_sound config s moment sound)

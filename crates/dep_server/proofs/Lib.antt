@@ -8,7 +8,7 @@ mod MovesLead
 mod FilesStay
 mod UploadsStay
 mod Refusing
-mod BareLemmas
+mod HeadOnlyLemmas
 mod HeadLemmas
 pub mod Acknowledging
 mod TakenAgain

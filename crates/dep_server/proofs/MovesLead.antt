@@ -90,7 +90,7 @@ module _ (config : Config) where
   -- ---- soundness
 
   begun_sound : (s : State) (item : Item) (moment : ℕ) → IsSound s → IsSound (starting_state config s item moment)
-  begun_sound s (Fault r bare) moment sound = keeps_sound config s moment sound
+  begun_sound s (Fault r head_only) moment sound = keeps_sound config s moment sound
   begun_sound s Continue moment sound = sound
   begun_sound s (Request m) moment sound = keeps_sound config s moment sound
 

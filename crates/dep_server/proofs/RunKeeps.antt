@@ -18,7 +18,7 @@ module _ (config : Config) (P : State → Type 0)
   after_items s (item ∷ items) moment p = after_items (step config s item moment).state items moment (steps s item moment p)
 
   at_start : (s : State) (item : Item) (moment : ℕ) → P s → P (starting_state config s item moment)
-  at_start s (Fault r bare) moment p = ticks s moment p
+  at_start s (Fault r head_only) moment p = ticks s moment p
   at_start s Continue moment p = p
   at_start s (Request m) moment p = ticks s moment p
 

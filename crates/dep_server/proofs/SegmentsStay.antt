@@ -13,7 +13,7 @@ use Rattle.dep_decisions.specs.Effects.{effect, received_beside, with_segment}
 use Rattle.dep_decisions.specs.Laws.{posted_to}
 use Rattle.dep_decisions.specs.declared.operation.Operation.{Operation}
 use Rattle.dep_decisions.proofs.SegmentRequests.{effect_is, let_through, present}
-use Rattle.dep_decisions.proofs.Segments.{stands_then}
+use Rattle.dep_decisions.proofs.Segments.{represents_then}
 use Rattle.dep_answers.specs.Steps.{step_by, operation_step}
 use Rattle.dep_message.specs.Stream.{Request}
 use Rattle.dep_message.specs.declared.message.Message.{Message}
@@ -44,14 +44,14 @@ module _ (k : ℕ) (bytes : List ℕ) where
   bytes_kept s j content upload h = grown j content upload (map.get upload.segments j) refl h
 
 module _ (u k : ℕ) (bytes : List ℕ) where
-  told : (s : State) → HoldsStill u (HasBytes k bytes) s.uploads → HasSegment s u k bytes ⊎ IsGone s u
-  told s (inl h) = inl (record { upload = h.0; there = h.1; received = h.2 })
-  told s (inr gone) = inr gone
+  reported : (s : State) → HoldsStill u (HasBytes k bytes) s.uploads → HasSegment s u k bytes ⊎ IsGone s u
+  reported s (inl h) = inl (record { upload = h.0; there = h.1; received = h.2 })
+  reported s (inr gone) = inr gone
 
   pub stays : (config : Config) (first : State) (records : List Record) (w : World) (r : Run config first records w) (through : State)
       → IsSound first → RunsThrough r through → HasSegment through u k bytes → HasSegment w.state u k bytes ⊎ IsGone w.state u
   stays config first records w r through sound t h =
-      told w.state (still_there u (HasBytes k bytes) (bytes_kept k bytes) r through sound t (h.upload, h.there, h.received))
+      reported w.state (still_there u (HasBytes k bytes) (bytes_kept k bytes) r through sound t (h.upload, h.there, h.received))
 
 -- ---- a segment that is accepted
 
@@ -63,7 +63,7 @@ received_by config s op u k target kind accepted =
     (record {
       upload = with_segment s k op.content x.0;
       there = get-insert_same s.uploads u (with_segment s k op.content x.0);
-      received = stands_then x.0 k op.content (let_through config op u k target kind s x.0 accepted x.1) s;
+      received = represents_then x.0 k op.content (let_through config op u k target kind s x.0 accepted x.1) s;
     })
 
 accepted_by : (config : Config) (s : State) (op : Operation) (u k : ℕ) → op.target ≡ posted_to u → kind_of op ≡ Some (of.Segment k)
@@ -72,13 +72,13 @@ accepted_by config s op u k target kind None accepted e = received_by config s o
 accepted_by config s op u k target kind (Some r) accepted e = cc
 
 -- what is accepted as a segment stands in the state that the step leaves
-pub received_stands : (config : Config) (s : State) (m : Message) (moment u k : ℕ)
+pub received_represents : (config : Config) (s : State) (m : Message) (moment u k : ℕ)
     → target m.head.method m.head.path ≡ To (posted_to u)
     → kind_of (operation_of m (posted_to u)) ≡ Some (of.Segment k)
     → refusal config (tick config s moment) (operation_of m (posted_to u)) ≡ None
     → HasSegment (step config s (Request m) moment).state u k m.content
 unfolding step operation_step
-received_stands config s m moment u k named kind accepted =
+received_represents config s m moment u k named kind accepted =
     let op : Operation = operation_of m (posted_to u) in
     subst (λ (r : Routed). HasSegment (routed_step config (tick config s moment) m r).state u k m.content) (sym named)
     (accepted_by config (tick config s moment) op u k refl kind (refusal config (tick config s moment) op) refl accepted)

@@ -34,7 +34,7 @@ routed_sound config s m (To t) sound = operation_sound config s (operation_of m 
 
 pub step_sound : (config : Config) (s : State) (item : Item) (moment : ℕ) → IsSound s → IsSound (step config s item moment).state
 unfolding step
-step_sound config s (Fault r bare) moment sound = keeps_sound config s moment sound
+step_sound config s (Fault r head_only) moment sound = keeps_sound config s moment sound
 step_sound config s Continue moment sound = sound
 step_sound config s (Request m) moment sound =
     routed_sound config (tick config s moment) m (target m.head.method m.head.path) (keeps_sound config s moment sound)

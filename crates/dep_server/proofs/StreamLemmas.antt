@@ -15,7 +15,7 @@ use Rattle.dep_message.proofs.Reading.{reads_more}
 use Rattle.dep_hub.specs.Machine.{Serves}
 use Rattle.dep_hub.specs.Records.{Event, Record, stopped, Line, Absent, Live, ShutLine, World, line_after, ReadsBeyond, Run, Happens, Arrives}
 use Rattle.dep_server.specs.Calm.{SteppedItem, steps_of, CalmServes, all_served, CalmArrives, live, shut_line, Calm, connect, close, arrive, none, CalmRun, AnyCalmRun, BeginAlike, nothing, more as one_more, stop as one_stop}
-use Rattle.dep_server.specs.Streams.{Streams, all_streams, with_event, streams_over, streams_of, items_of, AreSpelled, no_stream, first_stream, Occasion, occasions_of, HaveSameStreams, HaveSameItems}
+use Rattle.dep_server.specs.Streams.{Streams, all_streams, with_event, streams_over, streams_of, items_of, AreSpelled, no_stream, first_stream, SchedulePoint, schedule_points_of, HaveSameStreams, HaveSameItems}
 use Rattle.dep_hub.specs.declared.arrived.Arrived.{Arrived}
 
 -- ---- one list of items for one list of streams
@@ -251,7 +251,7 @@ same_items a b begin streams n =
     (subst (λ s. AreSpelled limit s (items_of n a.steps)) (streams n)
     (subst (λ (c : Config). AreSpelled c.max_upload (streams_of n a.run.records) (items_of n a.steps)) begin.config (run_spelled a.calm n))) (run_spelled b.calm n)
 
--- ---- steps on the same occasions
+-- ---- steps on the same schedule points
 
 items_eq : (n : ℕ) (t u : SteppedItem) (ts us : List SteppedItem) → n ≡ t.number → t.number ≡ u.number → items_of n (t ∷ ts) ≡ items_of n (u ∷ us)
     → (t.item ≡ u.item) × (items_of n ts ≡ items_of n us)
@@ -270,17 +270,17 @@ items_rest n t u ts us f h =
     tail_if (n == t.number) t.item u.item (items_of n ts) (items_of n us)
     (h ∙ ap (λ k. (if n == k then u.item ∷ [] else []) ++ items_of n us) (sym f))
 
--- the same items on the same occasions are the same steps
-pub same_steps : (ts us : List SteppedItem) → ((n : ℕ) → items_of n ts ≡ items_of n us) → occasions_of ts ≡ occasions_of us → ts ≡ us
+-- the same items on the same schedule points are the same steps
+pub same_steps : (ts us : List SteppedItem) → ((n : ℕ) → items_of n ts ≡ items_of n us) → schedule_points_of ts ≡ schedule_points_of us → ts ≡ us
 same_steps [] [] f e = refl
 same_steps [] (u ∷ us) f e = cc
 same_steps (t ∷ ts) [] f e = cc
 same_steps (t ∷ ts) (u ∷ us) f e =
-    let a : Occasion = record { number = t.number; moment = t.moment } in
-    let b : Occasion = record { number = u.number; moment = u.moment } in
-    let parts : (a ≡ b) × (occasions_of ts ≡ occasions_of us) = ((cc), (cc)) in
-    let number : t.number ≡ u.number = ap (λ (o : Occasion). o.number) parts.0 in
-    let moment : t.moment ≡ u.moment = ap (λ (o : Occasion). o.moment) parts.0 in
+    let a : SchedulePoint = record { number = t.number; moment = t.moment } in
+    let b : SchedulePoint = record { number = u.number; moment = u.moment } in
+    let parts : (a ≡ b) × (schedule_points_of ts ≡ schedule_points_of us) = ((cc), (cc)) in
+    let number : t.number ≡ u.number = ap (λ (o : SchedulePoint). o.number) parts.0 in
+    let moment : t.moment ≡ u.moment = ap (λ (o : SchedulePoint). o.moment) parts.0 in
     let item = (items_eq t.number t u ts us refl number (f t.number)).0 in
     let rest = same_steps ts us (λ n. items_rest n t u ts us number (f n)) parts.1 in
     (λ i. record { number = number i; item = item i; moment = moment i } ∷ rest i)

@@ -16,9 +16,9 @@ use Rattle.dep_decisions.specs.Effects.{effect, with_segment}
 use Rattle.dep_decisions.specs.Laws.{posted_to}
 use Rattle.dep_decisions.specs.declared.operation.Operation.{Operation}
 use Rattle.dep_decisions.proofs.SegmentRequests.{accepted_again, effect_is, let_through, present}
-use Rattle.dep_decisions.proofs.Segments.{IsGood, in_range, let_through_is_good, good_passes, repeat_passes, stands_then}
+use Rattle.dep_decisions.proofs.Segments.{IsGood, in_range, let_through_is_good, good_passes, repeat_passes, represents_then}
 use Rattle.dep_answers.specs.Answers.{Answer, document_of, head_of}
-use Rattle.dep_answers.specs.Replies.{empty_answer, stored_text, unless_bare}
+use Rattle.dep_answers.specs.Replies.{empty_answer, stored_text, unless_head_only}
 use Rattle.dep_answers.specs.Steps.{accepted_answer, answered_step, is_head, operation_step, sent_by, step_by}
 use Rattle.dep_message.specs.Places.{Place}
 use Rattle.dep_message.specs.Stream.{Item, Request}
@@ -38,7 +38,7 @@ use Rattle.dep_server.proofs.Acknowledging.{fields_text, front_begins, named_seg
 use Rattle.dep_server.specs.Moves.{Move, Made, moves_of, state_by}
 use Rattle.dep_server.proofs.MovesLead.{moves_sound, over_both, run_leads}
 use Rattle.dep_server.proofs.RunKeeps.{after_run}
-use Rattle.dep_server.proofs.SegmentsStay.{HasBytes, bytes_kept, received_stands}
+use Rattle.dep_server.proofs.SegmentsStay.{HasBytes, bytes_kept, received_represents}
 use Rattle.dep_server.proofs.SoundLemmas.{step_sound}
 use Rattle.dep_server.proofs.UploadsKept.{HoldsStill, IsKept, sound_through, still_after, still_later}
 
@@ -61,12 +61,12 @@ IsAcceptedStill config s m u = (later : ℕ) → is_some (map.get (tick config s
 
 -- ---- the reply
 
-status_first : (s : State) (clock : ℕ) (bare ends : Bool) (a : Answer) → a.status ≡ 204 → HasStatus 204 (sent_by (answered_step s a clock bare ends))
-status_first s clock bare ends a status =
-    let behind : List ℕ = fields_text (head_of a clock ends) ++ unless_bare bare (document_of a.content) in (
-      behind ++ stored_text a bare,
-      ap (λ t. t ++ stored_text a bare) (front_begins a clock bare ends ∙ ap (λ n. status_line n ++ behind) status)
-          ∙ append_assoc (status_line 204) behind (stored_text a bare),
+status_first : (s : State) (clock : ℕ) (head_only ends : Bool) (a : Answer) → a.status ≡ 204 → HasStatus 204 (sent_by (answered_step s a clock head_only ends))
+status_first s clock head_only ends a status =
+    let behind : List ℕ = fields_text (head_of a clock ends) ++ unless_head_only head_only (document_of a.content) in (
+      behind ++ stored_text a head_only,
+      ap (λ t. t ++ stored_text a head_only) (front_begins a clock head_only ends ∙ ap (λ n. status_line n ++ behind) status)
+          ∙ append_assoc (status_line 204) behind (stored_text a head_only),
     )
 
 module _ (config : Config) (m : Message) (u : ℕ) where
@@ -182,7 +182,7 @@ module _ (config : Config) (m : Message) (u k : ℕ) (kind : kind_of (operation_
   still_passes x y passes (with_it s same) =
       let range = in_range x k m.content passes in
       ap (λ (z : Upload). segment_refusal z k m.content) same
-      ∙ repeat_passes (with_segment s k m.content x) k m.content (stands_then x k m.content passes s) range.0 range.1
+      ∙ repeat_passes (with_segment s k m.content x) k m.content (represents_then x k m.content passes s) range.0 range.1
 
   effect_at : (s : State) (x : Upload) → map.get s.uploads u ≡ Some x → map.get (effect config s sent).uploads u ≡ Some (with_segment s k m.content x)
   effect_at s x there =
@@ -237,7 +237,7 @@ after_step config first records w r before behind m moment u sound split accepte
     let s = state_by config first before in
     let t = (step config s (Request m) moment).state in
     let k = named_segment config (tick config s moment) m u accepted.passed in
-    let has = received_stands config s m moment u k.0 accepted.named k.1 accepted.passed in
+    let has = received_represents config s m moment u k.0 accepted.named k.1 accepted.passed in
     let t_sound = step_sound config s (Request m) moment (moves_sound config first before sound) in
     let end : w.state ≡ state_by config t behind =
     run_leads config r ∙ ap (λ (l : List Move). state_by config first l) split ∙ over_both config first before (Made (Request m) moment ∷ behind) in

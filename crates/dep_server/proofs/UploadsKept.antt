@@ -150,12 +150,12 @@ module _ (u : ℕ) (P : Upload → Type 0) (kept : IsKept P) where
 
   stays_stepped : (config : Config) (s : State) (item : Item) (moment : ℕ) → Stays s → Stays (step config s item moment).state
   unfolding step
-  stays_stepped config s (Fault r bare) moment h = stays_ticked config s moment h
+  stays_stepped config s (Fault r head_only) moment h = stays_ticked config s moment h
   stays_stepped config s Continue moment h = h
   stays_stepped config s (Request m) moment h = stays_routed config (tick config s moment) m (target m.head.method m.head.path) (stays_ticked config s moment h)
 
   stays_begun : (config : Config) (s : State) (item : Item) (moment : ℕ) → Stays s → Stays (starting_state config s item moment)
-  stays_begun config s (Fault r bare) moment h = stays_ticked config s moment h
+  stays_begun config s (Fault r head_only) moment h = stays_ticked config s moment h
   stays_begun config s Continue moment h = h
   stays_begun config s (Request m) moment h = stays_ticked config s moment h
 

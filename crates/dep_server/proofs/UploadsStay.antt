@@ -133,10 +133,10 @@ module _ (u k : ℕ) (bytes : List ℕ) where
 
     by_move : (s : State) (move : Move) → IsSound s → Has s → Has (moved config s move) ⊎ EndsUpload config s move u
     unfolding step
-    by_move s (Made (Fault r bare) moment) sound h = by_tick s moment h
+    by_move s (Made (Fault r head_only) moment) sound h = by_tick s moment h
     by_move s (Made Continue moment) sound h = inl h
     by_move s (Made (Request m) moment) sound h = by_request s m moment sound h
-    by_move s (Begun (Fault r bare) moment) sound h = by_tick s moment h
+    by_move s (Begun (Fault r head_only) moment) sound h = by_tick s moment h
     by_move s (Begun Continue moment) sound h = inl h
     by_move s (Begun (Request m) moment) sound h = by_tick s moment h
 
@@ -162,15 +162,15 @@ module _ (u k : ℕ) (bytes : List ℕ) where
       | inr ends ↦ inr (ended_first s move moves ends)
     ]
 
-    told : (s : State) (moves : List Move) (last : State) → last ≡ state_by config s moves → Has (state_by config s moves) ⊎ IsEnded config s moves u
+    reported : (s : State) (moves : List Move) (last : State) → last ≡ state_by config s moves → Has (state_by config s moves) ⊎ IsEnded config s moves u
         → StaysUntilEnded config s moves last u k bytes
-    told s moves last e (inl h) = inl (subst (λ (t : State). HasSegment t u k bytes) (sym e) (record { upload = h.0; there = h.1; received = h.2 }))
-    told s moves last e (inr ended) = inr ended
+    reported s moves last e (inl h) = inl (subst (λ (t : State). HasSegment t u k bytes) (sym e) (record { upload = h.0; there = h.1; received = h.2 }))
+    reported s moves last e (inr ended) = inr ended
 
     -- from a place in a run on
     pub segment_stays : (first : State) (records : List Record) (w : World) (r : Run config first records w) (before behind : List Move) → IsSound first
         → moves_of r ≡ before ++ behind → HasSegment (state_by config first before) u k bytes → StaysUntilEnded config (state_by config first before) behind w.state u k bytes
     segment_stays first records w r before behind sound split h =
-        told (state_by config first before) behind w.state
+        reported (state_by config first before) behind w.state
         (run_leads config r ∙ ap (λ (l : List Move). state_by config first l) split ∙ over_both config first before behind)
         (by_moves (state_by config first before) behind (moves_sound config first before sound) (h.upload, h.there, h.received))

@@ -93,7 +93,7 @@ HasStatus status sent = (behind : List ℕ) × (sent ≡ status_line status ++ b
 pub record IsReceived (s : State) (m : Message) (number : ℕ) : Type 0 where
   pub segment : ℕ
   pub named : kind_of (operation_of m (posted_to number)) ≡ Some (Segment segment)
-  pub stands : HasSegment s number segment m.content
+  pub represents : HasSegment s number segment m.content
 
 -- ---- why an upload goes
 
@@ -108,11 +108,11 @@ pub record IsUsed (config : Config) (s : State) (m : Message) (number : ℕ) : T
   pub among : IsTrue (list_any (nat_eq number) (used (decision config (operation_of m target))))
 
 abbrev pub EndsUpload : Config → State → Move → (number : ℕ) → Type 0
-EndsUpload config s (Made (Fault r bare) moment) number = TimesOut config s moment number
+EndsUpload config s (Made (Fault r head_only) moment) number = TimesOut config s moment number
 EndsUpload config s (Made Continue moment) number = ⊥
 EndsUpload config s (Made (Request m) moment) number =
     TimesOut config s moment number ⊎ IsUsed config (tick config s moment) m number
-EndsUpload config s (Begun (Fault r bare) moment) number = TimesOut config s moment number
+EndsUpload config s (Begun (Fault r head_only) moment) number = TimesOut config s moment number
 EndsUpload config s (Begun Continue moment) number = ⊥
 EndsUpload config s (Begun (Request m) moment) number = TimesOut config s moment number
 

@@ -3,7 +3,7 @@ use Rattle.std.specs.Prelude.{◌≡◌, ℕ, List, [], ◌∷◌, ◌++◌, Opt
 use Rattle.dep_types.specs.State.{State}
 use Rattle.dep_types.specs.Conditions.{Condition}
 use Rattle.dep_hub.specs.Records.{Connect, Arrive, Close, Record, World}
-use Rattle.dep_hub.specs.Standing.{StandsAt, StandsAfter, Adds, ComesTo}
+use Rattle.dep_hub.specs.Representing.{RepresentsAt, RepresentsAfter, Adds, ComesTo}
 use Rattle.dep_hub.specs.declared.hub.Hub.{Hub}
 use Rattle.dep_hub.specs.declared.arrived.Arrived.{Arrived}
 use Rattle.dep_hub.specs.declared.arrived.Arrived.TheVariants.{Open as StaysOpen, Closed, Cut, NoSuch}
@@ -19,7 +19,7 @@ module _ {A : Type 0} (condition : A → Condition) where
   pub record Refuses (old new : Hub A) : Type 0 where
     pub config : new.config ≡ old.config
     pub store : new.store ≡ old.store
-    pub same : (w : World) → StandsAt condition old w → StandsAt condition new w
+    pub same : (w : World) → RepresentsAt condition old w → RepresentsAt condition new w
 
   -- the connection of this number was closed, or wasn't there (`Hub::close`)
   pub record Closes (old new : Hub A) (number : ℕ) : Type 0 where
@@ -67,8 +67,8 @@ module _ {A : Type 0} (condition : A → Condition) where
     and_then : {records more : List Record} {mid new : Hub A}
         → Calls first records mid → Call mid new more → Calls first (records ++ more) new
 
-  -- for all records that a hub stood for, another stands for them with these behind
-  abbrev pub StandsForMore : (old new : Hub A) → (more : List Record) → Type 0
-  StandsForMore old new more = (first : State) (records : List Record)
-      → StandsAfter condition old first records
-      → StandsAfter condition new first (records ++ more)
+  -- for all records that a hub represented, another represents them with these behind
+  abbrev pub RepresentsMore : (old new : Hub A) → (more : List Record) → Type 0
+  RepresentsMore old new more = (first : State) (records : List Record)
+      → RepresentsAfter condition old first records
+      → RepresentsAfter condition new first (records ++ more)

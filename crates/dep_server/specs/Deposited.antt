@@ -53,7 +53,7 @@ pub record IsDeposit (q : AnyRequest) (t : Target) (place : ℕ) (reference : Re
   pub references : List Reference
   pub accepted : IsAcceptedFor q t
   pub read : references_in q.config (operation_of q.message t) ≡ Some references
-  pub told : slice_get references place ≡ Some reference
+  pub reported : slice_get references place ≡ Some reference
 
 -- what the deposit makes of its entry at this place has the number that is next, and stays through
 -- the moves that come after its step

@@ -1,4 +1,4 @@
-pub mod Bare
+pub mod HeadOnly
 pub mod ReplyHeads
 pub mod Calm
 pub mod Streams

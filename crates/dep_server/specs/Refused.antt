@@ -23,7 +23,7 @@ routed_refusal config s m (To t) = refusal config s (operation_of m t)
 
 -- why an item is refused, if it is, in the state that its tick leaves
 abbrev pub item_refusal : Config → State → Item → Option Refusal
-item_refusal config s (Fault r bare) = Some r
+item_refusal config s (Fault r head_only) = Some r
 item_refusal config s Continue = None
 item_refusal config s (Request m) =
     routed_refusal config s m (target m.head.method m.head.path)
@@ -37,7 +37,7 @@ refusal_in x = item_refusal x.config (ticked x) x.item
 pub record IsRefused (s : State) (r : Refusal) (stepped : Stepped) : Type 0 where
   pub state : stepped.state ≡ s
   pub allow : Option (List ℕ)
-  pub is_bare : Bool
+  pub is_head_only : Bool
   pub reply :
-      stepped.front ≡ front_text (refused_answer s.clock r allow) s.clock is_bare stepped.closes
+      stepped.front ≡ front_text (refused_answer s.clock r allow) s.clock is_head_only stepped.closes
   pub alone : stepped.stored ≡ []

@@ -16,6 +16,6 @@ pub record IsWholeReply (front : List ℕ) : Type 0 where
 
 -- what is sent first for an item
 abbrev pub IsUnsplit : Item → List ℕ → Type 0
-IsUnsplit (Fault refusal bare) front = IsWholeReply front
+IsUnsplit (Fault refusal head_only) front = IsWholeReply front
 IsUnsplit Continue front = EndsOnce front
 IsUnsplit (Request m) front = IsWholeReply front

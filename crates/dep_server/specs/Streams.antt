@@ -47,13 +47,13 @@ pub data AreSpelled (limit : ℕ) : List (List ℕ) → List Item → Type 0 whe
       → AreSpelled limit (stream ∷ streams) (items ++ later)
 
 -- whose step it is, and when
-pub record Occasion : Type 0 where
+pub record SchedulePoint : Type 0 where
   pub number : ℕ
   pub moment : ℕ
 
--- the occasions of these steps, in their order
-abbrev pub occasions_of : List SteppedItem → List Occasion
-occasions_of steps = map (λ t. record { number = t.number; moment = t.moment }) steps
+-- the schedule points of these steps, in their order
+abbrev pub schedule_points_of : List SteppedItem → List SchedulePoint
+schedule_points_of steps = map (λ t. record { number = t.number; moment = t.moment }) steps
 
 -- ---- what two runs have in common
 
@@ -65,6 +65,6 @@ HaveSameStreams a b = (n : ℕ) → streams_of n a.run.records ≡ streams_of n 
 abbrev pub HaveSameItems : (a b : AnyCalmRun) → Type 0
 HaveSameItems a b = (n : ℕ) → items_of n a.steps ≡ items_of n b.steps
 
--- these came on the same occasions
-abbrev pub HaveSameOccasions : (a b : AnyCalmRun) → Type 0
-HaveSameOccasions a b = occasions_of a.steps ≡ occasions_of b.steps
+-- these came on the same schedule points
+abbrev pub HaveSameSchedulePoints : (a b : AnyCalmRun) → Type 0
+HaveSameSchedulePoints a b = schedule_points_of a.steps ≡ schedule_points_of b.steps

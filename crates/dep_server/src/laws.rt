@@ -8,18 +8,18 @@ ghost use Rattle.dep_types.specs.declared.target.Target.{Target};
 ghost use Rattle.dep_head.specs.Head.{EndsOnce};
 ghost use Rattle.dep_message.specs.declared.message.Message.{Message};
 ghost use Rattle.dep_docs_in.specs.declared.reference.Reference.{Reference};
-ghost use Rattle.dep_hub.specs.Machine.{want_of_memory, store_fault};
+ghost use Rattle.dep_hub.specs.Machine.{out_of_memory, store_fault};
 ghost use Rattle.dep_hub.specs.Records.{Record, World};
 ghost use Rattle.dep_connection.specs.Turns.{Turn, records_of, with_closed, IsEndedBy};
-ghost use Rattle.dep_hub.specs.Standing.{IsClean};
+ghost use Rattle.dep_hub.specs.Representing.{IsClean};
 ghost use Rattle.dep_hub.specs.declared.hub.Hub.{Hub};
 ghost use Rattle.dep_server.specs.Requests.{AnyStep, ticked, made, AnyRequest, left_by, reply_to, IsPostAccepted, IsPostedTo, IsAcceptedSegment};
 ghost use Rattle.dep_server.specs.Runs.{AnyRun, GoesOn, TalksThen, PointOf, state_at, RequestIn, as_it_came};
 ghost use Rattle.dep_server.specs.Talks.{EndedTalk};
-ghost use Rattle.dep_server.specs.Calls.{Calls, StandsForMore};
+ghost use Rattle.dep_server.specs.Calls.{Calls, RepresentsMore};
 ghost use Rattle.dep_server.specs.Calm.{AnyCalmRun, BeginAlike, EndAlike};
-ghost use Rattle.dep_server.specs.Streams.{AreSpelled, streams_of, items_of, HaveSameStreams, HaveSameItems, HaveSameOccasions};
-ghost use Rattle.dep_server.specs.Bare.{step_as, IsWithoutBody};
+ghost use Rattle.dep_server.specs.Streams.{AreSpelled, streams_of, items_of, HaveSameStreams, HaveSameItems, HaveSameSchedulePoints};
+ghost use Rattle.dep_server.specs.HeadOnly.{step_as, IsWithoutBody};
 ghost use Rattle.dep_server.specs.ReplyHeads.{IsUnsplit};
 ghost use Rattle.dep_server.specs.Refused.{refusal_in, IsRefused};
 ghost use Rattle.dep_server.specs.Moves.{moves_of, state_by};
@@ -30,12 +30,12 @@ ghost use Rattle.dep_server.specs.Deposited.{FileStaysFrom, IsDeposit, EntryStay
 use dep_hub::Archive;
 
 /// The archive promise, for every list of calls: a hub on which calls were made one after another,
-/// each of which left of it what its contract says, stands for the records of these calls, where its
-/// store is open at the last: behind those that it stood for at first, which are none where
+/// each of which left of it what its contract says, represents the records of these calls, where its
+/// store is open at the last: behind those that it represented at first, which are none where
 /// `Hub::new` made it, and those up to a stop where that was over a store that was opened again.
 pub fn calls_stand_for_their_records<A: Archive>()
     ensures { (old new : Hub A) (records : List Record) → Calls A.condition old records new
-        → IsClean A.condition new → StandsForMore A.condition old new records }
+        → IsClean A.condition new → RepresentsMore A.condition old new records }
 {}
 
 /// Runs without failed steps that make the same steps send the same bytes, each connection its own,
@@ -51,15 +51,15 @@ pub fn streams_make_the_steps()
         (streams_of n calm.run.records) (items_of n calm.steps) }
 {}
 
-/// How the bytes are cut into pieces moves the occasions of requests, that is when each is complete
+/// How the bytes are cut into pieces moves the schedule points of requests, that is when each is complete
 /// and in which order among the connections, and nothing else: two runs without failed steps over
 /// which the same streams come make the same items of each connection; and where these come on the
-/// same occasions, both send the same bytes, to each connection its own, and end in the same state.
-pub fn cuts_move_occasions()
+/// same schedule points, both send the same bytes, to each connection its own, and end in the same state.
+pub fn cuts_move_schedule_points()
     ensures items { (a b : AnyCalmRun) → BeginAlike a b → HaveSameStreams a b
         → HaveSameItems a b }
     ensures end { (a b : AnyCalmRun) → BeginAlike a b → HaveSameStreams a b
-        → HaveSameOccasions a b → EndAlike a b }
+        → HaveSameSchedulePoints a b → EndAlike a b }
 {}
 
 /// A HEAD is stepped as the GET of the same path: its reply has the same head, with the length of the body,
@@ -75,7 +75,7 @@ pub fn heads_have_no_body()
 pub fn replies_are_unsplit()
     ensures steps { (step : AnyStep) → IsChecked step.config → IsSound step.state
         → IsUnsplit step.item (made step).front }
-    ensures fixed { EndsOnce want_of_memory × EndsOnce store_fault }
+    ensures fixed { EndsOnce out_of_memory × EndsOnce store_fault }
 {}
 
 /// A step keeps a sound state sound, whatever came and at whatever moment.
@@ -180,7 +180,7 @@ pub fn turns_make_a_run()
 /// A turn that does not leave its connection open is the last one, and shows why the connection is served no
 /// longer: where a reply was cut, because the outlet failed, and where it was closed, because of that. Where the
 /// outlet has given up behind the last turn, the connection ended because of that, whatever the turn came to.
-pub fn last_turn_tells_the_end()
+pub fn last_turn_reports_the_end()
     ensures { (talk : EndedTalk) (before behind : List Turn) (t : Turn)
         → talk.turns ≡ before ++ t ∷ behind → IsEndedBy t.answer talk.has_failed behind talk.end }
 {}

@@ -1,1 +1,1 @@
-pub mod DoorLemmas
+pub mod AcceptorLemmas

@@ -1,4 +1,4 @@
 pub mod Readiness
 pub mod Totals
-pub mod Doors
+pub mod Acceptors
 pub mod Outcomes

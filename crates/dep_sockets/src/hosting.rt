@@ -1,10 +1,10 @@
-//! A hub that is served by a door.
+//! A hub that is served by an acceptor.
 ghost use Rattle.std.specs.Prelude.{◌≡◌};
 ghost use Rattle.dep_host.specs.Causes.{causes_of};
-ghost use Rattle.dep_sockets.specs.Doors.{ServesHub, doorway};
+ghost use Rattle.dep_sockets.specs.Acceptors.{ServesHub, acceptor_state};
 ghost use Rattle.dep_sockets.specs.Outcomes.{outcome_at};
 
-use crate::door::Door;
+use crate::acceptor::Acceptor;
 use dep_host::laws::hosts_make_a_run;
 use dep_host::{Cause, Ended, Host, HostLog, Limits, MOST_READ, ReadBuffer, serve};
 use dep_hub::laws::nothing_held;
@@ -13,10 +13,10 @@ use dep_outbox::{Sink, Source, Spool};
 use dep_program::Outcome;
 use std::alloc::Global;
 
-/// A log of a host that is told of its door, too, and of its end.
-pub trait DoorLog: HostLog {
-    /// The door was opened, or couldn't be.
-    fn door(&mut self, is_open: bool)
+/// A log of a host that is told of its acceptor, too, and of its end.
+pub trait AcceptorLog: HostLog {
+    /// The acceptor was opened, or couldn't be.
+    fn acceptor(&mut self, is_open: bool)
         ensures noted { Self.notes self.new ≡ Self.notes self.old };
 
     /// No more is served: why, or that there was no memory to begin.
@@ -24,19 +24,19 @@ pub trait DoorLog: HostLog {
         ensures noted { Self.notes self.new ≡ Self.notes self.old };
 }
 
-/// Serves whoever comes by the door, and hands the store back. The log is told of the door once it is open, so that who
+/// Serves whoever comes by the acceptor, and hands the store back. The log is told of the acceptor once it is open, so that who
 /// reads it there can connect.
 pub fn serve_hub<
     A: Archive,
     R: Source + Drop,
     K: Sink + Drop,
     P: Spool + Drop,
-    E: Door<R, K, P>,
-    L: DoorLog,
->(alloc: Global, hub: Hub<A>, limits: Limits, door: &mut E, log: &mut L) -> (Outcome, A)
-    ensures ends { let at = doorway E.given E.is_open E.is_over E.is_cut in
-        ServesHub A.condition A.account R.unread K.taken P.held P.size
-        (causes_of R.halts K.halts P.failures) L.notes (at door.old) (at door.new) log.old log.new
+    E: Acceptor<R, K, P>,
+    L: AcceptorLog,
+>(alloc: Global, hub: Hub<A>, limits: Limits, acceptor: &mut E, log: &mut L) -> (Outcome, A)
+    ensures ends { let at = acceptor_state E.given E.is_open E.is_over E.is_cut in
+        ServesHub A.condition A.call_log R.unread K.taken P.held P.size
+        (causes_of R.halts K.halts P.failures) L.notes (at acceptor.old) (at acceptor.new) log.old log.new
         limits hub result.1 result.0 }
 {
     nothing_held::<A>();
@@ -52,14 +52,14 @@ pub fn serve_hub<
         log.ended(None);
         return (Outcome::StoreFault, host.into_hub().into_store());
     };
-    let is_open = door.open();
-    log.door(is_open);
+    let is_open = acceptor.open();
+    log.acceptor(is_open);
     if !is_open {
         return (Outcome::TransferFault, host.into_hub().into_store());
     }
-    let ended = serve(&mut host, door, &mut buffer, log);
+    let ended = serve(&mut host, acceptor, &mut buffer, log);
     log.ended(Some(ended));
-    let outcome = outcome_at(ended, door.was_cut());
+    let outcome = outcome_at(ended, acceptor.was_cut());
     (outcome, host.into_hub().into_store())
 }
 

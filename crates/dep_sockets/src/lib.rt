@@ -1,7 +1,7 @@
-//! The sockets of the system, of many connections at once, spools in files, and a hub that is served by a door.
+//! The sockets of the system, of many connections at once, spools in files, and a hub that is served by an acceptor.
 #![tactic(auto)]
 
-mod door;
+mod acceptor;
 mod file_spool;
 mod hosting;
 mod last_look;
@@ -12,9 +12,9 @@ mod sockets;
 mod spools;
 mod stop_file;
 
-pub use door::{Door, Entrance, SocketDoor};
+pub use acceptor::{Acceptor, Entrance, SocketAcceptor};
 pub use file_spool::FileSpool;
-pub use hosting::{DoorLog, serve_hub};
+pub use hosting::{AcceptorLog, serve_hub};
 pub use socket::{SocketSink, SocketSource};
 pub use sockets::{SocketFault, Sockets};
 pub use spools::Spools;

@@ -25,7 +25,7 @@ pub(crate) fn note_all(
 ) -> Result<bool, AllocError>
     ensures noted { OnOk result
         (ready.new.items ≡ ready.old.items ++ readies_of listener.0 (items polled.now)) }
-    ensures told { IfOk result (λ told. told ≡ has_listener listener.0 (items polled.now)) }
+    ensures reported { IfOk result (λ reported. reported ≡ has_listener listener.0 (items polled.now)) }
 {
     let mut is_waited_for = false;
     for event in polled {

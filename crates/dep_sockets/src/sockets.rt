@@ -1,6 +1,6 @@
 //! What happens at the sockets of the system.
 
-use crate::door::Entrance;
+use crate::acceptor::Entrance;
 use crate::file_spool::FileSpool;
 use crate::last_look::LastLook;
 use crate::readiness::{Ready, note_all};
@@ -69,9 +69,9 @@ impl From<AllocError> for SocketFault {
 
 /// Which kind of event is next.
 #[derive(Clone, Copy)]
-enum Stage {
+enum EventKind {
     /// Which sockets are ready, and then that a round is due.
-    Telling,
+    Reporting,
     /// The clients that are let in, so many of them so far.
     LettingIn(usize),
 }
@@ -85,9 +85,9 @@ pub struct Sockets<'a, R: Files> {
     poll: Poll,
     polled: mio::Events,
     ready: Vec<Ready>,
-    /// It is closed once it was told to stop, so that who comes then is turned away by the system.
+    /// It is closed once it was told to stop, so that who comes then is rejected by the system.
     listener: Option<TcpListener>,
-    stage: Stage,
+    stage: EventKind,
     /// Whether a client may wait to be let in.
     is_waited_for: bool,
     /// How many clients are let in yet at most.
@@ -124,7 +124,7 @@ impl<'a, R: Files + Net + Clock> Sockets<'a, R> {
             polled,
             ready,
             listener: Some(listener),
-            stage: Stage::LettingIn(0),
+            stage: EventKind::LettingIn(0),
             is_waited_for: true,
             remaining: entrance.clients,
             stop: StopFile::new(rt, entrance.stop_file),
@@ -183,16 +183,16 @@ impl<'a, R: Files + Net + Clock> Sockets<'a, R> {
         match vacancy {
             Some(at) if self.is_waited_for && self.remaining > 0 && count < MOST_SEATS => {
                 let (stream, address) = self.accept()?;
-                self.stage = Stage::LettingIn(count + 1);
+                self.stage = EventKind::LettingIn(count + 1);
                 self.remaining = self.remaining.saturating_sub(1);
-                self.seat(stream, address, at)
+                self.slot(stream, address, at)
             }
             _ => None,
         }
     }
 
     /// A client that is seated there, if the system has room for it.
-    fn seat(
+    fn slot(
         &self,
         mut stream: TcpStream,
         address: SocketAddr,
@@ -252,9 +252,9 @@ impl<'a, R: Files + Net + Clock> Events<SocketSource, SocketSink, FileSpool<'a, 
         vacancy: Option<usize>,
         is_busy: bool,
     ) -> Event<SocketSource, SocketSink, FileSpool<'a, R>> {
-        if let Stage::LettingIn(count) = self.stage {
+        if let EventKind::LettingIn(count) = self.stage {
             let second = self.elapsed().as_secs();
-            if self.stop.tells(second) {
+            if self.stop.reports(second) {
                 drop(self.listener.take());
                 return Event::Stop(second);
             }
@@ -265,7 +265,7 @@ impl<'a, R: Files + Net + Clock> Events<SocketSource, SocketSink, FileSpool<'a, 
                 self.has_ended = true;
                 return Event::End;
             }
-            self.stage = Stage::Telling;
+            self.stage = EventKind::Reporting;
         }
         match self.ready.pop() {
             Some(ready) => Event::Ready {
@@ -274,7 +274,7 @@ impl<'a, R: Files + Net + Clock> Events<SocketSource, SocketSink, FileSpool<'a, 
                 is_writable: ready.is_writable,
             },
             None => {
-                self.stage = Stage::LettingIn(0);
+                self.stage = EventKind::LettingIn(0);
                 Event::Round(self.time())
             }
         }

@@ -27,7 +27,7 @@ impl<'a, R: Files> StopFile<'a, R> {
     }
 
     /// Whether it is there at a second, where it is looked for. A file that can't be looked for isn't there.
-    pub fn tells(&mut self, second: u64) -> bool
+    pub fn reports(&mut self, second: u64) -> bool
         ensures one { result ≡ true → IsSome self.old.path }
         ensures once { result ≡ true → IsNone self.new.path }
         ensures kept { result ≡ false → self.new.path ≡ self.old.path }

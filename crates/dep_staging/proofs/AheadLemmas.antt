@@ -187,8 +187,8 @@ lacks_none s it run running there all =
     let h = running_at s run it running there in
     all_received it 1 it.count (λ k low high. h.whole k low (omega (arith, high, all)))
 
-pub digests_told : (s : State) (row : UploadRow) (run : RunningHash) (digests : Digests) → IsSound s → IsRunning s run → run.upload ≡ row.upload → run.segments ≡ row.count
+pub digests_reported : (s : State) (row : UploadRow) (run : RunningHash) (digests : Digests) → IsSound s → IsRunning s run → run.upload ≡ row.upload → run.segments ≡ row.count
     → ((message : List ℕ) → Holds run.hasher message → digests ≡ digests_of message) → AreDigestsOf s row digests
-digests_told s row run digests sound running its whole told it there same =
+digests_reported s row run digests sound running its whole reported it there same =
     let at = ap (finmap.get s.uploads) its ∙ there in
-    told (assembled it) (whole_hashed it run (λ k bytes found. let w = (sound.uploads run.upload it at).segments k bytes found in (w.0, w.1)) (running_at s run it running at) (whole ∙ same))
+    reported (assembled it) (whole_hashed it run (λ k bytes found. let w = (sound.uploads run.upload it at).segments k bytes found in (w.0, w.1)) (running_at s run it running at) (whole ∙ same))

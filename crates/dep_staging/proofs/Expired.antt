@@ -16,7 +16,7 @@ use Rattle.dep_tables.specs.Tables.{Tables}
 use Rattle.dep_tables.specs.declared.uploads.LeftUpload.{LeftUpload}
 use Rattle.dep_tables.specs.Edits.{IsLeftBefore}
 use Rattle.dep_row_maps.specs.TablesAre.{TablesAre}
-use Rattle.dep_row_maps.specs.Left.{was_left_before, TellsLeft}
+use Rattle.dep_row_maps.specs.Left.{was_left_before, ReportsLeft}
 use Rattle.dep_row_maps.proofs.Left.{left_before_read}
 use Rattle.dep_row_maps.proofs.Files.{same_number}
 use Rattle.dep_row_maps.proofs.Lens.{tied_not, get_gone, get_left}
@@ -70,15 +70,15 @@ module _ (config : Config) (clock : ℕ) (us : Numbered Upload) (u : ℕ) (idle 
   abbrev numbers_with : Numbers → Numbered Upload → Numbers
   numbers_with t m = set.union t (set.from_list (finmap.keys (expired config clock m)))
 
-  told : (t : Numbers) (m : Numbered Upload) (q : ℕ) → set.contains (numbers_with t m) q ≡ (set.contains t q || is_some (cond (expires config clock m q) (finmap.get m q) None))
-  told t m q = set.contains-union nat_cmp_total t _ q ∙ ap (λ b. set.contains t q || b) (contains-expired config clock m q)
+  reported : (t : Numbers) (m : Numbered Upload) (q : ℕ) → set.contains (numbers_with t m) q ≡ (set.contains t q || is_some (cond (expires config clock m q) (finmap.get m q) None))
+  reported t m q = set.contains-union nat_cmp_total t _ q ∙ ap (λ b. set.contains t q || b) (contains-expired config clock m q)
 
   or_true : (a b : Bool) → b ≡ true → (a || b) ≡ true
   or_true true b e = refl
   or_true false b e = e
 
   numbers_more : (t : Numbers) → numbers_with (set.insert t u) rest ≡ numbers_with t us
-  numbers_more t = set.same_set nat_cmp_total set.nat_cmp-IsAntisymmetric _ _ (λ q. told (set.insert t u) rest q ∙ go q (same_number q u) ∙ sym (told t us q))
+  numbers_more t = set.same_set nat_cmp_total set.nat_cmp-IsAntisymmetric _ _ (λ q. reported (set.insert t u) rest q ∙ go q (same_number q u) ∙ sym (reported t us q))
     where
       go : (q : ℕ) → (q ≡ u) ⊎ (q ≢ u)
           → (set.contains (set.insert t u) q || is_some (cond (expires config clock rest q) (finmap.get rest q) None)) ≡ (set.contains t q || is_some (cond (expires config clock us q) (finmap.get us q) None))
@@ -147,12 +147,12 @@ pub none_expired : (config : Config) (clock : ℕ) (s : State) (t : Tables) → 
 none_expired config clock s t are = record { left = s; are = are; same = refl; idle = λ u h. h; count = omega arith }
 
 module _ (config : Config) (clock passed : ℕ) (s : State) (t : Tables) (z : IsExpiring config clock passed s t) (found : Option LeftUpload) (read : IsLeftBefore (clock - config.staging_max_idle) t found) where
-  abbrev tells : TellsLeft (clock - config.staging_max_idle) z.left.uploads found
-  tells = left_before_read t z.left z.are (clock - config.staging_max_idle) found read
+  abbrev reports : ReportsLeft (clock - config.staging_max_idle) z.left.uploads found
+  reports = left_before_read t z.left z.are (clock - config.staging_max_idle) found read
 
   -- the one that is found is idle
   pub found_idle : (l : LeftUpload) → found ≡ Some l → IsTrue (expires config clock z.left.uploads l.upload)
-  found_idle l is = expires_is config clock z.left.uploads l.upload ∙ subst (TellsLeft (clock - config.staging_max_idle) z.left.uploads) is tells
+  found_idle l is = expires_is config clock z.left.uploads l.upload ∙ subst (ReportsLeft (clock - config.staging_max_idle) z.left.uploads) is reports
 
   pub one_more : (l : LeftUpload) → found ≡ Some l → (now : Tables) → TablesAre now (timed_out l.upload z.left) → IsExpiring config clock (passed + 1) s now
   one_more l is now are =
@@ -167,7 +167,7 @@ module _ (config : Config) (clock passed : ℕ) (s : State) (t : Tables) (z : Is
 
   pub all_expired : found ≡ None → TablesAre t (expired_all config clock s)
   all_expired is =
-      let none = λ (q : ℕ). expires_is config clock z.left.uploads q ∙ subst (TellsLeft (clock - config.staging_max_idle) z.left.uploads) is tells q in
+      let none = λ (q : ℕ). expires_is config clock z.left.uploads q ∙ subst (ReportsLeft (clock - config.staging_max_idle) z.left.uploads) is reports q in
       subst (TablesAre t) (sym (ended_all config clock z.left none) ∙ z.same) z.are
 
 -- ---- there are no more of them than numbers

@@ -63,8 +63,8 @@ AreRunning s runs = (kept : ℕ × RunningHash) → Contains (kept_of runs) kept
     → IsRunning s kept.1 × (kept.1.upload ≡ kept.0)
 
 -- so it stays, and this holds too
-abbrev pub Hashes : State → (before now : RunningHashes) → (told : Type 0) → Type 0
-Hashes s before now told = IsSound s → AreRunning s before → AreRunning s now × told
+abbrev pub Hashes : State → (before now : RunningHashes) → (reported : Type 0) → Type 0
+Hashes s before now reported = IsSound s → AreRunning s before → AreRunning s now × reported
 
 -- where there is such an upload, which comes in so many segments, each of them was received
 abbrev pub LacksNone : State → (upload count : ℕ) → Type 0

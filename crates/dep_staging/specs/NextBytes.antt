@@ -21,9 +21,9 @@ IsNextIn s file start bytes = (object : ℕ) (its : File) → file_at s object f
     → IsNext its.content start bytes
 
 -- the part and the place there of the byte behind so many: of part 1, or of all parts, by their size
-abbrev pub StandsAt : (size : Option ℕ) → (behind : ℕ) → ByteInPart → Type 0
-StandsAt None behind at = (at.part ≡ 1) × (at.within ≡ behind)
-StandsAt (Some size) behind at =
+abbrev pub IsAtByte : (size : Option ℕ) → (behind : ℕ) → ByteInPart → Type 0
+IsAtByte None behind at = (at.part ≡ 1) × (at.within ≡ behind)
+IsAtByte (Some size) behind at =
     (0 < size) × (at.part ≡ suc (behind / size)) × (at.within ≡ behind % size)
 
 -- what a block has behind so many of its bytes is appended
@@ -41,7 +41,7 @@ pub record GrowsBy (all : List ℕ) (start : ℕ) (old new : List ℕ) (some : B
   pub few : length new ≤ length old + block_size
 
 -- the first bytes of a list: some of them if there are any, of four blocks at most
-pub record IsFront (all bytes : List ℕ) : Type 0 where
+pub record IsPrefix (all bytes : List ℕ) : Type 0 where
   pub are : bytes ≡ take (length bytes) all
   pub none : bytes ≡ [] → all ≡ []
   pub few : length bytes ≤ 4 * block_size
@@ -60,7 +60,7 @@ module _ (t : Tables) (s : State) (file : ℕ) where
   -- the next bytes of it
   abbrev pub Fronts : (size : Option ℕ) → (start : ℕ) → (bytes : Vec ℕ) → Type 0
   Fronts size start bytes = (h : TablesAre t s) (all : List ℕ) → IsReadBy h size all
-      → IsFront (drop start all) bytes.items
+      → IsPrefix (drop start all) bytes.items
 
   -- how many bytes part 1 has
   abbrev pub Counts : (size : ℕ) → Type 0

@@ -3,7 +3,7 @@
 ghost use Rattle.std.specs.Prelude.{◌≡◌, ◌+◌, ◌*◌, IfOk, IfSome};
 ghost use Rattle.dep_tables.specs.Tables.{tables_of};
 ghost use Rattle.dep_row_maps.specs.Clauses.{MayReadOver, ReadsMaps};
-ghost use Rattle.dep_staging.specs.NextBytes.{AppendsBehind, Counts, CountsTo, Fronts, Grows, IsNextIn, StandsAt};
+ghost use Rattle.dep_staging.specs.NextBytes.{AppendsBehind, Counts, CountsTo, Fronts, Grows, IsNextIn, IsAtByte};
 
 use crate::blocks::{FIRST_PART, file_block, last_place};
 use dep_files::BLOCK_SIZE;
@@ -25,7 +25,7 @@ struct ByteInPart {
 
 // Where the byte behind so many and so many more stands: in part 1, or by the size of all parts.
 fn byte_behind(size: Option<u64>, start: u64, more: u64) -> Option<ByteInPart>
-    ensures { IfSome result (StandsAt size (start + more)) }
+    ensures { IfSome result (IsAtByte size (start + more)) }
 {
     let behind = start.checked_add(more)?;
     match size {

@@ -8,12 +8,12 @@ use Rattle.dep_types.specs.declared.stream_fault.StreamFault.TheVariants.{Store 
 use Rattle.dep_answers.specs.declared.performed.StoredFile.{StoredFile}
 use Rattle.dep_tables.specs.Tables.{Tables, tables_of}
 use Rattle.dep_row_maps.specs.TablesAre.{TablesAre}
-use Rattle.dep_requests.specs.declared.remembering.Remembered.{Remembered}
-use Rattle.dep_schema.specs.States.{StandsFor}
+use Rattle.dep_requests.specs.declared.caching.Cache.{Cache}
+use Rattle.dep_schema.specs.States.{Represents}
 use Rattle.dep_schema.specs.Transactions.{IsBackAt, IsRestored}
 use Rattle.dep_schema.proofs.Transacting.{IsSettled, stood_before}
 use Rattle.dep_hub.specs.Owing.{HasBehind}
-use Rattle.dep_store.specs.Remembering.{IsRecalled, IsOfOpen, IsKnownFile}
+use Rattle.dep_store.specs.Caching.{IsCached, IsOfOpen, IsKnownFile}
 use Rattle.dep_store.specs.SendingOn.{BeginsIfOpen, FindsSize, SendsOn}
 use Rattle.dep_store.proofs.Contents.{content_same}
 use Rattle.dep_store.proofs.SentOn.{keeps_open, none_taken, nothing_sent}
@@ -21,11 +21,11 @@ use Rattle.dep_store.proofs.ShutLemmas.{fails_still, was_open_then}
 use Rattle.dep_store.proofs.Tries.{busy_fails, busy_tries, failed_keeping}
 
 -- all of it is behind its front
-all_behind : (d : db.State) (s : State) (it : StoredFile) (file : File) → StandsFor d s → file_at s it.object it.file ≡ Some file → HasBehind s it 0 (content_same (tables_of d) it.file).0
-all_behind d s it file stands held = record {
+all_behind : (d : db.State) (s : State) (it : StoredFile) (file : File) → Represents d s → file_at s it.object it.file ≡ Some file → HasBehind s it 0 (content_same (tables_of d) it.file).0
+all_behind d s it file represents held = record {
   file = file;
   held = held;
-  is = sym ((content_same (tables_of d) it.file).1 s (subst (λ (t : Tables). TablesAre t s) (sym stands.stands.rows) stands.means.are) it.object file held);
+  is = sym ((content_same (tables_of d) it.file).1 s (subst (λ (t : Tables). TablesAre t s) (sym represents.represents.rows) represents.means.are) it.object file held);
 }
 
 module _ (old new : db.State) (it : StoredFile) (settled : IsTrue old.is_open → IsSettled old) where
@@ -36,7 +36,7 @@ module _ (old new : db.State) (it : StoredFile) (settled : IsTrue old.is_open �
       record {
         begins = (
           (content_same (tables_of new) it.file).0,
-          λ clean s stands. let has = did.tells clean s (stood_before old new restored.back between s stands) in all_behind new s it has.0 stands has.1,
+          λ clean s represents. let has = did.reports clean s (stood_before old new restored.back between s represents) in all_behind new s it has.0 represents has.1,
         );
         does = keeps_open old new restored opened (Ok answer) settled;
         shut = was_open_then old new (Ok answer) (λ clean. (restored.back (opened clean)).0);
@@ -63,11 +63,11 @@ busy_sends_on d busy taken failures it start = record {
   stays = record { shut = busy_fails d busy; back = tt; opened = λ clean. tt };
 }
 
--- what was remembered, and the file that was known, are so still, where all was given back and the store is open
-pub remembered_still : (old new : db.State) (m : Option Remembered) (known : Option StoredFile) → IsBackAt old new → old.in_transaction ≡ false → (HasCleanDisk new → IsTrue new.is_open)
-    → IsRecalled old m × IsOfOpen old m × IsKnownFile old known → IsRecalled new m × IsOfOpen new m × IsKnownFile new known
-remembered_still old new m known back between opened were = (
-  λ one is s stands. were.0 one is s (stood_before old new back between s stands),
+-- what was cached, and the file that was known, are so still, where all was given back and the store is open
+pub cached_still : (old new : db.State) (m : Option Cache) (known : Option StoredFile) → IsBackAt old new → old.in_transaction ≡ false → (HasCleanDisk new → IsTrue new.is_open)
+    → IsCached old m × IsOfOpen old m × IsKnownFile old known → IsCached new m × IsOfOpen new m × IsKnownFile new known
+cached_still old new m known back between opened were = (
+  λ one is s represents. were.0 one is s (stood_before old new back between s represents),
   λ one is clean. opened clean,
-  λ it is. (λ s stands. (were.2 it is).0 s (stood_before old new back between s stands), opened),
+  λ it is. (λ s represents. (were.2 it is).0 s (stood_before old new back between s represents), opened),
 )

@@ -1,4 +1,4 @@
--- What the calls make of the state that the tables stand for.
+-- What the calls make of the state that the tables represent.
 use Rattle.std.proofs.Common.{◌≡◌, ℕ, ◌≤◌, min, Option, Some, None, Result, Ok, Err, IfOk, OnOk, OnErr, inl, IsTrue, true, refl, sym, ap, subst, arith}
 use Rattle.std.specs.FinMap as map
 use Rattle.sqlite.specs.State as db
@@ -18,13 +18,13 @@ use Rattle.dep_row_maps.specs.TablesAre.{TablesAre}
 use Rattle.dep_row_maps.specs.Clauses.{FromMaps}
 use Rattle.dep_files.specs.Reading.{IsKept}
 use Rattle.dep_tables.specs.Clauses.{ReadsWithin}
-use Rattle.dep_schema.specs.Standing.{Stands}
+use Rattle.dep_schema.specs.OpenTables.{StaysFile}
 use Rattle.dep_schema.proofs.Transacting.{IsMade}
-use Rattle.dep_schema.specs.States.{StandsFor}
-use Rattle.dep_schema.specs.Transactions.{OnlyTells, OverStates}
-use Rattle.dep_store.specs.Glancing.{TellsFrom}
+use Rattle.dep_schema.specs.States.{Represents}
+use Rattle.dep_schema.specs.Transactions.{OnlyReports, OverStates}
+use Rattle.dep_store.specs.ReadTransactions.{ReportsFrom}
 use Rattle.dep_store.specs.Tasks.{Makes}
-use Rattle.dep_store.proofs.Migrated.{stands_same, tables_kept}
+use Rattle.dep_store.proofs.Migrated.{represents_same, tables_kept}
 
 -- no upload of a sound state has the number 0
 pub none_at_0 : (s : State) → IsSound s → map.get s.uploads 0 ≡ None
@@ -35,8 +35,8 @@ none_at_0 s sound = either (map.get s.uploads 0) refl
     either (Some u) e = absurd (omega (arith, (sound.uploads 0 u e).number_given.least))
 
 -- a clock of a sound state is shown whole
-pub shown_whole : (clock told shown : ℕ) → shown ≡ min clock greatest_moment → clock ≡ told → told ≤ greatest_moment → shown ≡ told
-shown_whole clock told shown is same least = omega arith
+pub shown_whole : (clock reported shown : ℕ) → shown ≡ min clock greatest_moment → clock ≡ reported → reported ≤ greatest_moment → shown ≡ reported
+shown_whole clock reported shown is same least = omega arith
 
 -- a tick inside a transaction keeps the state sound
 pub ticks : (old new : db.State) (config : Config) (moment clock shown : ℕ) → shown ≡ min clock greatest_moment
@@ -44,45 +44,45 @@ pub ticks : (old new : db.State) (config : Config) (moment clock shown : ℕ) �
     → (HasCleanDisk new → IsTrue old.in_transaction → IsOurs old → IsOurs new)
     → HasCleanDisk new → IsTrue old.in_transaction → IsOurs old
     → IsOurs new × OverStates (λ s n. n ≡ (tick config s moment).clock) (λ s. tick config s moment) (tables_of old) shown (tables_of new)
-ticks old new config moment clock shown is told ours clean inside are_ours = (
+ticks old new config moment clock shown is reported ours clean inside are_ours = (
   ours clean inside are_ours,
   λ s means.
-      let it = told clean inside are_ours s means.are (none_at_0 s means.sound) in
+      let it = reported clean inside are_ours s means.are (none_at_0 s means.sound) in
       let sound = keeps_sound config s moment means.sound in
       (shown_whole clock (tick config s moment).clock shown is it.0 sound.clock, record { are = it.1; sound = sound }),
 )
 
 -- what reads alone, inside a transaction
-pub tells : {T L A E : Type 0} (lenders : T → L) (state : T → db.State) (old new : T) (r : Result A E) (told : Tables → A → Type 0)
-    → (HasCleanDisk (state new) → IsTrue (state old).in_transaction → IsOurs (state old) → IfOk r (told (tables_of (state old))))
-    → ReadsWithin lenders state old new r → Makes lenders state old new r (OnlyTells told)
-tells {T} {L} {A} {E} lenders state old new r told asks keeps = record {
+pub reports : {T L A E : Type 0} (lenders : T → L) (state : T → db.State) (old new : T) (r : Result A E) (reported : Tables → A → Type 0)
+    → (HasCleanDisk (state new) → IsTrue (state old).in_transaction → IsOurs (state old) → IfOk r (reported (tables_of (state old))))
+    → ReadsWithin lenders state old new r → Makes lenders state old new r (OnlyReports reported)
+reports {T} {L} {A} {E} lenders state old new r reported asks keeps = record {
   made = λ clean inside ours. each r ours (asks clean inside ours) (keeps.same clean ours);
   stays = keeps.stays;
 }
   where
-    each : (r : Result A E) → IsOurs (state old) → IfOk r (told (tables_of (state old))) → OnOk r (IsUnchanged (state old) (state new))
-        → IfOk r (λ answer. IsOurs (state new) × OnlyTells told (tables_of (state old)) answer (tables_of (state new)))
+    each : (r : Result A E) → IsOurs (state old) → IfOk r (reported (tables_of (state old))) → OnOk r (IsUnchanged (state old) (state new))
+        → IfOk r (λ answer. IsOurs (state new) × OnlyReports reported (tables_of (state old)) answer (tables_of (state new)))
     each (Ok answer) ours read same = let still = same.0.now_is in (subst HasOurTables (sym still) ours, (read, ap (λ (d : Database). tables_in d.trees) still))
     each (Err e) ours read same = tt
 
 -- it told the same of each state
-pub of_each : {A E : Type 0} (r : Result A E) (is : State → Type 0) (told : State → A → Type 0) → ((s : State) → is s → IfOk r (told s))
-    → IfOk r (λ answer. (s : State) → is s → told s answer)
-of_each (Ok answer) is told each = each
-of_each (Err e) is told each = tt
+pub of_each : {A E : Type 0} (r : Result A E) (is : State → Type 0) (reported : State → A → Type 0) → ((s : State) → is s → IfOk r (reported s))
+    → IfOk r (λ answer. (s : State) → is s → reported s answer)
+of_each (Ok answer) is reported each = each
+of_each (Err e) is reported each = tt
 
 pub ok_leaves : {A E P Q : Type 0} (r : Result A E) → OnOk r P → (P → Q) → IfOk r (λ answer. Q)
 ok_leaves (Ok answer) p f = f p
 ok_leaves (Err e) p f = tt
 
--- what it told of the state that the database stands for
-pub told_then : {S : Type 0} (g : Ghosts S) (old begun : Held S) (inside last : Transaction S) (told : State → Type 0) → begun ≡ record old { in_transaction = true } → inside ≡ last
-    → TellsFrom (state g begun) (state g inside.conn.now) told → HasCleanDisk (state g last.conn.now) → (s : State) → StandsFor (state g old) s → told s
-told_then g old begun inside last told is left reads clean s was =
+-- what it told of the state that the database represents
+pub reported_then : {S : Type 0} (g : Ghosts S) (old begun : Held S) (inside last : Transaction S) (reported : State → Type 0) → begun ≡ record old { in_transaction = true } → inside ≡ last
+    → ReportsFrom (state g begun) (state g inside.conn.now) reported → HasCleanDisk (state g last.conn.now) → (s : State) → Represents (state g old) s → reported s
+reported_then g old begun inside last reported is left reads clean s was =
     let inside_clean = subst (λ (tx : Transaction _). HasCleanDisk (state g tx.conn.now)) (sym left) clean in
-    subst (λ (h : Held _). TellsFrom (state g h) (state g inside.conn.now) told) is reads
-    was.stands.is_open inside_clean refl was.stands.ours s (subst (λ (t : Tables). TablesAre t s) (sym was.stands.rows) was.means.are) was.means.sound
+    subst (λ (h : Held _). ReportsFrom (state g h) (state g inside.conn.now) reported) is reads
+    was.represents.is_open inside_clean refl was.represents.ours s (subst (λ (t : Tables). TablesAre t s) (sym was.represents.rows) was.means.are) was.means.sound
 
 -- what an Ok made of the tables inside the transaction that was begun
 pub made_inside : {S A : Type 0} (g : Ghosts S) (old begun : Held S) (inside last : Transaction S) (makes : Tables → A → Tables → Type 0) (answer : A)
@@ -96,19 +96,19 @@ made_inside g old begun inside last makes answer is left made =
 -- ---- what reads alone, outside a transaction
 
 -- it told this of the tables
-pub ok_told : {A E : Type 0} (old new : db.State) (r : Result A E) (told : Tables → A → Type 0) (t : Tables) → Stands old t → OnOk r (IsUnchanged old new) → IfOk r (told (tables_of old))
-    → IfOk r (λ answer. told t answer × Stands new t)
-ok_told old new (Ok answer) told t stands still its = (subst (λ (now : Tables). told now answer) stands.rows its, stands_same old new t stands still)
-ok_told old new (Err e) told t stands still its = tt
+pub ok_reported : {A E : Type 0} (old new : db.State) (r : Result A E) (reported : Tables → A → Type 0) (t : Tables) → StaysFile old t → OnOk r (IsUnchanged old new) → IfOk r (reported (tables_of old))
+    → IfOk r (λ answer. reported t answer × StaysFile new t)
+ok_reported old new (Ok answer) reported t represents still its = (subst (λ (now : Tables). reported now answer) represents.rows its, represents_same old new t represents still)
+ok_reported old new (Err e) reported t represents still its = tt
 
-pub stands_kept : (old new : db.State) (s : State) → StandsFor old s → IsTrue new.is_open → IsKept old new → StandsFor new s
-stands_kept old new s stands is_open kept =
-    record { tables = stands.tables; stands = tables_kept old new stands.tables stands.stands is_open kept; means = stands.means }
+pub represents_kept : (old new : db.State) (s : State) → Represents old s → IsTrue new.is_open → IsKept old new → Represents new s
+represents_kept old new s represents is_open kept =
+    record { tables = represents.tables; represents = tables_kept old new represents.tables represents.represents is_open kept; means = represents.means }
 
-pub err_kept : {A E : Type 0} (old new : db.State) (r : Result A E) (s : State) → StandsFor old s → IsTrue new.is_open → IsKept old new → OnErr r (StandsFor new s)
-err_kept old new (Ok x) s stands is_open kept = tt
-err_kept old new (Err e) s stands is_open kept = stands_kept old new s stands is_open kept
+pub err_kept : {A E : Type 0} (old new : db.State) (r : Result A E) (s : State) → Represents old s → IsTrue new.is_open → IsKept old new → OnErr r (Represents new s)
+err_kept old new (Ok x) s represents is_open kept = tt
+err_kept old new (Err e) s represents is_open kept = represents_kept old new s represents is_open kept
 
-pub ok_unchanged : {A E : Type 0} (old new : db.State) (r : Result A E) (s : State) → StandsFor old s → OnOk r (IsUnchanged old new) → OnOk r (StandsFor new s)
-ok_unchanged old new (Ok x) s stands still = stands_kept old new s stands still.0.is_open (λ _. inl still)
-ok_unchanged old new (Err e) s stands still = tt
+pub ok_unchanged : {A E : Type 0} (old new : db.State) (r : Result A E) (s : State) → Represents old s → OnOk r (IsUnchanged old new) → OnOk r (Represents new s)
+ok_unchanged old new (Ok x) s represents still = represents_kept old new s represents still.0.is_open (λ _. inl still)
+ok_unchanged old new (Err e) s represents still = tt

@@ -9,7 +9,7 @@ use Rattle.dep_row_maps.specs.Stored.{state_row}
 use Rattle.dep_row_maps.specs.TablesAre.{TablesAre}
 use Rattle.dep_row_maps.proofs.Readings.{state_read}
 use Rattle.dep_row_maps.proofs.Whole.{state_written}
-use Rattle.dep_schema.specs.States.{TablesStandFor}
+use Rattle.dep_schema.specs.States.{TablesRepresent}
 use Rattle.dep_schema.specs.Transactions.{Transacts, IsRestored}
 use Rattle.dep_schema.proofs.Transacting.{IsSettled, after_back}
 use Rattle.dep_hub.specs.Archives.{Always}
@@ -18,9 +18,9 @@ use Rattle.dep_store.specs.Shut.{FailsIfShut}
 use Rattle.dep_store.proofs.ShutLemmas.{was_open_then}
 use Rattle.dep_store.proofs.Tries.{tries_over}
 
--- the tables stand for the same state
-stands_again : (t after : Tables) (s : State) → RewritesClock t after → TablesStandFor t s → TablesStandFor after s
-stands_again t after s (row, read, is) means =
+-- the tables represent the same state
+represents_again : (t after : Tables) (s : State) → RewritesClock t after → TablesRepresent t s → TablesRepresent after s
+represents_again t after s (row, read, is) means =
     let same : row ≡ state_row s = state_read t s means.are row read in
     record {
       are = subst (λ (x : Tables). TablesAre x s) (sym is) (subst (λ (r : StateRow). TablesAre (with_state_row r t) s) (sym same) (state_written t s means.are s.clock s.next));
@@ -31,7 +31,7 @@ stands_again t after s (row, read, is) means =
 pub copies : {A E : Type 0} (old new : db.State) (r : Result A E) → Transacts old new r (λ before done after. RewritesClock before after) → FailsIfShut old new r → CopiesLog old new r
 copies old new r it shut = record {
   does = tries_over old new r (λ before done after. RewritesClock before after) Always (λ s answer. Unit {0}) (λ s. s)
-      (λ s always t answer after wrote means. (tt, stands_again t after s wrote means)) it;
+      (λ s always t answer after wrote means. (tt, represents_again t after s wrote means)) it;
   transacts = it;
   shut = shut;
 }

@@ -9,7 +9,7 @@ use Rattle.sqlite_trees.specs.declared.error.StoreError.{StoreError}
 use Rattle.sqlite_trees.specs.declared.error.StoreError.TheVariants.{OutOfMemory, Io, Corrupt, Full, Broken, Unstorable}
 use Rattle.dep_types.specs.declared.store_fault.StoreFault.{StoreFault}
 use Rattle.dep_tables.specs.Faults.{fault_for}
-use Rattle.dep_hub.specs.Errands.{FailsToTell}
+use Rattle.dep_hub.specs.ArchiveCalls.{FailsToReport}
 use Rattle.dep_types.specs.State.{State}
 use Rattle.dep_decisions.specs.Laws.{KeepsSegments}
 use Rattle.dep_staging.specs.HashedAhead.{AreRunning, IsRunning}
@@ -17,13 +17,13 @@ use Rattle.dep_staging.specs.declared.running.RunningHash.{RunningHash}
 use Rattle.dep_staging.specs.declared.running.RunningHashes.{RunningHashes}
 use Rattle.dep_staging.proofs.AheadLemmas.{still_hashed}
 use Rattle.dep_schema.specs.Performing.{KeepsRunning}
-use Rattle.dep_schema.specs.States.{StandsFor}
-use Rattle.dep_types.specs.Conditions.{Condition, StandsFor as StandsAs, HasCleanDisk}
+use Rattle.dep_schema.specs.States.{Represents}
+use Rattle.dep_types.specs.Conditions.{Condition, Represents as RepresentsAs, HasCleanDisk}
 use Rattle.dep_hub.specs.Archives.{TriesTo, KeepsState, KeepsAll, KeepsEachState, FailsIfShut}
 use Rattle.dep_hub.proofs.Leaving.{Settles, leaves_before, leaves_once}
 use Rattle.dep_store.specs.Archive as store
 use Rattle.dep_store.specs.Shut as db_shut
-use Rattle.dep_store.specs.HashingStores.{Keeps, shown_by, told_by}
+use Rattle.dep_store.specs.HashingStores.{Keeps, shown_by, reported_by}
 
 -- what was hashed of one upload
 still_running : (s t : State) (run : RunningHash) → KeepsSegments s t → IsRunning s run → IsRunning t run
@@ -42,23 +42,23 @@ are_running_still s t runs keeps are kept there = let it = are kept there in (st
 
 module _ (d d' : db.State) (runs runs' : RunningHashes) where
   -- a call of the store, from each state for which that holds
-  pub tries_hashed : {A E : Type 0} (holds given : State → Type 0) (told : State → A → Type 0) (next : State → State) (r : Result A E)
+  pub tries_hashed : {A E : Type 0} (holds given : State → Type 0) (reported : State → A → Type 0) (next : State → State) (r : Result A E)
       → ((s : State) → given s → AreRunning s runs → holds s) → KeepsRunning d d' runs runs' → ((s : State) → AreRunning s runs' → AreRunning (next s) runs')
-      → TriesTo (store.shown_by d) (store.shown_by d') holds told next r → TriesTo (shown_by d runs) (shown_by d' runs') given told next r
-  tries_hashed {A} {E} holds given told next r knows stay go it = record {
-    ok = λ clean s keeps its. IfOk-weaker r (λ answer. told s answer × StandsFor d' (next s)) (λ answer. told s answer × Keeps d' runs' (next s))
-        (λ answer h. (h.0, record { stands = h.1; hashed = go s (stay h.1.stands.is_open s keeps.stands keeps.hashed) })) (it.ok clean s keeps.stands (knows s its keeps.hashed));
-    err = λ is_open s keeps. on_err_weaker r (λ (stands : StandsFor d' s). record { stands = stands; hashed = stay is_open s keeps.stands keeps.hashed }) (it.err is_open s keeps.stands);
+      → TriesTo (store.shown_by d) (store.shown_by d') holds reported next r → TriesTo (shown_by d runs) (shown_by d' runs') given reported next r
+  tries_hashed {A} {E} holds given reported next r knows stay go it = record {
+    ok = λ clean s keeps its. IfOk-weaker r (λ answer. reported s answer × Represents d' (next s)) (λ answer. reported s answer × Keeps d' runs' (next s))
+        (λ answer h. (h.0, record { represents = h.1; hashed = go s (stay h.1.represents.is_open s keeps.represents keeps.hashed) })) (it.ok clean s keeps.represents (knows s its keeps.hashed));
+    err = λ is_open s keeps. on_err_weaker r (λ (represents : Represents d' s). record { represents = represents; hashed = stay is_open s keeps.represents keeps.hashed }) (it.err is_open s keeps.represents);
     honest = it.honest;
     was_open = it.was_open;
-    stop = λ clean s keeps its. it.stop clean s keeps.stands (knows s its keeps.hashed);
+    stop = λ clean s keeps its. it.stop clean s keeps.represents (knows s its keeps.hashed);
   }
 
   -- a call that asks for nothing that the store keeps
   pub keeps_hashed : KeepsRunning d d' runs runs' → KeepsAll (store.shown_by d) (store.shown_by d')
       → KeepsAll (shown_by d runs) (shown_by d' runs')
   keeps_hashed hashed it = record {
-    kept = λ is_open s keeps. record { stands = it.kept is_open s keeps.stands; hashed = hashed is_open s keeps.stands keeps.hashed };
+    kept = λ is_open s keeps. record { represents = it.kept is_open s keeps.represents; hashed = hashed is_open s keeps.represents keeps.hashed };
     honest = it.honest;
     was_open = it.was_open;
     left = it.left;
@@ -68,10 +68,10 @@ module _ (d d' : db.State) (runs runs' : RunningHashes) where
   shut_hashed r it = record { opened = it.opened; left = λ clean shut image h. (image, it.left clean shut image h, λ s. (λ x. x, λ x. x)) }
 
 -- it failed as another call did
-pub tries_failed : {A E F : Type 0} (old new : Condition) (holds : State → Type 0) (told : State → A → Type 0) (next : State → State) (fault : F) (r : Result A E) → IsErr r
-    → TriesTo old new holds told next (Err fault) → TriesTo old new holds told next r
-tries_failed old new holds told next fault (Ok answer) failed it = cc failed
-tries_failed old new holds told next fault (Err e) failed it =
+pub tries_failed : {A E F : Type 0} (old new : Condition) (holds : State → Type 0) (reported : State → A → Type 0) (next : State → State) (fault : F) (r : Result A E) → IsErr r
+    → TriesTo old new holds reported next (Err fault) → TriesTo old new holds reported next r
+tries_failed old new holds reported next fault (Ok answer) failed it = cc failed
+tries_failed old new holds reported next fault (Err e) failed it =
     record { ok = λ clean s at its. tt; err = it.err; honest = it.honest; was_open = it.was_open; stop = it.stop }
 
 pub fails_failed : {A E F : Type 0} (old new : Condition) (fault : F) (r : Result A E) → IsErr r → FailsIfShut {A = A} old new (Err fault) → FailsIfShut old new r
@@ -112,14 +112,14 @@ keeps_either {A} {E} old new r clean it shut = record {
   left = shut.left;
 }
   where
-    each : (r : Result A E) (s : State) → IfOk r (λ answer. Unit {0} × StandsAs new s) → OnErr r (StandsAs new s) → StandsAs new s
+    each : (r : Result A E) (s : State) → IfOk r (λ answer. Unit {0} × RepresentsAs new s) → OnErr r (RepresentsAs new s) → RepresentsAs new s
     each (Ok answer) s h none = h.1
     each (Err e) s none h = h
 
 -- ---- why it isn't told whether it is open
 
 by_cause : (old new : db.State) (cause : StoreError) → db.HasCause old new ⊥ cause → db.store_error cause ≢ SqliteFailure code.Closed
-    → FailsToTell (told_by old) (told_by new) (fault_for (db.store_error cause))
+    → FailsToReport (reported_by old) (reported_by new) (fault_for (db.store_error cause))
 by_cause old new OutOfMemory has other = tt
 by_cause old new Io has other = inr has
 by_cause old new Corrupt has other = inr has
@@ -128,8 +128,8 @@ by_cause old new Broken has other = absurd (other refl)
 by_cause old new Unstorable has other = absurd has
 
 -- as its database fails to tell it
-pub fails_to_tell : (old new : db.State) (fault : StoreFault) → db_shut.FailsToTell old new fault → FailsToTell (told_by old) (told_by new) fault
-fails_to_tell old new fault (inl (busy, same)) = subst (λ (f : StoreFault). FailsToTell (told_by old) (told_by new) f) (sym same) (inl busy)
-fails_to_tell old new fault (inr (e, (cause, is, has, rolled, told), other, same)) =
-    subst (λ (f : StoreFault). FailsToTell (told_by old) (told_by new) f) (sym same)
-    (subst (λ (x : Error). x ≢ SqliteFailure code.Closed → FailsToTell (told_by old) (told_by new) (fault_for x)) (sym is) (by_cause old new cause has) other)
+pub fails_to_report : (old new : db.State) (fault : StoreFault) → db_shut.FailsToReport old new fault → FailsToReport (reported_by old) (reported_by new) fault
+fails_to_report old new fault (inl (busy, same)) = subst (λ (f : StoreFault). FailsToReport (reported_by old) (reported_by new) f) (sym same) (inl busy)
+fails_to_report old new fault (inr (e, (cause, is, has, rolled, reported), other, same)) =
+    subst (λ (f : StoreFault). FailsToReport (reported_by old) (reported_by new) f) (sym same)
+    (subst (λ (x : Error). x ≢ SqliteFailure code.Closed → FailsToReport (reported_by old) (reported_by new) (fault_for x)) (sym is) (by_cause old new cause has) other)

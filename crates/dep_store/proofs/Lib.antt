@@ -3,7 +3,7 @@ pub mod Older
 pub mod Opened
 pub mod Sources
 pub mod Carrying
-pub mod Remembered
+pub mod Cache
 pub mod ShutLemmas
 pub mod Tries
 pub mod KnownFiles

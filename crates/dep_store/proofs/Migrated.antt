@@ -10,35 +10,35 @@ use Rattle.dep_statements.specs.Rows.{IsOrdered}
 use Rattle.dep_tables.specs.Schema.{our_schema, older_schema}
 use Rattle.dep_tables.specs.Tables.{Tables, tables_in, tables_of, HasTablesOf, IsKnown}
 use Rattle.dep_row_maps.specs.Sha512s.{upgraded}
-use Rattle.dep_schema.specs.Standing.{IsBack, Stands, StandsOf, StandsOlder}
+use Rattle.dep_schema.specs.OpenTables.{IsBack, StaysFile, IsOpenWithOf, IsOpenWithOlder}
 use Rattle.dep_schema.specs.Transactions.{TransactsTo}
-use Rattle.dep_schema.proofs.Transactions.{stands_left}
+use Rattle.dep_schema.proofs.Transactions.{represents_left}
 use Rattle.dep_schema.proofs.Transacting.{IsSettled, left_still}
 use Rattle.dep_files.specs.Reading.{IsKept}
 use Rattle.dep_files.specs.Sha512s.{AreValuesOf}
 use Rattle.dep_files.proofs.Upgraded.{stand_upgraded}
-use Rattle.dep_schema.specs.States.{TablesStandFor, OlderTablesStandFor, StandsFor, OlderStandsFor, IsLeftAs}
+use Rattle.dep_schema.specs.States.{TablesRepresent, OlderTablesRepresent, Represents, OlderRepresents, IsLeftAs}
 use Rattle.dep_store.specs.Migrating.{IsUpgraded, Migrates}
 
-pub known_older : (d : db.State) (t : Tables) → StandsOlder d t → IsKnown d
-known_older d t stands = (older_schema, inr refl, stands.ours)
+pub known_older : (d : db.State) (t : Tables) → IsOpenWithOlder d t → IsKnown d
+known_older d t represents = (older_schema, inr refl, represents.ours)
 
 -- nothing was changed
-pub stands_same : {its : Schema} (a b : db.State) (t : Tables) → StandsOf its a t → IsUnchanged a b → StandsOf its b t
-stands_same {its} a b t stands same = record {
+pub represents_same : {its : Schema} (a b : db.State) (t : Tables) → IsOpenWithOf its a t → IsUnchanged a b → IsOpenWithOf its b t
+represents_same {its} a b t represents same = record {
   is_open = same.0.is_open;
-  settled = same.0.mode ∙ stands.settled;
-  committed = same.0.now_is ∙ stands.committed ∙ sym same.0.committed_is;
-  ours = subst (HasTablesOf its) (sym same.0.now_is) stands.ours;
-  rows = ap (λ (d : Database). tables_in d.trees) same.0.now_is ∙ stands.rows;
+  settled = same.0.mode ∙ represents.settled;
+  committed = same.0.now_is ∙ represents.committed ∙ sym same.0.committed_is;
+  ours = subst (HasTablesOf its) (sym same.0.now_is) represents.ours;
+  rows = ap (λ (d : Database). tables_in d.trees) same.0.now_is ∙ represents.rows;
 }
 
 -- a call that only reads has left all as it was, or has ended no transaction
-pub tables_kept : {its : Schema} (a b : db.State) (t : Tables) → StandsOf its a t → IsTrue b.is_open → IsKept a b → StandsOf its b t
-tables_kept a b t stands is_open kept =
+pub tables_kept : {its : Schema} (a b : db.State) (t : Tables) → IsOpenWithOf its a t → IsTrue b.is_open → IsKept a b → IsOpenWithOf its b t
+tables_kept a b t represents is_open kept =
     elim (kept is_open) [
-      | inl same ↦ stands_same a b t stands same
-      | inr back ↦ stands_left a b t stands is_open back.autocommit (back.undone is_open).0 (back.undone is_open).1
+      | inl same ↦ represents_same a b t represents same
+      | inr back ↦ represents_left a b t represents is_open back.autocommit (back.undone is_open).0 (back.undone is_open).1
     ]
 
 module _ (old new : db.State) (settled : IsTrue old.is_open → IsSettled old) (shut : IsTrue new.is_open → HasCleanDisk new) where
@@ -46,10 +46,10 @@ module _ (old new : db.State) (settled : IsTrue old.is_open → IsSettled old) (
   pub not_computed : {A E : Type 0} (e : E) → (HasCleanDisk new → IsKnown old → IsKept old new) → (HasCleanDisk new → HasCleanDisk old)
       → (HasCleanDisk new → IsKnown old → Survives old new (λ _. ⊥)) → Migrates {A = A} old new (Err e)
   not_computed e kept clean survives = record {
-    ok = λ late t stands. tt;
-    err = λ is_open t stands. tables_kept old new t stands is_open (kept (shut is_open) (known_older old t stands));
+    ok = λ late t represents. tt;
+    err = λ is_open t represents. tables_kept old new t represents is_open (kept (shut is_open) (known_older old t represents));
     honest = clean;
-    stop = λ late t stands trees h. inl (left_still old new t (settled stands.is_open) stands (survives late (known_older old t stands)) late trees h);
+    stop = λ late t represents trees h. inl (left_still old new t (settled represents.is_open) represents (survives late (known_older old t represents)) late trees h);
   }
 
 -- the values were computed, and a transaction was tried
@@ -60,56 +60,56 @@ pub was_tried : {E : Type 0} (old mid new : db.State) (values : _) (result : Res
     → TransactsTo older_schema our_schema mid new result (λ t _ after. after ≡ upgraded values t)
     → Migrates old new result
 was_tried {E} old mid new values result are same shut clean it = record {
-  ok = λ late t stands. each result (it.ok late t (stands_mid (it.honest late) t stands)) (λ _. made (it.honest late) t stands);
-  err = λ is_open t stands. it.err is_open t (stands_mid (shut (it.was_open is_open)) t stands);
+  ok = λ late t represents. each result (it.ok late t (represents_mid (it.honest late) t represents)) (λ _. made (it.honest late) t represents);
+  err = λ is_open t represents. it.err is_open t (represents_mid (shut (it.was_open is_open)) t represents);
   honest = λ late. clean (it.honest late);
-  stop = λ late t stands trees h. elim (it.stop late t (stands_mid (it.honest late) t stands) trees h) [
+  stop = λ late t represents trees h. elim (it.stop late t (represents_mid (it.honest late) t represents) trees h) [
     | inl earlier ↦ inl earlier
-    | inr (answer, after, holds, is) ↦ inr (after, holds, record { values = values; are = made (it.honest late) t stands; is = is })
+    | inr (answer, after, holds, is) ↦ inr (after, holds, record { values = values; are = made (it.honest late) t represents; is = is })
   ];
 }
   where
-    stands_mid : HasCleanDisk mid → (t : Tables) → StandsOlder old t → StandsOlder mid t
-    stands_mid late t stands = stands_same old mid t stands (same late (known_older old t stands))
+    represents_mid : HasCleanDisk mid → (t : Tables) → IsOpenWithOlder old t → IsOpenWithOlder mid t
+    represents_mid late t represents = represents_same old mid t represents (same late (known_older old t represents))
 
-    made : HasCleanDisk mid → (t : Tables) → StandsOlder old t → AreValuesOf t values
-    made late t stands = subst (λ (x : Tables). AreValuesOf x values) stands.rows (are late (known_older old t stands))
+    made : HasCleanDisk mid → (t : Tables) → IsOpenWithOlder old t → AreValuesOf t values
+    made late t represents = subst (λ (x : Tables). AreValuesOf x values) represents.rows (are late (known_older old t represents))
 
-    each : {t : Tables} (r : Result (Unit {0}) E) → IfOk r (λ _. (after : Tables) × Stands new after × (after ≡ upgraded values t)) → (Unit {0} → AreValuesOf t values)
-        → OnOk r ((after : Tables) × Stands new after × IsUpgraded t after)
+    each : {t : Tables} (r : Result (Unit {0}) E) → IfOk r (λ _. (after : Tables) × StaysFile new after × (after ≡ upgraded values t)) → (Unit {0} → AreValuesOf t values)
+        → OnOk r ((after : Tables) × StaysFile new after × IsUpgraded t after)
     each (Ok x) (after, stand, is) all = (after, stand, record { values = values; are = all x; is = is })
     each (Err e) h all = tt
 
 -- ---- states
 
 -- the rowids of the files rise
-pub files_rise : (d : db.State) (t : Tables) → StandsOlder d t → IsOrdered t.files
-files_rise d t stands = subst (λ (x : Tables). IsOrdered x.files) stands.rows stands.ours.trees.ordered.1.1.1.1.0
+pub files_rise : (d : db.State) (t : Tables) → IsOpenWithOlder d t → IsOrdered t.files
+files_rise d t represents = subst (λ (x : Tables). IsOrdered x.files) represents.rows represents.ours.trees.ordered.1.1.1.1.0
 
--- the tables that gained their values stand for the same state
-pub upgraded_means : (t after : Tables) (s : State) → IsOrdered t.files → OlderTablesStandFor t s → IsUpgraded t after → TablesStandFor after s
+-- the tables that gained their values represent the same state
+pub upgraded_means : (t after : Tables) (s : State) → IsOrdered t.files → OlderTablesRepresent t s → IsUpgraded t after → TablesRepresent after s
 upgraded_means t after s up means is =
-    subst (λ (x : Tables). TablesStandFor x s) (sym is.is) (record { are = stand_upgraded t s means.are means.sound up is.values is.are; sound = means.sound })
+    subst (λ (x : Tables). TablesRepresent x s) (sym is.is) (record { are = stand_upgraded t s means.are means.sound up is.values is.are; sound = means.sound })
 
 module _ {A E : Type 0} (old new : db.State) (result : Result A E) (it : Migrates old new result) where
-  pub ok_states : HasCleanDisk new → (s : State) → OlderStandsFor old s → OnOk result (StandsFor new s)
-  ok_states clean s stood = each result (it.ok clean stood.tables stood.stands)
+  pub ok_states : HasCleanDisk new → (s : State) → OlderRepresents old s → OnOk result (Represents new s)
+  ok_states clean s stood = each result (it.ok clean stood.tables stood.represents)
     where
-      each : (r : Result A E) → OnOk r ((after : Tables) × Stands new after × IsUpgraded stood.tables after) → OnOk r (StandsFor new s)
-      each (Ok x) (after, stand, is) = record { tables = after; stands = stand; means = upgraded_means stood.tables after s (files_rise old stood.tables stood.stands) stood.means is }
+      each : (r : Result A E) → OnOk r ((after : Tables) × StaysFile new after × IsUpgraded stood.tables after) → OnOk r (Represents new s)
+      each (Ok x) (after, stand, is) = record { tables = after; represents = stand; means = upgraded_means stood.tables after s (files_rise old stood.tables stood.represents) stood.means is }
       each (Err e) h = tt
 
-  pub err_states : IsTrue new.is_open → (s : State) → OlderStandsFor old s → OnErr result (OlderStandsFor new s)
-  err_states is_open s stood = each result (it.err is_open stood.tables stood.stands)
+  pub err_states : IsTrue new.is_open → (s : State) → OlderRepresents old s → OnErr result (OlderRepresents new s)
+  err_states is_open s stood = each result (it.err is_open stood.tables stood.represents)
     where
-      each : (r : Result A E) → OnErr r (StandsOlder new stood.tables) → OnErr r (OlderStandsFor new s)
+      each : (r : Result A E) → OnErr r (IsOpenWithOlder new stood.tables) → OnErr r (OlderRepresents new s)
       each (Ok x) h = tt
-      each (Err e) stand = record { tables = stood.tables; stands = stand; means = stood.means }
+      each (Err e) stand = record { tables = stood.tables; represents = stand; means = stood.means }
 
-  pub stop_states : HasCleanDisk new → (s : State) → OlderStandsFor old s → (trees : Trees) → new.may_leave trees → IsLeftAs trees s
-  stop_states clean s stood trees h = elim (it.stop clean stood.tables stood.stands trees h) [
+  pub stop_states : HasCleanDisk new → (s : State) → OlderRepresents old s → (trees : Trees) → new.may_leave trees → IsLeftAs trees s
+  stop_states clean s stood trees h = elim (it.stop clean stood.tables stood.represents trees h) [
     | inl earlier ↦ inr (stood.tables, earlier, stood.means)
-    | inr (after, holds, is) ↦ inl (after, holds, upgraded_means stood.tables after s (files_rise old stood.tables stood.stands) stood.means is)
+    | inr (after, holds, is) ↦ inl (after, holds, upgraded_means stood.tables after s (files_rise old stood.tables stood.represents) stood.means is)
   ]
 
 -- ---- back at the last commit

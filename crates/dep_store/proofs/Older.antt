@@ -11,8 +11,8 @@ use Rattle.dep_schema.specs.Beside.{AreNewNamesFree}
 use Rattle.dep_types.specs.declared.store_fault.StoreFault.{StoreFault}
 use Rattle.dep_types.specs.declared.store_fault.StoreFault.TheVariants as fault
 use Rattle.dep_schema.specs.declared.opening.OpenFault.TheVariants.{UnknownVersion}
-use Rattle.dep_schema.specs.OpenFaults.{begun, open_fault_for, ShowsOrMakes, ShowsVersion, TellsVersion}
-use Rattle.dep_schema.specs.Standing.{IsBack, IsStill}
+use Rattle.dep_schema.specs.OpenFaults.{begun, open_fault_for, ShowsOrMakes, ShowsVersion, ReportsVersion}
+use Rattle.dep_schema.specs.OpenTables.{IsBack, IsStill}
 use Rattle.dep_schema.proofs.Upgraded.{new_not_free}
 use Rattle.dep_schema.proofs.Version.{not_older, shows_again}
 use Rattle.dep_store.specs.Causes.{HadFreeNames}
@@ -35,10 +35,10 @@ back_since old mid new between still back = (back.0 ∙ still.committed ∙ betw
 
 module _ {S : Type 0} (g : Ghosts S) where
   -- it is shown, and nothing was made
-  pub tells_older : (old : Held S) (found : ℕ) → found ≡ older_version → ShowsOrMakes g (begun old) found → TellsVersion (state g old) older_version
-  tells_older old found one (asked, inl shown) =
+  pub reports_older : (old : Held S) (found : ℕ) → found ≡ older_version → ShowsOrMakes g (begun old) found → ReportsVersion (state g old) older_version
+  reports_older old found one (asked, inl shown) =
       shows_again (state g (begun old)) (state g old) (state g asked) refl (λ is_open. is_open) older_version (subst (ShowsVersion (state g (begun old)) (state g asked)) one shown)
-  tells_older old found one (asked, inr (none, two)) = absurd (not_older (sym two ∙ one))
+  reports_older old found one (asked, inr (none, two)) = absurd (not_older (sym two ∙ one))
 
   pub had_free : (old mid : Held S) → IsStill (state g old) (state g mid) → HadFreeNames g mid → HadFreeNames g old
   had_free old mid still (hashed, same, free) = (hashed, (λ known. same (known_since (state g old) (state g mid) still known) ∙ still.now), free)

@@ -1,4 +1,4 @@
--- What an open finds of a database that stood for a state, in either version.
+-- What an open finds of a database that represented a state, in either version.
 use Rattle.std.proofs.Common.{◌≡◌, ◌⊎◌, inl, inr, ℕ, [], ◌∷◌, false, IsTrue, Result, refl, sym, ap, subst, ◌∙◌}
 use Rattle.sqlite.specs.Effect.{Database}
 use Rattle.sqlite.specs.Schema.{Schema}
@@ -8,15 +8,15 @@ use Rattle.sqlite.specs.Tree.{Trees}
 use Rattle.dep_types.specs.State.{State, empty_state}
 use Rattle.dep_types.proofs.EmptySound.{empty_sound}
 use Rattle.dep_tables.specs.Rows.{stored_format}
-use Rattle.dep_row_maps.proofs.Whole.{first_stands}
+use Rattle.dep_row_maps.proofs.Whole.{first_represents}
 use Rattle.dep_tables.specs.Schema.{our_schema, older_schema}
 use Rattle.dep_tables.specs.Tables.{Tables, tables_in, HasTablesOf, IsKnownSchema}
 use Rattle.dep_tables.specs.Versions.{our_version, older_version, HasVersion}
-use Rattle.dep_schema.specs.Standing.{first_tables, HoldsOf, HoldsNone, StandsOf, CommitsOpen, IsOpenable, IsBack}
+use Rattle.dep_schema.specs.OpenTables.{first_tables, HoldsOf, HoldsNone, IsOpenWithOf, CommitsOpen, IsOpenable, IsBack}
 use Rattle.dep_schema.proofs.Again.{sees_trees}
 use Rattle.dep_schema.proofs.Transacting.{IsSettled}
 use Rattle.dep_schema.proofs.Version.{not_older}
-use Rattle.dep_schema.specs.States.{TablesStandFor, StandsFor, OlderStandsFor, IsLeftAs}
+use Rattle.dep_schema.specs.States.{TablesRepresent, Represents, OlderRepresents, IsLeftAs}
 use Rattle.dep_store.specs.Migrating.{Migrates, Stood, OpenLeaves}
 use Rattle.dep_store.proofs.Migrated.{stop_states}
 
@@ -25,16 +25,16 @@ pub version_is : (t : Tables) (v w : ℕ) → HasVersion v t → HasVersion w t 
 version_is t v w one two = let same = sym one ∙ two in cc
 
 -- by the version that was found, the tables of one version or of the other
-pub opened_stood : (old new : db.State) (found : ℕ) (s : State) → ((its : Schema) → IsKnownSchema its → (t : Tables) → HoldsOf its old.now.trees t → HasVersion found t × StandsOf its new t)
-    → IsLeftAs old.now.trees s → ((found ≡ our_version) × StandsFor new s) ⊎ ((found ≡ older_version) × OlderStandsFor new s)
+pub opened_stood : (old new : db.State) (found : ℕ) (s : State) → ((its : Schema) → IsKnownSchema its → (t : Tables) → HoldsOf its old.now.trees t → HasVersion found t × IsOpenWithOf its new t)
+    → IsLeftAs old.now.trees s → ((found ≡ our_version) × Represents new s) ⊎ ((found ≡ older_version) × OlderRepresents new s)
 opened_stood old new found s finds (inl (t, holds, means)) =
-    let it = finds our_schema (inl refl) t holds in inl (version_is t found our_version it.0 means.are.common.format, record { tables = t; stands = it.1; means = means })
+    let it = finds our_schema (inl refl) t holds in inl (version_is t found our_version it.0 means.are.common.format, record { tables = t; represents = it.1; means = means })
 opened_stood old new found s finds (inr (t, holds, means)) =
-    let it = finds older_schema (inr refl) t holds in inr (version_is t found older_version it.0 means.are.common.format, record { tables = t; stands = it.1; means = means })
+    let it = finds older_schema (inr refl) t holds in inr (version_is t found older_version it.0 means.are.common.format, record { tables = t; represents = it.1; means = means })
 
--- the tables of a new store stand for the empty archive
-pub first_means : TablesStandFor first_tables empty_state
-first_means = record { are = first_stands (stored_format our_version ∷ []) refl; sound = empty_sound }
+-- the tables of a new store represent the empty archive
+pub first_means : TablesRepresent first_tables empty_state
+first_means = record { are = first_represents (stored_format our_version ∷ []) refl; sound = empty_sound }
 
 -- between transactions a crash leaves what is there
 module _ (d : db.State) (settled : IsTrue d.is_open → IsSettled d) (between : IsTrue d.is_open → d.now ≡ d.committed) where
@@ -73,7 +73,7 @@ leaves_opened old new settled between survives = record {
 
 -- or what the migration of tables of version 1 leaves, which an empty database hasn't
 pub leaves_migrated : {A E : Type 0} (old mid new : db.State) (result : Result A E) (found : ℕ) → found ≡ older_version
-    → (HasCleanDisk mid → (its : Schema) → IsKnownSchema its → (t : Tables) → HoldsOf its old.now.trees t → HasVersion found t × StandsOf its mid t)
+    → (HasCleanDisk mid → (its : Schema) → IsKnownSchema its → (t : Tables) → HoldsOf its old.now.trees t → HasVersion found t × IsOpenWithOf its mid t)
     → (HasCleanDisk mid → HoldsNone old.now.trees → found ≡ our_version) → Migrates mid new result → OpenLeaves old new
 leaves_migrated old mid new result found one finds fresh it = record {
   fresh = λ clean is_open none trees h. absurd (not_older (sym (fresh (it.honest clean) none) ∙ one));
@@ -97,8 +97,8 @@ is_openable old live is_open s (inr (t, holds, means)) =
 
 -- back at the last commit, it stands as it did
 module _ (old new : db.State) (live : IsLive old) (was_open : IsTrue old.is_open) (between : old.now ≡ old.committed) (back : IsBack old new) (is_open : IsTrue new.is_open) (settled : new.in_transaction ≡ false) where
-  pub stands_back : (its : Schema) (t : Tables) → HoldsOf its old.now.trees t → StandsOf its new t
-  stands_back its t holds =
+  pub represents_back : (its : Schema) (t : Tables) → HoldsOf its old.now.trees t → IsOpenWithOf its new t
+  represents_back its t holds =
       let sees = sees_trees its old (live was_open).0 t holds in
       let same : new.now ≡ old.now = back.0 ∙ sym between in
       record {
@@ -110,5 +110,5 @@ module _ (old new : db.State) (live : IsLive old) (was_open : IsTrue old.is_open
       }
 
   pub stood_back : (s : State) → IsLeftAs old.now.trees s → Stood new s
-  stood_back s (inl (t, holds, means)) = inl (record { tables = t; stands = stands_back our_schema t holds; means = means })
-  stood_back s (inr (t, holds, means)) = inr (record { tables = t; stands = stands_back older_schema t holds; means = means })
+  stood_back s (inl (t, holds, means)) = inl (record { tables = t; represents = represents_back our_schema t holds; means = means })
+  stood_back s (inr (t, holds, means)) = inr (record { tables = t; represents = represents_back older_schema t holds; means = means })

@@ -13,13 +13,13 @@ use Rattle.dep_types.specs.declared.stream_fault.StreamFault.{StreamFault}
 use Rattle.dep_types.specs.declared.stream_fault.StreamFault.TheVariants.{Writer, Store, Memory, NoSuchFile}
 use Rattle.dep_answers.specs.declared.performed.StoredFile.{StoredFile}
 use Rattle.dep_staging.specs.NextBytes.{IsNextIn}
-use Rattle.dep_schema.specs.States.{StandsFor}
+use Rattle.dep_schema.specs.States.{Represents}
 use Rattle.dep_schema.specs.Transactions.{IsRestored}
 use Rattle.dep_schema.proofs.Transacting.{IsSettled, back_then, leaves_still, none_then}
 use Rattle.dep_hub.specs.Archives.{KeepsState}
-use Rattle.dep_hub.specs.Owing.{HasBehind, IsFrontBehind, IsSentOn, StreamsOn, TakesFew}
+use Rattle.dep_hub.specs.Owing.{HasBehind, IsPrefixBehind, IsSentOn, StreamsOn, TakesFew}
 use Rattle.dep_store.specs.Archive.{shown_by}
-use Rattle.dep_store.specs.Remembering.{HasSize}
+use Rattle.dep_store.specs.Caching.{HasSize}
 use Rattle.dep_store.specs.SendingOn.{AreFew, GivesNext}
 use Rattle.dep_store.specs.Shut.{StaysOpen}
 use Rattle.dep_store.proofs.ShutLemmas.{state_back, was_open_then}
@@ -53,7 +53,7 @@ module _ (s : State) (it : StoredFile) (start size : ℕ) (bytes : List ℕ) (co
   on : drop start its.content ≡ bytes ++ behind
   on = (comes.1 it.object its comes.0.1).on
 
-  front_sent : (part rest : List ℕ) → bytes ≡ part ++ rest → IsFrontBehind s it start part
+  front_sent : (part rest : List ℕ) → bytes ≡ part ++ rest → IsPrefixBehind s it start part
   front_sent part rest is file held =
       let next = comes.1 it.object file held in
       let last = drop (start + length bytes) file.content in
@@ -73,13 +73,13 @@ module _ (s : State) (it : StoredFile) (start size : ℕ) (bytes : List ℕ) (co
   )
 
 module _ (old new : db.State) (taken takes : Option (List ℕ)) (it : StoredFile) (start size : ℕ) (bytes : List ℕ)
-    (tells : HasCleanDisk new → (s : State) → StandsFor old s → Comes s it start size bytes) where
+    (reports : HasCleanDisk new → (s : State) → Represents old s → Comes s it start size bytes) where
   pub streams_on : (r : Result (Option ℕ) StreamFault) → GivesNext taken takes bytes start size r → StreamsOn (shown_by old) (shown_by new) taken takes it start r
-  streams_on (Ok None) (few, all, appends) = (bytes, appends, λ clean s stands. last_sent s it start size bytes (tells clean s stands) all)
-  streams_on (Ok (Some place)) (few, some, is, appends) = (bytes, appends, λ clean s stands. more_sent s it start size bytes (tells clean s stands) place some is)
+  streams_on (Ok None) (few, all, appends) = (bytes, appends, λ clean s represents. last_sent s it start size bytes (reports clean s represents) all)
+  streams_on (Ok (Some place)) (few, some, is, appends) = (bytes, appends, λ clean s represents. more_sent s it start size bytes (reports clean s represents) place some is)
   streams_on (Err Writer) (few, (part, front, appends)) =
-      (part, appends, λ clean s stands. front_sent s it start size bytes (tells clean s stands) part front.rest front.joined)
-  streams_on (Err Store) same = ([], subst (λ t. Appends taken t []) (sym same) (Appends-nil taken), λ clean s stands. nothing_sent s it start (Err Store) refl)
+      (part, appends, λ clean s represents. front_sent s it start size bytes (reports clean s represents) part front.rest front.joined)
+  streams_on (Err Store) same = ([], subst (λ t. Appends taken t []) (sym same) (Appends-nil taken), λ clean s represents. nothing_sent s it start (Err Store) refl)
   streams_on (Err Memory) none = absurd none
   streams_on (Err NoSuchFile) none = absurd none
 
@@ -122,7 +122,7 @@ module _ (old new : db.State) (restored : IsRestored old new) (opened : HasClean
       (λ is_open s at. on_err_any r _ (state_back old new s restored.back is_open at))
       (honest_back old new restored.survives)
       (λ is_open. (restored.back is_open).0)
-      (λ clean s at. leaves_still old new s (settled at.stands.is_open) at restored.survives clean)
+      (λ clean s at. leaves_still old new s (settled at.represents.is_open) at restored.survives clean)
 
   pub stays_open : {A E : Type 0} (r : Result A E) → StaysOpen old new r
   stays_open r = record {

@@ -10,7 +10,7 @@ use Rattle.sqlite_trees.specs.declared.error.StoreError.{StoreError}
 use Rattle.sqlite_trees.specs.declared.error.StoreError.TheVariants.{OutOfMemory, Io, Corrupt, Full, Broken, Unstorable}
 use Rattle.dep_types.specs.State.{State}
 use Rattle.sqlite.specs.Schema.{Schema}
-use Rattle.dep_schema.specs.States.{StandsFor}
+use Rattle.dep_schema.specs.States.{Represents}
 use Rattle.dep_schema.specs.Transactions.{IsBackAt, IsRestored}
 use Rattle.dep_schema.proofs.Transacting.{tables_back}
 use Rattle.dep_store.specs.Shut.{LeavesNoMore, FailsIfShut, StaysOpen}
@@ -25,8 +25,8 @@ on_any (Err e) P h = tt
 
 -- a transaction is under way
 pub under_way : (mode : Bool) → false ≡ not mode → IsTrue mode
-under_way true told = refl
-under_way false told = cc told
+under_way true reported = refl
+under_way false reported = cc reported
 
 -- nothing was committed
 pub leaves_no_more : (old new : db.State) → Survives old new (λ _. ⊥) → LeavesNoMore old new
@@ -49,9 +49,9 @@ pub was_open_then : {A E : Type 0} (old new : db.State) (r : Result A E) → (Ha
 was_open_then old new r was = record { opened = λ clean. on_any r _ (was clean); left = λ clean shut trees h. absurd (shut (was clean)) }
 
 -- all was given back, and the store is open
-pub state_back : (old new : db.State) (s : State) → IsBackAt old new → IsTrue new.is_open → StandsFor old s → StandsFor new s
-state_back old new s back is_open stands =
-    record { tables = stands.tables; stands = tables_back old new stands.tables back is_open stands.stands; means = stands.means }
+pub state_back : (old new : db.State) (s : State) → IsBackAt old new → IsTrue new.is_open → Represents old s → Represents new s
+state_back old new s back is_open represents =
+    record { tables = represents.tables; represents = tables_back old new represents.tables back is_open represents.represents; means = represents.means }
 
 -- what then changed nothing leaves it so
 pub back_on_ok : {A E : Type 0} (old mid new : db.State) (r : Result A E) → (IsTrue new.is_open → HasCleanDisk new) → IsBackAt old mid
@@ -84,7 +84,7 @@ closed_at old new sql (inl (none, unchanged)) is_open = elim none [
     | inr other ↦ elim other [ inl (count, e) ↦ cc e | inr (formats, e) ↦ cc e ]
   ]
 ]
-closed_at old new sql (inr (cause, e, has, rolled, told)) is_open = by_cause old new cause e has (rolled.was_open is_open)
+closed_at old new sql (inr (cause, e, has, rolled, reported)) is_open = by_cause old new cause e has (rolled.was_open is_open)
 
 -- a statement is refused as one of a store that is shut only by a store that is
 pub closed_if_shut : (old new : db.State) (sql : List ℕ) (e : Error) → IsNotRun old new sql [] e → e ≡ SqliteFailure code.Closed → ¬ IsTrue new.is_open
@@ -104,14 +104,14 @@ pub fails_alone : (old new : db.State) (e : Error) → IsNotRun old new (codes "
 unfolding IsNotRun
 fails_alone old new e (inr fails) = fails
 fails_alone old new e (inl (none, unchanged)) = absurd (elim none [
-  | inl (fault, is, told) ↦ subst IsAlone is (asks_none old.now.schema)
+  | inl (fault, is, reported) ↦ subst IsAlone is (asks_none old.now.schema)
   | inr (c, is, why) ↦
       let its : (c.tail ≡ 8) × (c.names ≡ []) × (c.formats ≡ []) = subst IsAlone is (asks_none old.now.schema) in
       elim why [
-        | inl (more, told) ↦ more (le_of_eq (sym its.0))
+        | inl (more, reported) ↦ more (le_of_eq (sym its.0))
         | inr other ↦ elim other [
-          | inl (count, told) ↦ count (ap length (sym its.1))
-          | inr (formats, told) ↦ formats its.2
+          | inl (count, reported) ↦ count (ap length (sym its.1))
+          | inr (formats, reported) ↦ formats its.2
         ]
       ]
 ])

@@ -11,36 +11,36 @@ use Rattle.dep_types.specs.declared.stream_fault.StreamFault.TheVariants.{Writer
 use Rattle.dep_tables.specs.Tables.{Tables}
 use Rattle.dep_staging.specs.declared.running.RunningHashes.{RunningHashes}
 use Rattle.dep_files.specs.Faults.{BlamesOutlet}
-use Rattle.dep_schema.specs.Standing.{Holds, Stands}
-use Rattle.dep_schema.specs.States.{TablesStandFor, StandsFor, Leaves}
-use Rattle.dep_schema.specs.Transactions.{Transacts, OnlyTells, OverStates, IsBackAt, IsGivenBack, IsRestored}
-use Rattle.dep_schema.proofs.Transacting.{IsSettled, IsOver, ok_over_states, err_state, stop_over_states, ok_tells, still_tells, left_tells, leaves_still, leaves_as_was}
-use Rattle.dep_hub.specs.Archives.{TriesTo, Ticks, Tells, KeepsState, KeepsAll, Always, CountsFailures}
+use Rattle.dep_schema.specs.OpenTables.{Holds, StaysFile}
+use Rattle.dep_schema.specs.States.{TablesRepresent, Represents, Leaves}
+use Rattle.dep_schema.specs.Transactions.{Transacts, OnlyReports, OverStates, IsBackAt, IsGivenBack, IsRestored}
+use Rattle.dep_schema.proofs.Transacting.{IsSettled, IsOver, ok_over_states, err_state, stop_over_states, ok_reports, still_reports, left_reports, leaves_still, leaves_as_was}
+use Rattle.dep_hub.specs.Archives.{TriesTo, Ticks, Reports, KeepsState, KeepsAll, Always, CountsFailures}
 use Rattle.dep_store.specs.Archive.{shown_by}
 use Rattle.dep_store.specs.Shut.{FailsIfShut, SendsFile}
 use Rattle.dep_schema.specs.Performing.{KeepsRunning}
-use Rattle.dep_store.specs.Staying.{TellsTables, KeepsTables, LeavesOnly, HashesOn}
+use Rattle.dep_store.specs.Staying.{ReportsTables, KeepsTables, LeavesOnly, HashesOn}
 use Rattle.dep_store.proofs.ShutLemmas.{state_back}
 
 -- what a stop leaves of a state whose tables stay
-pub leaves_held : (d : db.State) {tables : Tables} (s : State) → TablesStandFor tables s
+pub leaves_held : (d : db.State) {tables : Tables} (s : State) → TablesRepresent tables s
     → ((trees : Trees) → d.may_leave trees → Holds trees tables) → Leaves d (λ left. left ≡ s)
 leaves_held d {tables = tables} s means holds trees may = (s, inl (tables, holds trees may, means), refl)
 
--- tables that stay stand for the state still
-pub stands_still : {old new : db.State} (s : State) (h : StandsFor old s) → Stands new h.tables → StandsFor new s
-stands_still s h stands = record { tables = h.tables; stands = stands; means = h.means }
+-- tables that stay represent the state still
+pub represents_still : {old new : db.State} (s : State) (h : Represents old s) → StaysFile new h.tables → Represents new s
+represents_still s h represents = record { tables = h.tables; represents = represents; means = h.means }
 
 -- a transaction goes on from each state of which this holds
 pub tries_over : {A E : Type 0} (old new : db.State) (r : Result A E) (Makes : Tables → A → Tables → Type 0) (holds : State → Type 0)
-    (told : State → A → Type 0) (next : State → State) → ((s : State) → holds s → IsOver old new r Makes told next s) → Transacts old new r Makes
-    → TriesTo (shown_by old) (shown_by new) holds told next r
-tries_over old new r Makes holds told next over it = record {
-  ok = λ clean s at its. ok_over_states old new r Makes told next it clean s (over s its) at;
+    (reported : State → A → Type 0) (next : State → State) → ((s : State) → holds s → IsOver old new r Makes reported next s) → Transacts old new r Makes
+    → TriesTo (shown_by old) (shown_by new) holds reported next r
+tries_over old new r Makes holds reported next over it = record {
+  ok = λ clean s at its. ok_over_states old new r Makes reported next it clean s (over s its) at;
   err = λ is_open s at. err_state old new r Makes it is_open s at;
   honest = it.honest;
   was_open = it.was_open;
-  stop = λ clean s at its. stop_over_states old new r Makes told next it clean s (over s its) at;
+  stop = λ clean s at its. stop_over_states old new r Makes reported next it clean s (over s its) at;
 }
 
 -- the clock goes on, to this moment
@@ -54,19 +54,19 @@ ticks_over old new r config secs moment same it =
     (λ s always t clock after made. made s) (subst (λ n. Transacts old new r (Clocked config n)) same it)
 
 -- a transaction that only tells
-module _ {A E : Type 0} (old new : db.State) (r : Result A E) (told : Tables → A → Type 0) (it : Transacts old new r (OnlyTells told)) where
-  pub tells_over : (P : State → A → Type 0) → ((t : Tables) (answer : A) (s : State) → told t answer → TablesStandFor t s → P s answer)
-      → Tells (shown_by old) (shown_by new) P r
-  tells_over P means = tries_over old new r (OnlyTells told) Always P (λ s. s)
-      (λ s always t answer after made stand. (means t answer s made.0 stand, subst (λ (x : Tables). TablesStandFor x s) (sym made.1) stand)) it
+module _ {A E : Type 0} (old new : db.State) (r : Result A E) (reported : Tables → A → Type 0) (it : Transacts old new r (OnlyReports reported)) where
+  pub reports_over : (P : State → A → Type 0) → ((t : Tables) (answer : A) (s : State) → reported t answer → TablesRepresent t s → P s answer)
+      → Reports (shown_by old) (shown_by new) P r
+  reports_over P means = tries_over old new r (OnlyReports reported) Always P (λ s. s)
+      (λ s always t answer after made stand. (means t answer s made.0 stand, subst (λ (x : Tables). TablesRepresent x s) (sym made.1) stand)) it
 
-  pub tells_tables : (IsTrue new.is_open → HasCleanDisk new) → TellsTables old new told r
-  tells_tables clean = record {
-    ok = ok_tells old new r told it;
-    still = still_tells old new r told it clean;
+  pub reports_tables : (IsTrue new.is_open → HasCleanDisk new) → ReportsTables old new reported r
+  reports_tables clean = record {
+    ok = ok_reports old new r reported it;
+    still = still_reports old new r reported it clean;
     honest = it.honest;
     was_open = it.was_open;
-    stop = left_tells old new r told it;
+    stop = left_reports old new r reported it;
   }
 
 pub honest_back : (old new : db.State) → Survives old new (λ _. ⊥) → HasCleanDisk new → HasCleanDisk old
@@ -80,7 +80,7 @@ fails_keeping old new settled back survives fault = record {
   err = λ is_open s at. state_back old new s back is_open at;
   honest = λ clean. honest_back old new survives clean;
   was_open = λ is_open. (back is_open).0;
-  stop = λ clean s at always image h. let l = leaves_still old new s (settled at.stands.is_open) at survives clean image h in (l.0, l.1, inl l.2);
+  stop = λ clean s at always image h. let l = leaves_still old new s (settled at.represents.is_open) at survives clean image h in (l.0, l.1, inl l.2);
 }
 
 pub failed_keeping : {A E : Type 0} (old new : db.State) (r : Result A E) → IsErr r → (IsTrue old.is_open → IsSettled old) → IsBackAt old new → Survives old new (λ _. ⊥)
@@ -119,9 +119,9 @@ keeps_same d = record {
 }
 
 -- from what a call that reads leaves by its answer
-pub keeps_state : {A E : Type 0} (old new : db.State) (r : Result A E) → (HasCleanDisk new → (s : State) → StandsFor old s → OnOk r (StandsFor new s))
-    → (IsTrue new.is_open → (s : State) → StandsFor old s → OnErr r (StandsFor new s)) → (HasCleanDisk new → HasCleanDisk old) → (IsTrue new.is_open → IsTrue old.is_open)
-    → (HasCleanDisk new → (s : State) → StandsFor old s → Leaves new (λ left. left ≡ s)) → KeepsState (shown_by old) (shown_by new) r
+pub keeps_state : {A E : Type 0} (old new : db.State) (r : Result A E) → (HasCleanDisk new → (s : State) → Represents old s → OnOk r (Represents new s))
+    → (IsTrue new.is_open → (s : State) → Represents old s → OnErr r (Represents new s)) → (HasCleanDisk new → HasCleanDisk old) → (IsTrue new.is_open → IsTrue old.is_open)
+    → (HasCleanDisk new → (s : State) → Represents old s → Leaves new (λ left. left ≡ s)) → KeepsState (shown_by old) (shown_by new) r
 keeps_state {A} {E} old new r ok err honest was_open stop = record {
   ok = λ clean s at always. each r s (ok clean s at);
   err = err;
@@ -130,26 +130,26 @@ keeps_state {A} {E} old new r ok err honest was_open stop = record {
   stop = λ clean s at always image h. let l = stop clean s at image h in (l.0, l.1, inl l.2);
 }
   where
-    each : (r : Result A E) (s : State) → OnOk r (StandsFor new s) → IfOk r (λ answer. Unit {0} × StandsFor new s)
+    each : (r : Result A E) (s : State) → OnOk r (Represents new s) → IfOk r (λ answer. Unit {0} × Represents new s)
     each (Ok answer) s h = (tt, h)
     each (Err fault) s h = tt
 
 pub counts : {A : Type 0} (failures failures_after : ℕ) (r : Result A StreamFault) → BlamesOutlet Writer failures failures_after r → CountsFailures failures failures_after r
 counts failures failures_after r it = record { kept = it.kept; cause = it.cause; others = it.others }
 
--- ---- where a transaction is under way, so that the connection stands for nothing
+-- ---- where a transaction is under way, so that the connection represents nothing
 
 module _ (d : db.State) (busy : IsTrue d.in_transaction) where
-  stands_not : (t : Tables) → Stands d t → ⊥
-  stands_not t stands = absurd (let never = sym busy ∙ stands.settled in cc never)
+  represents_not : (t : Tables) → StaysFile d t → ⊥
+  represents_not t represents = absurd (let never = sym busy ∙ represents.settled in cc never)
 
-  pub busy_tries : {A E : Type 0} {holds : State → Type 0} {told : State → A → Type 0} {next : State → State} {fault : E} → TriesTo (shown_by d) (shown_by d) holds told next (Err fault)
+  pub busy_tries : {A E : Type 0} {holds : State → Type 0} {reported : State → A → Type 0} {next : State → State} {fault : E} → TriesTo (shown_by d) (shown_by d) holds reported next (Err fault)
   busy_tries = record {
     ok = λ clean s at its. tt;
     err = λ is_open s at. at;
     honest = λ clean. clean;
     was_open = λ is_open. is_open;
-    stop = λ clean s at its. absurd (stands_not at.tables at.stands);
+    stop = λ clean s at its. absurd (represents_not at.tables at.represents);
   }
 
   pub busy_transacts : {A E : Type 0} {Makes : Tables → A → Tables → Type 0} {fault : E} → Transacts d d (Err fault) Makes
@@ -158,7 +158,7 @@ module _ (d : db.State) (busy : IsTrue d.in_transaction) where
     err = λ is_open t at. at;
     honest = λ clean. clean;
     was_open = λ is_open. is_open;
-    stop = λ clean t at. absurd (stands_not t at);
+    stop = λ clean t at. absurd (represents_not t at);
   }
 
   pub busy_fails : {A E : Type 0} {fault : E} → FailsIfShut {A = A} d d (Err fault)
@@ -174,12 +174,12 @@ module _ (d : db.State) (busy : IsTrue d.in_transaction) where
 
 -- ---- tables that stay
 
-pub tells_keeps : {A E : Type 0} (old new : db.State) (told : Tables → A → Type 0) (r : Result A E) → TellsTables old new told r → KeepsTables old new
-tells_keeps old new told r it = record {
+pub reports_keeps : {A E : Type 0} (old new : db.State) (reported : Tables → A → Type 0) (r : Result A E) → ReportsTables old new reported r → KeepsTables old new
+reports_keeps old new reported r it = record {
   still = it.still;
   honest = it.honest;
   was_open = it.was_open;
-  stop = λ clean s h. leaves_held new s h.means (it.stop clean h.tables h.stands);
+  stop = λ clean s h. leaves_held new s h.means (it.stop clean h.tables h.represents);
 }
 
 pub keeps_still : (d : db.State) → (IsTrue d.is_open → IsSettled d) → KeepsTables d d
@@ -187,15 +187,15 @@ keeps_still d settled = record {
   still = λ is_open t at. at;
   honest = λ clean. clean;
   was_open = λ is_open. is_open;
-  stop = λ clean s h. leaves_as_was d s (settled h.stands.is_open) h;
+  stop = λ clean s h. leaves_as_was d s (settled h.represents.is_open) h;
 }
 
-pub keeps_then : (old mid new : db.State) → (HasCleanDisk mid → (t : Tables) → Stands old t → Stands mid t) → KeepsTables old mid → KeepsTables mid new → KeepsTables old new
+pub keeps_then : (old mid new : db.State) → (HasCleanDisk mid → (t : Tables) → StaysFile old t → StaysFile mid t) → KeepsTables old mid → KeepsTables mid new → KeepsTables old new
 keeps_then old mid new kept one two = record {
   still = λ is_open t at. two.still is_open t (one.still (two.was_open is_open) t at);
   honest = λ clean. one.honest (two.honest clean);
   was_open = λ is_open. one.was_open (two.was_open is_open);
-  stop = λ clean s h. two.stop clean s (stands_still s h (kept (two.honest clean) h.tables h.stands));
+  stop = λ clean s h. two.stop clean s (represents_still s h (kept (two.honest clean) h.tables h.represents));
 }
 
 -- what was hashed ahead is so, and all was given back

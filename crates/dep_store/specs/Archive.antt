@@ -4,19 +4,19 @@ use Rattle.sqlite.specs.Held.{Held, state}
 use Rattle.sqlite.specs.Tree.{Trees}
 use Rattle.sqlite_trees.specs.declared.store.Store.{Ghosts}
 use Rattle.dep_types.specs.Conditions.{Condition}
-use Rattle.dep_schema.specs.States.{StandsFor, IsLeftAs}
+use Rattle.dep_schema.specs.States.{Represents, IsLeftAs}
 
 -- what its database shows
 abbrev pub shown_by : db.State → Condition
 shown_by d = record {
   is_open = d.is_open;
   is_honest = db.HasCleanDisk d;
-  keeps = StandsFor d;
+  keeps = Represents d;
   Image = Trees;
   may_leave = d.may_leave;
   is_left_as = IsLeftAs;
-  open_if_kept = λ s stands. stands.stands.is_open;
-  sound_if_kept = λ s stands. stands.means.sound;
+  open_if_kept = λ s represents. represents.represents.is_open;
+  sound_if_kept = λ s represents. represents.means.sound;
 }
 
 -- how a store stands: what its database shows

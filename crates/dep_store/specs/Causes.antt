@@ -8,8 +8,8 @@ use Rattle.dep_tables.specs.Tables.{tables_of, IsKnown}
 use Rattle.dep_tables.specs.Versions.{our_version, older_version}
 use Rattle.dep_tables.specs.declared.sha512s.FileSha512.{FileSha512}
 use Rattle.dep_schema.specs.Beside.{AreNewNamesFree}
-use Rattle.dep_schema.specs.OpenFaults.{open_fault_for, begun, FailsToOpen, ShowsOrMakes, TellsVersion}
-use Rattle.dep_schema.specs.Standing.{IsStill}
+use Rattle.dep_schema.specs.OpenFaults.{open_fault_for, begun, FailsToOpen, ShowsOrMakes, ReportsVersion}
+use Rattle.dep_schema.specs.OpenTables.{IsStill}
 use Rattle.dep_schema.specs.Upgrading.{FailsToUpgrade}
 use Rattle.dep_schema.specs.declared.opening.OpenFault.{OpenFault}
 use Rattle.dep_files.specs.Causes.{FailsToHashFiles}
@@ -28,7 +28,7 @@ module _ {S : Type 0} (g : Ghosts S) (old : Held S) where
   abbrev pub FindsOrUpgrades : Type 0
   FindsOrUpgrades =
       ShowsOrMakes g (begun old) our_version
-      ⊎ (TellsVersion (state g old) older_version × HadFreeNames)
+      ⊎ (ReportsVersion (state g old) older_version × HadFreeNames)
 
 module _ {S : Type 0} (g : Ghosts S) (old new : Held S) where
   -- why tables of version 1 don't become those of version 2: a value was not computed; or all were, and a statement of the
@@ -45,10 +45,10 @@ module _ {S : Type 0} (g : Ghosts S) (old new : Held S) where
   abbrev pub FailsToOpenTables : OpenFault → Type 0
   FailsToOpenTables fault =
       FailsToOpen g old new fault
-      ⊎ (TellsVersion (state g old) older_version
+      ⊎ (ReportsVersion (state g old) older_version
       × (opened : Held S) × IsStill (state g old) (state g opened)
-      × (told : StoreFault) × (fault ≡ open_fault_for told)
-      × (IsKnown (state g old) → FailsToMigrate g opened new told))
+      × (reported : StoreFault) × (fault ≡ open_fault_for reported)
+      × (IsKnown (state g old) → FailsToMigrate g opened new reported))
 
 module _ {S : Type 0} (g : Ghosts S) (old : Held S) where
   -- an open that was done has a cause

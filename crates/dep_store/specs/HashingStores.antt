@@ -9,14 +9,14 @@ use Rattle.dep_types.specs.State.{State}
 use Rattle.dep_types.specs.declared.refusal.Refusal.{Refusal}
 use Rattle.dep_staging.specs.HashedAhead.{AreRunning}
 use Rattle.dep_staging.specs.declared.running.RunningHashes.{RunningHashes}
-use Rattle.dep_schema.specs.States.{StandsFor, IsLeftAs}
-use Rattle.dep_hub.specs.Errands.{Account}
+use Rattle.dep_schema.specs.States.{Represents, IsLeftAs}
+use Rattle.dep_hub.specs.ArchiveCalls.{CallLog}
 use Rattle.dep_store.specs.LogCopies.{has_call}
 use Rattle.dep_store.specs.declared.archive.HashingStore.{HashingStore}
 
--- the database stands for the state, and what was hashed is what was received there
+-- the database represents the state, and what was hashed is what was received there
 pub record Keeps (d : db.State) (running : RunningHashes) (s : State) : Type 0 where
-  pub stands : StandsFor d s
+  pub represents : Represents d s
   pub hashed : AreRunning s running
 
 -- what its database shows, beside what was hashed
@@ -28,8 +28,8 @@ shown_by d running = record {
   Image = Trees;
   may_leave = d.may_leave;
   is_left_as = IsLeftAs;
-  open_if_kept = λ s keeps. keeps.stands.stands.is_open;
-  sound_if_kept = λ s keeps. keeps.stands.means.sound;
+  open_if_kept = λ s keeps. keeps.represents.represents.is_open;
+  sound_if_kept = λ s keeps. keeps.represents.means.sound;
 }
 
 -- how the store stands, with what was hashed
@@ -45,11 +45,11 @@ pub record NotesUpload {S : Type 0} (old new : HashingStore S) (refusal : Option
   pub refused : IsTrue (is_some refusal) → new ≡ old
 
 -- what its database says of its answers: it shows nothing of what it is asked for
-abbrev pub told_by : db.State → Account
-told_by d = record { errands = None; is_busy = d.in_transaction; faults = d.faults }
+abbrev pub reported_by : db.State → CallLog
+reported_by d = record { archive_calls = None; is_busy = d.in_transaction; faults = d.faults }
 
-abbrev pub account_of : {S : Type 0} → (g : Ghosts S) → HashingStore S → Account
-account_of g archive = told_by (state g archive.store)
+abbrev pub call_log_of : {S : Type 0} → (g : Ghosts S) → HashingStore S → CallLog
+call_log_of g archive = reported_by (state g archive.store)
 
 -- a commit of its work ahead is due while a copy of its log is
 abbrev pub may_commit : {S : Type 0} → HashingStore S → Bool

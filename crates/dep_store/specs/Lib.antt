@@ -1,9 +1,9 @@
 pub mod Causes
 pub mod Migrating
-pub mod Remembering
+pub mod Caching
 pub mod Shut
 pub mod Staying
-pub mod Glancing
+pub mod ReadTransactions
 pub mod Archive
 pub mod Copying
 pub mod Tasks

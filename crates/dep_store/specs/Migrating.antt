@@ -10,9 +10,9 @@ use Rattle.dep_tables.specs.Tables.{Tables, IsKnown}
 use Rattle.dep_tables.specs.Versions.{our_version, older_version, HasVersion}
 use Rattle.dep_tables.specs.declared.sha512s.FileSha512.{FileSha512}
 use Rattle.dep_row_maps.specs.Sha512s.{upgraded}
-use Rattle.dep_schema.specs.OpenFaults.{TellsVersion}
-use Rattle.dep_schema.specs.Standing.{Holds, HoldsOlder, HoldsNone, Stands, StandsOlder, IsBack, IsOpenable}
-use Rattle.dep_schema.specs.States.{StandsFor, OlderStandsFor, IsLeftAs, Leaves}
+use Rattle.dep_schema.specs.OpenFaults.{ReportsVersion}
+use Rattle.dep_schema.specs.OpenTables.{Holds, HoldsOlder, HoldsNone, StaysFile, IsOpenWithOlder, IsBack, IsOpenable}
+use Rattle.dep_schema.specs.States.{Represents, OlderRepresents, IsLeftAs, Leaves}
 use Rattle.dep_schema.specs.declared.opening.OpenFault.{OpenFault}
 use Rattle.dep_schema.specs.declared.opening.OpenFault.TheVariants.{UnknownVersion}
 use Rattle.dep_files.specs.Sha512s.{AreValuesOf}
@@ -26,31 +26,31 @@ pub record IsUpgraded (t after : Tables) : Type 0 where
 -- An Ok has committed version 2 with those values; else the tables of version 1 are as they were; a crash leaves one or
 -- the other.
 pub record Migrates {A E : Type 0} (old new : db.State) (result : Result A E) : Type 0 where
-  pub ok : HasCleanDisk new → (t : Tables) → StandsOlder old t
-      → OnOk result ((after : Tables) × Stands new after × IsUpgraded t after)
-  pub err : IsTrue new.is_open → (t : Tables) → StandsOlder old t → OnErr result (StandsOlder new t)
+  pub ok : HasCleanDisk new → (t : Tables) → IsOpenWithOlder old t
+      → OnOk result ((after : Tables) × StaysFile new after × IsUpgraded t after)
+  pub err : IsTrue new.is_open → (t : Tables) → IsOpenWithOlder old t → OnErr result (IsOpenWithOlder new t)
   pub honest : HasCleanDisk new → HasCleanDisk old
-  pub stop : HasCleanDisk new → (t : Tables) → StandsOlder old t → (trees : Trees) → new.may_leave trees
+  pub stop : HasCleanDisk new → (t : Tables) → IsOpenWithOlder old t → (trees : Trees) → new.may_leave trees
       → HoldsOlder trees t ⊎ ((after : Tables) × Holds trees after × IsUpgraded t after)
 
--- it stands for the state in one of the versions
+-- it represents the state in one of the versions
 abbrev pub Stood : db.State → State → Type 0
-Stood d s = StandsFor d s ⊎ OlderStandsFor d s
+Stood d s = Represents d s ⊎ OlderRepresents d s
 
 -- What tables of version 1 are once they were opened, by the version in their row: those of version 2, or, where
 -- the row has that already, what they were.
 abbrev pub OpensOlder : Tables → db.State → Type 0
 OpensOlder t new =
-    (HasVersion older_version t × ((after : Tables) × Stands new after × IsUpgraded t after))
-    ⊎ (HasVersion our_version t × StandsOlder new t)
+    (HasVersion older_version t × ((after : Tables) × StaysFile new after × IsUpgraded t after))
+    ⊎ (HasVersion our_version t × IsOpenWithOlder new t)
 
 -- What an open that failed leaves as it was committed: a database with the schema of one of our versions, and each one
 -- of which version 1 is not shown, such as one without a table `format`.
 pub record Keeps (old new : db.State) : Type 0 where
   pub known : IsKnown old → IsBack old new
-  pub other : (TellsVersion old older_version → ⊥) → IsBack old new
+  pub other : (ReportsVersion old older_version → ⊥) → IsBack old new
 
--- a database with no table, as it was or as a new store; one that stood for a state, as that state
+-- a database with no table, as it was or as a new store; one that represented a state, as that state
 pub record OpenLeaves (old new : db.State) : Type 0 where
   pub fresh : HasCleanDisk new → IsTrue old.is_open → HoldsNone old.now.trees
       → (trees : Trees) → new.may_leave trees → HoldsNone trees ⊎ IsLeftAs trees empty_state
@@ -64,7 +64,7 @@ FallsBack old new result = IsTrue new.is_open → old.now ≡ old.committed → 
 
 -- this holds of the connection, opened or handed back
 abbrev pub OfEither : {C E : Type 0} → Result C (E × C) → (C → Type 0) → Type 0
-OfEither result told = MatchResult result told (λ refused. told refused.1)
+OfEither result reported = MatchResult result reported (λ refused. reported refused.1)
 
 -- ---- what is known of an open, by the connection before it and the one behind it
 
@@ -72,17 +72,17 @@ module _ {S : Type 0} (g : Ghosts S) (old : Held S) where
   -- a database with no table is the empty archive's
   abbrev pub StartsEmpty : Held S → Type 0
   StartsEmpty new = HasCleanDisk (state g new) → HoldsNone (state g old).now.trees
-      → StandsFor (state g new) empty_state
+      → Represents (state g new) empty_state
 
-  -- one that stood for a state, in either version, stands for it
+  -- one that represented a state, in either version, represents it
   abbrev pub FindsState : Held S → Type 0
   FindsState new = HasCleanDisk (state g new) → (s : State) → IsLeftAs (state g old).now.trees s
-      → StandsFor (state g new) s
+      → Represents (state g new) s
 
   -- tables of version 2 are those that were there
   abbrev pub FindsTables : Held S → Type 0
   FindsTables new = HasCleanDisk (state g new) → (t : Tables) → Holds (state g old).now.trees t
-      → HasVersion our_version t × Stands (state g new) t
+      → HasVersion our_version t × StaysFile (state g new) t
 
   -- tables of version 1 became those of version 2
   abbrev pub FindsOlder : Held S → Type 0
@@ -94,7 +94,7 @@ module _ {S : Type 0} (g : Ghosts S) (old : Held S) where
   RefusesNone refused = HasCleanDisk (state g refused.1) → refused.0 ≡ UnknownVersion
       → IsOpenable (state g old) → ⊥
 
-  -- nor of one that stood for a state
+  -- nor of one that represented a state
   abbrev pub RefusesNoState : OpenFault × Held S → Type 0
   RefusesNoState refused = HasCleanDisk (state g refused.1) → IsTrue (state g old).is_open
       → (s : State) → IsLeftAs (state g old).now.trees s → refused.0 ≡ UnknownVersion → ⊥
@@ -103,7 +103,7 @@ module _ {S : Type 0} (g : Ghosts S) (old : Held S) where
   abbrev pub KeepsTables : OpenFault × Held S → Type 0
   KeepsTables refused = IsTrue (state g refused.1).is_open → Keeps (state g old) (state g refused.1)
 
-  -- and what stood for a state stands for it still
+  -- and what represented a state represents it still
   abbrev pub KeepsState : OpenFault × Held S → Type 0
   KeepsState refused = IsTrue (state g refused.1).is_open
       → (s : State) → IsLeftAs (state g old).now.trees s → Stood (state g refused.1) s

@@ -8,18 +8,18 @@ use Rattle.dep_types.specs.Writing.{TakesPart}
 use Rattle.dep_types.specs.declared.stream_fault.StreamFault.{StreamFault}
 use Rattle.dep_types.specs.declared.stream_fault.StreamFault.TheVariants.{Writer, Store, Memory, NoSuchFile}
 use Rattle.dep_answers.specs.declared.performed.StoredFile.{StoredFile}
-use Rattle.dep_schema.specs.States.{StandsFor}
+use Rattle.dep_schema.specs.States.{Represents}
 use Rattle.dep_schema.specs.Transactions.{FindsOpen}
 use Rattle.dep_hub.specs.Archives.{KeepsState, CountsFailures}
 use Rattle.dep_hub.specs.Owing.{Begins, StreamsOn, TakesFew, step_bytes}
 use Rattle.dep_store.specs.Archive.{shown_by}
-use Rattle.dep_store.specs.Remembering.{HasSize}
+use Rattle.dep_store.specs.Caching.{HasSize}
 use Rattle.dep_store.specs.Shut.{StaysOpen, FailsIfShut}
 
 -- the file was found to be there, with so many bytes, and nothing changed
 pub record FindsSize {E : Type 0} (old new : db.State) (it : StoredFile) (result : Result ℕ E)
     : Type 0 where
-  pub tells : HasCleanDisk new → (s : State) → StandsFor old s
+  pub reports : HasCleanDisk new → (s : State) → Represents old s
       → IfOk result (HasSize s it.object it.file)
   pub finds : FindsOpen old new result
 

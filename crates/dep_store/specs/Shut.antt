@@ -13,12 +13,12 @@ use Rattle.dep_tables.specs.Faults.{fault_for}
 use Rattle.dep_decisions.specs.declared.operation.Operation.{Operation}
 use Rattle.dep_staging.specs.declared.running.RunningHashes.{RunningHashes}
 use Rattle.dep_requests.specs.declared.performing.Done.{Done}
-use Rattle.dep_schema.specs.Performing.{KeepsRunning, StepsOver, TellsChanges, IsBackUnchanged}
+use Rattle.dep_schema.specs.Performing.{KeepsRunning, StepsOver, ReportsChanges, IsBackUnchanged}
 use Rattle.dep_schema.specs.Transactions.{IsBackAt, IsRestored, Transacts}
 use Rattle.dep_hub.specs.Archives.{Ticks, Streams, KeepsState, CountsFailures}
-use Rattle.dep_hub.specs.Shut.{TellsOpen}
+use Rattle.dep_hub.specs.Shut.{ReportsOpen}
 use Rattle.dep_store.specs.Archive.{shown_by}
-use Rattle.dep_store.specs.Remembering.{ShowsFile}
+use Rattle.dep_store.specs.Caching.{ShowsFile}
 
 -- where the store was shut, and the disk has told no lie that was taken as true, a crash leaves
 -- nothing that it might not have left before
@@ -56,20 +56,20 @@ pub record PerformsIfOpen (old new : db.State) (result : Result Done StoreFault)
     (op : Operation) (running later : RunningHashes) : Type 0 where
   pub shut : FailsIfShut old new result
   pub transacts : Transacts old new result (StepsOver config op running)
-  pub changes : TellsChanges old new result config op running
+  pub changes : ReportsChanges old new result config op running
   pub hashed : KeepsRunning old new running later
   pub back : IsBackUnchanged old new result
   pub shows : ShowsFile old new result op
 
 -- Why it isn't known whether a store is open: a transaction is under way; or the store failed, by this fault, and not
 -- because it was shut before: memory was refused, or the disk failed once more.
-abbrev pub FailsToTell : (old new : db.State) → StoreFault → Type 0
-FailsToTell old new fault =
+abbrev pub FailsToReport : (old new : db.State) → StoreFault → Type 0
+FailsToReport old new fault =
     (IsTrue old.in_transaction × (fault ≡ Store))
     ⊎ ((e : Error) × db.Fails old new ⊥ e × (e ≢ SqliteFailure Closed) × (fault ≡ fault_for e))
 
 -- nothing changes, and it is returned, or there is a cause why it isn't
 pub record AsksIfOpen (old new : db.State) (result : Result Bool StoreFault) : Type 0 where
-  pub told : IfOk result (TellsOpen (shown_by new))
-  pub cause : db.HasCleanDisk new → IfErr result (FailsToTell old new)
+  pub reported : IfOk result (ReportsOpen (shown_by new))
+  pub cause : db.HasCleanDisk new → IfErr result (FailsToReport old new)
   pub restored : IsRestored old new

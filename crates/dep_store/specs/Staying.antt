@@ -6,14 +6,14 @@ use Rattle.dep_types.specs.State.{State}
 use Rattle.dep_tables.specs.Tables.{Tables}
 use Rattle.dep_hub.specs.Archives.{KeepsAll}
 use Rattle.dep_staging.specs.declared.running.RunningHashes.{RunningHashes}
-use Rattle.dep_schema.specs.Standing.{Holds, Stands}
+use Rattle.dep_schema.specs.OpenTables.{Holds, StaysFile}
 use Rattle.dep_schema.specs.Performing.{KeepsRunning}
-use Rattle.dep_schema.specs.States.{StandsFor, Leaves}
+use Rattle.dep_schema.specs.States.{Represents, Leaves}
 use Rattle.dep_store.specs.Archive.{shown_by}
 
 -- whatever its tables are, they stay, while it is open
 abbrev pub TablesStay : (old new : db.State) → Type 0
-TablesStay old new = IsTrue new.is_open → (t : Tables) → Stands old t → Stands new t
+TablesStay old new = IsTrue new.is_open → (t : Tables) → StaysFile old t → StaysFile new t
 
 -- a crash leaves nothing that it might not have left before
 abbrev pub LeavesOnly : (old new : db.State) → Type 0
@@ -26,20 +26,20 @@ pub record HashesOn (old new : db.State) (before after : RunningHashes) : Type 0
   pub rests : KeepsAll (shown_by old) (shown_by new)
   pub left : LeavesOnly old new
 
--- an Ok says this of its tables, which stay, whether they stand for a state or not
-pub record TellsTables {A E : Type 0} (old new : db.State) (told : Tables → A → Type 0)
+-- an Ok says this of its tables, which stay, whether they represent a state or not
+pub record ReportsTables {A E : Type 0} (old new : db.State) (reported : Tables → A → Type 0)
     (result : Result A E) : Type 0 where
-  pub ok : db.HasCleanDisk new → (t : Tables) → Stands old t
-      → IfOk result (λ answer. told t answer × Stands new t)
+  pub ok : db.HasCleanDisk new → (t : Tables) → StaysFile old t
+      → IfOk result (λ answer. reported t answer × StaysFile new t)
   pub still : TablesStay old new
   pub honest : db.HasCleanDisk new → db.HasCleanDisk old
   pub was_open : IsTrue new.is_open → IsTrue old.is_open
-  pub stop : db.HasCleanDisk new → (t : Tables) → Stands old t → (trees : Trees)
+  pub stop : db.HasCleanDisk new → (t : Tables) → StaysFile old t → (trees : Trees)
       → new.may_leave trees → Holds trees t
 
--- the tables stay, and a crash leaves the state for which they stood, if they stood for one
+-- the tables stay, and a crash leaves the state for which they stood, if they represented one
 pub record KeepsTables (old new : db.State) : Type 0 where
   pub still : TablesStay old new
   pub honest : db.HasCleanDisk new → db.HasCleanDisk old
   pub was_open : IsTrue new.is_open → IsTrue old.is_open
-  pub stop : db.HasCleanDisk new → (s : State) → StandsFor old s → Leaves new (λ left. left ≡ s)
+  pub stop : db.HasCleanDisk new → (s : State) → Represents old s → Leaves new (λ left. left ≡ s)

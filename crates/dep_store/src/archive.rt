@@ -7,9 +7,9 @@ ghost use Rattle.sqlite.specs.Held.{state};
 ghost use Rattle.dep_types.specs.State.{State};
 ghost use Rattle.dep_staging.specs.HashedAhead.{AreRunning};
 ghost use Rattle.dep_schema.proofs.Transacting.{leaves_as_was};
-ghost use Rattle.dep_hub.specs.Errands.{Runs, WorkedAhead};
+ghost use Rattle.dep_hub.specs.ArchiveCalls.{Runs, WorkedAhead};
 ghost use Rattle.dep_hub.specs.Archives.{CommitsIfDue, KeepsEachState};
-ghost use Rattle.dep_store.specs.HashingStores.{NotesUpload, account_of, condition_of, may_commit};
+ghost use Rattle.dep_store.specs.HashingStores.{NotesUpload, call_log_of, condition_of, may_commit};
 ghost use Rattle.dep_store.specs.LogCopies.{after_call};
 ghost use Rattle.dep_store.specs.Staying.{HashesOn};
 
@@ -101,7 +101,7 @@ impl<S: Alter> HashingStore<S> {
 impl<S: Alter> Archive for HashingStore<S> {
     ghost condition = { condition_of S.Store };
 
-    ghost account = { account_of S.Store };
+    ghost call_log = { call_log_of S.Store };
 
     ghost may_commit = { λ archive. may_commit archive };
 
@@ -143,7 +143,7 @@ impl<S: Alter> Archive for HashingStore<S> {
 
     fn work_ahead(&mut self, service: &Service, next: Option<&Operation<'_>>) -> bool
         ensures asked { Runs (WorkedAhead result)
-            (account_of S.Store self.old) (account_of S.Store self.new) }
+            (call_log_of S.Store self.old) (call_log_of S.Store self.new) }
         ensures commits { CommitsIfDue (may_commit self.old) (may_commit self.new)
             (condition_of S.Store self.old) (condition_of S.Store self.new) }
         ensures rests { KeepsEachState
@@ -168,6 +168,6 @@ impl<S: Alter> Archive for HashingStore<S> {
         (S.Store.shut_if_dirty archive.store.store) is_open };
 
     ghost settled = { λ archive s keeps. leaves_as_was _ s
-        (λ trees h. S.Store.settled archive.store.store trees keeps.stands.stands.is_open h)
-        keeps.stands };
+        (λ trees h. S.Store.settled archive.store.store trees keeps.represents.represents.is_open h)
+        keeps.represents };
 }

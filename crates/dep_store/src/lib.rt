@@ -3,11 +3,11 @@
 #![tactic(auto)]
 
 mod archive;
-mod glancing;
+mod caching;
 mod log_copy;
 mod migrating;
+mod read_transaction;
 mod reading;
-mod remembering;
 mod sending;
 mod sending_on;
 mod showing;

@@ -17,12 +17,12 @@ impl Task for ViewObject {
     ghost use Rattle.std.specs.Prelude.{◌≡◌};
     ghost use Rattle.dep_types.specs.State.{State};
     ghost use Rattle.dep_bag.specs.Source.{view_at};
-    ghost use Rattle.dep_schema.specs.States.{TablesStandFor};
-    ghost use Rattle.dep_schema.specs.Transactions.{OnlyTells};
+    ghost use Rattle.dep_schema.specs.States.{TablesRepresent};
+    ghost use Rattle.dep_schema.specs.Transactions.{OnlyReports};
 
     type Answer = Option<ObjectView>;
 
-    ghost makes = { λ asked. OnlyTells (λ t found. (s : State) → TablesStandFor t s
+    ghost makes = { λ asked. OnlyReports (λ t found. (s : State) → TablesRepresent t s
         → found ≡ view_at s asked.object) };
 
     fn run<T: Statements>(&self, tx: &mut T) -> Result<Option<ObjectView>, StoreFault> {
@@ -38,11 +38,11 @@ pub(crate) struct NextObject {
 
 impl Task for NextObject {
     ghost use Rattle.dep_tables.specs.Edits.{IsObjectAfter};
-    ghost use Rattle.dep_schema.specs.Transactions.{OnlyTells};
+    ghost use Rattle.dep_schema.specs.Transactions.{OnlyReports};
 
     type Answer = Option<u64>;
 
-    ghost makes = { λ asked. OnlyTells (IsObjectAfter asked.after) };
+    ghost makes = { λ asked. OnlyReports (IsObjectAfter asked.after) };
 
     fn run<T: Statements>(&self, tx: &mut T) -> Result<Option<u64>, StoreFault> {
         next_object(tx, self.after)

@@ -2,7 +2,7 @@
 
 ghost use Rattle.std.specs.Prelude.{◌≡◌, false};
 ghost use Rattle.sqlite.specs.Held.{state};
-ghost use Rattle.dep_store.specs.Remembering.{IsKnownFile};
+ghost use Rattle.dep_store.specs.Caching.{IsKnownFile};
 ghost use Rattle.dep_store.specs.Shut.{SendsFile};
 
 use dep_answers::StoredFile;

@@ -3,10 +3,10 @@
 ghost use Rattle.std.specs.Prelude.{◌≡◌, ◌<◌, false};
 ghost use Rattle.sqlite.specs.Held.{state};
 ghost use Rattle.dep_files.specs.Faults.{BlamesOutlet};
-ghost use Rattle.dep_store.specs.Remembering.{IsKnownFile};
+ghost use Rattle.dep_store.specs.Caching.{IsKnownFile};
 ghost use Rattle.dep_store.specs.SendingOn.{FindsSize, GivesNext, SendsOn};
 
-use crate::glancing::{FindFile, NextBytes, glance_open};
+use crate::read_transaction::{FindFile, NextBytes, read_if_open};
 use dep_answers::StoredFile;
 use dep_types::{Outlet, StoreFault, StreamFault};
 use sqlite::{Alter, Connection};
@@ -17,7 +17,7 @@ const BYTES_AT_ONCE: usize = 262_144;
 
 /// From where on the content of a file is to be sent.
 #[derive(Clone, Copy)]
-pub(crate) struct Place {
+pub(crate) struct SendingPlace {
     pub(crate) it: StoredFile,
     /// How many of its bytes were sent.
     pub(crate) start: u64,
@@ -43,7 +43,7 @@ pub(crate) fn find_size<S: Alter>(
         object: it.object,
         file: it.file,
     };
-    let found = glance_open(connection, &mut asked)?;
+    let found = read_if_open(connection, &mut asked)?;
     match found {
         Some(row) => Ok(row.size),
         None => Err(StoreFault::Store),
@@ -80,7 +80,7 @@ pub(crate) fn send_on<S: Alter, O: Outlet>(
     connection: &mut Connection<S>,
     alloc: Global,
     known: Option<StoredFile>,
-    place: Place,
+    place: SendingPlace,
     out: &mut O,
 ) -> Result<Option<u64>, StreamFault>
     requires settled { (state S.Store connection.old).in_transaction ≡ false }
@@ -98,6 +98,6 @@ pub(crate) fn send_on<S: Alter, O: Outlet>(
         file: place.it.file,
         start: place.start,
     };
-    let bytes = glance_open(connection, &mut asked)?;
+    let bytes = read_if_open(connection, &mut asked)?;
     give_next(bytes.as_slice(), place.start, size, out)
 }

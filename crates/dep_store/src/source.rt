@@ -19,6 +19,6 @@ impl<S: Alter> BagSource for Store<S> {
         Store::stream(self, file, out)
     }
 
-    ghost settled = { λ store s stands. leaves_as_was _ s
-        (λ trees h. S.Store.settled store.store trees stands.stands.is_open h) stands };
+    ghost settled = { λ store s represents. leaves_as_was _ s
+        (λ trees h. S.Store.settled store.store trees represents.represents.is_open h) represents };
 }

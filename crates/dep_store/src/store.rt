@@ -10,25 +10,25 @@ ghost use Rattle.dep_answers.specs.Steps.{operation_step};
 ghost use Rattle.dep_row_maps.specs.Keyed.{next_entry};
 ghost use Rattle.dep_tables.specs.Edits.{IsObjectAfter};
 ghost use Rattle.dep_staging.specs.HashedAhead.{AreRunning};
-ghost use Rattle.dep_schema.specs.States.{StandsFor, Leaves};
+ghost use Rattle.dep_schema.specs.States.{Represents, Leaves};
 ghost use Rattle.dep_schema.specs.Performing.{IsKeptUnchanged, KeepsRunning};
 ghost use Rattle.dep_store.specs.Causes.{OpensFor, RefusesFor};
 ghost use Rattle.dep_store.specs.Migrating.{FindsOlder, FindsState, FindsTables, KeepsState, KeepsTables, OfEither, OpenLeaves, RefusesNoState, RefusesNone, StartsEmpty};
-ghost use Rattle.dep_hub.specs.Shut.{TellsOpen};
-ghost use Rattle.dep_hub.specs.Archives.{MakesStep, Tells, KeepsAll};
+ghost use Rattle.dep_hub.specs.Shut.{ReportsOpen};
+ghost use Rattle.dep_hub.specs.Archives.{MakesStep, Reports, KeepsAll};
 ghost use Rattle.dep_files.specs.Fixity.{IsAudited};
 ghost use Rattle.dep_store.specs.Archive.{condition_of};
 ghost use Rattle.dep_store.specs.Copying.{CopiesLog};
 ghost use Rattle.dep_store.specs.SendingOn.{BeginsIfOpen, SendsOn};
-ghost use Rattle.dep_store.specs.Shut.{FailsIfShut, FailsToTell, SendsFile, TicksIfOpen};
-ghost use Rattle.dep_store.specs.Staying.{TablesStay, TellsTables, LeavesOnly, HashesOn};
+ghost use Rattle.dep_store.specs.Shut.{FailsIfShut, FailsToReport, SendsFile, TicksIfOpen};
+ghost use Rattle.dep_store.specs.Staying.{TablesStay, ReportsTables, LeavesOnly, HashesOn};
 
-use crate::glancing::{glance_at, hash_named_by};
+use crate::caching::{look, report_open};
 use crate::migrating::migrate;
+use crate::read_transaction::{hash_named_by, read_in_transaction};
 use crate::reading::{NextObject, ViewObject};
-use crate::remembering::{look, tell_open};
 use crate::sending::stream_known;
-use crate::sending_on::{Place, find_size, send_on};
+use crate::sending_on::{SendingPlace, find_size, send_on};
 use crate::showing::perform_if_open;
 use crate::tasks::transact;
 use crate::ticking::{MoveClock, WriteClock};
@@ -36,7 +36,7 @@ use dep_answers::{Performed, Service, StoredFile};
 use dep_decisions::Operation;
 use dep_files::{Audit, Watch, audit_files};
 use dep_moment::Moment;
-use dep_requests::{Remembered, clock_still, file_shown, recalled, show_service, still_known};
+use dep_requests::{Cache, cached, clock_still, file_shown, show_service, still_known};
 use dep_schema::{OpenFault, Schema, check_open};
 use dep_staging::RunningHashes;
 use dep_types::{Config, ObjectView, Outlet, StoreFault, StreamFault};
@@ -49,14 +49,14 @@ use std::marker::Model;
 pub struct Store<S: Alter> {
     alloc: Global,
     connection: Connection<S>,
-    remembered: Option<Remembered>,
+    cache: Option<Cache>,
     /// The file whose content the last reply has.
     shown: Option<StoredFile>,
 }
 
 impl<S: Alter> Model for Store<S> {
     ghost use Rattle.sqlite.specs.Held.{Held, held_code, state};
-    ghost use Rattle.dep_store.specs.Remembering.{IsRecalled, IsOfOpen, IsKnownFile};
+    ghost use Rattle.dep_store.specs.Caching.{IsCached, IsOfOpen, IsKnownFile};
 
     ghost Value = { Held S };
 
@@ -64,8 +64,8 @@ impl<S: Alter> Model for Store<S> {
 
     ghost view = { λ s. s.connection };
 
-    ghost invariant = { λ s. IsRecalled (state S.Store s.connection) s.remembered
-        × IsOfOpen (state S.Store s.connection) s.remembered
+    ghost invariant = { λ s. IsCached (state S.Store s.connection) s.cache
+        × IsOfOpen (state S.Store s.connection) s.cache
         × IsKnownFile (state S.Store s.connection) s.shown };
 }
 
@@ -80,15 +80,15 @@ impl<S: Alter> Store<S> {
     ) -> Result<Store<S>, (OpenFault, Connection<S>)>
         requires settled { (state S.Store connection).in_transaction ≡ false }
         ensures fresh { IfOk result (StartsEmpty S.Store connection) }
-        // What a store left, in either version, stands for the same state.
+        // What a store left, in either version, represents the same state.
         ensures found { IfOk result (FindsState S.Store connection) }
         ensures refused { IfErr result (RefusesNone S.Store connection) }
-        // So it is of tables that stand for no state, whatever version their row has: those of version 2 stay, and those
+        // So it is of tables that represent no state, whatever version their row has: those of version 2 stay, and those
         // of version 1 get the SHA-512 of each file's bytes as they stand.
         ensures tables { IfOk result (FindsTables S.Store connection) }
         ensures older { IfOk result (FindsOlder S.Store connection) }
         // An Ok has a cause, and so has a fault.
-        ensures told { MatchResult result (OpensFor S.Store connection) (RefusesFor S.Store connection) }
+        ensures reported { MatchResult result (OpensFor S.Store connection) (RefusesFor S.Store connection) }
         // What a store left is never of a version that is not known.
         ensures known { IfErr result (RefusesNoState S.Store connection) }
         // A fault that leaves the store open leaves tables of ours as they were, in the version that they had, and any others
@@ -117,14 +117,14 @@ impl<S: Alter> Store<S> {
         }
     }
 
-    // Over the tables of version 2, of which nothing is remembered.
+    // Over the tables of version 2, of which nothing is cached.
     fn over(alloc: Global, connection: Connection<S>) -> Store<S>
         ensures { result ≡ connection }
     {
         Store {
             alloc,
             connection,
-            remembered: None,
+            cache: None,
             shown: None,
         }
     }
@@ -140,18 +140,18 @@ impl<S: Alter> Store<S> {
             return Err(StoreFault::Store);
         }
         let secs = moment.secs();
-        if let Some(clock) = clock_still(&self.remembered, config, secs) {
+        if let Some(clock) = clock_still(&self.cache, config, secs) {
             let shown = Moment::new(clock);
             return Ok(shown);
         }
-        self.remembered = None;
+        self.cache = None;
         self.shown = None;
         let found = look(&mut self.connection, config, secs)?;
         match found {
             Some(it) => {
-                self.remembered = Some(it);
-                let told = Moment::new(it.clock);
-                Ok(told)
+                self.cache = Some(it);
+                let reported = Moment::new(it.clock);
+                Ok(reported)
             }
             None => {
                 let task = MoveClock {
@@ -164,7 +164,7 @@ impl<S: Alter> Store<S> {
     }
 
     /// Does what a request asks for, once the clock has gone on, in one transaction: what reads the
-    /// service document, by what is remembered. The reply is made before the commit, so an `Err` changes
+    /// service document, by what is cached. The reply is made before the commit, so an `Err` changes
     /// nothing. Segments that were hashed before aren't hashed again, and what is hashed for the request stays known.
     pub fn perform(
         &mut self,
@@ -187,11 +187,11 @@ impl<S: Alter> Store<S> {
         if !self.connection.is_autocommit() {
             return Err(StoreFault::Store);
         }
-        if let Some(it) = recalled(&self.remembered, operation) {
+        if let Some(it) = cached(&self.cache, operation) {
             return show_service(self.alloc, service, operation, &it);
         }
-        let remembered = self.remembered;
-        self.remembered = None;
+        let cache = self.cache;
+        self.cache = None;
         self.shown = None;
         let done = perform_if_open(
             &mut self.connection,
@@ -200,7 +200,7 @@ impl<S: Alter> Store<S> {
             service,
             operation,
         )?;
-        self.remembered = still_known(remembered, done.has_changes);
+        self.cache = still_known(cache, done.has_changes);
         self.shown = file_shown(operation, &done);
         Ok(done.performed)
     }
@@ -214,9 +214,9 @@ impl<S: Alter> Store<S> {
         if !self.connection.is_autocommit() {
             return Err(StoreFault::Store);
         }
-        self.remembered = None;
+        self.cache = None;
         self.shown = None;
-        glance_at(&mut self.connection, running)
+        read_in_transaction(&mut self.connection, running)
     }
 
     /// Hashes a part of the uploads that references in a request name, before it is answered, and returns whether more may be
@@ -234,7 +234,7 @@ impl<S: Alter> Store<S> {
         if !self.connection.is_autocommit() {
             return Err(StoreFault::Store);
         }
-        self.remembered = None;
+        self.cache = None;
         self.shown = None;
         hash_named_by(&mut self.connection, self.alloc, running, config, operation)
     }
@@ -247,7 +247,7 @@ impl<S: Alter> Store<S> {
         if !self.connection.is_autocommit() {
             return Err(StoreFault::Store);
         }
-        self.remembered = None;
+        self.cache = None;
         self.shown = None;
         check_open(&mut self.connection)?;
         transact(&mut self.connection, &WriteClock)
@@ -263,12 +263,12 @@ impl<S: Alter> Store<S> {
         if !self.connection.is_autocommit() {
             return Err(StreamFault::Store);
         }
-        let remembered = self.remembered;
+        let cache = self.cache;
         let shown = self.shown;
-        self.remembered = None;
+        self.cache = None;
         self.shown = None;
         stream_known(&mut self.connection, shown, file, out)?;
-        self.remembered = remembered;
+        self.cache = cache;
         Ok(())
     }
 
@@ -281,12 +281,12 @@ impl<S: Alter> Store<S> {
         if !self.connection.is_autocommit() {
             return Err(StoreFault::Store);
         }
-        let remembered = self.remembered;
+        let cache = self.cache;
         let shown = self.shown;
-        self.remembered = None;
+        self.cache = None;
         self.shown = None;
         find_size(&mut self.connection, shown, it)?;
-        self.remembered = remembered;
+        self.cache = cache;
         self.shown = shown;
         Ok(())
     }
@@ -307,26 +307,26 @@ impl<S: Alter> Store<S> {
         if !self.connection.is_autocommit() {
             return Err(StreamFault::Store);
         }
-        let remembered = self.remembered;
+        let cache = self.cache;
         let shown = self.shown;
-        self.remembered = None;
+        self.cache = None;
         self.shown = None;
-        let place = Place { it, start };
+        let place = SendingPlace { it, start };
         let next = send_on(&mut self.connection, self.alloc, shown, place, out)?;
-        self.remembered = remembered;
+        self.cache = cache;
         self.shown = shown;
         Ok(next)
     }
 
     /// The object of this number, if there is one, with its metadata and its files.
     pub fn view(&mut self, object: u64) -> Result<Option<ObjectView>, StoreFault>
-        ensures does { Tells (condition_of S.Store self.old) (condition_of S.Store self.new)
+        ensures does { Reports (condition_of S.Store self.old) (condition_of S.Store self.new)
             (λ s found. found ≡ view_at s object) result }
         ensures still { TablesStay (state S.Store self.old) (state S.Store self.new) }
         ensures opened { HasCleanDisk (state S.Store self.new)
             → OnOk result (IsTrue (state S.Store self.old).is_open) }
     {
-        self.remembered = None;
+        self.cache = None;
         self.shown = None;
         let task = ViewObject {
             alloc: self.alloc,
@@ -337,28 +337,28 @@ impl<S: Alter> Store<S> {
 
     /// Returns the least number of an object above this one, if there is one.
     pub fn next_object(&mut self, after: u64) -> Result<Option<u64>, StoreFault>
-        ensures does { Tells (condition_of S.Store self.old) (condition_of S.Store self.new)
+        ensures does { Reports (condition_of S.Store self.old) (condition_of S.Store self.new)
             (λ s found. found ≡ option_map (λ e. e.0) (next_entry s.objects after)) result }
-        // So it is of tables that stand for no state: the least row above this number is returned.
-        ensures rows { TellsTables (state S.Store self.old) (state S.Store self.new)
+        // So it is of tables that represent no state: the least row above this number is returned.
+        ensures rows { ReportsTables (state S.Store self.old) (state S.Store self.new)
             (IsObjectAfter after) result }
         ensures opened { HasCleanDisk (state S.Store self.new)
             → OnOk result (IsTrue (state S.Store self.old).is_open) }
     {
-        self.remembered = None;
+        self.cache = None;
         self.shown = None;
         transact(&mut self.connection, &NextObject { after })
     }
 
     /// Checks the files of this object by the SHA-256 and the SHA-512 of the bytes that stand in the tables, also where
-    /// the rows stand for no state. Each block is read once, and one is held at a time: the watch is told of it.
+    /// the rows represent no state. Each block is read once, and one is held at a time: the watch is told of it.
     pub fn audit<W: Watch>(&mut self, object: u64, watch: &mut W) -> Result<Audit, StoreFault>
-        ensures does { TellsTables (state S.Store self.old) (state S.Store self.new)
+        ensures does { ReportsTables (state S.Store self.old) (state S.Store self.new)
             (λ t. IsAudited t object) result }
         // On a store that was shut it fails, and a crash leaves what it could leave before.
         ensures shut { FailsIfShut (state S.Store self.old) (state S.Store self.new) result }
     {
-        self.remembered = None;
+        self.cache = None;
         self.shown = None;
         audit_files(&mut self.connection, self.alloc, object, watch)
     }
@@ -366,28 +366,28 @@ impl<S: Alter> Store<S> {
     /// Whether the store is open, as far as that can be known: `false` where a fault has shut it, for good.
     /// Before that is known memory may run out, or the disk fail once more; ask again then.
     pub fn is_open(&mut self) -> Result<bool, StoreFault>
-        ensures told { IfOk result (TellsOpen (condition_of S.Store self.new)) }
-        // A failure has a cause, of which want of memory can be seen by nobody.
+        ensures reported { IfOk result (ReportsOpen (condition_of S.Store self.new)) }
+        // A failure has a cause, of which lack of memory can be seen by nobody.
         ensures cause { HasCleanDisk (state S.Store self.new)
-            → IfErr result (FailsToTell (state S.Store self.old) (state S.Store self.new)) }
+            → IfErr result (FailsToReport (state S.Store self.old) (state S.Store self.new)) }
         ensures rests { KeepsAll (condition_of S.Store self.old) (condition_of S.Store self.new) }
         ensures left { LeavesOnly (state S.Store self.old) (state S.Store self.new) }
     {
-        match self.remembered {
+        match self.cache {
             Some(_) => Ok(true),
             None => {
                 if !self.connection.is_autocommit() {
                     return Err(StoreFault::Store);
                 }
                 self.shown = None;
-                tell_open(&mut self.connection)
+                report_open(&mut self.connection)
             }
         }
     }
 
-    /// While the store stands for a state, a crash leaves that state.
+    /// While the store represents a state, a crash leaves that state.
     pub fn settled(&self)
-        ensures left { (s : State) → StandsFor (state S.Store self.now) s
+        ensures left { (s : State) → Represents (state S.Store self.now) s
             → Leaves (state S.Store self.now) (λ left. left ≡ s) }
         ensures clean { IsTrue (state S.Store self.now).is_open
             → HasCleanDisk (state S.Store self.now) }

@@ -57,10 +57,10 @@ module _ {T L A : Type 0} {lenders : T → L} {state : T → State} {old new : T
       → (HasCleanDisk (state new) → IfOk result (λ found. ShowsColumns q.text params (state old) (state new) width (values found)))
       → (HasCleanDisk (state new) → IfErr result (FailsWithRows q.copies q.are_ours q.text params (state old) (state new)))
       → AsksWithin lenders state q.text old new result
-      → ((found : A) → IsOurs (state old) → ShowsColumns q.text q.values (state old) (state new) width (values found) → q.told (tables_of (state old)) found)
+      → ((found : A) → IsOurs (state old) → ShowsColumns q.text q.values (state old) (state new) width (values found) → q.reported (tables_of (state old)) found)
       → Queries lenders state old new result q
-  asks q width {values} storable is plain shown cause keeps tells = record {
-    ok = λ clean ours. if_then result (shown clean) (λ found read. tells found ours (subst (λ bound. ShowsColumns q.text bound (state old) (state new) width (values found)) is read));
+  asks q width {values} storable is plain shown cause keeps reports = record {
+    ok = λ clean ours. if_then result (shown clean) (λ found read. reports found ours (subst (λ bound. ShowsColumns q.text bound (state old) (state new) width (values found)) is read));
     numbers = λ refused. absurd (refused storable);
     cause = λ _ clean. subst (λ bound. IfErr result (FailsWithRows q.copies q.are_ours q.text bound (state old) (state new))) is (cause clean);
     keeps = plain_reads keeps (λ ours. plain_here (state old) q.text ours plain);

@@ -28,7 +28,7 @@ pub passed_on : {A Ours Has : Type 0} (copies : Type 0) (r : Result A Error) →
 passed_on copies (Ok x) is refused has = tt
 passed_on copies (Err x) is refused has = λ ours. absurd (refused (has ours))
 
--- and of one that is copied: with such a row it is want of memory
+-- and of one that is copied: with such a row it is lack of memory
 pub copied_on : {A Ours Has : Type 0} (r : Result A Error) (e : Error) → IsErrAnd r (λ x. x ≡ e) → IsMemoryWhere Has e → (Ours → Has) → IfErr r (λ x. Ours → ⊤ × (fault_for x ≡ Memory))
 copied_on (Ok x) e is refused has = tt
 copied_on (Err x) e is refused has = λ ours. (tt, ap fault_for is ∙ refused (has ours))

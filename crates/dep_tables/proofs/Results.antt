@@ -17,7 +17,7 @@ pub if_failed : {A E P : Type 0} (r : Result A E) → P → OnErr r P
 if_failed (Ok x) p = tt
 if_failed (Err e) p = p
 
--- what holds of one failure holds of another, which may stand for an Ok
+-- what holds of one failure holds of another, which may represent an Ok
 pub failed_as : {A E B F P Q : Type 0} (r : Result A E) (s : Result B F) → OnOk r P → OnErr r Q → (P → Q) → OnErr s Q
 failed_as (Ok x) s p q f = if_failed s (f p)
 failed_as (Err e) s p q f = if_failed s q
@@ -31,5 +31,5 @@ err_then (Ok x) p f = tt
 err_then (Err e) p f = f e p
 
 -- what follows where a test has told otherwise
-pub not_storable : {P Q : Type 0} (told : Bool) → told ≡ false → (P → IsTrue told) → P → Q
-not_storable told is_false known storable = let never : false ≡ true = sym is_false ∙ known storable in absurd (cc)
+pub not_storable : {P Q : Type 0} (reported : Bool) → reported ≡ false → (P → IsTrue reported) → P → Q
+not_storable reported is_false known storable = let never : false ≡ true = sym is_false ∙ known storable in absurd (cc)

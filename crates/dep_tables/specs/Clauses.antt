@@ -19,12 +19,12 @@ module _ {A E : Type 0} (old new : State) (result : Result A E) where
 
   -- there an Ok says this of what they were
   abbrev pub Shows : (Tables → Type 0) → Type 0
-  Shows told = HasCleanDisk new → IsTrue old.in_transaction → IsOurs old
-      → OnOk result (told (tables_of old))
+  Shows reported = HasCleanDisk new → IsTrue old.in_transaction → IsOurs old
+      → OnOk result (reported (tables_of old))
 
   -- what is read of our tables
   abbrev pub Reads : (Tables → A → Type 0) → Type 0
-  Reads told = HasCleanDisk new → IsOurs old → IfOk result (told (tables_of old))
+  Reads reported = HasCleanDisk new → IsOurs old → IfOk result (reported (tables_of old))
 
   -- reading changes nothing
   abbrev pub ReadsOnly : Type 0
@@ -192,7 +192,7 @@ pub record Query (A : Type 0) : Type 1 where
   -- whether what is read of them is copied, which takes memory
   pub copies : Type 0
   -- what the value says of our tables
-  pub told : Tables → A → Type 0
+  pub reported : Tables → A → Type 0
 
 module _ {T L A : Type 0} (lenders : T → L) (state : T → State) (old new : T)
     (result : Result A StoreFault) where
@@ -206,7 +206,7 @@ module _ {T L A : Type 0} (lenders : T → L) (state : T → State) (old new : T
 
   -- what a call does that asks this query
   pub record Queries (query : Query A) : Type 0 where
-    pub ok : Reads (state old) (state new) result query.told
+    pub ok : Reads (state old) (state new) result query.reported
     pub numbers : RefusesNumbers (state old) (state new) result query.storable
     pub cause : query.storable → HasCleanDisk (state new)
         → IfErr result (FailsWithRows query.copies query.are_ours query.text query.values

@@ -1,4 +1,4 @@
--- The fault of the store that stands for an error.
+-- The fault of the store that represents an error.
 use Rattle.std.specs.Prelude.{◌≡◌}
 use Rattle.sqlite.specs.declared.error.Error.{Error}
 use Rattle.sqlite.specs.declared.error.Error.TheVariants.{SqliteFailure}
@@ -6,11 +6,11 @@ use Rattle.sqlite.specs.declared.error.ErrorCode.TheVariants.{OutOfMemory}
 use Rattle.dep_types.specs.declared.store_fault.StoreFault.{StoreFault}
 use Rattle.dep_types.specs.declared.store_fault.StoreFault.TheVariants.{Store, Memory}
 
--- the fault for an error of SQLite: want of memory, or one of the store for every other error
+-- the fault for an error of SQLite: lack of memory, or one of the store for every other error
 abbrev pub fault_for : Error → StoreFault
 fault_for (SqliteFailure OutOfMemory) = Memory
 fault_for _ = Store
 
--- where this holds, the error is want of memory
+-- where this holds, the error is lack of memory
 abbrev pub IsMemoryWhere : Type 0 → Error → Type 0
 IsMemoryWhere good e = good → fault_for e ≡ Memory

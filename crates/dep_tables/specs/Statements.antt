@@ -30,14 +30,14 @@ by_key sql key change = record {
 
 -- the same of a query
 abbrev pub key_query : {A : Type 0} → (sql : List ℕ) → (key : ℕ) → (are_ours : List Row → Type 0)
-    → (copies : Type 0) → (told : Tables → A → Type 0) → Query A
-key_query sql key are_ours copies told = record {
+    → (copies : Type 0) → (reported : Tables → A → Type 0) → Query A
+key_query sql key are_ours copies reported = record {
   storable = key < 2 ^ 63;
   text = sql;
   values = Int (pos key) ∷ [];
   are_ours = are_ours;
   copies = copies;
-  told = told;
+  reported = reported;
 }
 
 -- ---- format
@@ -70,7 +70,7 @@ query_of_state = record {
   values = [];
   are_ours = JustOne IsStateRow;
   copies = ⊥;
-  told = HasStateRow;
+  reported = HasStateRow;
 }
 
 -- ---- objects
@@ -280,7 +280,7 @@ query_of_block key = record {
   values = key_values key;
   are_ours = AtMostOne IsBytesRow;
   copies = ⊤;
-  told = λ t found.
+  reported = λ t found.
       AreBytesAt key t (option_to_list (option_map (λ bytes. Blob bytes.items) found));
 }
 
@@ -292,7 +292,7 @@ query_of_first_block owner = record {
   values = owner_values owner;
   are_ours = AtMostOne IsPlaceRow;
   copies = ⊥;
-  told = IsFirstBlock owner;
+  reported = IsFirstBlock owner;
 }
 
 -- the place of the last block of a part is read
@@ -303,7 +303,7 @@ query_of_last_block owner part = record {
   values = part_values owner part;
   are_ours = AtMostOne IsNumberRow;
   copies = ⊥;
-  told = IsLastPlace owner part;
+  reported = IsLastPlace owner part;
 }
 
 -- ---- sha512s
@@ -334,5 +334,5 @@ query_of_sha512 owner = record {
   values = owner_values owner;
   are_ours = AtMostOne IsSha512Row;
   copies = ⊥;
-  told = λ t found. IsSha512Of owner t (option_to_list (option_map (λ value. Blob value) found));
+  reported = λ t found. IsSha512Of owner t (option_to_list (option_map (λ value. Blob value) found));
 }

@@ -1,5 +1,5 @@
 //! The tables of the deposit store in SQLite, and one function for each statement on them. A fault of the
-//! store is `StoreFault::Store`, which is also returned where SQLite fails; want of memory is
+//! store is `StoreFault::Store`, which is also returned where SQLite fails; lack of memory is
 //! `StoreFault::Memory`.
 #![tactic(auto)]
 

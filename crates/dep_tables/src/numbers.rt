@@ -31,7 +31,7 @@ pub(crate) fn key_param(key: u64) -> [ValueRef<'static>; 1]
 /// Returns the number in this column of a row, from 0 on. It is an `Err` where the column holds anything
 /// else. It takes no memory.
 pub fn number_at(row: &Row, at: usize) -> Result<u64, Error>
-    ensures told { IfOk result (λ n. column row.now at ≡ Int (pos n)) }
+    ensures reported { IfOk result (λ n. column row.now at ≡ Int (pos n)) }
     ensures refused { IfErr result (λ _. ¬ (HasAt IsNumberValue row.now at)) }
 {
     match row.get_ref(at)? {
@@ -50,7 +50,7 @@ pub(crate) fn flag_number(b: bool) -> i64
 /// Returns the flag in this column of a row: 0 is `false`, 1 is `true`, and anything else is an `Err`. It
 /// takes no memory.
 pub(crate) fn flag_at(row: &Row, at: usize) -> Result<bool, Error>
-    ensures told { IfOk result (λ b. column row.now at ≡ flag b) }
+    ensures reported { IfOk result (λ b. column row.now at ≡ flag b) }
     ensures refused { IfErr result (λ _. ¬ (HasAt IsFlagValue row.now at)) }
 {
     match number_at(row, at)? {

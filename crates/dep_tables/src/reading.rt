@@ -23,7 +23,7 @@ use sqlite::types::ValueRef;
 use sqlite::{Error, Row};
 use std::alloc::Global;
 
-/// What one row stands for.
+/// What one row represents.
 pub(crate) trait FromRow: Sized {
     /// How many columns it has.
     ghost width: { ℕ };
@@ -41,9 +41,9 @@ pub(crate) trait FromRow: Sized {
     fn kinds() -> &'static [ColumnKind]
         ensures { result.now ≡ columns };
 
-    /// What the row stands for. Where each column is of its kind it fails only for memory, if it takes any.
+    /// What the row represents. Where each column is of its kind it fails only for memory, if it takes any.
     fn from_row(row: &Row) -> Result<Self, Error>
-        ensures told { IfOk result (λ r. values r ≡ columns_from 0 width row.now) }
+        ensures reported { IfOk result (λ r. values r ≡ columns_from 0 width row.now) }
         ensures refused { IfErr result (λ error. HasKinds columns row.now
             → copies × (fault_for error ≡ Memory)) };
 }
@@ -66,10 +66,10 @@ impl FromRow for u64 {
     }
 }
 
-/// Returns what the row stands for, if there is one. It is a fault of the store where there are more, and
+/// Returns what the row represents, if there is one. It is a fault of the store where there are more, and
 /// where a column is of another kind.
 fn at_most_one<R: FromRow>(rows: &[Row]) -> Result<Option<R>, StoreFault>
-    ensures told { IfOk result
+    ensures reported { IfOk result
         (λ found. map R.values (option_to_list found) ≡ map (columns_from 0 R.width) rows.now) }
     ensures refused { IfErr result
         (IsFaultAt R.copies (AtMostOne (HasKinds R.columns)) rows.now) }
@@ -81,10 +81,10 @@ fn at_most_one<R: FromRow>(rows: &[Row]) -> Result<Option<R>, StoreFault>
     }
 }
 
-/// Returns what each row stands for. It is a fault of the store where a column of any of them is of another
+/// Returns what each row represents. It is a fault of the store where a column of any of them is of another
 /// kind.
 fn all<R: FromRow + Drop>(alloc: Global, rows: &[Row]) -> Result<Vec<R>, StoreFault>
-    ensures told { IfOk result
+    ensures reported { IfOk result
         (λ found. map R.values found.items ≡ map (columns_from 0 R.width) rows.now) }
     ensures refused { IfErr result (IsFaultAt ⊤ (All (HasKinds R.columns)) rows.now) }
 {
@@ -99,7 +99,7 @@ fn all<R: FromRow + Drop>(alloc: Global, rows: &[Row]) -> Result<Vec<R>, StoreFa
     Ok(found)
 }
 
-/// Runs a query, and returns what its one row stands for, if it shows one.
+/// Runs a query, and returns what its one row represents, if it shows one.
 pub(crate) fn ask_one<T: Statements, R: FromRow>(
     tx: &mut T,
     sql: &str,
@@ -117,7 +117,7 @@ pub(crate) fn ask_one<T: Statements, R: FromRow>(
     at_most_one(rows.as_slice())
 }
 
-/// Runs a query, and returns what each of its rows stands for.
+/// Runs a query, and returns what each of its rows represents.
 pub(crate) fn ask_all<T: Statements, R: FromRow + Drop>(
     tx: &mut T,
     alloc: Global,

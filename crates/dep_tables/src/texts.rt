@@ -21,7 +21,7 @@ pub(crate) fn text_value(text: &Text) -> ValueRef<'_>
 
 /// A text that `text_value` wrote.
 pub(crate) fn text_at(row: &Row, at: usize) -> Result<Text, Error>
-    ensures told { IfOk result (λ read. column row.now at ≡ TextValue read) }
+    ensures reported { IfOk result (λ read. column row.now at ≡ TextValue read) }
     ensures refused { IfErr result (IsMemoryWhere (HasAt IsTextValue row.now at)) }
 {
     Ok(Text::new(row.get(at)?))
@@ -39,7 +39,7 @@ pub(crate) fn text_or_null(text: &Option<Text>) -> ValueRef<'_>
 
 /// A text that `text_or_null` wrote.
 pub(crate) fn text_or_null_at(row: &Row, at: usize) -> Result<Option<Text>, Error>
-    ensures told { IfOk result (λ read. column row.now at ≡ or_null TextValue read) }
+    ensures reported { IfOk result (λ read. column row.now at ≡ or_null TextValue read) }
     ensures refused { IfErr result (IsMemoryWhere (HasAt (IsNullOr IsTextValue) row.now at)) }
 {
     let text: Option<String> = row.get(at)?;
@@ -61,7 +61,7 @@ pub(crate) fn digest_or_null(digest: &Option<[u8; 32]>) -> ValueRef<'_>
 
 /// A digest of N bytes. It takes no memory.
 pub(crate) fn digest_at<const N: usize>(row: &Row, at: usize) -> Result<[u8; N], Error>
-    ensures told { IfOk result (λ read. column row.now at ≡ Blob read) }
+    ensures reported { IfOk result (λ read. column row.now at ≡ Blob read) }
     ensures refused { IfErr result (λ _. ¬ (HasAt (IsDigestValue N) row.now at)) }
 {
     let ValueRef::Blob(bytes) = row.get_ref(at)? else {
@@ -72,7 +72,7 @@ pub(crate) fn digest_at<const N: usize>(row: &Row, at: usize) -> Result<[u8; N],
 
 /// A digest that `digest_or_null` wrote. It takes no memory.
 pub(crate) fn digest_or_null_at(row: &Row, at: usize) -> Result<Option<[u8; 32]>, Error>
-    ensures told { IfOk result (λ read. column row.now at ≡ or_null Blob read) }
+    ensures reported { IfOk result (λ read. column row.now at ≡ or_null Blob read) }
     ensures refused { IfErr result (λ _. ¬ (HasAt (IsNullOr (IsDigestValue 32)) row.now at)) }
 {
     match row.get_ref(at)? {

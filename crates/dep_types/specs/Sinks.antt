@@ -1,4 +1,4 @@
--- What a sink of files was given, as one transcript: bytes stand for themselves, and marks above
+-- What a sink of files was given, as one transcript: bytes represent themselves, and marks above
 -- all bytes say where a folder was made, and where a file begins and ends.
 use Rattle.std.specs.Prelude.{◌≡◌, ℕ, List, [], ◌∷◌, ◌++◌, flat_map}
 
@@ -38,7 +38,7 @@ file_given file = file_begun file.0 ++ file.1 ++ file_ended
 abbrev pub transcript : (folders : List (List ℕ)) (files : List Entry) → List ℕ
 transcript folders files = flat_map folder_made folders ++ flat_map file_given files
 
--- the front of some bytes, perhaps all of them
-pub record IsFront (front whole : List ℕ) : Type 0 where
+-- the prefix of some bytes, perhaps all of them
+pub record IsPrefix (front whole : List ℕ) : Type 0 where
   pub rest : List ℕ
   pub joined : whole ≡ front ++ rest

@@ -16,7 +16,7 @@ pub record HasContent (s : State) (number : ℕ) (bytes : List ℕ) : Type 0 whe
 abbrev pub HasNoFile : State → ℕ → Type 0
 HasNoFile s number = (n : ℕ) → file_at s n number ≡ None
 
--- a front of the content was sent, and not all of it
+-- a prefix of the content was sent, and not all of it
 pub record IsPartOfContent (s : State) (number : ℕ) (sent : List ℕ) : Type 0 where
   pub whole : List ℕ
   pub has : HasContent s number whole

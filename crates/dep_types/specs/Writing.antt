@@ -2,7 +2,7 @@
 use Rattle.std.specs.Prelude.{◌≡◌, ◌≢◌, ℕ, ◌+◌, ◌-◌, ◌^◌, min, List, [], ◌++◌, Option}
 use Rattle.std.specs.Io.KnownBytes.{Appends}
 
--- the front of some bytes, with something behind it
+-- the prefix of some bytes, with something behind it
 pub record IsProperPrefix (front whole : List ℕ) : Type 0 where
   pub rest : List ℕ
   pub joined : whole ≡ front ++ rest

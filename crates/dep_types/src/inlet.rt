@@ -45,7 +45,7 @@ pub trait Inlet {
     /// How the last of them ended.
     ghost last: { Self → LastRead };
 
-    /// Reads once, to the front of the buffer, and returns how many bytes it gave. It gives none only where
+    /// Reads once, to the prefix of the buffer, and returns how many bytes it gave. It gives none only where
     /// there are no more, or where the buffer has no room.
     fn read(&mut self, buffer: &mut [u8]) -> Result<usize, ReadFailed>
         ensures bound { ReadsAtMost result buffer.new }

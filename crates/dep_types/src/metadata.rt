@@ -105,7 +105,7 @@ impl Metadata {
     }
 
     /// Puts texts under a name, in place of those that were there. No name is moved where this one is behind
-    /// all others. An `Err` is want of memory, and changes nothing.
+    /// all others. An `Err` is lack of memory, and changes nothing.
     pub fn insert(&mut self, name: Text, texts: TextList) -> Result<(), AllocError>
         ensures ok { OnOk result (self.new ≡ map.insert self.old name texts) }
         ensures err { OnErr result (self.new ≡ self.old) }

@@ -48,7 +48,7 @@ impl fmt::Display for StreamFault {
 impl Error for StreamFault {}
 
 impl From<StoreFault> for StreamFault {
-    ghost from_gives = { λ fault told. told ≡ stream_fault_for fault };
+    ghost from_gives = { λ fault reported. reported ≡ stream_fault_for fault };
 
     fn from(fault: StoreFault) -> StreamFault {
         match fault {

@@ -24,7 +24,7 @@ impl Text {
         Text { text }
     }
 
-    /// Returns a copy of the text. An `Err` is want of memory.
+    /// Returns a copy of the text. An `Err` is lack of memory.
     pub fn copied(alloc: Global, text: &str) -> Result<Text, AllocError>
         ensures { IfOk result (λ copied. copied ≡ text.now) }
     {

@@ -37,29 +37,29 @@ rows_alone s [] = refl
 rows_alone s (u ∷ us) = (λ i. record { upload = u; state = row_alone s u i } ∷ rows_alone s us i)
 
 module _ (s : State) (u : ℕ) where
-  abbrev told_by : Option Staged → Bool → UploadState
-  told_by o b = option_map_or (λ it. Live (live_upload true u it)) o (if b then TimedOut else Unknown)
+  abbrev reported_by : Option Staged → Bool → UploadState
+  reported_by o b = option_map_or (λ it. Live (live_upload true u it)) o (if b then TimedOut else Unknown)
 
   -- what isn't there has no digest
-  pub told_gone : (state : UploadState) → ((live : LiveUpload) → state ≢ Live live) → state ≡ state_undigested (upload_state true s u) → state ≡ upload_state true s u
-  told_gone state gone = go (finmap.get s.uploads u) (set.contains s.timed_out u)
+  pub reported_gone : (state : UploadState) → ((live : LiveUpload) → state ≢ Live live) → state ≡ state_undigested (upload_state true s u) → state ≡ upload_state true s u
+  reported_gone state gone = go (finmap.get s.uploads u) (set.contains s.timed_out u)
     where
-      go : (o : Option Staged) (b : Bool) → state ≡ state_undigested (told_by o b) → state ≡ told_by o b
+      go : (o : Option Staged) (b : Bool) → state ≡ state_undigested (reported_by o b) → state ≡ reported_by o b
       go (Some it) b same = absurd (gone _ same)
       go None true same = same
       go None false same = same
 
-  pub told_hashed : (live : LiveUpload) (digests : Option Digests) → Live live ≡ state_undigested (upload_state true s u)
+  pub reported_hashed : (live : LiveUpload) (digests : Option Digests) → Live live ≡ state_undigested (upload_state true s u)
       → ((it : Staged) → finmap.get s.uploads live.row.upload ≡ Some it → live.row.count ≡ it.count → live.is_whole ≡ is_complete it → digests ≡ assembled_digests it)
       → Live (record { row = live.row; is_whole = live.is_whole; digests = digests }) ≡ upload_state true s u
-  told_hashed live digests seen told = go (finmap.get s.uploads u) (set.contains s.timed_out u) refl seen
+  reported_hashed live digests seen reported = go (finmap.get s.uploads u) (set.contains s.timed_out u) refl seen
     where
-      go : (o : Option Staged) (b : Bool) → finmap.get s.uploads u ≡ o → Live live ≡ state_undigested (told_by o b) → Live (record { row = live.row; is_whole = live.is_whole; digests = digests }) ≡ told_by o b
+      go : (o : Option Staged) (b : Bool) → finmap.get s.uploads u ≡ o → Live live ≡ state_undigested (reported_by o b) → Live (record { row = live.row; is_whole = live.is_whole; digests = digests }) ≡ reported_by o b
       go (Some it) b there same =
           let is : live ≡ record (live_upload true u it) { digests = None } = cc same in
           let row : live.row ≡ upload_row u it = ap (λ (l : LiveUpload). l.row) is in
           let whole : live.is_whole ≡ is_complete it = ap (λ (l : LiveUpload). l.is_whole) is in
-          let hashed = told it (ap (λ (r : UploadRow). finmap.get s.uploads r.upload) row ∙ there) (ap (λ (r : UploadRow). r.count) row) whole in
+          let hashed = reported it (ap (λ (r : UploadRow). finmap.get s.uploads r.upload) row ∙ there) (ap (λ (r : UploadRow). r.count) row) whole in
           λ i. Live (record { row = row i; is_whole = whole i; digests = hashed i })
       go None true there same = absurd (cc same)
       go None false there same = absurd (cc same)
@@ -91,10 +91,10 @@ module _ (s : State) (content : List ℕ) (t : Touched) (loaded : LoadedView) wh
     -- until it was
     pub seen_named : (views : List UploadView) (with : LoadedView) → is_some loaded.view.references ≡ true → views ≡ map (upload_undigested true s) loaded.uploads
         → with ≡ record loaded { view = record loaded.view { uploads = views } } → with ≡ loaded_undigested s content t
-    seen_named views with some told is =
+    seen_named views with some reported is =
         let b = by_reference _ same refl true some in
         let us : views ≡ map (upload_undigested (is_some t.references) s) t.uploads =
-        told ∙ ap (λ (l : LoadedView). map (upload_undigested true s) l.uploads) same ∙ ap (λ x. map (upload_undigested x s) t.uploads) (sym b) in
+        reported ∙ ap (λ (l : LoadedView). map (upload_undigested true s) l.uploads) same ∙ ap (λ x. map (upload_undigested x s) t.uploads) (sym b) in
         is ∙ (λ i. record (same i) { view = record (same i).view { uploads = us i } })
 
   module _ (same : loaded ≡ loaded_undigested s content t) where
@@ -112,9 +112,9 @@ module _ (s : State) (content : List ℕ) (t : Touched) (loaded : LoadedView) wh
 
     pub hashed_all : (uploads : List UploadView) (with : LoadedView) → is_some loaded.view.references ≡ true → uploads ≡ map (λ (v : UploadView). upload_view true s v.upload) loaded.view.uploads
         → with ≡ record loaded { view = record loaded.view { uploads = uploads } } → with ≡ loaded_with_digests s content t
-    hashed_all uploads with some told is =
+    hashed_all uploads with some reported is =
         let b = by_reference _ same refl true some in
         let us : uploads ≡ map (upload_view (is_some t.references) s) t.uploads =
-        told ∙ ap (λ (l : LoadedView). map (λ (v : UploadView). upload_view true s v.upload) l.view.uploads) same
+        reported ∙ ap (λ (l : LoadedView). map (λ (v : UploadView). upload_view true s v.upload) l.view.uploads) same
         ∙ hashed_each s (is_some t.references) t.uploads ∙ ap (λ x. map (upload_view x s) t.uploads) (sym b) in
         is ∙ (λ i. record (same i) { view = record (same i).view { uploads = us i } })

@@ -32,12 +32,12 @@ both (Some x) r = refl
 -- ---- what is seen at a number
 
 module _ (s : State) (u : ℕ) (by_reference : Bool) (state : UploadState) (o : Option Refusal) where
-  pub missing_told : o ≡ missing_refusal (live_in state) (is_timed_out state) → state ≡ state_seen by_reference s u → upload_refusal (in_state s) u ≡ o
-  missing_told e is = sym (e ∙ ap (λ (x : UploadState). missing_refusal (live_in x) (is_timed_out x)) is ∙ missing_seen by_reference s u)
+  pub missing_reported : o ≡ missing_refusal (live_in state) (is_timed_out state) → state ≡ state_seen by_reference s u → upload_refusal (in_state s) u ≡ o
+  missing_reported e is = sym (e ∙ ap (λ (x : UploadState). missing_refusal (live_in x) (is_timed_out x)) is ∙ missing_seen by_reference s u)
 
 module _ (s : State) (u : ℕ) (state : UploadState) (o : Option Refusal) where
-  pub segments_told : o ≡ seen.segments_refusal state → state ≡ state_seen true s u → segments_refusal (in_state s) u ≡ o
-  segments_told e is = sym (e ∙ ap seen.segments_refusal is ∙ segments_seen s u)
+  pub segments_reported : o ≡ seen.segments_refusal state → state ≡ state_seen true s u → segments_refusal (in_state s) u ≡ o
+  segments_reported e is = sym (e ∙ ap seen.segments_refusal is ∙ segments_seen s u)
 
 -- ---- one after another
 

@@ -1,6 +1,6 @@
 pub mod Counted
 pub mod Chains
-pub mod Told
+pub mod Reported
 pub mod Found
 pub mod Paths
 pub mod Shows

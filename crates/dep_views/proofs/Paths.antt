@@ -13,7 +13,7 @@ use Rattle.dep_types.specs.BagPaths.{tag_paths, payload_path, payload_paths, bag
 use Rattle.dep_types.specs.declared.rows.ObjectRow.{ObjectRow}
 use Rattle.dep_types.specs.declared.rows.FileRow.{FileRow}
 use Rattle.dep_bag.specs.Numbered.{file_number}
-use Rattle.dep_manifest.specs.Told.{row_path}
+use Rattle.dep_manifest.specs.Reported.{row_path}
 use Rattle.dep_bag.proofs.Numbered.{HasStorable, files_storable, found_by_number, none_by_number, numbered, stands_at}
 use Rattle.dep_decisions.specs.LookUps.{has_bag_path}
 use Rattle.dep_operations.specs.Views.{has_path, touched_object}
@@ -51,8 +51,8 @@ module _ (s : State) (sound : IsSound s) (n : ℕ) (path : List ℕ) where
       go true = refl
       go false = refl
 
-  payload_told : (o : Object) → finmap.get s.objects n ≡ Some o → row_there (file_at_path s n path) ≡ list_any (bytes_eq path) (payload_paths o)
-  payload_told o is = go (file_number path) refl ∙ sym (any_found path (finmap.entries o.files))
+  payload_reported : (o : Object) → finmap.get s.objects n ≡ Some o → row_there (file_at_path s n path) ≡ list_any (bytes_eq path) (payload_paths o)
+  payload_reported o is = go (file_number path) refl ∙ sym (any_found path (finmap.entries o.files))
     where
       go : (k : Option ℕ) → file_number path ≡ k → row_there (option_and_then (λ f. option_map (file_row n f) (file_at s n f)) k) ≡ is_some (find (stands_at path) (finmap.entries o.files))
       go None e = sym (ap (λ (x : Option (ℕ × File)). is_some x) (none_by_number path e o.files (small o is)))
@@ -61,14 +61,14 @@ module _ (s : State) (sound : IsSound s) (n : ℕ) (path : List ℕ) where
           ∙ by_number o f (finmap.get o.files f)
           ∙ sym (ap (λ (x : Option (ℕ × File)). is_some x) (found_by_number path f e o.files (small o is)))
 
-  abbrev told : Bool
-  told = list_any (bytes_eq path) (tag_paths ++ map row_path (option_to_list (file_at_path s n path)))
+  abbrev reported : Bool
+  reported = list_any (bytes_eq path) (tag_paths ++ map row_path (option_to_list (file_at_path s n path)))
 
-  of_object : (row : ObjectRow) (x : Option Object) → finmap.get s.objects n ≡ x → Some row ≡ option_map (object_row n) x → told ≡ has_bag_path s n path
+  of_object : (row : ObjectRow) (x : Option Object) → finmap.get s.objects n ≡ x → Some row ≡ option_map (object_row n) x → reported ≡ has_bag_path s n path
   of_object row None is e = absurd (cc)
   of_object row (Some o) is e =
       list_any-append (bytes_eq path) tag_paths (map row_path (option_to_list (file_at_path s n path)))
-      ∙ ap (λ b. list_any (bytes_eq path) tag_paths || b) (payload_told o is)
+      ∙ ap (λ b. list_any (bytes_eq path) tag_paths || b) (payload_reported o is)
       ∙ sym (list_any-append (bytes_eq path) tag_paths (payload_paths o))
       ∙ sym (ap (λ x. option_map_or (λ (o : Object). list_any (bytes_eq path) (bag_paths o)) x false) is)
 
@@ -76,9 +76,9 @@ row_number : (s : State) (n : ℕ) (row : ObjectRow) (x : Option Object) → Som
 row_number s n row None e = absurd (cc)
 row_number s n row (Some o) e = let same : row ≡ object_row n o = cc in ap (λ (r : ObjectRow). r.object) same
 
-pub path_told : (s : State) (t : Touched) (row : ObjectRow) (path : List ℕ) → IsSound s → Some row ≡ touched_object s t → t.path ≡ Some path
+pub path_reported : (s : State) (t : Touched) (row : ObjectRow) (path : List ℕ) → IsSound s → Some row ≡ touched_object s t → t.path ≡ Some path
     → list_any (bytes_eq path) (tag_paths ++ map row_path (option_to_list (file_at_path s row.object path))) ≡ has_path s t
-path_told s t row path sound there at = go t.object refl there
+path_reported s t row path sound there at = go t.object refl there
   where
     go : (n : Option ℕ) → t.object ≡ n → Some row ≡ maps.◌>>=◌ n (λ n. option_map (object_row n) (finmap.get s.objects n))
         → list_any (bytes_eq path) (tag_paths ++ map row_path (option_to_list (file_at_path s row.object path))) ≡ has_path s t

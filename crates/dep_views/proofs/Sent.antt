@@ -82,8 +82,8 @@ module _ (s : State) (by_reference : Bool) (u : ℕ) where
       go (Some it) e = absurd (gone (live_by it) (sym e))
 
   -- an upload that is there is told with its count
-  pub told_there : (live : LiveUpload) → Live live ≡ state_undigested (upload_state by_reference s u) → (it : Staged) × (finmap.get s.uploads u ≡ Some it) × (live.row.count ≡ it.count)
-  told_there live is = go (finmap.get s.uploads u) (set.contains s.timed_out u) refl is
+  pub reported_there : (live : LiveUpload) → Live live ≡ state_undigested (upload_state by_reference s u) → (it : Staged) × (finmap.get s.uploads u ≡ Some it) × (live.row.count ≡ it.count)
+  reported_there live is = go (finmap.get s.uploads u) (set.contains s.timed_out u) refl is
     where
       go : (o : Option Staged) (b : Bool) → finmap.get s.uploads u ≡ o → Live live ≡ state_by o b → (it : Staged) × (finmap.get s.uploads u ≡ Some it) × (live.row.count ≡ it.count)
       go None true at e = absurd (cc)
@@ -95,7 +95,7 @@ module _ (s : State) (by_reference : Bool) (u : ℕ) where
   lacks_beyond live sound is k beyond = ap (λ o. finmap.get (option_map_or (λ (x : Staged). x.segments) o finmap.empty) k) it.1 ∙ go (finmap.get (it.0).segments k) refl
     where
       it : (it : Staged) × (finmap.get s.uploads u ≡ Some it) × (live.row.count ≡ it.count)
-      it = told_there live is
+      it = reported_there live is
 
       go : (o : Option (List ℕ)) → finmap.get (it.0).segments k ≡ o → o ≡ None
       go None e = refl
@@ -107,9 +107,9 @@ module _ (s : State) (by_reference : Bool) (u : ℕ) where
 -- the first upload that was looked at, by its view
 pub first_view : (s : State) (by_reference : Bool) (views : List UploadView) (uploads : List ℕ) (none : UploadView) (u : ℕ) → views ≡ map (upload_undigested by_reference s) uploads → 1 ≤ length views
     → (get_or views 0 none).upload ≡ u → (get_or views 0 none).state ≡ state_undigested (upload_state by_reference s u)
-first_view s by_reference views uploads none u told some same =
-    subst (λ (vs : List UploadView). (get_or vs 0 none).state ≡ state_undigested (upload_state by_reference s u)) (sym told)
-    (go uploads (subst (λ (vs : List UploadView). 1 ≤ length vs) told some) (subst (λ (vs : List UploadView). (get_or vs 0 none).upload ≡ u) told same))
+first_view s by_reference views uploads none u reported some same =
+    subst (λ (vs : List UploadView). (get_or vs 0 none).state ≡ state_undigested (upload_state by_reference s u)) (sym reported)
+    (go uploads (subst (λ (vs : List UploadView). 1 ≤ length vs) reported some) (subst (λ (vs : List UploadView). (get_or vs 0 none).upload ≡ u) reported same))
   where
     go : (us : List ℕ) → 1 ≤ length (map (upload_undigested by_reference s) us) → (get_or (map (upload_undigested by_reference s) us) 0 none).upload ≡ u → (get_or (map (upload_undigested by_reference s) us) 0 none).state ≡ state_undigested (upload_state by_reference s u)
     go [] some same = absurd (omega (arith, some))

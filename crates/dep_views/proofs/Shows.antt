@@ -12,11 +12,11 @@ use Rattle.dep_types.specs.declared.rows.FileRow.{FileRow}
 use Rattle.dep_types.specs.declared.rows.ObjectRow.{ObjectRow}
 use Rattle.dep_types.specs.declared.rows.UploadRow.{UploadRow}
 use Rattle.dep_types.specs.declared.store_fault.StoreFault.{StoreFault}
-use Rattle.dep_answers.specs.Subjects.{payload_view, shown_at}
-use Rattle.dep_answers.specs.declared.subject.Shown.{Shown}
-use Rattle.dep_answers.specs.declared.subject.Subject.{Subject}
-use Rattle.dep_answers.specs.declared.subject.Subject.TheVariants as subject
-use Rattle.dep_answers.specs.declared.subject.Shown.TheVariants as shown
+use Rattle.dep_answers.specs.ReadSets.{payload_view, shown_at}
+use Rattle.dep_answers.specs.declared.read_set.Shown.{Shown}
+use Rattle.dep_answers.specs.declared.read_set.ReadSet.{ReadSet}
+use Rattle.dep_answers.specs.declared.read_set.ReadSet.TheVariants as read_set
+use Rattle.dep_answers.specs.declared.read_set.Shown.TheVariants as shown
 use Rattle.dep_staging.specs.Found.{IsFound, found_row, gone_row}
 use Rattle.dep_staging.specs.declared.loading.FoundRow.{FoundRow}
 use Rattle.dep_staging.specs.declared.loading.FoundRow.TheVariants as by_row
@@ -43,19 +43,19 @@ module _ {X Y Z : Type 0} (f : X → Y) (g : Y → Z) (z : Z) where
   none_shown (Some x) e = absurd (cc)
 
 module _ (s : State) (u : ℕ) where
-  at : (o : Option Staged) → finmap.get s.uploads u ≡ o → shown_at s (subject.Upload u) ≡ option_map_or (λ it. shown.Upload (upload_row u it) (finmap.keys it.segments)) o shown.Nothing
+  at : (o : Option Staged) → finmap.get s.uploads u ≡ o → shown_at s (read_set.Upload u) ≡ option_map_or (λ it. shown.Upload (upload_row u it) (finmap.keys it.segments)) o shown.Nothing
   at o is = ap (λ x. option_map_or (λ (it : Staged). shown.Upload (upload_row u it) (finmap.keys it.segments)) x shown.Nothing) is
 
   -- what became of an upload that isn't there
-  pub no_upload_shown : (gone : FoundRow) → ((its : UploadRow) → by_row.Live its ≡ gone → ⊥) → found_row s u ≡ gone → shown.Nothing ≡ shown_at s (subject.Upload u)
+  pub no_upload_shown : (gone : FoundRow) → ((its : UploadRow) → by_row.Live its ≡ gone → ⊥) → found_row s u ≡ gone → shown.Nothing ≡ shown_at s (read_set.Upload u)
   no_upload_shown gone other h = go (finmap.get s.uploads u) refl h
     where
-      go : (o : Option Staged) → finmap.get s.uploads u ≡ o → option_map_or (λ it. by_row.Live (upload_row u it)) o (gone_row s u) ≡ gone → shown.Nothing ≡ shown_at s (subject.Upload u)
+      go : (o : Option Staged) → finmap.get s.uploads u ≡ o → option_map_or (λ it. by_row.Live (upload_row u it)) o (gone_row s u) ≡ gone → shown.Nothing ≡ shown_at s (read_set.Upload u)
       go None is e = sym (at None is)
       go (Some it) is e = absurd (other (upload_row u it) e)
 
   pub upload_shown : (staged : StagedUpload) (numbers : List ℕ) → IsFound s u (found.Live staged) → numbers ≡ map (λ segment. segment.number) staged.received.items
-      → shown.Upload staged.row numbers ≡ shown_at s (subject.Upload u)
+      → shown.Upload staged.row numbers ≡ shown_at s (read_set.Upload u)
   upload_shown staged numbers h are =
       let row = h.1.row in
       let keys = are ∙ ap (map (λ segment. segment.number)) h.1.received ∙ numbers_are u (finmap.entries (h.0).segments) in
@@ -83,13 +83,13 @@ listed_shown values_of s row files has are = go (finmap.get s.objects row.object
 
 -- what is shown by the row that was found is what is shown of the object
 pub shown_behind : {T L : Type 0} {lenders : T → L} {state : T → db.State} {old mid new : T} {r : Result Shown StoreFault} {found : Option ObjectRow}
-    (by_number : ℕ → Subject) (n : ℕ) (row : ObjectRow) → found ≡ Some row
+    (by_number : ℕ → ReadSet) (n : ℕ) (row : ObjectRow) → found ≡ Some row
     → ReadsMaps lenders state old mid (Ok found) (λ s found. found ≡ option_map (object_row n) (finmap.get s.objects n))
     → ReadsShown lenders state mid new r (by_number row.object) (λ s. HasRow s row)
     → ReadsShown lenders state old new r (by_number n) (λ _. ⊤)
 shown_behind {state = state} {old = old} {mid = mid} {r = r} by_number n row is first second = record {
   map = record {
-    found = λ clean inside ours s are sound told.
+    found = λ clean inside ours s are sound reported.
         let before = clean_before second.map.keeps.stays clean in
         let same = first.keeps.same before ours in
         let it = sym is ∙ first.map before ours s are in
@@ -101,16 +101,16 @@ shown_behind {state = state} {old = old} {mid = mid} {r = r} by_number n row is 
 
 -- ---- what a reply shows of a subject
 
-module _ {T L : Type 0} {lenders : T → L} {state : T → db.State} {old new : T} {r : Result Shown StoreFault} (a b : Subject) (is : a ≡ b) (told : State → Type 0) where
+module _ {T L : Type 0} {lenders : T → L} {state : T → db.State} {old new : T} {r : Result Shown StoreFault} (a b : ReadSet) (is : a ≡ b) (reported : State → Type 0) where
   -- what is read of one subject is read of the same under another name
-  pub reads_shown : ReadsShown lenders state old new r b told → MayReadShown lenders state old new r a told
+  pub reads_shown : ReadsShown lenders state old new r b reported → MayReadShown lenders state old new r a reported
   reads_shown reads =
-      subst (λ (x : Subject). MayReadShown lenders state old new r x told) (sym is) (record {
+      subst (λ (x : ReadSet). MayReadShown lenders state old new r x reported) (sym is) (record {
         map = record { found = reads.map.found; keeps = may_read reads.map.keeps };
         still = λ clean ours. ok_then r (reads.map.keeps.same clean ours) (λ same. same.0.now_is);
       })
 
 -- nothing is shown where a reading failed
-pub shown_failed : {T L : Type 0} {lenders : T → L} {state : T → db.State} {old new : T} {r : Result Shown StoreFault} {subject : Subject} {told : State → Type 0}
-    → IsErr r → ReadsWithin lenders state old new r → ReadsShown lenders state old new r subject told
-shown_failed {r = r} is keeps = record { map = record { found = λ clean inside ours s are sound told. IfOk-from_err r _ is; keeps = keeps } }
+pub shown_failed : {T L : Type 0} {lenders : T → L} {state : T → db.State} {old new : T} {r : Result Shown StoreFault} {read_set : ReadSet} {reported : State → Type 0}
+    → IsErr r → ReadsWithin lenders state old new r → ReadsShown lenders state old new r read_set reported
+shown_failed {r = r} is keeps = record { map = record { found = λ clean inside ours s are sound reported. IfOk-from_err r _ is; keeps = keeps } }

@@ -10,24 +10,24 @@ use Rattle.dep_types.specs.declared.rows.ObjectView.{ObjectView}
 use Rattle.dep_types.specs.declared.store_fault.StoreFault.{StoreFault}
 use Rattle.dep_tables.specs.Tables.{IsOurs}
 use Rattle.dep_row_maps.specs.Clauses.{Finds, MayFind}
-use Rattle.dep_answers.specs.Subjects.{shown_at}
-use Rattle.dep_answers.specs.declared.subject.Subject.{Subject}
-use Rattle.dep_answers.specs.declared.subject.Shown.{Shown}
+use Rattle.dep_answers.specs.ReadSets.{shown_at}
+use Rattle.dep_answers.specs.declared.read_set.ReadSet.{ReadSet}
+use Rattle.dep_answers.specs.declared.read_set.Shown.{Shown}
 
 -- the object of this number is there, and this is all that is told of it
 abbrev pub IsViewOf : State → ℕ → ObjectView → Type 0
 IsViewOf s n view = Some view ≡ option_map (object_view n) (finmap.get s.objects n)
 
 module _ {T L : Type 0} (lenders : T → L) (state : T → db.State) (old new : T)
-    (result : Result Shown StoreFault) (subject : Subject) where
+    (result : Result Shown StoreFault) (read_set : ReadSet) where
   -- what a call does that reads what a sound state shows of the subject, where this is told of it
-  pub record ReadsShown (told : State → Type 0) : Type 0 where
+  pub record ReadsShown (reported : State → Type 0) : Type 0 where
     pub map : Finds lenders state old new result
-        (λ s. IsSound s → told s → IfOk result (λ shown. shown ≡ shown_at s subject))
+        (λ s. IsSound s → reported s → IfOk result (λ shown. shown ≡ shown_at s read_set))
 
   -- the same of a call that reads, if anything
-  pub record MayReadShown (told : State → Type 0) : Type 0 where
+  pub record MayReadShown (reported : State → Type 0) : Type 0 where
     pub map : MayFind lenders state old new result
-        (λ s. IsSound s → told s → IfOk result (λ shown. shown ≡ shown_at s subject))
+        (λ s. IsSound s → reported s → IfOk result (λ shown. shown ≡ shown_at s read_set))
     pub still : HasCleanDisk (state new) → IsOurs (state old)
         → OnOk result ((state new).now ≡ (state old).now)

@@ -5,7 +5,7 @@ ghost use Rattle.dep_types.specs.Sound.{IsSound};
 ghost use Rattle.dep_operations.specs.Views.{upload_state};
 ghost use Rattle.dep_row_maps.specs.Clauses.{MayFind, MayReadOver};
 ghost use Rattle.dep_staging.specs.HashedAhead.{AreRunning, Hashes};
-ghost use Rattle.dep_views.specs.Seen.{GetsDigests, IsUndigested, TellsDigests, hashed_views, state_seen};
+ghost use Rattle.dep_views.specs.Seen.{GetsDigests, IsUndigested, ReportsDigests, hashed_views, state_seen};
 
 use crate::view::LoadedView;
 use dep_fixity::Digests;
@@ -30,7 +30,7 @@ fn digests_if_whole<T: Statements>(
 ) -> Result<Option<Digests>, StoreFault>
     ensures map { MayFind T.lenders T.state tx.old tx.new result
         (λ s. IsTrue (T.state tx.old).is_open → Hashes s running.old running.new
-        (TellsDigests s live.now result)) }
+        (ReportsDigests s live.now result)) }
 {
     if !live.is_whole {
         return Ok(None);

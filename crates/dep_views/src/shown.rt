@@ -1,13 +1,13 @@
 //! What a reply shows of the archive.
 
 ghost use Rattle.std.specs.Prelude.{⊤, IfSome};
-ghost use Rattle.dep_answers.specs.declared.subject.Subject.TheVariants as subject;
+ghost use Rattle.dep_answers.specs.declared.read_set.ReadSet.TheVariants as read_set;
 ghost use Rattle.dep_objects.specs.Objects.{HasRow};
 ghost use Rattle.dep_views.specs.Shown.{MayReadShown, ReadsShown};
 
 use crate::objects::{load_object_view, view_of};
 use crate::segments::numbers_of;
-use dep_answers::{FileId, Shown, Subject};
+use dep_answers::{FileId, ReadSet, Shown};
 use dep_files::{find_file, load_files, load_sha512s};
 use dep_objects::{describe, find_object, load_object};
 use dep_staging::{FoundUpload, load_upload};
@@ -17,7 +17,7 @@ use std::alloc::Global;
 
 fn show_object<T: Statements>(tx: &mut T, alloc: Global, object: u64) -> Result<Shown, StoreFault>
     ensures does { ReadsShown T.lenders T.state tx.old tx.new result
-        (subject.Object object) (λ _. ⊤) }
+        (read_set.Object object) (λ _. ⊤) }
 {
     match load_object_view(tx, alloc, object)? {
         Some(view) => Ok(Shown::Object(view)),
@@ -32,7 +32,7 @@ fn show_listed<T: Statements>(
     row: ObjectRow,
 ) -> Result<Shown, StoreFault>
     ensures does { ReadsShown T.lenders T.state tx.old tx.new result
-        (subject.Files row.object) (λ s. HasRow s row) }
+        (read_set.Files row.object) (λ s. HasRow s row) }
 {
     let files = load_files(tx, alloc, row.object)?;
     Ok(Shown::Files(ObjectView {
@@ -45,7 +45,7 @@ fn show_listed<T: Statements>(
 
 fn show_files<T: Statements>(tx: &mut T, alloc: Global, object: u64) -> Result<Shown, StoreFault>
     ensures does { ReadsShown T.lenders T.state tx.old tx.new result
-        (subject.Files object) (λ _. ⊤) }
+        (read_set.Files object) (λ _. ⊤) }
 {
     match find_object(tx, object)? {
         Some(row) => show_listed(tx, alloc, row),
@@ -60,7 +60,7 @@ fn show_hashed<T: Statements>(
     row: ObjectRow,
 ) -> Result<Shown, StoreFault>
     ensures does { ReadsShown T.lenders T.state tx.old tx.new result
-        (subject.Payload row.object) (λ s. HasRow s row) }
+        (read_set.Payload row.object) (λ s. HasRow s row) }
 {
     let files = load_files(tx, alloc, row.object)?;
     let sha512s = load_sha512s(tx, alloc, files.as_slice())?;
@@ -74,7 +74,7 @@ fn show_hashed<T: Statements>(
 
 fn show_payload<T: Statements>(tx: &mut T, alloc: Global, object: u64) -> Result<Shown, StoreFault>
     ensures does { ReadsShown T.lenders T.state tx.old tx.new result
-        (subject.Payload object) (λ _. ⊤) }
+        (read_set.Payload object) (λ _. ⊤) }
 {
     match find_object(tx, object)? {
         Some(row) => show_hashed(tx, alloc, row),
@@ -84,7 +84,7 @@ fn show_payload<T: Statements>(tx: &mut T, alloc: Global, object: u64) -> Result
 
 fn show_row<T: Statements>(tx: &mut T, object: u64) -> Result<Shown, StoreFault>
     ensures does { ReadsShown T.lenders T.state tx.old tx.new result
-        (subject.ObjectRow object) (λ _. ⊤) }
+        (read_set.ObjectRow object) (λ _. ⊤) }
 {
     match find_object(tx, object)? {
         Some(row) => Ok(Shown::ObjectRow(row)),
@@ -94,7 +94,7 @@ fn show_row<T: Statements>(tx: &mut T, object: u64) -> Result<Shown, StoreFault>
 
 fn show_metadata<T: Statements>(tx: &mut T, alloc: Global, object: u64) -> Result<Shown, StoreFault>
     ensures does { ReadsShown T.lenders T.state tx.old tx.new result
-        (subject.Metadata object) (λ _. ⊤) }
+        (read_set.Metadata object) (λ _. ⊤) }
 {
     match load_object(tx, alloc, object)? {
         Some(described) => Ok(Shown::Metadata {
@@ -106,7 +106,7 @@ fn show_metadata<T: Statements>(tx: &mut T, alloc: Global, object: u64) -> Resul
 }
 
 fn show_file<T: Statements>(tx: &mut T, id: FileId) -> Result<Shown, StoreFault>
-    ensures does { ReadsShown T.lenders T.state tx.old tx.new result (subject.File id) (λ _. ⊤) }
+    ensures does { ReadsShown T.lenders T.state tx.old tx.new result (read_set.File id) (λ _. ⊤) }
 {
     match find_file(tx, id.object, id.file)? {
         Some(row) => Ok(Shown::File(row)),
@@ -116,7 +116,7 @@ fn show_file<T: Statements>(tx: &mut T, id: FileId) -> Result<Shown, StoreFault>
 
 fn show_upload<T: Statements>(tx: &mut T, alloc: Global, upload: u64) -> Result<Shown, StoreFault>
     ensures does { ReadsShown T.lenders T.state tx.old tx.new result
-        (subject.Upload upload) (λ _. ⊤) }
+        (read_set.Upload upload) (λ _. ⊤) }
 {
     match load_upload(tx, alloc, upload)? {
         FoundUpload::Live(staged) => Ok(Shown::Upload {
@@ -132,26 +132,26 @@ fn show_upload<T: Statements>(tx: &mut T, alloc: Global, upload: u64) -> Result<
 fn read_shown<T: Statements>(
     tx: &mut T,
     alloc: Global,
-    subject: &Subject,
+    read_set: &ReadSet,
 ) -> Result<Shown, StoreFault>
-    ensures does { MayReadShown T.lenders T.state tx.old tx.new result subject.now (λ _. ⊤) }
+    ensures does { MayReadShown T.lenders T.state tx.old tx.new result read_set.now (λ _. ⊤) }
 {
-    match *subject {
-        Subject::Nothing => Ok(Shown::Nothing),
-        Subject::Object(object) => show_object(tx, alloc, object),
-        Subject::Payload(object) => show_payload(tx, alloc, object),
-        Subject::Files(object) => show_files(tx, alloc, object),
-        Subject::ObjectRow(object) => show_row(tx, object),
-        Subject::Metadata(object) => show_metadata(tx, alloc, object),
-        Subject::File(id) => show_file(tx, id),
-        Subject::Upload(upload) => show_upload(tx, alloc, upload),
+    match *read_set {
+        ReadSet::Nothing => Ok(Shown::Nothing),
+        ReadSet::Object(object) => show_object(tx, alloc, object),
+        ReadSet::Payload(object) => show_payload(tx, alloc, object),
+        ReadSet::Files(object) => show_files(tx, alloc, object),
+        ReadSet::ObjectRow(object) => show_row(tx, object),
+        ReadSet::Metadata(object) => show_metadata(tx, alloc, object),
+        ReadSet::File(id) => show_file(tx, id),
+        ReadSet::Upload(upload) => show_upload(tx, alloc, upload),
     }
 }
 
 // What is told of the object of this row.
 fn show_rest<T: Statements>(tx: &mut T, alloc: Global, row: ObjectRow) -> Result<Shown, StoreFault>
     ensures does { ReadsShown T.lenders T.state tx.old tx.new result
-        (subject.Object row.object) (λ s. HasRow s row) }
+        (read_set.Object row.object) (λ s. HasRow s row) }
 {
     let view = view_of(tx, alloc, row)?;
     Ok(Shown::Object(view))
@@ -160,7 +160,7 @@ fn show_rest<T: Statements>(tx: &mut T, alloc: Global, row: ObjectRow) -> Result
 // The object of this row, with its metadata.
 fn show_texts<T: Statements>(tx: &mut T, alloc: Global, row: ObjectRow) -> Result<Shown, StoreFault>
     ensures does { ReadsShown T.lenders T.state tx.old tx.new result
-        (subject.Metadata row.object) (λ s. HasRow s row) }
+        (read_set.Metadata row.object) (λ s. HasRow s row) }
 {
     let described = describe(tx, alloc, row)?;
     Ok(Shown::Metadata {
@@ -174,28 +174,28 @@ fn show_texts<T: Statements>(tx: &mut T, alloc: Global, row: ObjectRow) -> Resul
 pub fn load_shown<T: Statements>(
     tx: &mut T,
     alloc: Global,
-    subject: &Subject,
+    read_set: &ReadSet,
     known: Option<ObjectRow>,
 ) -> Result<Shown, StoreFault>
-    ensures does { MayReadShown T.lenders T.state tx.old tx.new result subject.now
+    ensures does { MayReadShown T.lenders T.state tx.old tx.new result read_set.now
         (λ s. IfSome known (HasRow s)) }
 {
-    match (*subject, known) {
-        (Subject::Object(object), Some(row)) if row.object == object => {
+    match (*read_set, known) {
+        (ReadSet::Object(object), Some(row)) if row.object == object => {
             show_rest(tx, alloc, row)
         }
-        (Subject::Payload(object), Some(row)) if row.object == object => {
+        (ReadSet::Payload(object), Some(row)) if row.object == object => {
             show_hashed(tx, alloc, row)
         }
-        (Subject::Files(object), Some(row)) if row.object == object => {
+        (ReadSet::Files(object), Some(row)) if row.object == object => {
             show_listed(tx, alloc, row)
         }
-        (Subject::ObjectRow(object), Some(row)) if row.object == object => {
+        (ReadSet::ObjectRow(object), Some(row)) if row.object == object => {
             Ok(Shown::ObjectRow(row))
         }
-        (Subject::Metadata(object), Some(row)) if row.object == object => {
+        (ReadSet::Metadata(object), Some(row)) if row.object == object => {
             show_texts(tx, alloc, row)
         }
-        _ => read_shown(tx, alloc, subject),
+        _ => read_shown(tx, alloc, read_set),
     }
 }

@@ -4,7 +4,7 @@ ghost use Rattle.std.specs.Prelude.{◌≡◌, ◌++◌, ⊤, IfOk, bytes_eq, ma
 ghost use Rattle.std.specs.List.{list_any};
 ghost use Rattle.std.specs.Option.{option_copied, option_to_list};
 ghost use Rattle.dep_types.specs.BagPaths.{tag_paths};
-ghost use Rattle.dep_manifest.specs.Told.{row_path};
+ghost use Rattle.dep_manifest.specs.Reported.{row_path};
 ghost use Rattle.dep_types.specs.Sound.{IsSound};
 ghost use Rattle.dep_operations.specs.Views.{touched_file, touched_object};
 ghost use Rattle.dep_row_maps.specs.Clauses.{MayFind};

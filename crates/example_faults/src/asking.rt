@@ -3,7 +3,7 @@
 use crate::hub::{arrives, connected};
 use crate::script::Request;
 use dep_hub::{Archive, Arrived, Hub};
-use example_text::{Page, Pieces, Reply, Trouble, differing};
+use example_text::{ExamplePage, Pieces, ReplyMatch, Trouble, differing};
 use std::alloc::Global;
 
 /// Asks these bytes. What is sent for them is all that the page has then.
@@ -11,7 +11,7 @@ pub fn asked<A: Archive + Drop>(
     hub: &mut Hub<A>,
     pieces: Pieces<'_>,
     moment: u64,
-    page: &mut Page,
+    page: &mut ExamplePage,
 ) -> Result<Arrived, Trouble> {
     page.clear();
     let connection = connected(hub)?;
@@ -25,18 +25,18 @@ pub fn replied<A: Archive + Drop>(
     alloc: Global,
     hub: &mut Hub<A>,
     request: &Request,
-    page: &mut Page,
-) -> Result<Reply, Trouble> {
+    page: &mut ExamplePage,
+) -> Result<ReplyMatch, Trouble> {
     let exchange = &request.exchange;
     let came = asked(hub, exchange.pieces(), exchange.moment, page)?;
     let (want, sent) = (exchange.want.as_slice(), page.bytes()?);
-    let reply = Reply::of(want, sent);
+    let reply = ReplyMatch::of(want, sent);
     let stands = match reply {
-        Reply::Other => return Err(differing(alloc, want, sent)),
-        Reply::AsWritten if request.closes => Arrived::Closed,
-        Reply::AsWritten => Arrived::Open,
-        Reply::Fixed => Arrived::Closed,
-        Reply::Cut => Arrived::Cut,
+        ReplyMatch::Other => return Err(differing(alloc, want, sent)),
+        ReplyMatch::AsWritten if request.closes => Arrived::Closed,
+        ReplyMatch::AsWritten => Arrived::Open,
+        ReplyMatch::Fixed => Arrived::Closed,
+        ReplyMatch::Cut => Arrived::Cut,
     };
     if came == stands {
         Ok(reply)

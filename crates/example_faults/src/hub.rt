@@ -3,7 +3,7 @@
 use dep_hub::{Archive, Arrived, ConnId, ConnectFault, Hub, HubFault};
 use dep_moment::Moment;
 use dep_types::Through;
-use example_text::{Page, Pieces, Settings, Trouble};
+use example_text::{ExamplePage, Pieces, Settings, Trouble};
 use std::alloc::{AllocError, Global};
 
 /// A hub over the archive by this configuration, or why there is none, with the archive.
@@ -41,7 +41,7 @@ pub fn arrives<A: Archive + Drop>(
     connection: ConnId,
     pieces: Pieces<'_>,
     moment: u64,
-    page: &mut Page,
+    page: &mut ExamplePage,
 ) -> Arrived {
     let mut out = Through::new(page);
     let mut came = Arrived::Open;

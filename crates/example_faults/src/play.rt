@@ -5,7 +5,7 @@ use crate::fault::Fault;
 use crate::hub::{hub_over, trouble_of};
 use crate::script::{Request, Script};
 use dep_hub::{Archive, Hub};
-use example_text::{Cut, Page, Reply, Settings, Trouble, differing, parting};
+use example_text::{Cut, ExamplePage, ReplyMatch, Settings, Trouble, differing, parting};
 use std::alloc::{AllocError, Global};
 use std::mem;
 
@@ -54,7 +54,7 @@ pub struct FaultPlay<'a> {
     pictures: Vec<Vec<Vec<u8>>>,
     /// What was looked at last.
     seen: Vec<Vec<u8>>,
-    page: Page,
+    page: ExamplePage,
     /// So many requests are done.
     done: usize,
     /// The one behind these was given up.
@@ -76,7 +76,7 @@ impl<'a> FaultPlay<'a> {
             part: Part::Record,
             pictures: Vec::new(alloc),
             seen: Vec::new(alloc),
-            page: Page::new(alloc)?,
+            page: ExamplePage::new(alloc)?,
             done: 0,
             has_work: false,
             end: End::Unopened,
@@ -138,7 +138,7 @@ impl<'a> FaultPlay<'a> {
         for request in &script.requests {
             let _is_new = self.adds_picture(hub, request.exchange.moment)?;
             let reply = replied(self.alloc, hub, request, &mut self.page)?;
-            if !matches!(reply, Reply::AsWritten) {
+            if !matches!(reply, ReplyMatch::AsWritten) {
                 return Ok(false);
             }
             let is_new = self.adds_picture(hub, LOOKING)?;
@@ -181,11 +181,11 @@ impl<'a> FaultPlay<'a> {
         for request in script.requests.iter().skip(self.done) {
             let reply = replied(self.alloc, hub, request, &mut self.page)?;
             // A reply is cut behind its request's step, so that only a fixed one leaves the request in work.
-            self.has_work = matches!(reply, Reply::Fixed);
+            self.has_work = matches!(reply, ReplyMatch::Fixed);
             if !self.has_work {
                 self.done = self.done.saturating_add(1);
             }
-            if !matches!(reply, Reply::AsWritten) {
+            if !matches!(reply, ReplyMatch::AsWritten) {
                 return Ok(false);
             }
         }
@@ -222,7 +222,7 @@ impl<'a> FaultPlay<'a> {
         if let Some(picture) = self.pictures.get(place)
             && let Some(want) = picture.get(look)
         {
-            return !matches!(Reply::of(want.as_slice(), sent), Reply::Other);
+            return !matches!(ReplyMatch::of(want.as_slice(), sent), ReplyMatch::Other);
         }
         false
     }
@@ -267,7 +267,7 @@ impl<'a> FaultPlay<'a> {
             && let (Some(want), Some(sent)) = (picture.get(look), seen.get(look))
         {
             let why = differing(self.alloc, want.as_slice(), sent.as_slice());
-            return Trouble::told(format!(in self.alloc;
+            return Trouble::reported(format!(in self.alloc;
                 "opened again, what is looked at is neither as before the request in work nor as after it: {why}"
             ));
         }

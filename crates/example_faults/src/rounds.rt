@@ -74,7 +74,7 @@ fn at_each_call<F: FaultyFiles>(
             Err(why) => {
                 return Err(match plays_round(files, play, at) {
                     Ok(_) => Trouble::Memory,
-                    Err(_) => Trouble::told(format!(in play.alloc; "{at}: {why}")),
+                    Err(_) => Trouble::reported(format!(in play.alloc; "{at}: {why}")),
                 });
             }
         }

@@ -115,7 +115,7 @@ impl Client {
     }
 
     /// The place at which it sits, where its socket may be ready and this is returned for the first time.
-    pub fn is_told(&mut self) -> Option<usize> {
+    pub fn is_reported(&mut self) -> Option<usize> {
         if !self.is_ready {
             return None;
         }
@@ -137,7 +137,7 @@ impl Client {
         ensures some { 0 < coming self.old room.old → result ≡ Received.Bytes (coming self.old room.old) }
         ensures none { unsent self.old ≡ [] → result ≡ end_of self.old.silence }
         ensures taken { self.new.taken ≡ self.old.taken }
-        ensures told { Receives None None room.new result }
+        ensures reported { Receives None None room.new result }
     {
         let left = self.unsent();
         let count = left.len().min(self.at_once).min(room.len());
@@ -165,7 +165,7 @@ impl Client {
         ensures full { self.old.is_broken ≡ false → fitting self.old bytes.now ≡ 0
             → result ≡ Delivered.Later }
         ensures unsent { unsent self.new ≡ unsent self.old }
-        ensures told { Delivers None None bytes.now result }
+        ensures reported { Delivers None None bytes.now result }
     {
         if self.is_broken {
             return Delivered::Failed;
@@ -192,8 +192,8 @@ impl Client {
     ) -> Result<(), Trouble> {
         match word {
             "sends" => return self.sends(exchange),
-            "finished" => return self.is_told_as(true),
-            "unfinished" => return self.is_told_as(false),
+            "finished" => return self.is_reported_as(true),
+            "unfinished" => return self.is_reported_as(false),
             "forget" => return Ok(self.forget()),
             "receives" => self.at_once = count,
             "takes" => self.room = count,
@@ -216,7 +216,7 @@ impl Client {
     }
 
     // It was told that nothing more is sent, or wasn't.
-    fn is_told_as(&self, is_finished: bool) -> Result<(), Trouble> {
+    fn is_reported_as(&self, is_finished: bool) -> Result<(), Trouble> {
         if self.is_finished == is_finished {
             return Ok(());
         }

@@ -70,7 +70,7 @@ impl<'a> Coming<'a> {
         let clients = self.clients;
         for i in self.asked..clients.len() {
             self.asked = i;
-            if let Some(place) = clients[i].is_told() {
+            if let Some(place) = clients[i].is_reported() {
                 return Some(place);
             }
         }

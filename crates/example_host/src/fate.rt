@@ -23,7 +23,7 @@ pub enum Fate {
     Outside,
     /// It was let in.
     Open,
-    /// It was turned away.
+    /// It was rejected.
     Refused(Refusal),
     /// It was let in, and its connection is closed.
     Closed(Closing),

@@ -3,7 +3,7 @@
 use crate::coming::{Coming, First};
 use crate::socket::Shared;
 use crate::spool::MemorySpool;
-use crate::stage::{Asked, Stage};
+use crate::stage::{ExampleStage, HostLine};
 use dep_host::{Host, ReadBuffer, serve};
 use example_player::{ExampleTables, Player, new_archive, new_hub};
 use example_text::{Cut, Trouble, Words};
@@ -17,7 +17,7 @@ const ROOM: usize = 4_096;
 /// An example that is played by a host over a new archive.
 #[derive(Drop)]
 pub struct HostPlay<T: ExampleTables> {
-    stage: Stage,
+    stage: ExampleStage,
     /// It is there once a client has come.
     host: Option<Host<T::Archive, Shared, Shared, MemorySpool>>,
     buffer: ReadBuffer,
@@ -27,7 +27,7 @@ impl<T: ExampleTables> Player for HostPlay<T> {
     fn new(alloc: Global, cut: Cut) -> Result<HostPlay<T>, Trouble> {
         let buffer = ReadBuffer::new(alloc, ROOM)?;
         Ok(HostPlay {
-            stage: Stage::new(alloc, cut),
+            stage: ExampleStage::new(alloc, cut),
             host: None,
             buffer,
         })
@@ -35,14 +35,14 @@ impl<T: ExampleTables> Player for HostPlay<T> {
 
     fn line(&mut self, words: &Words, word: &str, rest: &str) -> Result<(), Trouble> {
         match self.stage.line(words, word, rest)? {
-            Asked::Nothing => {}
-            Asked::Clients(count, address) => {
+            HostLine::Nothing => {}
+            HostLine::Clients(count, address) => {
                 for _ in 0..count {
                     self.enters(address)?;
                 }
             }
-            Asked::Rounds { count, settles } => self.comes(First::Nothing, count, settles),
-            Asked::Stop => self.comes(First::Stop, 0, false),
+            HostLine::Rounds { count, settles } => self.comes(First::Nothing, count, settles),
+            HostLine::Stop => self.comes(First::Stop, 0, false),
         }
         Ok(())
     }

@@ -1,7 +1,7 @@
 //! A log of a host, which keeps what became of each client.
 
 use crate::fate::Fate;
-use dep_host::{Bytes, Closing, HostLog, Refusal as TurnedAway};
+use dep_host::{Bytes, Closing, HostLog, Rejection};
 use dep_hub::{ConnId, Next, NoLog, SentOn};
 use std::alloc::{AllocError, Global};
 use std::net::IpAddr;
@@ -45,7 +45,7 @@ impl Roll {
     }
 
     // It became of the client that came last.
-    fn tell_newest(&mut self, connection: Option<ConnId>, fate: Fate) {
+    fn report_newest(&mut self, connection: Option<ConnId>, fate: Fate) {
         if let Some(entry) = self.entries.last_mut() {
             *entry = Entry { connection, fate };
         }
@@ -56,11 +56,11 @@ impl HostLog for Roll {
     type Item = NoLog;
 
     fn opened(&mut self, connection: ConnId, address: IpAddr) {
-        self.tell_newest(Some(connection), Fate::Open);
+        self.report_newest(Some(connection), Fate::Open);
     }
 
-    fn refused(&mut self, address: IpAddr, refusal: TurnedAway) {
-        self.tell_newest(None, Fate::Refused(refusal));
+    fn refused(&mut self, address: IpAddr, refusal: Rejection) {
+        self.report_newest(None, Fate::Refused(refusal));
     }
 
     fn answering(&mut self, connection: ConnId, address: IpAddr) -> NoLog {

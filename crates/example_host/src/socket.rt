@@ -48,9 +48,9 @@ impl Shared {
     }
 
     /// The place at which it sits, where its socket may be ready and this is returned for the first time.
-    pub fn is_told(&self) -> Option<usize> {
+    pub fn is_reported(&self) -> Option<usize> {
         match self.client.try_borrow_mut() {
-            Ok(mut client) => client.is_told(),
+            Ok(mut client) => client.is_reported(),
             Err(_) => None,
         }
     }

@@ -23,7 +23,7 @@ const LOCAL: IpAddr = IpAddr::V4(Ipv4Addr::LOCALHOST);
 
 /// What a line asks of the host.
 #[derive(Clone, Copy)]
-pub enum Asked {
+pub enum HostLine {
     Nothing,
     /// So many clients come from this address, one after another.
     Clients(u64, IpAddr),
@@ -35,7 +35,7 @@ pub enum Asked {
 
 /// What of an example needs no host: the configuration, the clients and what became of them, and the time.
 #[derive(Drop)]
-pub struct Stage {
+pub struct ExampleStage {
     pub alloc: Global,
     pub settings: Settings,
     pub limits: Limits,
@@ -49,11 +49,11 @@ pub struct Stage {
     exchange: Exchange,
 }
 
-impl Stage {
+impl ExampleStage {
     /// No client has come.
-    pub fn new(alloc: Global, cut: Cut) -> Stage {
+    pub fn new(alloc: Global, cut: Cut) -> ExampleStage {
         let exchange = Exchange::new(alloc, cut);
-        Stage {
+        ExampleStage {
             alloc,
             settings: Settings::new(alloc),
             limits: Limits {
@@ -74,14 +74,14 @@ impl Stage {
     }
 
     /// Does what a line says, and returns what it asks of the host.
-    pub fn line(&mut self, words: &Words, word: &str, rest: &str) -> Result<Asked, Trouble> {
+    pub fn line(&mut self, words: &Words, word: &str, rest: &str) -> Result<HostLine, Trouble> {
         match word {
             ">" | "<" => self.exchange.line(self.alloc, words, word, rest)?,
             "config" | "limit" => self.sets(word, rest)?,
             "client" => return self.turns_to(rest),
             _ => return self.does(word, count_of(word, rest)?),
         }
-        Ok(Asked::Nothing)
+        Ok(HostLine::Nothing)
     }
 
     // A part of the configuration, or a limit of the host, which is made for the first client.
@@ -96,28 +96,28 @@ impl Stage {
     }
 
     // Does what a line of one word says, or of a word and a number.
-    fn does(&mut self, word: &str, number: u64) -> Result<Asked, Trouble> {
+    fn does(&mut self, word: &str, number: u64) -> Result<HostLine, Trouble> {
         match word {
             "host" => {}
             "at" => self.time.moment = Moment::new(number),
             "second" => self.time.second = number,
-            "crowd" => return Ok(Asked::Clients(number, LOCAL)),
-            "stop" => return Ok(Asked::Stop),
+            "crowd" => return Ok(HostLine::Clients(number, LOCAL)),
+            "stop" => return Ok(HostLine::Stop),
             "round" => return Ok(rounds(1)),
             "rounds" => return Ok(rounds(number)),
             "settles" => {
-                return Ok(Asked::Rounds {
+                return Ok(HostLine::Rounds {
                     count: MOST_ROUNDS,
                     settles: true,
                 });
             }
-            _ => self.tells(word, number as usize)?,
+            _ => self.reports(word, number as usize)?,
         }
-        Ok(Asked::Nothing)
+        Ok(HostLine::Nothing)
     }
 
     // Does what a line says of the client.
-    fn tells(&mut self, word: &str, count: usize) -> Result<(), Trouble> {
+    fn reports(&mut self, word: &str, count: usize) -> Result<(), Trouble> {
         let fate = self.roll.fate(self.current);
         match self.clients.get(self.current) {
             Some(client) => client.line(&mut self.exchange, fate, word, count),
@@ -126,19 +126,19 @@ impl Stage {
     }
 
     // Goes on at a client, which comes where it is the next one.
-    fn turns_to(&mut self, rest: &str) -> Result<Asked, Trouble> {
+    fn turns_to(&mut self, rest: &str) -> Result<HostLine, Trouble> {
         self.is_answered()?;
         let (name, from) = first_word(rest);
         let (index, count) = ((number(name)? as usize).wrapping_sub(1), self.clients.len());
         if index == count {
-            return Ok(Asked::Clients(1, address(from)?));
+            return Ok(HostLine::Clients(1, address(from)?));
         }
         if index > count {
             return Err(Trouble::Line("no client has that number"));
         }
         self.current = index;
         blank(from)?;
-        Ok(Asked::Nothing)
+        Ok(HostLine::Nothing)
     }
 
     /// No exchange may be left.
@@ -157,8 +157,8 @@ impl Stage {
 }
 
 // So many rounds.
-fn rounds(count: u64) -> Asked {
-    Asked::Rounds {
+fn rounds(count: u64) -> HostLine {
+    HostLine::Rounds {
         count,
         settles: false,
     }

@@ -4,7 +4,7 @@ use example_text::{Trouble, blank, number};
 
 /// What a line asks of the connections of a hub.
 #[derive(Clone, Copy)]
-pub enum Command {
+pub enum HubCommand {
     /// It goes on at the connection of this number.
     Turn,
     /// The connection of this number is closed.
@@ -38,7 +38,7 @@ pub enum Asked<'a> {
     /// The intake is shut.
     Shut,
     /// The command, and its number where it has one.
-    Connections(Command, u64),
+    Connections(HubCommand, u64),
 }
 
 impl<'a> Asked<'a> {
@@ -48,9 +48,9 @@ impl<'a> Asked<'a> {
             "sql" => return Ok(Asked::Change(rest)),
             "next" => return Ok(Asked::Number(rest)),
             "unopened" => return Ok(Asked::Unopened(rest)),
-            "connection" => Command::Turn,
-            "close" => Command::Close,
-            "crowd" => Command::Crowd,
+            "connection" => HubCommand::Turn,
+            "close" => HubCommand::Close,
+            "crowd" => HubCommand::Crowd,
             _ => return Asked::alone(word, rest),
         };
         Ok(Asked::Connections(command, number(rest)?))
@@ -60,7 +60,7 @@ impl<'a> Asked<'a> {
     fn alone(word: &str, rest: &str) -> Result<Asked<'a>, Trouble> {
         blank(rest)?;
         match word {
-            "full" => Ok(Asked::Connections(Command::Full, 0)),
+            "full" => Ok(Asked::Connections(HubCommand::Full, 0)),
             "restart" => Ok(Asked::Leave),
             "reopen" => Ok(Asked::Reopen),
             "refused" => Ok(Asked::Refuse),

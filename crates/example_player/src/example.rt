@@ -119,7 +119,7 @@ impl<'a> Example<'a> {
 
     /// Prints why it is not as it is written, and where the play stands: in which line, in which row, and how the bytes
     /// are cut.
-    pub fn tells(&self, rt: &impl Print, name: &str, why: &Trouble) -> io::Result<()> {
+    pub fn reports(&self, rt: &impl Print, name: &str, why: &Trouble) -> io::Result<()> {
         let line = self.number.saturating_add(self.line);
         let title = self.lines.lines().next().unwrap_or("");
         let (row, cut) = (self.row, self.cut);

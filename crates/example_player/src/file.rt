@@ -55,9 +55,9 @@ fn came_of(
         Ok(()) => Ok(Verdict::AsWritten),
         Err(why) => {
             let verdict = Verdict::of_trouble(&why);
-            let told = example.tells(rt, name, &why);
+            let reported = example.reports(rt, name, &why);
             drop(why);
-            told?;
+            reported?;
             Ok(verdict)
         }
     }

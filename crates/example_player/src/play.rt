@@ -91,7 +91,7 @@ impl<T: ExampleTables> Play<T> {
         self.written.ends(answer)
     }
 
-    // A request that was given up for want of memory has changed nothing. It comes once more, and its result has to be
+    // A request that was given up for lack of memory has changed nothing. It comes once more, and its result has to be
     // the one that is written.
     fn is_as_written(&mut self, answer: &str) -> Result<(), Trouble> {
         match self.comes(answer) {

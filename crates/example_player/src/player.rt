@@ -5,7 +5,7 @@ use std::alloc::Global;
 
 /// What plays an example, line by line.
 pub trait Player: Drop {
-    /// Before the first line. The bytes of each exchange are cut so. It fails for want of memory alone.
+    /// Before the first line. The bytes of each exchange are cut so. It fails for lack of memory alone.
     fn new(alloc: Global, cut: Cut) -> Result<Self, Trouble>;
 
     /// Does what a line says, by its first word and what stands behind it.

@@ -1,6 +1,6 @@
 //! A hub and its connections.
 
-use crate::asked::Command;
+use crate::asked::HubCommand;
 use crate::tables::ExampleTables;
 use dep_connection::{Served, serve_connection};
 use dep_hub::{Archive, ConnId, ConnectFault, Hub};
@@ -8,7 +8,7 @@ use dep_moment::Moment;
 use dep_program::Gathered;
 use dep_types::ReaderInlet;
 use example_faults::{arrives, connected, hub_over, trouble_of, word_of};
-use example_text::{Exchange, Page, Settings, Source, Trouble};
+use example_text::{ExamplePage, Exchange, Settings, StreamSource, Trouble};
 use std::alloc::Global;
 
 /// The words for how a connection stands behind what has arrived.
@@ -36,21 +36,21 @@ impl<A: Archive + Drop> Server<A> {
     }
 
     /// Does what is asked of its connections.
-    pub fn does(&mut self, command: Command, number: u64) -> Result<(), Trouble> {
+    pub fn does(&mut self, command: HubCommand, number: u64) -> Result<(), Trouble> {
         match command {
-            Command::Turn => self.turn(number),
-            Command::Close => {
+            HubCommand::Turn => self.turn(number),
+            HubCommand::Close => {
                 let connection = self.numbered(number)?;
                 self.hub.close(connection);
                 Ok(())
             }
-            Command::Crowd => {
+            HubCommand::Crowd => {
                 for _ in 0..number {
                     let _ = connected(&mut self.hub)?;
                 }
                 Ok(())
             }
-            Command::Full => self.is_full(),
+            HubCommand::Full => self.is_full(),
         }
     }
 
@@ -97,7 +97,7 @@ impl<A: Archive + Drop> Server<A> {
         &mut self,
         exchange: &Exchange,
         answer: &str,
-        page: &mut Page,
+        page: &mut ExamplePage,
     ) -> Result<&'static str, Trouble> {
         if !ARRIVED.contains(&answer) {
             return self.serves(exchange, answer, page);
@@ -112,9 +112,9 @@ impl<A: Archive + Drop> Server<A> {
         &mut self,
         exchange: &Exchange,
         answer: &str,
-        page: &mut Page,
+        page: &mut ExamplePage,
     ) -> Result<&'static str, Trouble> {
-        let mut source = ReaderInlet::new(Source::of(exchange));
+        let mut source = ReaderInlet::new(StreamSource::of(exchange));
         let mut out = Gathered::new(self.alloc, page)?;
         let moment = Moment::new(exchange.moment);
         let served = serve_connection(

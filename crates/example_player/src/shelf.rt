@@ -3,19 +3,19 @@ ghost use Rattle.std.specs.Prelude.{◌≡◌, OnOk, OnErr};
 ghost use Rattle.dep_types.specs.Writing.{HasRisen};
 
 use dep_types::{BagSink, Outlet, SinkFailed, WriteFailed};
-use example_text::{FailingCall, Page, SinkCall};
+use example_text::{ExamplePage, FailingCall, SinkCall};
 
 /// Writes the folders and files that it is given to a page. One of its calls may be told to fail.
 #[derive(Drop)]
 pub struct Shelf<'a> {
-    page: &'a mut Page,
+    page: &'a mut ExamplePage,
     failing: Option<FailingCall>,
     failures: u64,
 }
 
 impl<'a> Shelf<'a> {
     /// A sink that writes behind what the page has. Where no call is told to fail, none fails.
-    pub fn new(page: &'a mut Page, failing: Option<FailingCall>) -> Shelf<'a> {
+    pub fn new(page: &'a mut ExamplePage, failing: Option<FailingCall>) -> Shelf<'a> {
         Shelf {
             page,
             failing,

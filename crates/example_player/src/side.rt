@@ -1,6 +1,6 @@
 //! What an example is played against.
 
-use crate::asked::{Asked, Command};
+use crate::asked::{Asked, HubCommand};
 use crate::intake::takes;
 use crate::server::{Server, new_archive, new_hub};
 use crate::tables::ExampleTables;
@@ -8,7 +8,7 @@ use crate::written::numbering;
 use dep_hub::HubFault;
 use dep_message::Intake;
 use example_faults::hub_over;
-use example_text::{Exchange, Page, Settings, Trouble};
+use example_text::{ExamplePage, Exchange, Settings, Trouble};
 use std::alloc::Global;
 use std::mem;
 
@@ -32,7 +32,7 @@ impl<T: ExampleTables> Side<T> {
         alloc: Global,
         exchange: &Exchange,
         answer: &str,
-        page: &mut Page,
+        page: &mut ExamplePage,
     ) -> Result<&'static str, Trouble> {
         match (self, exchange.call) {
             (Side::Archive(store), Some(call)) => T::answers(store, alloc, call, page),
@@ -95,7 +95,7 @@ impl<T: ExampleTables> Side<T> {
         &mut self,
         alloc: Global,
         settings: &Settings,
-        command: Command,
+        command: HubCommand,
         number: u64,
     ) -> Result<(), Trouble> {
         self.open(alloc, settings)?;

@@ -2,7 +2,7 @@
 
 use dep_hub::Archive;
 use example_faults::FaultyFiles;
-use example_text::{ArchiveCall, Page, Trouble};
+use example_text::{ArchiveCall, ExamplePage, Trouble};
 use std::alloc::Global;
 
 /// The tables of an archive that is closed. An example is played on the archive over them.
@@ -33,6 +33,6 @@ pub trait ExampleTables: Drop {
         archive: &mut Self::Archive,
         alloc: Global,
         call: ArchiveCall,
-        page: &mut Page,
+        page: &mut ExamplePage,
     ) -> Result<&'static str, Trouble>;
 }

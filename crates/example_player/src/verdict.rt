@@ -47,7 +47,7 @@ impl Verdict {
         }
     }
 
-    /// The exit status: 0, or 1 where something isn't as it is written, or else 2 for want of memory.
+    /// The exit status: 0, or 1 where something isn't as it is written, or else 2 for lack of memory.
     pub fn status(self) -> ExitCode {
         match self {
             Verdict::AsWritten => ExitCode::SUCCESS,

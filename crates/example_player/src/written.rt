@@ -3,7 +3,9 @@
 use crate::asked::Asked;
 use crate::intake::is_one_request;
 use example_faults::{Fault, Script};
-use example_text::{ArchiveCall, Cut, Exchange, Page, Settings, Trouble, first_word, number};
+use example_text::{
+    ArchiveCall, Cut, ExamplePage, Exchange, Settings, Trouble, first_word, number,
+};
 use std::alloc::Global;
 
 /// The kinds of what has numbers in an archive.
@@ -21,7 +23,7 @@ pub struct Written {
     pub exchange: Exchange,
     pub script: Script,
     /// What comes of the exchange.
-    pub page: Page,
+    pub page: ExamplePage,
     /// The length of the longest stream of an exchange.
     pub longest: usize,
 }
@@ -29,7 +31,7 @@ pub struct Written {
 impl Written {
     /// Nothing yet.
     pub fn new(alloc: Global, cut: Cut) -> Result<Written, Trouble> {
-        let page = Page::new(alloc)?;
+        let page = ExamplePage::new(alloc)?;
         Ok(Written {
             alloc,
             settings: Settings::new(alloc),

@@ -1,4 +1,4 @@
-//! The bytes that a text of the files stands for.
+//! The bytes that a text of the files represents.
 
 use crate::trouble::Trouble;
 use crate::words::Words;

@@ -3,7 +3,7 @@
 use crate::archive_call::ArchiveCall;
 use crate::cut::{Cut, Pieces};
 use crate::escapes::{fill, unescape};
-use crate::page::Page;
+use crate::page::ExamplePage;
 use crate::reply::{WANT_OF_MEMORY, is_cut_in_content};
 use crate::settings::number;
 use crate::trouble::{Trouble, differing};
@@ -128,7 +128,7 @@ impl Exchange {
     }
 
     /// The page goes on as the exchange's writer, which took nothing yet.
-    pub fn turn(&self, page: &mut Page) {
+    pub fn turn(&self, page: &mut ExamplePage) {
         page.clear();
         page.limit(self.at_once, self.most);
     }
@@ -155,7 +155,7 @@ impl Exchange {
         } else if self.is_given_up(sent, came) {
             Err(Trouble::Memory)
         } else if is_sent {
-            Err(Trouble::told(format!(in alloc;
+            Err(Trouble::reported(format!(in alloc;
                 "it is written to end as \"{answer}\", and came to \"{came}\""
             )))
         } else {
@@ -163,7 +163,7 @@ impl Exchange {
         }
     }
 
-    // Whether the connection was given up for want of memory: behind whole replies the one that says so, or a reply
+    // Whether the connection was given up for lack of memory: behind whole replies the one that says so, or a reply
     // that is cut in its content though its writer would take more.
     fn is_given_up(&self, sent: &[u8], came: &str) -> bool {
         let want = self.want.as_slice();

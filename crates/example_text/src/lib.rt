@@ -1,4 +1,4 @@
-//! What stands in the files of examples: named texts, the bytes that a text stands for, configurations, exchanges, and
+//! What stands in the files of examples: named texts, the bytes that a text represents, configurations, exchanges, and
 //! the ways in which a stream is cut; and the reader and the writer of an exchange. docs/EXAMPLES.md explains the files.
 #![tactic(auto)]
 
@@ -17,9 +17,9 @@ pub use archive_call::{ArchiveCall, FailingCall, SinkCall};
 pub use cut::{Cut, Pieces};
 pub use escapes::fill;
 pub use exchange::{Exchange, blank};
-pub use page::Page;
-pub use reply::Reply;
+pub use page::ExamplePage;
+pub use reply::ReplyMatch;
 pub use settings::{Settings, number};
-pub use source::Source;
+pub use source::StreamSource;
 pub use trouble::{Trouble, differing, parting};
 pub use words::{Words, first_word};

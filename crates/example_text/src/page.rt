@@ -10,17 +10,17 @@ const ROOM: usize = 8_192;
 /// Keeps the bytes that it takes. It takes at most `at_once` bytes a write, and no byte once it has `most`. What is told
 /// goes there too, whatever a write may take.
 #[derive(Drop)]
-pub struct Page {
+pub struct ExamplePage {
     bytes: Vec<u8>,
     at_once: usize,
     most: usize,
     is_whole: bool,
 }
 
-impl Page {
+impl ExamplePage {
     /// A page that takes all. Its room is taken at once, so that a write of a short reply asks for no memory.
-    pub fn new(alloc: Global) -> Result<Page, AllocError> {
-        Ok(Page {
+    pub fn new(alloc: Global) -> Result<ExamplePage, AllocError> {
+        Ok(ExamplePage {
             bytes: Vec::with_capacity(alloc, ROOM)?,
             at_once: usize::MAX,
             most: usize::MAX,
@@ -50,13 +50,13 @@ impl Page {
     }
 
     /// Adds a line of a name and a number.
-    pub fn tell_number(&mut self, name: &[u8], number: u64) {
+    pub fn report_number(&mut self, name: &[u8], number: u64) {
         let mut digits = Buffer::new();
-        self.tell(&[name, digits.format(number).as_bytes()]);
+        self.report(&[name, digits.format(number).as_bytes()]);
     }
 
     /// Adds a line of these parts.
-    pub fn tell(&mut self, parts: &[&[u8]]) {
+    pub fn report(&mut self, parts: &[&[u8]]) {
         self.put(parts);
         self.put(&[b"\r\n"]);
     }
@@ -71,7 +71,7 @@ impl Page {
     }
 }
 
-impl Write for Page {
+impl Write for ExamplePage {
     fn write(&mut self, bytes: &[u8]) -> io::Result<usize> {
         let left = self.most.saturating_sub(self.bytes.len());
         let taken = bytes.len().min(self.at_once).min(left);

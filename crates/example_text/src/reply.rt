@@ -10,26 +10,26 @@ const STORE_FAULT: &[u8] =
 
 /// How what was sent stands to the reply that is written.
 #[derive(Clone, Copy)]
-pub enum Reply {
+pub enum ReplyMatch {
     AsWritten,
-    /// The fixed reply of a fault of the store, or that of want of memory.
+    /// The fixed reply of a fault of the store, or that of lack of memory.
     Fixed,
     /// Its head is whole, and its content is cut.
     Cut,
     Other,
 }
 
-impl Reply {
+impl ReplyMatch {
     /// That of these bytes.
-    pub fn of(want: &[u8], sent: &[u8]) -> Reply {
+    pub fn of(want: &[u8], sent: &[u8]) -> ReplyMatch {
         if sent == want {
-            Reply::AsWritten
+            ReplyMatch::AsWritten
         } else if [STORE_FAULT, WANT_OF_MEMORY].contains(&sent) {
-            Reply::Fixed
+            ReplyMatch::Fixed
         } else if is_cut_in_content(want, sent) {
-            Reply::Cut
+            ReplyMatch::Cut
         } else {
-            Reply::Other
+            ReplyMatch::Other
         }
     }
 }

@@ -7,17 +7,17 @@ use std::io::{ErrorKind, Read};
 
 /// Gives the pieces of a stream, one a read, and then fails or is at its end.
 #[derive(Drop)]
-pub struct Source<'a> {
+pub struct StreamSource<'a> {
     rest: &'a [u8],
     cut: Cut,
     reads: usize,
     fails: bool,
 }
 
-impl<'a> Source<'a> {
+impl<'a> StreamSource<'a> {
     /// The reader of an exchange.
-    pub fn of(exchange: &'a Exchange) -> Source<'a> {
-        Source {
+    pub fn of(exchange: &'a Exchange) -> StreamSource<'a> {
+        StreamSource {
             rest: exchange.stream.as_slice(),
             cut: exchange.cut,
             reads: 0,
@@ -31,7 +31,7 @@ impl<'a> Source<'a> {
     }
 }
 
-impl Read for Source<'_> {
+impl Read for StreamSource<'_> {
     fn read(&mut self, buffer: &mut [u8]) -> io::Result<usize> {
         let size = self.cut.size(self.reads).max(1);
         self.reads = self.reads.saturating_add(1);

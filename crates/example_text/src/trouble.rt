@@ -15,8 +15,8 @@ pub enum Trouble {
 }
 
 impl Trouble {
-    /// What a text says, or the want of memory for it.
-    pub fn told(text: Result<String, AllocError>) -> Trouble {
+    /// What a text says, or the lack of memory for it.
+    pub fn reported(text: Result<String, AllocError>) -> Trouble {
         match text {
             Ok(text) => Trouble::Other(text),
             Err(AllocError) => Trouble::Memory,
@@ -50,7 +50,7 @@ impl fmt::Display for Trouble {
 pub fn differing(alloc: Global, want: &[u8], sent: &[u8]) -> Trouble {
     let place = parting(want, sent);
     let (want, sent) = (Shown { bytes: want, place }, Shown { bytes: sent, place });
-    Trouble::told(format!(in alloc;
+    Trouble::reported(format!(in alloc;
         "they part at byte {place}\n  written: {want}\n  sent:    {sent}"
     ))
 }

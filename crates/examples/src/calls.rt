@@ -5,7 +5,7 @@ use dep_program::Outcome;
 use dep_store::{Store, Unwatched};
 use dep_types::{StoreFault, Through};
 use example_player::Shelf;
-use example_text::{ArchiveCall, Page, Trouble};
+use example_text::{ArchiveCall, ExamplePage, Trouble};
 use sqlite::Alter;
 use std::alloc::Global;
 
@@ -14,7 +14,7 @@ pub fn answered<S: Alter>(
     alloc: Global,
     store: &mut Store<S>,
     call: ArchiveCall,
-    page: &mut Page,
+    page: &mut ExamplePage,
 ) -> Result<&'static str, Trouble> {
     match call {
         ArchiveCall::Export { object, failing } => {
@@ -34,16 +34,16 @@ pub fn answered<S: Alter>(
 fn audited<S: Alter>(
     store: &mut Store<S>,
     object: u64,
-    page: &mut Page,
+    page: &mut ExamplePage,
 ) -> Result<&'static str, Trouble> {
     let audit = match store.audit(object, &mut Unwatched) {
         Ok(audit) => audit,
         Err(StoreFault::Store) => return Ok("store-fault"),
         Err(StoreFault::Memory) => return Err(Trouble::Memory),
     };
-    page.tell_number(b"checked ", audit.checked);
+    page.report_number(b"checked ", audit.checked);
     for file in &audit.damaged {
-        page.tell_number(b"damaged ", *file);
+        page.report_number(b"damaged ", *file);
     }
     Ok("done")
 }

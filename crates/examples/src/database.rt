@@ -5,7 +5,7 @@ use crate::files::CountedFiles;
 use dep_schema::OpenFault;
 use dep_store::{HashingStore, Store, Unwatched};
 use example_player::ExampleTables;
-use example_text::{ArchiveCall, Page, Trouble};
+use example_text::{ArchiveCall, ExamplePage, Trouble};
 use sqlite::{Alter, Connection, Error, ErrorCode, MemStore};
 use sqlite_disk::{Fuse, Memory};
 use std::alloc::{AllocError, Global};
@@ -84,7 +84,7 @@ impl<S: NewDatabase> ExampleTables for Database<S> {
         archive: &mut HashingStore<S>,
         alloc: Global,
         call: ArchiveCall,
-        page: &mut Page,
+        page: &mut ExamplePage,
     ) -> Result<&'static str, Trouble> {
         answered(alloc, archive.store_mut(), call, page)
     }
@@ -122,7 +122,7 @@ fn is_fault(alloc: Global, came: OpenFault, fault: &str) -> Result<(), Trouble> 
     if came == fault {
         return Ok(());
     }
-    Err(Trouble::told(format!(in alloc;
+    Err(Trouble::reported(format!(in alloc;
         "it is written not to open by \"{fault}\", and came to \"{came}\""
     )))
 }

@@ -67,7 +67,7 @@ impl<D: CountedFile> FaultyFiles for CountedFiles<D> {
         if statements.is_empty() {
             return Ok(CountedFiles { files });
         }
-        match used(alloc, files, Task::Fill(statements)) {
+        match used(alloc, files, DatabaseTask::Fill(statements)) {
             (files, Ok(())) => Ok(CountedFiles { files }),
             (files, Err(why)) => {
                 drop(files);
@@ -95,7 +95,7 @@ impl<D: CountedFile> FaultyFiles for CountedFiles<D> {
     }
 
     fn played(self, alloc: Global, play: &mut FaultPlay<'_>) -> CountedFiles<D> {
-        let (files, _opened) = used(alloc, self.files, Task::Play(play));
+        let (files, _opened) = used(alloc, self.files, DatabaseTask::Play(play));
         CountedFiles { files }
     }
 
@@ -117,7 +117,7 @@ impl<D: CountedFile> FaultyFiles for CountedFiles<D> {
 
 // What is done over a database once it is open.
 #[derive(Drop)]
-enum Task<'a, 'b> {
+enum DatabaseTask<'a, 'b> {
     // These statements are run, and the log is copied into the database.
     Fill(&'a str),
     Play(&'a mut FaultPlay<'b>),
@@ -127,12 +127,12 @@ enum Task<'a, 'b> {
 fn used<D: CountedFile>(
     alloc: Global,
     files: Files<D>,
-    task: Task<'_, '_>,
+    task: DatabaseTask<'_, '_>,
 ) -> (Files<D>, Result<(), Trouble>) {
     if !files.may_be_used() {
         return (files, Err(Trouble::Memory));
     }
-    let copies_log = matches!(task, Task::Fill(_));
+    let copies_log = matches!(task, DatabaseTask::Fill(_));
     match Connection::open_files(alloc, files, options()) {
         Ok(connection) => {
             let (store, done) = worked(alloc, connection, task);
@@ -162,14 +162,14 @@ fn closed<D: CountedFile>(mut store: FileStore<D>, copies_log: bool) -> Files<D>
 fn worked<S: Alter + Drop>(
     alloc: Global,
     mut connection: Connection<S>,
-    task: Task<'_, '_>,
+    task: DatabaseTask<'_, '_>,
 ) -> (S, Result<(), Trouble>) {
     match task {
-        Task::Fill(statements) => {
+        DatabaseTask::Fill(statements) => {
             let changed = change(&mut connection, statements);
             (connection.into_store(), changed)
         }
-        Task::Play(play) => (played_on(alloc, connection, play).into_store(), Ok(())),
+        DatabaseTask::Play(play) => (played_on(alloc, connection, play).into_store(), Ok(())),
     }
 }
 

@@ -7,8 +7,8 @@ use Rattle.sqlite_trees.specs.declared.store.Store.{Ghosts}
 use Rattle.dep_types.specs.State.{State, empty_state}
 use Rattle.dep_types.specs.Config.{IsChecked}
 use Rattle.dep_types.specs.declared.config.Config.{Config}
-use Rattle.dep_schema.specs.Standing.{HoldsNone}
-use Rattle.dep_schema.specs.States.{StandsFor, IsLeftAs, Leaves}
+use Rattle.dep_schema.specs.OpenTables.{HoldsNone}
+use Rattle.dep_schema.specs.States.{Represents, IsLeftAs, Leaves}
 use Rattle.dep_schema.proofs.Transacting.{IsSettled, leaves_as_was}
 use Rattle.dep_schema.specs.declared.opening.OpenFault.{OpenFault}
 use Rattle.dep_store.specs.HashingStores.{condition_of}
@@ -18,7 +18,7 @@ use Rattle.dep_commands.specs.Starting.{IsGivenOrStore, IsStore, OpeningLeaves, 
 use Rattle.dep_commands.specs.declared.starting.StartFault.{StartFault}
 use Rattle.dep_commands.specs.declared.starting.StartFault.TheVariants as fault
 use Rattle.dep_hub.specs.Records.{World, Record, Run, begins, stops, stopped, first_world}
-use Rattle.dep_hub.specs.Standing.{StandsAfter, IsClean, IsHonest}
+use Rattle.dep_hub.specs.OpenTables.{RepresentsAfter, IsClean, IsHonest}
 use Rattle.dep_hub.specs.declared.faults.HubFault.TheVariants as refused
 use Rattle.dep_hub.specs.declared.hub.Hub.{Hub}
 use Rattle.dep_program.specs.Serves.{all_records_of, ServesAt}
@@ -38,28 +38,28 @@ module _ {S : Type 0} (g : Ghosts S) (clean : (h : Held S) → IsTrue (state g h
     (settled : (h : Held S) → IsTrue (state g h).is_open → IsSettled (state g h)) (given : Held S) where
   module _ (config : Config) (opened : Hub (HashingStore S))
       (given_config : opened.config ≡ config)
-      (fresh : IsHonest (condition_of g) opened → HoldsNone (state g given).now.trees → StandsAfter (condition_of g) opened empty_state [])
+      (fresh : IsHonest (condition_of g) opened → HoldsNone (state g given).now.trees → RepresentsAfter (condition_of g) opened empty_state [])
       (again : IsHonest (condition_of g) opened → (found : State) → IsLeftAs (state g given).now.trees found
       → (first : State) (records : List Record) → Run config first records (first_world found)
-      → StandsAfter (condition_of g) opened first records) where
+      → RepresentsAfter (condition_of g) opened first records) where
     led : (hub : Hub (HashingStore S)) → hub.config ≡ config → (first : State) (records : List Record)
-        → StandsAfter (condition_of g) hub first records → LedTo config (state g hub.store.store) first records
+        → RepresentsAfter (condition_of g) hub first records → LedTo config (state g hub.store.store) first records
     led hub same first records it =
         let run : Run config first records it.world = subst (λ (c : Config). Run c first records it.world) same it.run in
         record {
           world = it.world;
           run = run;
-          stands = it.at.state.stands;
+          represents = it.at.state.represents;
           stop = λ trees h.
-              let l = leaves_as_was (state g hub.store.store) it.world.state (settled hub.store.store it.at.state.stands.stands.is_open) it.at.state.stands trees h in
+              let l = leaves_as_was (state g hub.store.store) it.world.state (settled hub.store.store it.at.state.represents.represents.is_open) it.at.state.represents trees h in
               (l.0, l.1, subst (λ (s : State). Run config first (records ++ stopped ∷ []) (first_world s)) (sym l.2) (stops run));
         }
 
     -- what the hub went on with
     pub goes_on : (served : Hub (HashingStore S)) (more : List Record) → served.config ≡ opened.config
         → (IsHonest (condition_of g) served → IsHonest (condition_of g) opened)
-        → (IsClean (condition_of g) served → (first : State) (records : List Record) → StandsAfter (condition_of g) opened first records
-        → StandsAfter (condition_of g) served first (records ++ more))
+        → (IsClean (condition_of g) served → (first : State) (records : List Record) → RepresentsAfter (condition_of g) opened first records
+        → RepresentsAfter (condition_of g) served first (records ++ more))
         → GoesOn config (state g given) (state g served.store.store) more
     goes_on served more same honest adds = record {
       fresh = λ is_open none. led served (same ∙ given_config) empty_state more
@@ -68,14 +68,14 @@ module _ {S : Type 0} (g : Ghosts S) (clean : (h : Held S) → IsTrue (state g h
           (adds is_open first records (again (honest (clean served.store.store is_open)) found left first records run));
     }
 
-    -- the hub that was opened stands for the state that was found
-    stands_first : (first : State) → StandsAfter (condition_of g) opened first [] → StandsFor (state g opened.store.store) first
-    stands_first first it = subst (λ (w : World). StandsFor (state g opened.store.store) w.state) (world_at_first it.run refl) it.at.state.stands
+    -- the hub that was opened represents the state that was found
+    represents_first : (first : State) → RepresentsAfter (condition_of g) opened first [] → Represents (state g opened.store.store) first
+    represents_first first it = subst (λ (w : World). Represents (state g opened.store.store) w.state) (world_at_first it.run refl) it.at.state.represents
 
     pub kept_by_hub : OpenLeaves (state g given) (state g opened.store.store) → IsKept (state g given) (state g opened.store.store)
     kept_by_hub stop = record {
-      fresh = λ is_open none. stands_first empty_state (fresh (clean opened.store.store is_open) none);
-      found = λ is_open s left. stands_first s (again (clean opened.store.store is_open) s left s [] begins);
+      fresh = λ is_open none. represents_first empty_state (fresh (clean opened.store.store is_open) none);
+      found = λ is_open s left. represents_first s (again (clean opened.store.store is_open) s left s [] begins);
       stop = stop;
     }
 
@@ -116,10 +116,10 @@ module _ {S : Type 0} (g : Ghosts S) (given back : Held S) (clean : IsTrue (stat
 
 -- a store that was opened, and stays as it is
 module _ (given mid new : db.State) (clean : IsTrue new.is_open → HasCleanDisk new) (honest : HasCleanDisk new → HasCleanDisk mid)
-    (fresh : HasCleanDisk mid → HoldsNone given.now.trees → StandsFor mid empty_state)
-    (found : HasCleanDisk mid → (s : State) → IsLeftAs given.now.trees s → StandsFor mid s) where
-  pub kept_still : (IsTrue new.is_open → (s : State) → StandsFor mid s → StandsFor new s)
-      → (HasCleanDisk new → (s : State) → StandsFor mid s → Leaves new (λ left. left ≡ s)) → IsKept given new
+    (fresh : HasCleanDisk mid → HoldsNone given.now.trees → Represents mid empty_state)
+    (found : HasCleanDisk mid → (s : State) → IsLeftAs given.now.trees s → Represents mid s) where
+  pub kept_still : (IsTrue new.is_open → (s : State) → Represents mid s → Represents new s)
+      → (HasCleanDisk new → (s : State) → Represents mid s → Leaves new (λ left. left ≡ s)) → IsKept given new
   kept_still carries stop = record {
     fresh = λ is_open none. carries is_open empty_state (fresh (honest (clean is_open)) none);
     found = λ is_open s left. carries is_open s (found (honest (clean is_open)) s left);

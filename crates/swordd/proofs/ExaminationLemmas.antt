@@ -8,14 +8,14 @@ use Rattle.std.specs.declared.io.ErrorKind.TheVariants.{OutOfMemory}
 use Rattle.dep_types.specs.State.{State, empty_state}
 use Rattle.dep_tables.specs.Tables.{Tables}
 use Rattle.dep_tables.specs.Versions.{our_version, older_version, HasVersion}
-use Rattle.dep_schema.specs.Standing.{Holds, HoldsOlder, HoldsNone, Stands, first_tables}
-use Rattle.dep_schema.specs.States.{StandsFor, IsLeftAs, Leaves}
+use Rattle.dep_schema.specs.OpenTables.{Holds, HoldsOlder, HoldsNone, StaysFile, first_tables}
+use Rattle.dep_schema.specs.States.{Represents, IsLeftAs, Leaves}
 use Rattle.dep_commands.specs.Audits.{Audits, IsBegun, object_rows}
 use Rattle.dep_schema.proofs.Transacting.{IsSettled, leaves_as_was}
 use Rattle.dep_schema.proofs.Version.{not_older}
 use Rattle.dep_store.proofs.Opened.{first_means, version_is}
 use Rattle.dep_store.specs.Migrating.{IsUpgraded, OpensOlder}
-use Rattle.dep_store.proofs.Tries.{stands_still}
+use Rattle.dep_store.proofs.Tries.{represents_still}
 use Rattle.dep_program.specs.Folders.{without_folder}
 use Rattle.dep_program.specs.declared.outcome.Outcome.{Outcome}
 use Rattle.dep_program.specs.declared.outcome.Outcome.TheVariants.{StoreFault}
@@ -45,7 +45,7 @@ module _ (old new : db.State) (refused : IsRefused old new) where
   audits_none = record {
     fresh = λ honest none. (first_tables, first_means, none_begun first_tables);
     found = λ honest t holds. none_begun t;
-    older = λ honest t holds told. inr (refl, refl);
+    older = λ honest t holds reported. inr (refl, refl);
     stays = inr (refl, refused);
     tables = inr (refl, refused);
   }
@@ -59,41 +59,41 @@ module _ (old new : db.State) (refused : IsRefused old new) where
   }
 
 -- tables of which version 1 is told are of version 2 then
-renewed : (t : Tables) (mid : db.State) → HasVersion older_version t → OpensOlder t mid → (after : Tables) × Stands mid after × IsUpgraded t after
-renewed t mid told (inl it) = it.1
-renewed t mid told (inr it) = absurd (not_older (version_is t our_version older_version it.0 told))
+renewed : (t : Tables) (mid : db.State) → HasVersion older_version t → OpensOlder t mid → (after : Tables) × StaysFile mid after × IsUpgraded t after
+renewed t mid reported (inl it) = it.1
+renewed t mid reported (inr it) = absurd (not_older (version_is t our_version older_version it.0 reported))
 
 -- a store that was opened
 module _ (given mid new : db.State) (clean : IsTrue new.is_open → HasCleanDisk new) (honest : HasCleanDisk new → HasCleanDisk mid)
-    (fresh : HasCleanDisk mid → HoldsNone given.now.trees → StandsFor mid empty_state)
-    (found : HasCleanDisk mid → (s : State) → IsLeftAs given.now.trees s → StandsFor mid s) where
+    (fresh : HasCleanDisk mid → HoldsNone given.now.trees → Represents mid empty_state)
+    (found : HasCleanDisk mid → (s : State) → IsLeftAs given.now.trees s → Represents mid s) where
   pub audits_all : (written : List ℕ) (outcome : Outcome)
-      → (HasCleanDisk mid → (t : Tables) → Holds given.now.trees t → HasVersion our_version t × Stands mid t)
+      → (HasCleanDisk mid → (t : Tables) → Holds given.now.trees t → HasVersion our_version t × StaysFile mid t)
       → (HasCleanDisk mid → (t : Tables) → HoldsOlder given.now.trees t → OpensOlder t mid)
-      → (HasCleanDisk new → (t : Tables) → Stands mid t → Audits t written outcome)
-      → (IsTrue new.is_open → (t : Tables) → Stands mid t → Stands new t)
-      → (HasCleanDisk new → (s : State) → StandsFor mid s → Leaves new (λ left. left ≡ s))
+      → (HasCleanDisk new → (t : Tables) → StaysFile mid t → Audits t written outcome)
+      → (IsTrue new.is_open → (t : Tables) → StaysFile mid t → StaysFile new t)
+      → (HasCleanDisk new → (s : State) → Represents mid s → Leaves new (λ left. left ≡ s))
       → AuditsDatabase given new written outcome
   audits_all written outcome tables older writes still stop = record {
     fresh = λ is_honest none.
-        let at = fresh (honest is_honest) none in (at.tables, at.means, writes is_honest at.tables at.stands);
+        let at = fresh (honest is_honest) none in (at.tables, at.means, writes is_honest at.tables at.represents);
     found = λ is_honest t holds. writes is_honest t (tables (honest is_honest) t holds).1;
-    older = λ is_honest t holds told.
-        let after = renewed t mid told (older (honest is_honest) t holds) in inl (after.0, after.2, writes is_honest after.0 after.1);
+    older = λ is_honest t holds reported.
+        let after = renewed t mid reported (older (honest is_honest) t holds) in inl (after.0, after.2, writes is_honest after.0 after.1);
     stays = inl (kept_still given mid new clean honest fresh found
-        (λ is_open s at. stands_still s at (still is_open at.tables at.stands)) stop);
+        (λ is_open s at. represents_still s at (still is_open at.tables at.represents)) stop);
     tables = inl (record {
       newest = λ is_open t holds.
           let at = tables (honest (clean is_open)) t holds in (at.0, still is_open t at.1);
-      older = λ is_open t holds told.
-          let after = renewed t mid told (older (honest (clean is_open)) t holds) in (after.0, still is_open after.0 after.1, after.2);
+      older = λ is_open t holds reported.
+          let after = renewed t mid reported (older (honest (clean is_open)) t holds) in (after.0, still is_open after.0 after.1, after.2);
     });
   }
 
   pub exports_into : (object : ℕ) (sent : List ℕ) (outcome : Outcome)
-      → (HasCleanDisk new → (s : State) → StandsFor mid s → ExportsInto s object sent outcome)
-      → (IsTrue new.is_open → (s : State) → StandsFor mid s → StandsFor new s)
-      → (HasCleanDisk new → (s : State) → StandsFor mid s → Leaves new (λ left. left ≡ s))
+      → (HasCleanDisk new → (s : State) → Represents mid s → ExportsInto s object sent outcome)
+      → (IsTrue new.is_open → (s : State) → Represents mid s → Represents new s)
+      → (HasCleanDisk new → (s : State) → Represents mid s → Leaves new (λ left. left ≡ s))
       → ExportsDatabase given new object outcome
   exports_into object sent outcome gives still stop = record {
     given = sent;
@@ -104,9 +104,9 @@ module _ (given mid new : db.State) (clean : IsTrue new.is_open → HasCleanDisk
 
 -- there was no folder to fill
 pub exports_nothing : (given mid : db.State) → (IsTrue mid.is_open → HasCleanDisk mid) → (IsTrue mid.is_open → IsSettled mid)
-    → (HasCleanDisk mid → HoldsNone given.now.trees → StandsFor mid empty_state)
-    → (HasCleanDisk mid → (s : State) → IsLeftAs given.now.trees s → StandsFor mid s)
+    → (HasCleanDisk mid → HoldsNone given.now.trees → Represents mid empty_state)
+    → (HasCleanDisk mid → (s : State) → IsLeftAs given.now.trees s → Represents mid s)
     → (object : ℕ) (kind : ErrorKind) → ExportsDatabase given mid object (without_folder kind)
 exports_nothing given mid clean settled fresh found object kind =
     exports_into given mid mid clean (λ honest. honest) fresh found object [] (without_folder kind)
-    (λ is_honest s at. unfilled s object kind) (λ is_open s at. at) (λ is_honest s at. leaves_as_was mid s (settled at.stands.is_open) at)
+    (λ is_honest s at. unfilled s object kind) (λ is_open s at. at) (λ is_honest s at. leaves_as_was mid s (settled at.represents.is_open) at)

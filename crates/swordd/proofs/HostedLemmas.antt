@@ -8,7 +8,7 @@ use Rattle.std.specs.Prelude.{Option}
 use Rattle.dep_types.specs.State.{State, empty_state}
 use Rattle.dep_types.specs.Config.{IsChecked}
 use Rattle.dep_types.specs.declared.config.Config.{Config}
-use Rattle.dep_schema.specs.States.{StandsFor}
+use Rattle.dep_schema.specs.States.{Represents}
 use Rattle.dep_schema.specs.declared.opening.OpenFault.{OpenFault}
 use Rattle.dep_schema.proofs.Transacting.{IsSettled, leaves_as_was}
 use Rattle.dep_store.specs.Migrating.{Keeps}
@@ -20,57 +20,57 @@ use Rattle.dep_hub.specs.Records.{Record, Run, stops, stopped, first_world}
 use Rattle.dep_hub.specs.Records as records_of
 use Rattle.dep_hub.specs.declared.hub.Hub.{Hub}
 use Rattle.dep_host.specs.Causes.{Causes}
-use Rattle.dep_host.specs.Hosting.{Deed}
-use Rattle.dep_host.specs.Runs.{StandsBehind}
+use Rattle.dep_host.specs.Hosting.{HostAction}
+use Rattle.dep_host.specs.Runs.{RepresentsBehind}
 use Rattle.dep_host.specs.Runs as runs
 use Rattle.dep_program.specs.declared.outcome.Outcome.{Outcome}
 use Rattle.dep_host.specs.declared.limits.Limits.{Limits as Bounds}
-use Rattle.dep_sockets.specs.Doors.{Doorway, EndsHub, WentOn}
+use Rattle.dep_sockets.specs.Acceptors.{AcceptorState, EndsHub, WentOn}
 use Rattle.swordd.specs.declared.host_log.StandardErrorLog.{StandardErrorLog}
-use Rattle.dep_configuration.specs.declared.configuration.Limits.{Limits}
-use Rattle.swordd.specs.Hosted.{account_of, condition_of, HostStore, LedBy, IsHosted, IsOpened, HostsDatabase, hosts, host_limits, left_alone, not_checked, not_made, not_opened, unshown}
+use Rattle.dep_configuration.specs.declared.configuration.ServerLimits.{ServerLimits}
+use Rattle.swordd.specs.Hosted.{call_log_of, condition_of, HostStore, LedBy, IsHosted, IsOpened, HostsDatabase, hosts, host_limits, left_alone, not_checked, not_made, not_opened, unshown}
 
 module _ {S : Type 0} (g : Ghosts S) (clean : (h : Held S) → IsTrue (state g h).is_open → HasCleanDisk (state g h))
     (settled : (h : Held S) → IsTrue (state g h).is_open → IsSettled (state g h)) (given : Held S) (config : Config) (opened : Hub (HostStore S))
     (is : IsOpened g config (state g given) opened) where
-  led : (hub : Hub (HostStore S)) → hub.config ≡ config → (first : State) (records : List Record) (deeds : List Deed)
-      → StandsBehind (condition_of g) hub first records (λ n. []) deeds → LedBy config (state g hub.store.archive.store) first records deeds
-  led hub same first records deeds it =
-      let run : Run config first (records ++ it.more) it.stands.world = subst (λ (c : Config). Run c first (records ++ it.more) it.stands.world) same it.stands.run in
+  led : (hub : Hub (HostStore S)) → hub.config ≡ config → (first : State) (records : List Record) (actions : List HostAction)
+      → RepresentsBehind (condition_of g) hub first records (λ n. []) actions → LedBy config (state g hub.store.archive.store) first records actions
+  led hub same first records actions it =
+      let run : Run config first (records ++ it.more) it.represents.world = subst (λ (c : Config). Run c first (records ++ it.more) it.represents.world) same it.represents.run in
       record {
         more = it.more;
         holds = it.holds;
         follows = it.follows;
-        world = it.stands.world;
+        world = it.represents.world;
         run = run;
-        stands = it.stands.at.state.stands;
+        represents = it.represents.at.state.represents;
         stop = λ trees h.
-            let l = leaves_as_was (state g hub.store.archive.store) it.stands.world.state (settled hub.store.archive.store it.stands.at.state.stands.stands.is_open) it.stands.at.state.stands trees h in
+            let l = leaves_as_was (state g hub.store.archive.store) it.represents.world.state (settled hub.store.archive.store it.represents.at.state.represents.represents.is_open) it.represents.at.state.represents trees h in
             (l.0, l.1, subst (λ (s : State). Run config first ((records ++ it.more) ++ stopped ∷ []) (first_world s)) (sym l.2) (stops run));
       }
 
-  hosted_by : (store : HostStore S) (deeds : List Deed) → WentOn (condition_of g) opened store deeds → IsHosted config (state g given) (state g store.archive.store) deeds
-  hosted_by store deeds it =
-      subst (λ (a : HostStore S). IsHosted config (state g given) (state g a.archive.store) deeds) (sym it.over) (record {
-        fresh = λ is_open none. led it.new (it.same_config ∙ is.configured) empty_state [] deeds
+  hosted_by : (store : HostStore S) (actions : List HostAction) → WentOn (condition_of g) opened store actions → IsHosted config (state g given) (state g store.archive.store) actions
+  hosted_by store actions it =
+      subst (λ (a : HostStore S). IsHosted config (state g given) (state g a.archive.store) actions) (sym it.over) (record {
+        fresh = λ is_open none. led it.new (it.same_config ∙ is.configured) empty_state [] actions
             (it.behind is_open empty_state [] (is.fresh (it.honest (clean it.new.store.archive.store is_open)) none));
-        again = λ is_open found left first records run. led it.new (it.same_config ∙ is.configured) first records deeds
+        again = λ is_open found left first records run. led it.new (it.same_config ∙ is.configured) first records actions
             (it.behind is_open first records (is.again (it.honest (clean it.new.store.archive.store is_open)) found left first records run));
       })
 
   module _ {R K P : Type 0} (unread : R → Option (List ℕ)) (taken : K → Option (List ℕ)) (held : P → Option (List ℕ)) (size : P → ℕ) (causes : Causes R K P) where
     -- what was done over the hub is done over its database
-    pub over_hub : {before after : Doorway R K P} {limits : Limits} {bounds : Bounds} {log_before log_after : StandardErrorLog} (store : HostStore S) (back : Held S) (deeds : List Deed) (outcome : Outcome) → back ≡ store.archive.store
-        → bounds ≡ host_limits limits → EndsHub (condition_of g) (account_of g) unread taken held size causes unshown before after log_before log_after bounds opened store deeds outcome → WentOn (condition_of g) opened store deeds
+    pub over_hub : {before after : AcceptorState R K P} {limits : ServerLimits} {bounds : Bounds} {log_before log_after : StandardErrorLog} (store : HostStore S) (back : Held S) (actions : List HostAction) (outcome : Outcome) → back ≡ store.archive.store
+        → bounds ≡ host_limits limits → EndsHub (condition_of g) (call_log_of g) unread taken held size causes unshown before after log_before log_after bounds opened store actions outcome → WentOn (condition_of g) opened store actions
         → HostsDatabase g unread taken held size causes before after limits config given back outcome
-    over_hub {before = before} {after = after} {limits = limits} {log_before = log_before} {log_after = log_after} store back deeds outcome same bounded it went =
-        hosts opened store deeds log_before log_after
-        (subst (λ (b : Bounds). EndsHub (condition_of g) (account_of g) unread taken held size causes unshown before after log_before log_after b opened store deeds outcome) bounded it)
-        is same (subst (λ (h : Held S). IsHosted config (state g given) (state g h) deeds) (sym same) (hosted_by store deeds went))
+    over_hub {before = before} {after = after} {limits = limits} {log_before = log_before} {log_after = log_after} store back actions outcome same bounded it went =
+        hosts opened store actions log_before log_after
+        (subst (λ (b : Bounds). EndsHub (condition_of g) (call_log_of g) unread taken held size causes unshown before after log_before log_after b opened store actions outcome) bounded it)
+        is same (subst (λ (h : Held S). IsHosted config (state g given) (state g h) actions) (sym same) (hosted_by store actions went))
 
 -- nobody was served
-stays : (config : Config) (d : db.State) (s first : State) (records : List Record) → IsSettled d → StandsFor d s → Run config first records (first_world s) → LedBy config d first records []
-stays config d s first records settled stands went =
+stays : (config : Config) (d : db.State) (s first : State) (records : List Record) → IsSettled d → Represents d s → Run config first records (first_world s) → LedBy config d first records []
+stays config d s first records settled represents went =
     let same : records ≡ records ++ [] = sym (append-nil records) in
     record {
       more = [];
@@ -78,9 +78,9 @@ stays config d s first records settled stands went =
       follows = runs.begins;
       world = first_world s;
       run = subst (λ (all : List Record). Run config first all (first_world s)) same went;
-      stands = stands;
+      represents = represents;
       stop = λ trees h.
-          let l = leaves_as_was d s settled stands trees h in (
+          let l = leaves_as_was d s settled represents trees h in (
             l.0,
             l.1,
             subst (λ (left : State). Run config first ((records ++ []) ++ stopped ∷ []) (first_world left)) (sym l.2)
@@ -97,7 +97,7 @@ module _ {S R K P : Type 0} (g : Ghosts S) (unread : R → Option (List ℕ)) (t
     again = λ is_open found left first records went. stays config (state g back) found first records (settled back is_open) ((kept (clean back is_open)).1 found left) went;
   }
 
-  without : {before after : Doorway R K P} {limits : Limits} (why : StartFault) → ((f : OpenFault) → why ≡ fault.Open f → IsChecked config)
+  without : {before after : AcceptorState R K P} {limits : ServerLimits} (why : StartFault) → ((f : OpenFault) → why ≡ fault.Open f → IsChecked config)
       → ((f : OpenFault) → why ≡ fault.Open f → IsTrue (state g back).is_open → Keeps (state g given) (state g back))
       → RefusesConfig config given (why, back) → (why ≡ fault.Hub refused_by.Memory → IsGivenOrStore g config given back) → OpeningLeaves config (state g given) (state g back) → after ≡ before
       → HostsDatabase g unread taken held size causes before after limits config given back (outcome_of_start why)
@@ -110,7 +110,7 @@ module _ {S R K P : Type 0} (g : Ghosts S) (unread : R → Option (List ℕ)) (t
       ]
 
   -- no hub was made
-  pub without_hub : {before after : Doorway R K P} {limits : Limits} (why : StartFault) → ((f : OpenFault) → why ≡ fault.Open f → IsChecked config)
+  pub without_hub : {before after : AcceptorState R K P} {limits : ServerLimits} (why : StartFault) → ((f : OpenFault) → why ≡ fault.Open f → IsChecked config)
       → ((f : OpenFault) → why ≡ fault.Open f → IsTrue (state g back).is_open → Keeps (state g given) (state g back))
       → RefusesConfig config given (why, back) → (why ≡ fault.Hub refused_by.Memory → IsGivenOrStore g config given back) → OpeningLeaves config (state g given) (state g back) → after ≡ before
       → (outcome : Outcome) → outcome ≡ outcome_of_start why → HostsDatabase g unread taken held size causes before after limits config given back outcome

@@ -6,13 +6,13 @@ use Rattle.std.specs.List.{FoldsTo}
 use Rattle.sqlite.specs.State as db
 use Rattle.sqlite.specs.Steps.{IsEmpty}
 use Rattle.sqlite.specs.Effect.{IsDatabase}
-use Rattle.dep_schema.specs.Standing.{HoldsNone}
+use Rattle.dep_schema.specs.OpenTables.{HoldsNone}
 use Rattle.dep_types.specs.Conditions.{Condition}
 use Rattle.dep_types.specs.State.{State, empty_state}
 use Rattle.dep_types.specs.Config.{IsChecked}
 use Rattle.dep_types.specs.declared.config.Config.{Config}
 use Rattle.dep_hub.specs.Records.{World, Record, Arrive, stopped, first_world, Run, begins, goes_on, stops, breaks}
-use Rattle.dep_hub.specs.Standing.{StandsAt, StandsAfter, IsHonest}
+use Rattle.dep_hub.specs.OpenTables.{RepresentsAt, RepresentsAfter, IsHonest}
 use Rattle.dep_connection.specs.Turns.{Turn, with_opened, Exchanges}
 use Rattle.dep_connection.specs.Conversation.{Outflow, Wire, Session, Rests, Converses, ConversesOver}
 use Rattle.std.proofs.KnownBytes.{Keeps-refl}
@@ -55,22 +55,22 @@ world_at_first (stops {records} r) e = absurd (not_nil records stopped e)
 world_at_first (breaks {records} {n} {moment} {piece} {sent} found r a shut l) e =
     absurd (not_nil_more records (record { event = Arrive n piece moment; sent = sent }) stopped e)
 
-module _ {A : Type 0} (condition : A → Condition) (may_commit : A → Bool) (shown : Outflow → Type 0) {C : Type 0} (ticks : C → ℕ → C → Type 0) (moment : ℕ) (tells : C → Type 0)
-    (same : (before after : C) (m : ℕ) → tells before → ticks before m after → (m ≡ moment) × tells after) where
+module _ {A : Type 0} (condition : A → Condition) (may_commit : A → Bool) (shown : Outflow → Type 0) {C : Type 0} (ticks : C → ℕ → C → Type 0) (moment : ℕ) (reports : C → Type 0)
+    (same : (before after : C) (m : ℕ) → reports before → ticks before m after → (m ≡ moment) × reports after) where
   -- a clock that tells one moment tells it at each turn
-  all_at : (turns : List Turn) (clock last : C) → tells clock → FoldsTo (λ before (t : Turn) after. ticks before t.moment after) clock turns last
+  all_at : (turns : List Turn) (clock last : C) → reports clock → FoldsTo (λ before (t : Turn) after. ticks before t.moment after) clock turns last
       → All (λ (t : Turn). t.moment ≡ moment) turns
   all_at [] clock last p f = All-nil (λ (t : Turn). t.moment ≡ moment)
   all_at (t ∷ turns) clock last p f =
       let s = same clock f.0 t.moment p f.1 in
       All-cons (λ (u : Turn). u.moment ≡ moment) t turns s.0 (all_at turns f.0 last s.1 f.2)
 
-  module _ (base : List ℕ) (before after : Session A C) (first : StandsAfter condition before.hub empty_state [])
-      (honest : IsHonest condition after.hub) (given : before.hub.config ≡ program_config base) (told : tells before.clock) where
+  module _ (base : List ℕ) (before after : Session A C) (first : RepresentsAfter condition before.hub empty_state [])
+      (honest : IsHonest condition after.hub) (given : before.hub.config ≡ program_config base) (reported : reports before.clock) where
     replays : (end : Served) → Converses condition may_commit shown ticks before after end → IsReplayed base moment before.wire after.wire end
     replays end v =
         let fresh = world_at_first first.run refl in
-        let answers = v.answers honest (first_world empty_state) (subst (λ w. StandsAt condition before.hub w) fresh first.at) in
+        let answers = v.answers honest (first_world empty_state) (subst (λ w. RepresentsAt condition before.hub w) fresh first.at) in
         let exchanges : Exchanges (program_config base) v.number (with_opened v.number (first_world empty_state)) v.turns answers.talked =
         subst (λ (x : Config). Exchanges x v.number (with_opened v.number (first_world empty_state)) v.turns answers.talked) given answers.exchanges in
         record {
@@ -79,7 +79,7 @@ module _ {A : Type 0} (condition : A → Condition) (may_commit : A → Bool) (s
           talked = answers.talked;
           exchanges = exchanges;
           run = conversation_run (program_config base) v.number empty_state [] (first_world empty_state) answers.talked v.turns begins exchanges;
-          moments = all_at v.turns before.clock after.clock told v.moments;
+          moments = all_at v.turns before.clock after.clock reported v.moments;
           sizes = v.sizes;
           transfers = v.transfers;
           ends = v.ends;

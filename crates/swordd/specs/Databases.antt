@@ -6,8 +6,8 @@ use Rattle.sqlite_trees.specs.declared.store.Store.{Ghosts}
 use Rattle.dep_types.specs.State.{State, empty_state}
 use Rattle.dep_types.specs.Config.{IsChecked}
 use Rattle.dep_types.specs.declared.config.Config.{Config}
-use Rattle.dep_schema.specs.Standing.{HoldsNone}
-use Rattle.dep_schema.specs.States.{StandsFor, IsLeftAs, Leaves}
+use Rattle.dep_schema.specs.OpenTables.{HoldsNone}
+use Rattle.dep_schema.specs.States.{Represents, IsLeftAs, Leaves}
 use Rattle.dep_store.specs.Migrating.{Keeps, OpenLeaves}
 use Rattle.dep_hub.specs.Records.{World, Record, Run, first_world, stopped}
 use Rattle.dep_connection.specs.Turns.{ArePieces}
@@ -15,11 +15,11 @@ use Rattle.dep_program.specs.Serves.{Conversation, all_records_of, AreServed}
 use Rattle.dep_program.specs.declared.outcome.Outcome.{Outcome}
 use Rattle.dep_program.specs.declared.outcome.Outcome.TheVariants.{Usage, StoreFault, TransferFault}
 
--- It was opened as a store: an empty database stands for the initial state, and one that a store left for the state
+-- It was opened as a store: an empty database represents the initial state, and one that a store left for the state
 -- for which it was left. That is what a stop leaves of it.
 pub record IsKept (old new : db.State) : Type 0 where
-  pub fresh : IsTrue new.is_open → HoldsNone old.now.trees → StandsFor new empty_state
-  pub found : IsTrue new.is_open → (s : State) → IsLeftAs old.now.trees s → StandsFor new s
+  pub fresh : IsTrue new.is_open → HoldsNone old.now.trees → Represents new empty_state
+  pub found : IsTrue new.is_open → (s : State) → IsLeftAs old.now.trees s → Represents new s
   pub stop : OpenLeaves old new
 
 -- It was not opened as a store: it keeps what an open that failed keeps. What a stop leaves is that of an open.
@@ -31,7 +31,7 @@ pub record IsRefused (old new : db.State) : Type 0 where
 pub record LedTo (config : Config) (d : db.State) (first : State) (records : List Record) : Type 0 where
   pub world : World
   pub run : Run config first records world
-  pub stands : StandsFor d world.state
+  pub represents : Represents d world.state
   pub stop : Leaves d (λ left. Run config first (records ++ stopped ∷ []) (first_world left))
 
 -- The machine went on with these records: from the initial state over an empty database, and over one that a store

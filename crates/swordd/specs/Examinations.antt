@@ -5,9 +5,9 @@ use Rattle.sqlite.specs.State.{HasCleanDisk}
 use Rattle.dep_types.specs.State.{State, empty_state}
 use Rattle.dep_tables.specs.Tables.{Tables}
 use Rattle.dep_tables.specs.Versions.{our_version, older_version, HasVersion}
-use Rattle.dep_schema.specs.Standing.{Holds, HoldsOlder, HoldsNone, Stands}
+use Rattle.dep_schema.specs.OpenTables.{Holds, HoldsOlder, HoldsNone, StaysFile}
 use Rattle.dep_store.specs.Migrating.{IsUpgraded}
-use Rattle.dep_schema.specs.States.{TablesStandFor, IsLeftAs}
+use Rattle.dep_schema.specs.States.{TablesRepresent, IsLeftAs}
 use Rattle.dep_commands.specs.Audits.{Audits}
 use Rattle.dep_commands.specs.Exports.{Exports}
 use Rattle.dep_program.specs.declared.outcome.Outcome.{Outcome}
@@ -18,12 +18,12 @@ use Rattle.swordd.specs.Databases.{IsKept, IsRefused}
 abbrev pub Stays : (old new : db.State) → Outcome → Type 0
 Stays old new outcome = IsKept old new ⊎ ((outcome ≡ StoreFault) × IsRefused old new)
 
--- so do tables that stand for no state, and those of version 1 are now of version 2
+-- so do tables that represent no state, and those of version 1 are now of version 2
 pub record AreOpened (old new : db.State) : Type 0 where
   pub newest : IsTrue new.is_open → (t : Tables) → Holds old.now.trees t
-      → HasVersion our_version t × Stands new t
+      → HasVersion our_version t × StaysFile new t
   pub older : IsTrue new.is_open → (t : Tables) → HoldsOlder old.now.trees t
-      → HasVersion older_version t → (after : Tables) × Stands new after × IsUpgraded t after
+      → HasVersion older_version t → (after : Tables) × StaysFile new after × IsUpgraded t after
 
 abbrev pub TablesStay : (old new : db.State) → Outcome → Type 0
 TablesStay old new outcome =
@@ -39,7 +39,7 @@ AuditsOlder t written outcome =
 -- state.
 pub record AuditsDatabase (old new : db.State) (written : List ℕ) (outcome : Outcome) : Type 0 where
   pub fresh : HasCleanDisk new → HoldsNone old.now.trees
-      → (t : Tables) × TablesStandFor t empty_state × Audits t written outcome
+      → (t : Tables) × TablesRepresent t empty_state × Audits t written outcome
   pub found : HasCleanDisk new → (t : Tables) → Holds old.now.trees t → Audits t written outcome
   pub older : HasCleanDisk new → (t : Tables) → HoldsOlder old.now.trees t
       → HasVersion older_version t → AuditsOlder t written outcome

@@ -7,60 +7,60 @@ use Rattle.sqlite_trees.specs.declared.store.Store.{Ghosts}
 use Rattle.dep_types.specs.State.{State, empty_state}
 use Rattle.dep_types.specs.Config.{IsChecked}
 use Rattle.dep_types.specs.declared.config.Config.{Config}
-use Rattle.dep_schema.specs.Standing.{HoldsNone}
-use Rattle.dep_schema.specs.States.{StandsFor, IsLeftAs, Leaves}
+use Rattle.dep_schema.specs.OpenTables.{HoldsNone}
+use Rattle.dep_schema.specs.States.{Represents, IsLeftAs, Leaves}
 use Rattle.dep_store.specs.Migrating.{Keeps}
 use Rattle.dep_types.specs.Conditions.{Condition}
 use Rattle.dep_store.specs.HashingStores as store
 use Rattle.dep_store.specs.declared.archive.HashingStore.{HashingStore}
 use Rattle.dep_reserve.specs.declared.reserved_archive.ReservedArchive.{ReservedArchive}
-use Rattle.dep_hub.specs.Errands.{Account}
+use Rattle.dep_hub.specs.ArchiveCalls.{CallLog}
 use Rattle.swordd.specs.declared.logged_reserve.LoggedReserve.{LoggedReserve}
 use Rattle.dep_commands.specs.Starting.{OpeningLeaves}
 use Rattle.dep_hub.specs.Records.{World, Record, Run, first_world, stopped}
-use Rattle.dep_hub.specs.Standing.{StandsAfter, IsHonest}
+use Rattle.dep_hub.specs.OpenTables.{RepresentsAfter, IsHonest}
 use Rattle.dep_hub.specs.declared.hub.Hub.{Hub}
 use Rattle.dep_host.specs.Causes.{Causes}
-use Rattle.dep_host.specs.Hosting.{Deed}
+use Rattle.dep_host.specs.Hosting.{HostAction}
 use Rattle.dep_host.specs.Runs.{Follows}
 use Rattle.dep_host.specs.Notes.{Note}
 use Rattle.dep_host.specs.declared.limits.Limits.{Limits as Bounds}
 use Rattle.std.specs.Net.Socket.{socket_ip, socket_port}
 use Rattle.dep_configuration.specs.declared.configuration.Configuration.{Configuration}
-use Rattle.dep_configuration.specs.declared.configuration.Limits.{Limits}
-use Rattle.dep_sockets.specs.Doors.{Doorway, EndsHub}
-use Rattle.dep_sockets.specs.declared.door.Entrance.{Entrance}
-use Rattle.swordd.specs.declared.hosting.Place.{Place}
+use Rattle.dep_configuration.specs.declared.configuration.ServerLimits.{ServerLimits}
+use Rattle.dep_sockets.specs.Acceptors.{AcceptorState, EndsHub}
+use Rattle.dep_sockets.specs.declared.acceptor.Entrance.{Entrance}
+use Rattle.swordd.specs.declared.hosting.HostOptions.{HostOptions}
 use Rattle.swordd.specs.declared.host_log.StandardErrorLog.{StandardErrorLog}
 use Rattle.dep_program.specs.declared.outcome.Outcome.{Outcome}
 use Rattle.dep_program.specs.declared.outcome.Outcome.TheVariants.{Usage, StoreFault}
 
--- The machine went on with the records of the deeds behind these, and the database stands for where
+-- The machine went on with the records of the actions behind these, and the database represents where
 -- it is. A stop leaves it so.
 pub record LedBy (config : Config) (d : db.State) (first : State) (records : List Record)
-    (deeds : List Deed) : Type 0 where
+    (actions : List HostAction) : Type 0 where
   pub more : List Record
   pub holds : ℕ → List ℕ
-  pub follows : Follows (λ n. []) deeds more holds
+  pub follows : Follows (λ n. []) actions more holds
   pub world : World
   pub run : Run config first (records ++ more) world
-  pub stands : StandsFor d world.state
+  pub represents : Represents d world.state
   pub stop : Leaves d (λ left. Run config first ((records ++ more) ++ stopped ∷ []) (first_world left))
 
 -- It went on from the initial state over an empty database, and over one that a store left from all
 -- records that may have led to what was left.
-pub record IsHosted (config : Config) (old new : db.State) (deeds : List Deed) : Type 0 where
-  pub fresh : IsTrue new.is_open → HoldsNone old.now.trees → LedBy config new empty_state [] deeds
+pub record IsHosted (config : Config) (old new : db.State) (actions : List HostAction) : Type 0 where
+  pub fresh : IsTrue new.is_open → HoldsNone old.now.trees → LedBy config new empty_state [] actions
   pub again : IsTrue new.is_open → (found : State) → IsLeftAs old.now.trees found
       → (first : State) (records : List Record) → Run config first records (first_world found)
-      → LedBy config new first records deeds
+      → LedBy config new first records actions
 
 -- how a store with a reserve stands: as without one
 abbrev pub condition_of : {S R : Type 0} → (g : Ghosts S) → ReservedArchive (HashingStore S) R → Condition
 condition_of g its = store.condition_of g its.archive
 
-abbrev pub account_of : {S R : Type 0} → (g : Ghosts S) → ReservedArchive (HashingStore S) R → Account
-account_of g its = store.account_of g its.archive
+abbrev pub call_log_of : {S R : Type 0} → (g : Ghosts S) → ReservedArchive (HashingStore S) R → CallLog
+call_log_of g its = store.call_log_of g its.archive
 
 -- a store with the reserve of a host
 abbrev pub HostStore : Type 0 → Type 0
@@ -72,7 +72,7 @@ abbrev pub GoesOnFromLeft : {S R : Type 0} → (g : Ghosts S) → Config → (ol
 GoesOnFromLeft g config old hub = IsHonest (condition_of g) hub
     → (found : State) → IsLeftAs old.now.trees found
     → (first : State) (records : List Record) → Run config first records (first_world found)
-    → StandsAfter (condition_of g) hub first records
+    → RepresentsAfter (condition_of g) hub first records
 
 -- the hub is configured so, which was checked, and goes on from what this database was given as, also where a fault shuts it later
 pub record IsOpened {S R : Type 0} (g : Ghosts S) (config : Config) (old : db.State)
@@ -80,7 +80,7 @@ pub record IsOpened {S R : Type 0} (g : Ghosts S) (config : Config) (old : db.St
   pub configured : hub.config ≡ config
   pub checked : IsChecked config
   pub fresh : IsHonest (condition_of g) hub → HoldsNone old.now.trees
-      → StandsAfter (condition_of g) hub empty_state []
+      → RepresentsAfter (condition_of g) hub empty_state []
   pub again : GoesOnFromLeft g config old hub
 
 -- the log of a host on standard error shows nothing of what it was told
@@ -88,7 +88,7 @@ abbrev pub unshown : StandardErrorLog → Option (List Note)
 unshown log = None
 
 -- what bounds the host's connections, as it is configured
-abbrev pub host_limits : Limits → Bounds
+abbrev pub host_limits : ServerLimits → Bounds
 host_limits limits = record {
   idle_seconds = limits.idle_seconds;
   least_rate = limits.least_rate;
@@ -98,19 +98,19 @@ host_limits limits = record {
 
 module _ {S R K P : Type 0} (g : Ghosts S) (unread : R → Option (List ℕ)) (taken : K → Option (List ℕ))
     (held : P → Option (List ℕ)) (size : P → ℕ) (causes : Causes R K P) where
-  -- how serving many clients from a database ends, by a door, and what it does
-  pub data HostsDatabase (before after : Doorway R K P) (limits : Limits) (config : Config)
+  -- how serving many clients from a database ends, by an acceptor, and what it does
+  pub data HostsDatabase (before after : AcceptorState R K P) (limits : ServerLimits) (config : Config)
       (given back : Held S) : Outcome → Type 0 where
     -- it was served from a hub over the store, and the machine went on with what was done
-    hosts : {outcome : Outcome} (hub : Hub (HostStore S)) (left : HostStore S) (deeds : List Deed)
+    hosts : {outcome : Outcome} (hub : Hub (HostStore S)) (left : HostStore S) (actions : List HostAction)
         (log_before log_after : StandardErrorLog)
-        → EndsHub (condition_of g) (account_of g) unread taken held size causes unshown before
-        after log_before log_after (host_limits limits) hub left deeds outcome
+        → EndsHub (condition_of g) (call_log_of g) unread taken held size causes unshown before
+        after log_before log_after (host_limits limits) hub left actions outcome
         → IsOpened g config (state g given) hub
         → back ≡ left.archive.store
-        → IsHosted config (state g given) (state g back) deeds
+        → IsHosted config (state g given) (state g back) actions
         → HostsDatabase before after limits config given back outcome
-    -- the configuration is refused, and the database and the door left alone
+    -- the configuration is refused, and the database and the acceptor left alone
     not_checked : ¬ IsChecked config → back ≡ given → after ≡ before
         → HostsDatabase before after limits config given back Usage
     -- there was no memory to check it, and they were left alone
@@ -126,7 +126,7 @@ module _ {S R K P : Type 0} (g : Ghosts S) (unread : R → Option (List ℕ)) (t
         → HostsDatabase before after limits config given back StoreFault
 
 -- the place is as it is configured
-pub record IsPlaceOf (given : Configuration) (place : Place) : Type 0 where
+pub record IsPlaceOf (given : Configuration) (place : HostOptions) : Type 0 where
   pub address : socket_ip place.address ≡ given.address
   pub port : socket_port place.address ≡ given.port
   pub spool_folder : place.spool_folder ≡ given.spool_folder
@@ -140,17 +140,17 @@ filled [] = None
 filled (c ∷ text) = Some (c ∷ text)
 
 -- where the clients of this place come in, and until when
-pub record IsEntranceOf (place : Place) (entrance : Entrance) : Type 0 where
+pub record IsEntranceOf (place : HostOptions) (entrance : Entrance) : Type 0 where
   pub address : entrance.address ≡ place.address
   pub clients : entrance.clients ≡ unwrap_or place.limits.connections 18446744073709551615
   pub stop_file : option_map (λ file. file.now) entrance.stop_file ≡ filled place.stop_file
 
--- the store of this database is served to who comes in at this place, by a door over spools of its folder,
+-- the store of this database is served to who comes in at this place, by an acceptor over spools of its folder,
 -- which hold no more than they may
 pub record ServesPlace {S D R K P : Type 0} (g : Ghosts S) (unread : R → Option (List ℕ))
     (taken : K → Option (List ℕ)) (held : P → Option (List ℕ)) (size : P → ℕ)
-    (causes : Causes R K P) (shown : D → Doorway R K P) (entrance : D → Entrance)
-    (folder : D → List ℕ) (most : D → ℕ) (place : Place) (config : Config)
+    (causes : Causes R K P) (shown : D → AcceptorState R K P) (entrance : D → Entrance)
+    (folder : D → List ℕ) (most : D → ℕ) (place : HostOptions) (config : Config)
     (given back : Held S) (outcome : Outcome) : Type 0 where
   pub before : D
   pub after : D

@@ -11,8 +11,8 @@ use Rattle.swordd.specs.Examinations.{AuditsDatabase, ExportsDatabase}
 
 -- connections are served at the port, an object is exported, or all files are audited
 abbrev pub WorksOn : {S : Type 0} → (g : Ghosts S) → Job → (given back : Held S) → Outcome → Type 0
-WorksOn g (Serve door) given back outcome =
-    ServesDatabase g (program_config (base_at door.port)) door.count given back outcome
+WorksOn g (Serve options) given back outcome =
+    ServesDatabase g (program_config (base_at options.port)) options.count given back outcome
 WorksOn g (Export object folder) given back outcome =
     ExportsDatabase (state g given) (state g back) object outcome
 WorksOn g Audit given back outcome =

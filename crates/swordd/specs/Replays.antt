@@ -5,12 +5,12 @@ use Rattle.dep_types.specs.State.{empty_state}
 use Rattle.dep_types.specs.Config.{IsChecked}
 use Rattle.dep_types.specs.declared.inlet.Inlet as inlet
 use Rattle.dep_types.specs.declared.outlet.Outlet as outlet
-use Rattle.dep_schema.specs.Standing.{HoldsNone}
+use Rattle.dep_schema.specs.OpenTables.{HoldsNone}
 use Rattle.dep_hub.specs.Records.{World, first_world, Run}
 use Rattle.dep_connection.specs.Turns.{Turn, pieces_of, replies_of, records_of, ArePieces, with_opened, with_closed, Exchanges, EndsAs, most_reads, reads_made, reads_after, HasLastRead}
 use Rattle.dep_connection.specs.Conversation.{Wire, Transfers, Rests, outflow, wire}
 use Rattle.dep_connection.specs.declared.connection.Served.{Served}
-use Rattle.dep_program.specs.Gathering.{told, held_in}
+use Rattle.dep_program.specs.Gathering.{reported, held_in}
 use Rattle.dep_program.specs.Outcomes.{outcome_of, outcome_sent}
 use Rattle.dep_program.specs.Setup.{program_config}
 use Rattle.dep_program.specs.declared.gathered.Gathered.{Gathered}
@@ -31,7 +31,7 @@ FromNothing old new P = HoldsNone old.now.trees → db.HasCleanDisk new → P
 abbrev pub wire_gathered : {R W : Type 0} → (g : inlet.Ghosts R) → R
     → (contents : W → Option (List ℕ)) → Gathered W → Wire
 wire_gathered g reader contents outlet = wire g reader (record {
-  taken = told contents outlet;
+  taken = reported contents outlet;
   failures = outlet.failures;
   held = held_in outlet;
   has_failed = outlet.has_failed;

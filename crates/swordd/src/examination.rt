@@ -6,7 +6,7 @@ ghost use Rattle.sqlite.specs.State.{HasCleanDisk};
 ghost use Rattle.dep_types.specs.Writing.{HasRisen};
 ghost use Rattle.swordd.specs.Examinations.{AuditsDatabase, ExportsDatabase};
 
-use crate::progress::Told;
+use crate::progress::Reported;
 use dep_commands::{audit_all, export_object};
 use dep_program::{Folder, FolderSink, Outcome, without_folder};
 use dep_store::Store;
@@ -19,7 +19,7 @@ pub fn audit_database<S: Alter, W: Outlet>(
     alloc: Global,
     connection: Connection<S>,
     lines: &mut W,
-    watch: &mut Told<'_>,
+    watch: &mut Reported<'_>,
 ) -> (Outcome, Connection<S>)
     requires settled { (state S.Store connection).in_transaction ≡ false }
     ensures audits { (written : List ℕ) × Appends (W.taken lines.old) (W.taken lines.new) written
@@ -45,7 +45,7 @@ pub fn export_database<S: Alter>(
     connection: Connection<S>,
     object: u64,
     folder: &str,
-    watch: &mut Told<'_>,
+    watch: &mut Reported<'_>,
 ) -> (Outcome, Connection<S>)
     requires settled { (state S.Store connection).in_transaction ≡ false }
     ensures exports { ExportsDatabase (state S.Store connection) (state S.Store result.1) object result.0 }

@@ -1,6 +1,6 @@
 //! The folders that a configuration names.
 
-use dep_configuration::{Configuration, Field};
+use dep_configuration::{Configuration, ConfigurationField};
 use std::error::Error;
 use std::{fmt, fs};
 
@@ -16,8 +16,11 @@ pub enum FolderFault {
 impl fmt::Display for FolderFault {
     fn fmt<W: fmt::Write>(&self, f: &mut fmt::Formatter<W>) -> fmt::Result {
         let (field, wanted) = match self {
-            FolderFault::OfDatabase => (Field::Database, "a file in a folder that is there"),
-            FolderFault::OfSpools => (Field::SpoolFolder, "a folder that is there"),
+            FolderFault::OfDatabase => (
+                ConfigurationField::Database,
+                "a file in a folder that is there",
+            ),
+            FolderFault::OfSpools => (ConfigurationField::SpoolFolder, "a folder that is there"),
         };
         write!(f, "{}: {wanted}", field.name())
     }

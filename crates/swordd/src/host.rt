@@ -78,7 +78,7 @@ fn serve_file(rt: &HostRuntime, file: &str) -> Outcome {
     match configuration_in(rt, file) {
         Ok(configuration) if is_stopped(rt, &configuration) => {
             drop(configuration);
-            tell(
+            report(
                 rt,
                 file,
                 &"stop_file: the file is there, which tells the server to stop",
@@ -98,7 +98,7 @@ fn is_stopped(rt: &HostRuntime, configuration: &Configuration) -> bool {
 // The configuration in a file, whose folders are there. A fault is printed, by the field that it is of.
 fn configuration_in(rt: &HostRuntime, file: &str) -> Result<Configuration, Outcome> {
     let Ok(text) = fs::read_to_string(rt, file) else {
-        tell(rt, file, &"the file can't be read");
+        report(rt, file, &"the file can't be read");
         return Err(Outcome::Usage);
     };
     let read = Configuration::read(rt.alloc(), text.as_str());
@@ -106,7 +106,7 @@ fn configuration_in(rt: &HostRuntime, file: &str) -> Result<Configuration, Outco
     match read {
         Ok(configuration) => with_folders(rt, file, configuration),
         Err(fault) => {
-            tell(rt, file, &fault);
+            report(rt, file, &fault);
             Err(outcome_of(&fault))
         }
     }
@@ -122,14 +122,14 @@ fn with_folders(
         Ok(()) => Ok(configuration),
         Err(fault) => {
             drop(configuration);
-            tell(rt, file, &fault);
+            report(rt, file, &fault);
             Err(Outcome::Usage)
         }
     }
 }
 
 // Prints what is wrong with a file.
-fn tell<F: Display>(rt: &HostRuntime, file: &str, fault: &F) {
+fn report<F: Display>(rt: &HostRuntime, file: &str, fault: &F) {
     let _ = eprintln!(rt; "swordd_host: {file}: {fault}");
 }
 

@@ -1,15 +1,15 @@
 //! The log of a host: lines of JSON on standard error.
 
 use crate::held_lines::HeldLines;
-use crate::hosting::Place;
+use crate::hosting::HostOptions;
 use crate::start::write_start;
 use dep_configuration::{
-    Closing as Closed, Exchange, GREATEST_PATH, Reason, closing_line, exchange_line,
+    ClosedConnection, GREATEST_PATH, LoggedExchange, Reason, closing_line, exchange_line,
 };
-use dep_host::{Bytes, Cause, Closing, Ended, HostLog, Refusal as TurnedAway};
+use dep_host::{Bytes, Cause, Closing, Ended, HostLog, Rejection};
 use dep_hub::{AccessLog, ConnId, Next, SentOn};
 use dep_program::{microseconds_since, moment_of};
-use dep_sockets::DoorLog;
+use dep_sockets::AcceptorLog;
 use dep_types::Refusal;
 use std::alloc::Global;
 use std::mem;
@@ -23,7 +23,7 @@ const MOST_METHOD: usize = 32;
 #[derive(Drop)]
 pub struct StandardErrorLog<'a> {
     rt: &'a HostRuntime,
-    place: &'a Place,
+    place: &'a HostOptions,
     lines: HeldLines<'a>,
     /// The time that opening the database took.
     open_microseconds: u64,
@@ -51,7 +51,7 @@ pub struct Item {
 
 impl<'a> StandardErrorLog<'a> {
     /// A log that has no item under way, of a server at the place, whose database has just been opened.
-    pub fn new(rt: &'a HostRuntime, place: &'a Place) -> StandardErrorLog<'a> {
+    pub fn new(rt: &'a HostRuntime, place: &'a HostOptions) -> StandardErrorLog<'a> {
         StandardErrorLog {
             rt,
             place,
@@ -72,7 +72,7 @@ impl<'a> StandardErrorLog<'a> {
             return;
         };
         let moment = self.moment();
-        let closed = Closed {
+        let closed = ClosedConnection {
             moment,
             connection,
             peer: peer.as_str(),
@@ -89,7 +89,7 @@ impl<'a> StandardErrorLog<'a> {
             return;
         };
         let moment = self.moment();
-        let exchange = Exchange {
+        let exchange = LoggedExchange {
             moment,
             connection: item.connection,
             peer: peer.as_str(),
@@ -142,13 +142,13 @@ impl HostLog for StandardErrorLog<'_> {
 
     fn opened(&mut self, _connection: ConnId, _address: IpAddr) {}
 
-    fn refused(&mut self, address: IpAddr, refusal: TurnedAway) {
+    fn refused(&mut self, address: IpAddr, refusal: Rejection) {
         let reason = match refusal {
-            TurnedAway::Address => Reason::AddressLimit,
-            TurnedAway::Full => Reason::Full,
-            TurnedAway::Memory => Reason::Memory,
-            TurnedAway::Shut => Reason::StoreShut,
-            TurnedAway::Stopped => Reason::Stopping,
+            Rejection::Address => Reason::AddressLimit,
+            Rejection::Full => Reason::Full,
+            Rejection::Memory => Reason::Memory,
+            Rejection::Shut => Reason::StoreShut,
+            Rejection::Stopped => Reason::Stopping,
         };
         self.write_closing(None, address, reason);
     }
@@ -223,8 +223,8 @@ impl HostLog for StandardErrorLog<'_> {
     }
 }
 
-impl DoorLog for StandardErrorLog<'_> {
-    fn door(&mut self, is_open: bool) {
+impl AcceptorLog for StandardErrorLog<'_> {
+    fn acceptor(&mut self, is_open: bool) {
         let address = self.place.address;
         if is_open {
             write_start(self.rt, address, self.place.limits, self.open_microseconds);
@@ -233,7 +233,7 @@ impl DoorLog for StandardErrorLog<'_> {
         }
     }
 
-    // Where no more comes, no line: how that came the door tells.
+    // Where no more comes, no line: how that came the acceptor tells.
     fn ended(&mut self, why: Option<Ended>) {
         let line = match why {
             Some(Ended::Events) => return,

@@ -2,19 +2,19 @@
 ghost use Rattle.std.specs.Prelude.{◌≡◌, false};
 ghost use Rattle.sqlite.specs.Held.{state};
 ghost use Rattle.dep_host.specs.Causes.{causes_of};
-ghost use Rattle.dep_sockets.specs.Doors.{doorway};
+ghost use Rattle.dep_sockets.specs.Acceptors.{acceptor_state};
 ghost use Rattle.swordd.specs.Hosted.{HostsDatabase, IsEntranceOf, IsPlaceOf, host_limits};
 
 use crate::host_log::StandardErrorLog;
 use crate::logged_reserve::LoggedReserve;
 use crate::reserved_hub::open_reserved_hub;
-use dep_commands::{Work, work_on_file};
-use dep_configuration::{Configuration, Limits};
+use dep_commands::{DatabaseWork, work_on_file};
+use dep_configuration::{Configuration, ServerLimits};
 use dep_host::HostLog;
 use dep_outbox::{Sink, Source, Spool};
 use dep_program::Outcome;
 use dep_sockets::{
-    Door, Entrance, FileSpool, SocketDoor, SocketSink, SocketSource, Spools, serve_hub,
+    Acceptor, Entrance, FileSpool, SocketAcceptor, SocketSink, SocketSource, Spools, serve_hub,
 };
 use dep_types::{Config, Text};
 use sqlite::{Alter, Connection};
@@ -26,25 +26,25 @@ use std::time::Instant;
 
 /// Where clients come from, and what bounds their connections.
 #[derive(Drop)]
-pub struct Place {
+pub struct HostOptions {
     pub address: SocketAddr,
     pub spool_folder: Text,
     pub stop_file: Text,
     /// The file of the reserve, and how many bytes it has; 0 for none.
     pub reserve_file: Text,
     pub reserve_bytes: u64,
-    pub limits: Limits,
+    pub limits: ServerLimits,
     /// When the opening of the database began.
     pub begun: Option<Instant>,
 }
 
-impl Place {
+impl HostOptions {
     /// The place that is configured, with the path of the database and what else is configured.
     fn new(
         configuration: Configuration,
         reserve_file: Text,
         begun: Option<Instant>,
-    ) -> (Place, Text, Config)
+    ) -> (HostOptions, Text, Config)
         ensures place { IsPlaceOf configuration result.0 }
         ensures database { result.1 ≡ configuration.database }
         ensures config { result.2 ≡ configuration.config }
@@ -59,7 +59,7 @@ impl Place {
             limits,
             reserve_bytes,
         } = configuration;
-        let place = Place {
+        let place = HostOptions {
             address: SocketAddr::new(address, port),
             spool_folder,
             stop_file,
@@ -88,15 +88,15 @@ impl Place {
     }
 }
 
-type HostDoor = SocketDoor<'static, HostRuntime>;
+type HostAcceptor = SocketAcceptor<'static, HostRuntime>;
 
 type HostSpool = FileSpool<'static, HostRuntime>;
 
 /// What serves the store in a database.
 #[derive(Drop)]
-struct Service<'a> {
+struct HostService<'a> {
     rt: &'a HostRuntime,
-    place: Place,
+    place: HostOptions,
     config: Config,
     /// Whether it was done, before the database is closed.
     is_done: &'a Cell<bool>,
@@ -109,9 +109,9 @@ pub fn serve_store(rt: &HostRuntime, configuration: Configuration) -> Outcome {
         return fails(rt, "opened");
     };
     let begun = Instant::now(rt).ok();
-    let (place, database, config) = Place::new(configuration, reserve_file, begun);
+    let (place, database, config) = HostOptions::new(configuration, reserve_file, begun);
     let is_done = Cell::new(false);
-    let service = Service {
+    let service = HostService {
         rt,
         place,
         config,
@@ -136,25 +136,25 @@ fn fails(rt: &HostRuntime, what: &str) -> Outcome {
     Outcome::StoreFault
 }
 
-impl Work for Service<'_> {
+impl DatabaseWork for HostService<'_> {
     ghost use Rattle.dep_host.specs.Causes.{causes_of};
-    ghost use Rattle.dep_sockets.specs.Doors.{doorway};
+    ghost use Rattle.dep_sockets.specs.Acceptors.{acceptor_state};
     ghost use Rattle.swordd.specs.Hosted.{ServesPlace};
 
     ghost does = { λ it S g given back.
-        let door = ⟦<HostDoor as Door<SocketSource, SocketSink, HostSpool>>⟧ in
+        let acceptor = ⟦<HostAcceptor as Acceptor<SocketSource, SocketSink, HostSpool>>⟧ in
         let spool = ⟦<HostSpool as Spool>⟧ in
         let source = ⟦<SocketSource as Source>⟧ in
         let sink = ⟦<SocketSink as Sink>⟧ in
         ServesPlace g source.unread sink.taken spool.held spool.size
         (causes_of source.halts sink.halts spool.failures)
-        (doorway door.given door.is_open door.is_over door.is_cut)
+        (acceptor_state acceptor.given acceptor.is_open acceptor.is_over acceptor.is_cut)
         (λ d. d.entrance) (λ d. d.spools.now.folder.now) (λ d. d.spools.now.most)
         it.place it.config given back };
 
     // Serves whoever connects at the place.
     fn work<S: Alter>(self, connection: Connection<S>) -> (Outcome, Connection<S>) {
-        let Service {
+        let HostService {
             rt,
             place,
             config,
@@ -164,9 +164,9 @@ impl Work for Service<'_> {
         let process = process::id(rt.process());
         let most = place.limits.spool_bytes;
         let spools = Spools::new(alloc, rt, place.spool_folder.as_str(), process, most);
-        let mut door = SocketDoor::new(alloc, rt, &spools, place.entrance());
-        let (outcome, connection) = host_database(rt, &place, config, connection, &mut door);
-        if let Some(fault) = door.fault() {
+        let mut acceptor = SocketAcceptor::new(alloc, rt, &spools, place.entrance());
+        let (outcome, connection) = host_database(rt, &place, config, connection, &mut acceptor);
+        if let Some(fault) = acceptor.fault() {
             let _ = eprintln!(rt; "swordd_host: {fault}");
         }
         is_done.set(matches!(outcome, Outcome::Done));
@@ -174,18 +174,18 @@ impl Work for Service<'_> {
     }
 }
 
-/// Opens the store in the database, serves whoever comes by the door, and hands the database back.
-fn host_database<S: Alter, R: Source + Drop, K: Sink + Drop, P: Spool + Drop, E: Door<R, K, P>>(
+/// Opens the store in the database, serves whoever comes by the acceptor, and hands the database back.
+fn host_database<S: Alter, R: Source + Drop, K: Sink + Drop, P: Spool + Drop, E: Acceptor<R, K, P>>(
     rt: &HostRuntime,
-    place: &Place,
+    place: &HostOptions,
     config: Config,
     connection: Connection<S>,
-    door: &mut E,
+    acceptor: &mut E,
 ) -> (Outcome, Connection<S>)
     requires settled { (state S.Store connection).in_transaction ≡ false }
-    ensures hosts { let at = doorway E.given E.is_open E.is_over E.is_cut in
+    ensures hosts { let at = acceptor_state E.given E.is_open E.is_over E.is_cut in
         HostsDatabase S.Store R.unread K.taken P.held P.size
-        (causes_of R.halts K.halts P.failures) (at door.old) (at door.new) place.now.limits config
+        (causes_of R.halts K.halts P.failures) (at acceptor.old) (at acceptor.new) place.now.limits config
         connection result.1 result.0 }
 {
     let reserve = LoggedReserve::of(rt, place);
@@ -196,7 +196,7 @@ fn host_database<S: Alter, R: Source + Drop, K: Sink + Drop, P: Spool + Drop, E:
                 rt.alloc(),
                 hub,
                 host_limits(&place.limits),
-                door,
+                acceptor,
                 &mut log,
             );
             log.rest();
@@ -209,7 +209,7 @@ fn host_database<S: Alter, R: Source + Drop, K: Sink + Drop, P: Spool + Drop, E:
     }
 }
 
-fn host_limits(limits: &Limits) -> dep_host::Limits
+fn host_limits(limits: &ServerLimits) -> dep_host::Limits
     ensures { result ≡ host_limits limits.now }
 {
     dep_host::Limits {

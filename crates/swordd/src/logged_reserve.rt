@@ -1,6 +1,6 @@
 //! The reserve of a host, of which the log tells.
 
-use crate::hosting::Place;
+use crate::hosting::HostOptions;
 use dep_configuration::{ReserveState, reserve_line};
 use dep_program::moment_of;
 use dep_reserve::{FileReserve, Reserve};
@@ -20,7 +20,7 @@ pub struct LoggedReserve<'a> {
 
 impl<'a> LoggedReserve<'a> {
     /// The reserve of the place, if it is to have one. It is not taken yet.
-    pub fn of(rt: &'a HostRuntime, place: &'a Place) -> Option<LoggedReserve<'a>> {
+    pub fn of(rt: &'a HostRuntime, place: &'a HostOptions) -> Option<LoggedReserve<'a>> {
         if place.reserve_bytes == 0 {
             return None;
         }
@@ -32,7 +32,7 @@ impl<'a> LoggedReserve<'a> {
         })
     }
 
-    fn tell(&self, state: ReserveState) {
+    fn report(&self, state: ReserveState) {
         let moment = moment_of(SystemTime::now(self.rt)).secs();
         if let Ok(line) = reserve_line(self.rt.alloc(), moment, state) {
             let _ = self.rt.stderr().write_all(line.as_slice());
@@ -43,22 +43,22 @@ impl<'a> LoggedReserve<'a> {
 impl Reserve for LoggedReserve<'_> {
     ghost is_standing = { λ its. its.file.is_standing };
 
-    fn stands(&self) -> bool {
-        self.file.stands()
+    fn is_intact(&self) -> bool {
+        self.file.is_intact()
     }
 
     fn give_up(&mut self) {
         self.file.give_up();
-        self.tell(ReserveState::GivenUp);
+        self.report(ReserveState::GivenUp);
     }
 
     // That it stands at the start has no line, and that it still can't be taken has one at the start alone.
     fn restore(&mut self) {
         self.file.restore();
         let is_new = mem::replace(&mut self.is_new, false);
-        match (self.file.stands(), is_new) {
-            (true, false) => self.tell(ReserveState::Standing),
-            (false, true) => self.tell(ReserveState::NotWritten),
+        match (self.file.is_intact(), is_new) {
+            (true, false) => self.report(ReserveState::OpenTables),
+            (false, true) => self.report(ReserveState::NotWritten),
             _ => {}
         }
     }

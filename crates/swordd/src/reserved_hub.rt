@@ -3,10 +3,10 @@ ghost use Rattle.std.specs.Prelude.{◌≡◌, [], false, IfOk, IfErr, IsTrue, M
 ghost use Rattle.sqlite.specs.Held.{state};
 ghost use Rattle.dep_types.specs.State.{empty_state};
 ghost use Rattle.dep_types.specs.Config.{IsChecked};
-ghost use Rattle.dep_schema.specs.Standing.{HoldsNone};
+ghost use Rattle.dep_schema.specs.OpenTables.{HoldsNone};
 ghost use Rattle.dep_store.specs.Migrating.{Keeps};
 ghost use Rattle.dep_commands.specs.Starting.{IsGivenOrStore, OpeningLeaves, RefusesConfig};
-ghost use Rattle.dep_hub.specs.Standing.{StandsAfter, IsHonest};
+ghost use Rattle.dep_hub.specs.OpenTables.{RepresentsAfter, IsHonest};
 ghost use Rattle.swordd.specs.Hosted.{condition_of, GoesOnFromLeft};
 
 use dep_commands::{StartFault, check_config};
@@ -29,7 +29,7 @@ pub fn open_reserved_hub<S: Alter, R: Reserve + Drop>(
     requires settled { (state S.Store connection).in_transaction ≡ false }
     ensures fresh { IfOk result (λ hub. IsHonest (condition_of S.Store) hub
         → HoldsNone (state S.Store connection).now.trees
-        → StandsAfter (condition_of S.Store) hub empty_state []) }
+        → RepresentsAfter (condition_of S.Store) hub empty_state []) }
     ensures again { IfOk result (GoesOnFromLeft S.Store config (state S.Store connection)) }
     ensures config { IfOk result (λ hub. hub.config ≡ config) }
     ensures checked { MatchResult result (λ _. IsChecked config)

@@ -1,6 +1,6 @@
 //! The line at the start of a server.
 
-use dep_configuration::{Limits, Start, start_line};
+use dep_configuration::{ServerLimits, Start, start_line};
 use dep_program::moment_of;
 use std::io::Write;
 use std::net::SocketAddr;
@@ -14,7 +14,12 @@ pub const KIT: &str = "rattle-kit-13f logic dac8208d650f15bf";
 
 /// Writes the line to standard error, of a server that listens at the address, and whose database took so many
 /// microseconds to open. A line that can't be written is left out.
-pub fn write_start(rt: &HostRuntime, address: SocketAddr, limits: Limits, open_microseconds: u64) {
+pub fn write_start(
+    rt: &HostRuntime,
+    address: SocketAddr,
+    limits: ServerLimits,
+    open_microseconds: u64,
+) {
     let Ok(listened_at) = format!(in rt.alloc(); "{address}") else {
         return;
     };

@@ -1,10 +1,10 @@
 //! What is done with the store in a file.
 
 use crate::examination::{audit_database, export_database};
-use crate::progress::Told;
+use crate::progress::Reported;
 use crate::service::serve_database;
-use dep_commands::{Work, work_on_file};
-use dep_program::{Job, Outcome, Progress};
+use dep_commands::{DatabaseWork, work_on_file};
+use dep_program::{Job, Outcome, ProgressLine};
 use dep_types::Through;
 use sqlite::{Alter, Connection};
 use std::fs;
@@ -16,7 +16,7 @@ struct JobHere<'a> {
     job: Job<'a>,
 }
 
-impl Work for JobHere<'_> {
+impl DatabaseWork for JobHere<'_> {
     ghost use Rattle.swordd.specs.Jobs.{WorksOn};
 
     ghost does = { λ it S g given back. WorksOn g it.job given back };
@@ -25,9 +25,9 @@ impl Work for JobHere<'_> {
     // standard error.
     fn work<S: Alter>(self, connection: Connection<S>) -> (Outcome, Connection<S>) {
         let JobHere { rt, job } = self;
-        let mut watch = Told(Progress::new(rt));
+        let mut watch = Reported(ProgressLine::new(rt));
         match job {
-            Job::Serve(door) => serve_database(rt, door, connection, &mut watch),
+            Job::Serve(options) => serve_database(rt, options, connection, &mut watch),
             Job::Export { object, folder } => {
                 export_database(rt, connection, object, folder, &mut watch)
             }

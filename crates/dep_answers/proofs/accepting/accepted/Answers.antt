@@ -4,9 +4,9 @@ use Rattle.dep_types.specs.Methods.{is_safe}
 use Rattle.dep_types.specs.declared.config.Config.{Config}
 use Rattle.dep_types.specs.declared.target.Method.{Method}
 use Rattle.dep_answers.specs.Replies.{answer_to}
-use Rattle.dep_answers.specs.Told.{told_change}
+use Rattle.dep_answers.specs.Reported.{reported_change}
 use Rattle.dep_answers.proofs.ShownReplies.{says_as, shows_safe}
-use Rattle.dep_answers.proofs.ToldLemmas.{change_is}
+use Rattle.dep_answers.proofs.ReportedLemmas.{change_is}
 use Rattle.dep_answers.proofs.accepting.accepted.Goals as goal
 
 pub returns-then-is_safe-clause-says : goal.returns-then-is_safe-clause-says
@@ -26,6 +26,6 @@ returns-clause-says c =
     IfOk-weaker c.say.result _ _
     (λ said says s sound e. says_as s _ (answer_to c.args.service.now s r m) c.args.delivery said
     (c.in_ok-changed.ensures
-    ∙ ap (λ (config : Config). told_change config m r c.args.shown.now) c.config.ensures
+    ∙ ap (λ (config : Config). reported_change config m r c.args.shown.now) c.config.ensures
     ∙ change_is c.args.service.now s sound m r c.args.shown.now (other _ refl) (other _ refl) e) (says s))
     c.say.ensures.says

@@ -3,7 +3,7 @@ use Rattle.std.proofs.lemmas.Result.{IfOk-weaker}
 use Rattle.dep_types.specs.declared.target.Resource.TheVariants as resource
 use Rattle.dep_answers.specs.Replies.{shown_answer}
 use Rattle.dep_answers.proofs.ShownReplies.{says_as, shows}
-use Rattle.dep_answers.proofs.ToldLemmas.{text_is}
+use Rattle.dep_answers.proofs.ReportedLemmas.{text_is}
 use Rattle.dep_answers.proofs.accepting.show.Goals as goal
 
 pub returns-in-File-clause-says : goal.returns-in-File-clause-says
@@ -27,5 +27,5 @@ returns-in_ok-text-in_default-clause-says c =
     IfOk-weaker c.say.result _ _
     (λ said says s sound e. says_as s _ (shown_answer c.args.service.now s r) c.args.delivery said
     (c.in_ok-text-in_default.ensures
-    ∙ text_is c.args.service.now s sound r c.args.delivery.is_bare c.args.shown.now c.in_default.not-File c.in_default.not-BagFile e) (says s))
+    ∙ text_is c.args.service.now s sound r c.args.delivery.is_head_only c.args.shown.now c.in_default.not-File c.in_default.not-BagFile e) (says s))
     c.say.ensures.says

@@ -1,8 +1,8 @@
 use Rattle.std.proofs.Common.{◌∙◌, sym, ap, bytes_eq, None, Some}
 use Rattle.dep_types.specs.declared.rows.FileRow.{FileRow}
-use Rattle.dep_manifest.specs.Told.{row_path}
+use Rattle.dep_manifest.specs.Reported.{row_path}
 use Rattle.dep_answers.specs.Answers.{StoredContent, answer}
-use Rattle.dep_answers.specs.Told.{bag_answer}
+use Rattle.dep_answers.specs.Reported.{bag_answer}
 use Rattle.dep_answers.proofs.NumberedReplies.{there_answer, elsewhere_answer}
 use Rattle.dep_answers.proofs.ShownReplies.{nothing_said, says_as, says_row}
 use Rattle.dep_answers.proofs.bags.file_reply_at.Goals as goal

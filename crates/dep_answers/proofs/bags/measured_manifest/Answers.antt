@@ -1,6 +1,6 @@
 use Rattle.std.proofs.Common.{ℕ, subst}
 use Rattle.std.proofs.lemmas.Result.{IfOk-weaker}
-use Rattle.dep_answers.specs.Telling.{SaysLength}
+use Rattle.dep_answers.specs.Reporting.{SaysLength}
 use Rattle.dep_answers.proofs.bags.measured_manifest.Goals as goal
 
 pub returns-in-Some-clause-says : goal.returns-in-Some-clause-says

@@ -4,7 +4,7 @@ use Rattle.std.proofs.KnownBytes.{Appends-nil, Appends-trans}
 use Rattle.dep_types.specs.Sinks.{file_begun, file_ended, file_given}
 use Rattle.dep_bag.specs.ExportFaults.{unsent_fault}
 use Rattle.dep_bag.specs.Giving.{state_of}
-use Rattle.dep_manifest.specs.Told.{row_path}
+use Rattle.dep_manifest.specs.Reported.{row_path}
 use Rattle.dep_bag.specs.declared.export_fault.ExportFault.TheVariants.{Sink, Memory}
 use Rattle.dep_bag.proofs.GivenParts.{cause_passed, err_keeps, faulty, kept, nothing_given, ours_there}
 use Rattle.dep_bag.proofs.StoredFiles.{all_front, all_sent, none_streamed, unsent_cause, unsent_front, unsent_ours}
@@ -12,14 +12,14 @@ use Rattle.dep_bag.proofs.giving.give_stored.Goals as goal
 
 pub returns-in_err-path : goal.returns-in_err-path
 returns-in_err-path g c =
-    let told = state_of g.K.Outlet.taken g.K.Outlet.failures in
-    none_streamed (g.S.BagSource.condition c.args.source.now) (g.met.S.BagSource.settled c.args.source.now) (told c.args.sink.now) (told c.args.sink.now)
+    let reported = state_of g.K.Outlet.taken g.K.Outlet.failures in
+    none_streamed (g.S.BagSource.condition c.args.source.now) (g.met.S.BagSource.settled c.args.source.now) (reported c.args.sink.now) (reported c.args.sink.now)
     c.args.row.now c.from_residual.result Memory (Appends-nil (g.K.Outlet.taken c.args.sink.now)) refl c.from_residual.ensures.1 tt
 
 pub returns-in_err-begin : goal.returns-in_err-begin
 returns-in_err-begin g c =
-    let told = state_of g.K.Outlet.taken g.K.Outlet.failures in
-    none_streamed (g.S.BagSource.condition c.args.source.now) (g.met.S.BagSource.settled c.args.source.now) (told c.args.sink.now) (told c.begin.new.self)
+    let reported = state_of g.K.Outlet.taken g.K.Outlet.failures in
+    none_streamed (g.S.BagSource.condition c.args.source.now) (g.met.S.BagSource.settled c.args.source.now) (reported c.args.sink.now) (reported c.begin.new.self)
     c.args.row.now c.from_residual-in_err-begin.result Sink
     (nothing_given (g.K.Outlet.taken c.args.sink.now) (g.K.Outlet.taken c.begin.new.self) c.in_err-begin.ensures.err) c.in_err-begin.ensures.cause
     c.from_residual-in_err-begin.ensures.1 tt

@@ -11,14 +11,14 @@ returns-in_err-text g c = λ bytes are.
 
 pub returns-in_err-begin : goal.returns-in_err-begin
 returns-in_err-begin g c = λ bytes are.
-    let told = state_of g.K.Outlet.taken g.K.Outlet.failures in
-    none_given (told c.args.sink.now) (told c.begin.new.self) (file_given (c.args.path.now, bytes)) c.from_residual-in_err-begin.result Sink
+    let reported = state_of g.K.Outlet.taken g.K.Outlet.failures in
+    none_given (reported c.args.sink.now) (reported c.begin.new.self) (file_given (c.args.path.now, bytes)) c.from_residual-in_err-begin.result Sink
     c.in_err-begin.ensures.err c.in_err-begin.ensures.cause c.from_residual-in_err-begin.ensures.1 tt
 
 pub returns-in_err-write : goal.returns-in_err-write
 returns-in_err-write g c = λ bytes are.
-    let told = state_of g.K.Outlet.taken g.K.Outlet.failures in
-    text_breaks (told c.args.sink.now) (told c.begin.new.self) (told c.write.new.self) (told c.write.new.self)
+    let reported = state_of g.K.Outlet.taken g.K.Outlet.failures in
+    text_breaks (reported c.args.sink.now) (reported c.begin.new.self) (reported c.write.new.self) (reported c.write.new.self)
     c.args.path.now bytes c.as_slice.result.now c.from_residual-in_err-write.result
     (c.as_slice.ensures.value ∙ subst (λ made. IfOk made (λ text. text.items ≡ bytes)) c.in_ok-text.was are)
     (record { adds = c.in_ok-begin.ensures.ok; steady = c.in_ok-begin.ensures.count })
@@ -26,8 +26,8 @@ returns-in_err-write g c = λ bytes are.
 
 pub returns-in_err-finish : goal.returns-in_err-finish
 returns-in_err-finish g c = λ bytes are.
-    let told = state_of g.K.Outlet.taken g.K.Outlet.failures in
-    text_unended (told c.args.sink.now) (told c.begin.new.self) (told c.write.new.self) (told c.finish.new.self)
+    let reported = state_of g.K.Outlet.taken g.K.Outlet.failures in
+    text_unended (reported c.args.sink.now) (reported c.begin.new.self) (reported c.write.new.self) (reported c.finish.new.self)
     c.args.path.now bytes c.as_slice.result.now c.from_residual-in_err-finish.result
     (c.as_slice.ensures.value ∙ subst (λ made. IfOk made (λ text. text.items ≡ bytes)) c.in_ok-text.was are)
     (record { adds = c.in_ok-begin.ensures.ok; steady = c.in_ok-begin.ensures.count })
@@ -35,8 +35,8 @@ returns-in_err-finish g c = λ bytes are.
 
 pub returns : goal.returns
 returns g c = λ bytes are.
-    let told = state_of g.K.Outlet.taken g.K.Outlet.failures in
-    text_ended (told c.args.sink.now) (told c.begin.new.self) (told c.write.new.self) (told c.finish.new.self)
+    let reported = state_of g.K.Outlet.taken g.K.Outlet.failures in
+    text_ended (reported c.args.sink.now) (reported c.begin.new.self) (reported c.write.new.self) (reported c.finish.new.self)
     c.args.path.now bytes c.as_slice.result.now _
     (c.as_slice.ensures.value ∙ subst (λ made. IfOk made (λ text. text.items ≡ bytes)) c.in_ok-text.was are)
     (record { adds = c.in_ok-begin.ensures.ok; steady = c.in_ok-begin.ensures.count })

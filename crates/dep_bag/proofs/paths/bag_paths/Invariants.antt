@@ -1,6 +1,6 @@
 use Rattle.std.proofs.Common.{◌≡◌, ◌++◌, map, take}
 use Rattle.dep_types.specs.BagPaths.{tag_paths}
-use Rattle.dep_manifest.specs.Told.{row_path}
+use Rattle.dep_manifest.specs.Reported.{row_path}
 use Rattle.dep_bag.proofs.paths.bag_paths.Given as goal
 
 -- each file so far has its path

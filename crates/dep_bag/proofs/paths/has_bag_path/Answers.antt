@@ -7,13 +7,13 @@ pub returns-then-is_some : goal.returns-then-is_some
 returns-then-is_some c =
     let path = c.args.path.now in
     let files = c.args.files.now in
-    let told : true ≡ is_some (tag_file_at path) = sym c.if-is_some.true ∙ (c.is_some.ensures ∙ ap is_some c.tag_file.ensures) in
-    c.if-is_some.true ∙ (ap (λ b. b || is_some (part_at path (each stored_part files))) told ∙ bag_path_is path files)
+    let reported : true ≡ is_some (tag_file_at path) = sym c.if-is_some.true ∙ (c.is_some.ensures ∙ ap is_some c.tag_file.ensures) in
+    c.if-is_some.true ∙ (ap (λ b. b || is_some (part_at path (each stored_part files))) reported ∙ bag_path_is path files)
 
 pub returns-else-is_some : goal.returns-else-is_some
 returns-else-is_some c =
     let path = c.args.path.now in
     let files = c.args.files.now in
-    let told : false ≡ is_some (tag_file_at path) = sym c.if-is_some.false ∙ (c.is_some.ensures ∙ ap is_some c.tag_file.ensures) in
+    let reported : false ≡ is_some (tag_file_at path) = sym c.if-is_some.false ∙ (c.is_some.ensures ∙ ap is_some c.tag_file.ensures) in
     c.is_some-else-is_some.ensures
-    ∙ (ap is_some c.stored_file.ensures ∙ (ap (λ b. b || is_some (part_at path (each stored_part files))) told ∙ bag_path_is path files))
+    ∙ (ap is_some c.stored_file.ensures ∙ (ap (λ b. b || is_some (part_at path (each stored_part files))) reported ∙ bag_path_is path files))

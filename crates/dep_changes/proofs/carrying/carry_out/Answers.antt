@@ -7,7 +7,7 @@ use Rattle.dep_tables.specs.Tables.{tables_of}
 use Rattle.dep_tables.proofs.Results.{ok_then}
 use Rattle.dep_decisions.specs.Decisions.{numbers_for}
 use Rattle.dep_changes.specs.Changed.{with_maps}
-use Rattle.dep_changes.proofs.Carried.{numbers_told, told, carried, equal_counters, none_taken, same_counters}
+use Rattle.dep_changes.proofs.Carried.{numbers_reported, reported, carried, equal_counters, none_taken, same_counters}
 use Rattle.dep_row_maps.proofs.Changing.{changes_then, changes_ok, changes_err}
 use Rattle.dep_changes.proofs.carrying.carry_out.Goals as goal
 
@@ -17,8 +17,8 @@ returns-then-eq-clause-map g c = record {
       let view = c.args.view.now in
       let d = c.args.decision.now in
       let content = c.args.content.now in
-      let numbers = numbers_told s view content d it in
-      let made = c.in_ok-change_maps.ensures.map.done clean inside ours s are (numbers, told s view content d it) in
+      let numbers = numbers_reported s view content d it in
+      let made = c.in_ok-change_maps.ensures.map.done clean inside ours s are (numbers, reported s view content d it) in
       let after : c.after_taking-next.result ≡ counters_after s.next (numbers_for d) = c.after_taking-next.ensures ∙ ap (λ (next : Counters). counters_after next c.numbers_for.result) numbers.1 ∙ ap (counters_after s.next) c.numbers_for.ensures in
       let stays : c.after_taking-next.result ≡ view.next = same_counters c.after_taking-next.result view.next (sym c.eq.ensures ∙ c.if-eq.true) in
       carried s content d (tables_of (g.T.Statements.state c.change_maps.new.tx)) s.clock s.next refl (sym numbers.1 ∙ sym stays ∙ after) made;
@@ -34,8 +34,8 @@ returns-clause-map g c = record {
       let d = c.args.decision.now in
       let content = c.args.content.now in
       let next = c.after_taking-next.result in
-      let numbers = numbers_told s view content d it in
-      let made = c.in_ok-change_maps.ensures.map.done before inside ours s are (numbers, told s view content d it) in
+      let numbers = numbers_reported s view content d it in
+      let made = c.in_ok-change_maps.ensures.map.done before inside ours s are (numbers, reported s view content d it) in
       let after : next ≡ counters_after s.next (numbers_for d) = c.after_taking-next.ensures ∙ ap (λ (was : Counters). counters_after was c.numbers_for.result) numbers.1 ∙ ap (counters_after s.next) c.numbers_for.ensures in
       ok_then c.set_counters.result
       (c.set_counters.ensures.does.map clean (c.in_ok-change_maps.ensures.map.keeps.stays.inside before inside) (c.in_ok-change_maps.ensures.map.keeps.ours before inside ours) (with_maps s content d) made)
@@ -59,6 +59,6 @@ returns-clause-untouched g c show =
 
 pub returns-in_err-change_maps-clause-map : goal.returns-in_err-change_maps-clause-map
 returns-in_err-change_maps-clause-map g c = record {
-  done = λ clean inside ours s are told. IfOk-from_err c.from_residual.result _ c.from_residual.ensures.0;
+  done = λ clean inside ours s are reported. IfOk-from_err c.from_residual.result _ c.from_residual.ensures.0;
   keeps = changes_err c.from_residual.ensures.0 c.in_err-change_maps.ensures.map.keeps.stays;
 }

@@ -61,7 +61,7 @@ returns-in-DropFile-clause-map g c =
 pub returns-in-DropObject-clause-map : goal.returns-in-DropObject-clause-map
 returns-in-DropObject-clause-map g c =
     carried_as g.T.Statements.state c.args.tx.now c.drop_object.new.tx c.drop_object.result c.args.change.now c.args.decision.now _ c.in-DropObject.is
-    (record { done = λ clean inside ours s are told. c.drop_object.ensures.map.done told.1.0 clean inside ours s are told.1.1.1; keeps = c.drop_object.ensures.map.keeps })
+    (record { done = λ clean inside ours s are reported. c.drop_object.ensures.map.done reported.1.0 clean inside ours s are reported.1.1.1; keeps = c.drop_object.ensures.map.keeps })
 
 pub returns-in-Open-clause-map : goal.returns-in-Open-clause-map
 returns-in-Open-clause-map g c =
@@ -76,4 +76,4 @@ returns-in-Receive-clause-map g c =
 pub returns-in-DropUpload-clause-map : goal.returns-in-DropUpload-clause-map
 returns-in-DropUpload-clause-map g c =
     carried_as g.T.Statements.state c.args.tx.now c.drop_upload.new.tx c.drop_upload.result c.args.change.now c.args.decision.now _ c.in-DropUpload.is
-    (record { done = λ clean inside ours s are told. c.drop_upload.ensures.does.map clean inside ours s are; keeps = c.drop_upload.ensures.does.keeps })
+    (record { done = λ clean inside ours s are reported. c.drop_upload.ensures.does.map clean inside ours s are; keeps = c.drop_upload.ensures.does.keeps })

@@ -8,4 +8,4 @@ returns-in-Posted c s source =
 
 pub returns-in_ok-upload-in-Assembled : goal.returns-in_ok-upload-in-Assembled
 returns-in_ok-upload-in-Assembled c s source =
-    whole_extent s c.args.change.now.content.now (slice_get c.args.change.now.view.now.uploads c.args.index) c.args.source _ c.in_ok-upload-in-Assembled.upload.row c.in_ok-upload-in-Assembled.upload.digests c.in-Assembled.is c.in_ok-upload-in-Assembled.ensures.told source
+    whole_extent s c.args.change.now.content.now (slice_get c.args.change.now.view.now.uploads c.args.index) c.args.source _ c.in_ok-upload-in-Assembled.upload.row c.in_ok-upload-in-Assembled.upload.digests c.in-Assembled.is c.in_ok-upload-in-Assembled.ensures.reported source

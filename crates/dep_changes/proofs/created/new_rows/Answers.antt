@@ -21,7 +21,7 @@ files-preserved c s numbers sources =
     let n = c.args.object in
     let at : slice_get files i ≡ Some x = slice_get_read files (length files) i x refl (omega arith) c.index-files-index.is in
     let row : c.in_ok-row.row ≡ file_row n (s.next.file + i) (file_from s content x) =
-    c.in_ok-row.ensures.told s (numbers, sources.0 i x at) ∙ ap (λ (k : Counters). file_row n (k.file + i) (file_from s content x)) numbers.1 in
+    c.in_ok-row.ensures.reported s (numbers, sources.0 i x at) ∙ ap (λ (k : Counters). file_row n (k.file + i) (file_from s content x)) numbers.1 in
     let before = c.files.rows.items in
     let grown = pushed c.push.result c.push.new.self.items (before ++ c.in_ok-row.row ∷ []) before (ap is_err c.in_ok-push.was) c.push.ensures.items in
     grown
@@ -31,8 +31,8 @@ files-preserved c s numbers sources =
 
 pub returns : goal.returns
 returns c = record {
-  told = λ s told.
+  reported = λ s reported.
       c.new.ensures
-      ∙ c.files.invariant s told.0 told.1
+      ∙ c.files.invariant s reported.0 reported.1
       ∙ ap (rows_added s c.args.numbered.now.change.now.content.now c.args.object s.next.file) (take_all c.files.index c.args.numbered.now.files.now c.files-test.false);
 }

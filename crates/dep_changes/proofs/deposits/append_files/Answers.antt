@@ -14,13 +14,13 @@ use Rattle.dep_changes.proofs.deposits.append_files.Goals as goal
 pub returns : goal.returns
 returns g c = record {
   map = record {
-    done = λ it clean inside ours s are told.
+    done = λ it clean inside ours s are reported.
         let view = c.args.numbered.now.change.now.view.now in
         let mid = g.T.Statements.state c.write_row.new.tx in
         let new = g.T.Statements.state c.put_new_files.new.tx in
         let before = clean_before c.put_new_files.ensures.map.keeps.stays clean in
-        let numbers = told.0.0 in
-        let row = told.1 in
+        let numbers = reported.0.0 in
+        let row = reported.1 in
         let n = c.args.row.object in
         let now = c.files_changed.result in
         let mark : Object = with_files s it.files it in
@@ -28,7 +28,7 @@ returns g c = record {
         let put = row_written (tables_of mid) s n row.was mark now is row.there row.metadata row.files (c.in_ok-write_row.ensures.map.done mark before inside ours s are) in
         let one : State = with_object s n mark in
         ok_then c.put_new_files.result
-        (c.put_new_files.ensures.map.done mark clean (c.in_ok-write_row.ensures.map.keeps.stays.inside before inside) (c.in_ok-write_row.ensures.map.keeps.ours before inside ours) one put ((numbers, told.0.1), get_here s.objects n mark))
+        (c.put_new_files.ensures.map.done mark clean (c.in_ok-write_row.ensures.map.keeps.stays.inside before inside) (c.in_ok-write_row.ensures.map.keeps.ours before inside ours) one put ((numbers, reported.0.1), get_here s.objects n mark))
         (λ added. new_files_again (tables_of new) s c.args.numbered.now.change.now.content.now n n mark mark c.args.numbered.now.files.now refl added);
     keeps = changes_then c.in_ok-write_row.ensures.map.keeps c.put_new_files.ensures.map.keeps;
   };

@@ -14,13 +14,13 @@ use Rattle.dep_changes.proofs.deposits.append_texts.Goals as goal
 pub returns : goal.returns
 returns g c = record {
   map = record {
-    done = λ it clean inside ours s are told.
+    done = λ it clean inside ours s are reported.
         let view = c.args.change.now.view.now in
         let mid = g.T.Statements.state c.write_row.new.tx in
         let new = g.T.Statements.state c.append_metadata.new.tx in
         let before = clean_before c.append_metadata.ensures.does.keeps.stays clean in
-        let numbers = told.0.0 in
-        let row = told.1 in
+        let numbers = reported.0.0 in
+        let row = reported.1 in
         let n = c.args.row.object in
         let now = c.texts_changed.result in
         let mark : Object = with_texts s it.metadata it in

@@ -15,9 +15,9 @@ use Rattle.dep_changes.proofs.deposits.create.Goals as goal
 pub returns : goal.returns
 returns g c = record {
   map = record {
-    done = λ clean inside ours s are told.
+    done = λ clean inside ours s are reported.
         let view = c.args.numbered.now.change.now.view.now in
-        let numbers = told.0 in
+        let numbers = reported.0 in
         let content = c.args.numbered.now.change.now.content.now in
         let mid = g.T.Statements.state c.add_object.new.tx in
         let new = g.T.Statements.state c.fill.new.tx in
@@ -33,7 +33,7 @@ returns g c = record {
         let one : State = with_object s n it in
         ok_then c.fill.result
         (c.fill.ensures.map.done it clean (c.in_ok-add_object.ensures.does.keeps.stays.inside before inside) (c.in_ok-add_object.ensures.does.keeps.ours before inside ours) one put
-        ((numbers, still_have one.objects s content view.uploads c.args.numbered.now.deposit.now told.1.1), there_at one.objects k n it number (get_here s.objects n it)))
+        ((numbers, still_have one.objects s content view.uploads c.args.numbered.now.deposit.now reported.1.1), there_at one.objects k n it number (get_here s.objects n it)))
         (λ done. deposit_again (tables_of new) s content k n it c.args.numbered.now.deposit.now c.args.ingests number done);
     keeps = changes_then c.in_ok-add_object.ensures.does.keeps c.fill.ensures.map.keeps;
   };

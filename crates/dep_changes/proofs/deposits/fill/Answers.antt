@@ -13,5 +13,5 @@ returns-in-Files g c = record {
 pub returns-in-Metadata : goal.returns-in-Metadata
 returns-in-Metadata g c = record {
   map = subst (PutsIn g.T.Statements.lenders g.T.Statements.state c.args.tx.now c.set_metadata.new.tx c.set_metadata.result c.args.numbered.now.change.now c.args.object) (sym c.in-Metadata.is)
-      (record { done = λ o clean inside ours s are told. c.set_metadata.ensures.does.map clean inside ours s are o told.1; keeps = c.set_metadata.ensures.does.keeps });
+      (record { done = λ o clean inside ours s are reported. c.set_metadata.ensures.does.map clean inside ours s are o reported.1; keeps = c.set_metadata.ensures.does.keeps });
 }

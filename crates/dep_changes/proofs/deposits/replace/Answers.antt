@@ -17,11 +17,11 @@ pub returns : goal.returns
 returns g c = record {
   map = λ n.
       record {
-        done = λ clean inside ours s are told.
+        done = λ clean inside ours s are reported.
             let view = c.args.numbered.now.change.now.view.now in
-            let numbers = told.0 in
-            let o = told.1.0 in
-            let object = told.1.1 in
+            let numbers = reported.0 in
+            let o = reported.1.0 in
+            let object = reported.1.1 in
             let content = c.args.numbered.now.change.now.content.now in
             let one = g.T.Statements.state c.delete_files.new.tx in
             let two = g.T.Statements.state c.clear_metadata.new.tx in
@@ -37,25 +37,25 @@ returns g c = record {
             let row = c.ingested_by-row.result in
             let ingested = o.ingested || c.args.ingests in
             let it : Object = ingested_by c.args.ingests o in
-            let row_of = ingested_row n o c.args.ingests c.in_ok-touched_object.field-0 row (row_is s n o view.object object.0 c.in_ok-touched_object.field-0 c.in_ok-touched_object.ensures.told) c.ingested_by-row.ensures in
+            let row_of = ingested_row n o c.args.ingests c.in_ok-touched_object.field-0 row (row_is s n o view.object object.0 c.in_ok-touched_object.field-0 c.in_ok-touched_object.ensures.reported) c.ingested_by-row.ensures in
             let number = its_number n it row row_of in
             let left : Object = record o { files = finmap.empty } in
             let gone = at_number (tables_of one) s row.object n left number (c.in_ok-delete_files.ensures.does.map clean_one inside ours s are o (there_at s.objects row.object n o number object.1)) in
             let first : State = with_object s n left in
-            let bare : Object = record left { metadata = finmap.empty } in
-            let cleared = written_again (tables_of two) s n left bare (at_number (tables_of two) first row.object n bare number
+            let head_only : Object = record left { metadata = finmap.empty } in
+            let cleared = written_again (tables_of two) s n left head_only (at_number (tables_of two) first row.object n head_only number
             (c.in_ok-clear_metadata.ensures.map.done left clean_two inside_one ours_one first gone (there_at first.objects row.object n left number (get_here s.objects n left)))) in
-            let second : State = with_object s n bare in
+            let second : State = with_object s n head_only in
             let now = c.blank_row.result in
             let clear : Object = blank s ingested in
             let is = blank_again s view.clock view.next numbers.0 numbers.1 now n it row row_of c.blank_row.ensures in
-            let put = written_again (tables_of three) s n bare clear (at_number (tables_of three) second now.object n clear (its_number n clear now is)
-            (c.in_ok-write_row.ensures.map.done clear clean_three inside_two ours_two second cleared (rewritten second n bare clear now is (get_here s.objects n bare) refl refl))) in
+            let put = written_again (tables_of three) s n head_only clear (at_number (tables_of three) second now.object n clear (its_number n clear now is)
+            (c.in_ok-write_row.ensures.map.done clear clean_three inside_two ours_two second cleared (rewritten second n head_only clear now is (get_here s.objects n head_only) refl refl))) in
             let third : State = with_object s n clear in
             at_object s (without s.uploads (uploads_in c.args.numbered.now.deposit.now)) new c.fill.result n o (λ (x : Object). filled s content c.args.numbered.now.deposit.now (x.ingested || c.args.ingests)) object.1
             (ok_then c.fill.result
             (c.fill.ensures.map.done clear clean (c.in_ok-write_row.ensures.map.keeps.stays.inside clean_three inside_two) (c.in_ok-write_row.ensures.map.keeps.ours clean_three inside_two ours_two) third put
-            ((numbers, still_have third.objects s content view.uploads c.args.numbered.now.deposit.now told.1.2), there_at third.objects row.object n clear number (get_here s.objects n clear)))
+            ((numbers, still_have third.objects s content view.uploads c.args.numbered.now.deposit.now reported.1.2), there_at third.objects row.object n clear number (get_here s.objects n clear)))
             (λ done. deposit_again (tables_of new) s content row.object n clear c.args.numbered.now.deposit.now ingested number done));
         keeps = changes_then (changes_then (changes_then c.in_ok-delete_files.ensures.does.keeps c.in_ok-clear_metadata.ensures.map.keeps) c.in_ok-write_row.ensures.map.keeps) c.fill.ensures.map.keeps;
       };

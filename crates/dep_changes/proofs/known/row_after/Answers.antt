@@ -3,8 +3,8 @@ use Rattle.dep_decisions.specs.Effects.{ingested_by}
 use Rattle.dep_operations.specs.Views.{touched_by}
 use Rattle.dep_operations.specs.declared.view.View.{View}
 use Rattle.dep_changes.specs.Known.{known_row}
-use Rattle.dep_changes.specs.Told.{TellsFor}
-use Rattle.dep_changes.proofs.Carried.{numbers_told, told}
+use Rattle.dep_changes.specs.Reported.{ReportsFor}
+use Rattle.dep_changes.proofs.Carried.{numbers_reported, reported}
 use Rattle.dep_changes.proofs.Filled.{ingested_row}
 use Rattle.dep_changes.proofs.KnownShown.{appended_left, completed_left, shown_left}
 use Rattle.dep_changes.proofs.Steps.{completed_row, row_is}
@@ -20,10 +20,10 @@ pub returns-in-Append : goal.returns-in-Append
 returns-in-Append c s content it =
     let view = c.args.view.now in
     let n = c.in-Append.object in
-    let has = subst (TellsFor view s content) c.in-Append.is (told s view content c.args.decision.now it) in
+    let has = subst (ReportsFor view s content) c.in-Append.is (reported s view content c.args.decision.now it) in
     let o = has.0 in
     let was = ingested_row n o c.in-Append.ingests c.in_ok-row.row c.ingested_by.result (row_is s n o view.object has.1.0 c.in_ok-row.row c.in_ok-row.was) c.ingested_by.ensures in
-    let is = c.added_to.ensures s content n (ingested_by c.in-Append.ingests o) (numbers_told s view content c.args.decision.now it) was in
+    let is = c.added_to.ensures s content n (ingested_by c.in-Append.ingests o) (numbers_reported s view content c.args.decision.now it) was in
     appended_left s content view n o has.1 c.in-Append.deposit c.in-Append.ingests c.added_to.result is
     ∙ sym (ap (known_row s content view) c.in-Append.is)
 
@@ -31,8 +31,8 @@ pub returns-in-Complete : goal.returns-in-Complete
 returns-in-Complete c s content it =
     let view = c.args.view.now in
     let n = c.in-Complete.object in
-    let has = subst (TellsFor view s content) c.in-Complete.is (told s view content c.args.decision.now it) in
-    let numbers = numbers_told s view content c.args.decision.now it in
+    let has = subst (ReportsFor view s content) c.in-Complete.is (reported s view content c.args.decision.now it) in
+    let numbers = numbers_reported s view content c.args.decision.now it in
     let o = has.0 in
     let is = completed_row s n o view.object has.1.0 c.in_ok-row.row c.in_ok-row.was view.clock view.next numbers.0 numbers.1 c.completed.result c.completed.ensures in
     completed_left s content view n o has.1 c.completed.result is ∙ sym (ap (known_row s content view) c.in-Complete.is)

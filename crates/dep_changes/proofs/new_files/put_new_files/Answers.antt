@@ -45,10 +45,10 @@ files-init g c = (
 pub returns : goal.returns
 returns g c = record {
   map = record {
-    done = λ o clean inside ours s are told.
+    done = λ o clean inside ours s are reported.
         let now = g.T.Statements.state c.files.tx in
         subst (λ (new : List NewFile). TablesAre (tables_of now) (with_new_files s c.args.numbered.now.change.now.content.now c.args.object o new)) (take_all c.files.index c.args.numbered.now.files.now c.files-test.false)
-        (c.files.invariant.2 clean inside ours s are o told.0.0 told.1 told.0.1);
+        (c.files.invariant.2 clean inside ours s are o reported.0.0 reported.1 reported.0.1);
     keeps = record { stays = stays_ok c.files.invariant.0; ours = c.files.invariant.1 };
   };
 }

@@ -19,7 +19,7 @@ pub returns : goal.returns
 returns g c = record {
   map = λ n.
       record {
-        done = λ clean inside ours s are told.
+        done = λ clean inside ours s are reported.
             let content = c.args.change.now.content.now in
             let view = c.args.change.now.view.now in
             let f = c.args.file in
@@ -31,21 +31,21 @@ returns g c = record {
             let clean_one = clean_before c.delete_file.ensures.does.keeps.stays clean_two in
             let inside_one = c.in_ok-write_row.ensures.map.keeps.stays.inside clean_one inside in
             let ours_one = c.in_ok-write_row.ensures.map.keeps.ours clean_one inside ours in
-            let numbers = told.0 in
-            let o = told.1.0 in
-            let file = told.1.1 in
-            let object = told.1.2.0 in
-            let source = told.1.3 in
+            let numbers = reported.0 in
+            let o = reported.1.0 in
+            let file = reported.1.1 in
+            let object = reported.1.2.0 in
+            let source = reported.1.3 in
             let row = c.in_ok-row.row in
-            let number = number_is s n o view.object object.0 row c.in_ok-row.ensures.told in
+            let number = number_is s n o view.object object.0 row c.in_ok-row.ensures.reported in
             let now = c.files_changed.result in
             let mark : Object = with_files s o.files o in
-            let is = files_row s n o view.object object.0 row c.in_ok-row.ensures.told view.clock view.next numbers.0 numbers.1 now o.files c.files_changed.ensures in
+            let is = files_row s n o view.object object.0 row c.in_ok-row.ensures.reported view.clock view.next numbers.0 numbers.1 now o.files c.files_changed.ensures in
             let put = row_written (tables_of one) s n o mark now is object.1 refl refl (c.in_ok-write_row.ensures.map.done mark clean_one inside ours s are) in
             let first : State = with_object s n mark in
             let left : Object = with_files s (finmap.remove o.files f) o in
             let gone = written_again (tables_of two) s n mark left
-            (c.in_ok-delete_file.ensures.does.map clean_two inside_one ours_one first put n mark file (get_here s.objects n mark) told.1.2.1) in
+            (c.in_ok-delete_file.ensures.does.map clean_two inside_one ours_one first put n mark file (get_here s.objects n mark) reported.1.2.1) in
             let second : State = with_object s n left in
             let made : File = made_file s as_new content in
             let it : Object = with_files s (finmap.insert (finmap.remove o.files f) f made) o in

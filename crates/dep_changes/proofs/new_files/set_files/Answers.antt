@@ -17,7 +17,7 @@ pub returns : goal.returns
 returns g c = record {
   map = λ n.
       record {
-        done = λ clean inside ours s are told.
+        done = λ clean inside ours s are reported.
             let one = g.T.Statements.state c.delete_files.new.tx in
             let view = c.args.numbered.now.change.now.view.now in
             let content = c.args.numbered.now.change.now.content.now in
@@ -27,25 +27,25 @@ returns g c = record {
             let clean_one = clean_before c.write_row.ensures.map.keeps.stays clean_two in
             let inside_one = c.in_ok-delete_files.ensures.does.keeps.stays.inside clean_one inside in
             let ours_one = c.in_ok-delete_files.ensures.does.keeps.ours clean_one inside ours in
-            let numbers = told.0 in
-            let o = told.1.0 in
-            let object = told.1.1 in
+            let numbers = reported.0 in
+            let o = reported.1.0 in
+            let object = reported.1.1 in
             let row = c.in_ok-row.row in
-            let number = number_is s n o view.object object.0 row c.in_ok-row.ensures.told in
+            let number = number_is s n o view.object object.0 row c.in_ok-row.ensures.reported in
             let left : Object = record o { files = finmap.empty } in
             let gone = at_number (tables_of one) s row.object n left number (c.in_ok-delete_files.ensures.does.map clean_one inside ours s are o (there_at s.objects row.object n o number object.1)) in
             let first : State = with_object s n left in
             let now = c.files_changed.result in
-            let bare : Object = with_files s finmap.empty o in
-            let is = files_row s n o view.object object.0 row c.in_ok-row.ensures.told view.clock view.next numbers.0 numbers.1 now finmap.empty c.files_changed.ensures in
-            let put = written_again (tables_of two) s n left bare (at_number (tables_of two) first now.object n bare (its_number n bare now is)
-            (c.in_ok-write_row.ensures.map.done bare clean_two inside_one ours_one first gone (rewritten first n left bare now is (get_here s.objects n left) refl refl))) in
-            let second : State = with_object s n bare in
+            let head_only : Object = with_files s finmap.empty o in
+            let is = files_row s n o view.object object.0 row c.in_ok-row.ensures.reported view.clock view.next numbers.0 numbers.1 now finmap.empty c.files_changed.ensures in
+            let put = written_again (tables_of two) s n left head_only (at_number (tables_of two) first now.object n head_only (its_number n head_only now is)
+            (c.in_ok-write_row.ensures.map.done head_only clean_two inside_one ours_one first gone (rewritten first n left head_only now is (get_here s.objects n left) refl refl))) in
+            let second : State = with_object s n head_only in
             at_object s (without s.uploads (uploads_of c.args.numbered.now.files.now)) new c.put_new_files.result n o (λ (x : Object). with_files s (added s content c.args.numbered.now.files.now finmap.empty) x) object.1
             (ok_then c.put_new_files.result
-            (c.put_new_files.ensures.map.done bare clean (c.in_ok-write_row.ensures.map.keeps.stays.inside clean_two inside_one) (c.in_ok-write_row.ensures.map.keeps.ours clean_two inside_one ours_one) second put
-            ((numbers, told.1.2), there_at second.objects row.object n bare number (get_here s.objects n bare)))
-            (λ added. new_files_again (tables_of new) s content row.object n bare bare c.args.numbered.now.files.now number added));
+            (c.put_new_files.ensures.map.done head_only clean (c.in_ok-write_row.ensures.map.keeps.stays.inside clean_two inside_one) (c.in_ok-write_row.ensures.map.keeps.ours clean_two inside_one ours_one) second put
+            ((numbers, reported.1.2), there_at second.objects row.object n head_only number (get_here s.objects n head_only)))
+            (λ added. new_files_again (tables_of new) s content row.object n head_only head_only c.args.numbered.now.files.now number added));
         keeps = changes_then (changes_then c.in_ok-delete_files.ensures.does.keeps c.in_ok-write_row.ensures.map.keeps) c.put_new_files.ensures.map.keeps;
       };
 }

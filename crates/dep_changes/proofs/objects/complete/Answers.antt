@@ -13,14 +13,14 @@ pub returns : goal.returns
 returns g c = record {
   map = λ n.
       record {
-        done = λ clean inside ours s are told.
+        done = λ clean inside ours s are reported.
             let new = g.T.Statements.state c.write_row.new.tx in
             let view = c.args.change.now.view.now in
-            let numbers = told.0 in
-            let o = told.1.0 in
-            let object = told.1.1 in
+            let numbers = reported.0 in
+            let o = reported.1.0 in
+            let object = reported.1.1 in
             let row = c.in_ok-row.row in
-            let found = c.in_ok-row.ensures.told in
+            let found = c.in_ok-row.ensures.reported in
             let it : Object = ingested_by true (changed s o) in
             let is = completed_row s n o view.object object.0 row found view.clock view.next numbers.0 numbers.1 c.completed.result c.completed.ensures in
             at_object s s.uploads new c.write_row.result n o (λ (x : Object). ingested_by true (changed s x)) object.1

@@ -15,20 +15,20 @@ pub returns : goal.returns
 returns g c = record {
   map = λ n.
       record {
-        done = λ clean inside ours s are told.
+        done = λ clean inside ours s are reported.
             let texts = c.args.metadata.now in
             let view = c.args.change.now.view.now in
             let mid = g.T.Statements.state c.write_row.new.tx in
             let new = g.T.Statements.state c.set_metadata.new.tx in
             let before = clean_before c.set_metadata.ensures.does.keeps.stays clean in
-            let numbers = told.0 in
-            let o = told.1.0 in
-            let object = told.1.1 in
+            let numbers = reported.0 in
+            let o = reported.1.0 in
+            let object = reported.1.1 in
             let row = c.in_ok-row.row in
-            let number = number_is s n o view.object object.0 row c.in_ok-row.ensures.told in
+            let number = number_is s n o view.object object.0 row c.in_ok-row.ensures.reported in
             let now = c.texts_changed.result in
             let mark : Object = with_texts s o.metadata o in
-            let is = texts_row s n o view.object object.0 row c.in_ok-row.ensures.told view.clock view.next numbers.0 numbers.1 now o.metadata c.texts_changed.ensures in
+            let is = texts_row s n o view.object object.0 row c.in_ok-row.ensures.reported view.clock view.next numbers.0 numbers.1 now o.metadata c.texts_changed.ensures in
             let put = row_written (tables_of mid) s n o mark now is object.1 refl refl (c.in_ok-write_row.ensures.map.done mark before inside ours s are) in
             let one : State = with_object s n mark in
             at_object s s.uploads new c.set_metadata.result n o (with_texts s texts) object.1

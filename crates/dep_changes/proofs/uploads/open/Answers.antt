@@ -9,9 +9,9 @@ use Rattle.dep_changes.proofs.uploads.open.Goals as goal
 pub returns : goal.returns
 returns g c = record {
   map = record {
-    done = λ clean inside ours s are told.
+    done = λ clean inside ours s are reported.
         let view = c.args.change.now.view.now in
-        let numbers = told.0 in
+        let numbers = reported.0 in
         let it = fresh s c.args.opening.now in
         ok_then c.open_upload.result
         (c.open_upload.ensures.does.map clean inside ours s are it (opened_row s c.args.opening.now view.clock view.next.upload numbers.0) refl)

@@ -28,7 +28,7 @@ returns-in-Err g c =
     let outcome = c.outcome_of.result in
     let is = c.outcome_of.ensures in
     record {
-      gives = (did.gives.0, did.gives.1, λ clean s stands. subst (λ (o : Outcome). Exports s c.args.object did.gives.0 o) (sym is) (gives s c.args.object did.gives.0 fault (did.gives.2 clean s stands)));
+      gives = (did.gives.0, did.gives.1, λ clean s represents. subst (λ (o : Outcome). Exports s c.args.object did.gives.0 o) (sym is) (gives s c.args.object did.gives.0 fault (did.gives.2 clean s represents)));
       absent = λ said. did.absent (ap Err (only_absent fault (sym is ∙ said)));
       blames = subst (λ (o : Outcome). BlamesTransfer (g.K.Outlet.failures c.args.sink.now) (g.K.Outlet.failures c.export.new.sink) o) (sym is) (blames _ _ fault did.cause);
       kept = λ done. absurd (never_done fault (sym is ∙ done));

@@ -5,8 +5,8 @@ use Rattle.dep_tables.specs.Edits.{IsObjectAfter}
 use Rattle.dep_commands.specs.declared.tally.Tally.{Tally}
 use Rattle.dep_commands.specs.declared.audit_fault.AuditFault.TheVariants.{Store}
 use Rattle.dep_commands.proofs.LineLemmas.{blame_none, blame_passed}
-use Rattle.dep_commands.proofs.ReportLemmas.{objects_rise, told_none, told_so_far, told_more, told_all, objects_fail, sum_passes, begun_fails}
-use Rattle.dep_store.proofs.Tries.{tells_keeps, keeps_then, keeps_still}
+use Rattle.dep_commands.proofs.ReportLemmas.{objects_rise, reported_none, reported_so_far, reported_more, reported_all, objects_fail, sum_passes, begun_fails}
+use Rattle.dep_store.proofs.Tries.{reports_keeps, keeps_then, keeps_still}
 use Rattle.dep_commands.proofs.reporting.report_objects.Goals as goal
 
 pub returns-in_default : goal.returns-in_default
@@ -17,11 +17,11 @@ returns-in_default g c =
         before.1,
         λ clean t at. let earlier = c.in_ok-object.ensures.rows.honest clean in
             let after = (c.in_ok-object.ensures.rows.ok clean t (c.objects.invariant.kept earlier t at)).0 in
-            told_all t c.objects.after before.0 c.objects.tally (before.2 earlier t at).0 (subst (IsObjectAfter c.objects.after t) c.in_default.is after),
+            reported_all t c.objects.after before.0 c.objects.tally (before.2 earlier t at).0 (subst (IsObjectAfter c.objects.after t) c.in_default.is after),
       );
       stays =
           let inv = c.objects.invariant in
-          keeps_then (state g.S.Store c.args.store.now) (state g.S.Store c.objects.store) (state g.S.Store c.next_object.new.self) inv.kept inv.stays (tells_keeps (state g.S.Store c.objects.store) (state g.S.Store c.next_object.new.self) _ _ c.in_ok-object.ensures.rows);
+          keeps_then (state g.S.Store c.args.store.now) (state g.S.Store c.objects.store) (state g.S.Store c.next_object.new.self) inv.kept inv.stays (reports_keeps (state g.S.Store c.objects.store) (state g.S.Store c.next_object.new.self) _ _ c.in_ok-object.ensures.rows);
       blames = blame_none _ _ _ c.objects.invariant.count (λ is. cc is);
     }
 
@@ -43,7 +43,7 @@ returns-in_err-more g c =
       stays =
           let inv = c.objects.invariant in
           let rows = c.in_ok-object.ensures.rows in
-          keeps_then (state g.S.Store c.args.store.now) (state g.S.Store c.next_object.new.self) (state g.S.Store c.report_object.new.store) (λ clean t at. (rows.ok clean t (inv.kept (rows.honest clean) t at)).1) (keeps_then (state g.S.Store c.args.store.now) (state g.S.Store c.objects.store) (state g.S.Store c.next_object.new.self) inv.kept inv.stays (tells_keeps (state g.S.Store c.objects.store) (state g.S.Store c.next_object.new.self) _ _ rows)) c.in_err-more.ensures.reports.stays;
+          keeps_then (state g.S.Store c.args.store.now) (state g.S.Store c.next_object.new.self) (state g.S.Store c.report_object.new.store) (λ clean t at. (rows.ok clean t (inv.kept (rows.honest clean) t at)).1) (keeps_then (state g.S.Store c.args.store.now) (state g.S.Store c.objects.store) (state g.S.Store c.next_object.new.self) inv.kept inv.stays (reports_keeps (state g.S.Store c.objects.store) (state g.S.Store c.next_object.new.self) _ _ rows)) c.in_err-more.ensures.reports.stays;
       blames = blame_passed _ _ _ c.objects.invariant.count c.in_err-more.field-0.0 c.in_err-more.ensures.reports.blames c.from_residual-in_err-more.result c.from_residual-in_err-more.ensures.1;
     }
 
@@ -65,7 +65,7 @@ returns-in_default-plus g c =
       stays =
           let inv = c.objects.invariant in
           let rows = c.in_ok-object.ensures.rows in
-          keeps_then (state g.S.Store c.args.store.now) (state g.S.Store c.next_object.new.self) (state g.S.Store c.report_object.new.store) (λ clean t at. (rows.ok clean t (inv.kept (rows.honest clean) t at)).1) (keeps_then (state g.S.Store c.args.store.now) (state g.S.Store c.objects.store) (state g.S.Store c.next_object.new.self) inv.kept inv.stays (tells_keeps (state g.S.Store c.objects.store) (state g.S.Store c.next_object.new.self) _ _ rows)) c.in_ok-more.ensures.reports.stays;
+          keeps_then (state g.S.Store c.args.store.now) (state g.S.Store c.next_object.new.self) (state g.S.Store c.report_object.new.store) (λ clean t at. (rows.ok clean t (inv.kept (rows.honest clean) t at)).1) (keeps_then (state g.S.Store c.args.store.now) (state g.S.Store c.objects.store) (state g.S.Store c.next_object.new.self) inv.kept inv.stays (reports_keeps (state g.S.Store c.objects.store) (state g.S.Store c.next_object.new.self) _ _ rows)) c.in_ok-more.ensures.reports.stays;
       blames = blame_none _ _ _ (c.in_ok-more.ensures.reports.blames.kept ∙ c.objects.invariant.count) (λ is. cc is);
     }
 
@@ -74,7 +74,7 @@ objects-preserved g c =
     let inv = c.objects.invariant in
     let before = inv.writes in
     let more = c.in_ok-more.ensures.reports.writes in record {
-      stays = keeps_then (state g.S.Store c.args.store.now) (state g.S.Store c.next_object.new.self) (state g.S.Store c.report_object.new.store) (λ clean t at. (c.in_ok-object.ensures.rows.ok clean t (inv.kept (c.in_ok-object.ensures.rows.honest clean) t at)).1) (keeps_then (state g.S.Store c.args.store.now) (state g.S.Store c.objects.store) (state g.S.Store c.next_object.new.self) inv.kept inv.stays (tells_keeps (state g.S.Store c.objects.store) (state g.S.Store c.next_object.new.self) _ _ c.in_ok-object.ensures.rows)) c.in_ok-more.ensures.reports.stays;
+      stays = keeps_then (state g.S.Store c.args.store.now) (state g.S.Store c.next_object.new.self) (state g.S.Store c.report_object.new.store) (λ clean t at. (c.in_ok-object.ensures.rows.ok clean t (inv.kept (c.in_ok-object.ensures.rows.honest clean) t at)).1) (keeps_then (state g.S.Store c.args.store.now) (state g.S.Store c.objects.store) (state g.S.Store c.next_object.new.self) inv.kept inv.stays (reports_keeps (state g.S.Store c.objects.store) (state g.S.Store c.next_object.new.self) _ _ c.in_ok-object.ensures.rows)) c.in_ok-more.ensures.reports.stays;
       kept = λ clean t at. let mid = c.in_ok-more.ensures.reports.stays.honest clean in
           c.in_ok-more.ensures.kept clean t (c.in_ok-object.ensures.rows.ok mid t (inv.kept (c.in_ok-object.ensures.rows.honest mid) t at)).1;
       writes = (
@@ -84,10 +84,10 @@ objects-preserved g c =
             let earlier = c.in_ok-object.ensures.rows.honest mid in
             let stood = inv.kept earlier t at in
             let after = c.in_ok-object.ensures.rows.ok mid t stood in
-            let told = before.2 earlier t at in
-            told_more t (objects_rise stood) c.objects.after c.in-Some.object before.0 c.objects.tally told.0
+            let reported = before.2 earlier t at in
+            reported_more t (objects_rise stood) c.objects.after c.in-Some.object before.0 c.objects.tally reported.0
             (subst (IsObjectAfter c.objects.after t) c.in-Some.is after.0) more.0 c.in_ok-more.more c.in-Some-plus.sum c.objects.counter (more.2 clean t after.1)
-            (rw c.in-Some-plus.is at c.plus.ensures.checked) (rw c.in-Some-plus.is at c.plus.ensures.damaged) told.1,
+            (rw c.in-Some-plus.is at c.plus.ensures.checked) (rw c.in-Some-plus.is at c.plus.ensures.damaged) reported.1,
       );
       count = c.in_ok-more.ensures.reports.blames.kept ∙ inv.count;
     }
@@ -96,7 +96,7 @@ pub objects-init : goal.objects-init
 objects-init g c = record {
   stays = keeps_still (state g.S.Store c.args.store.now) (λ is_open trees may. g.met.S.Store.settled c.args.store.now.store trees is_open may);
   kept = λ clean t at. at;
-  writes = ([], Appends-nil (g.W.Outlet.taken c.args.out.now), λ clean t at. told_none t _ refl refl);
+  writes = ([], Appends-nil (g.W.Outlet.taken c.args.out.now), λ clean t at. reported_none t _ refl refl);
   count = refl;
 }
 
@@ -106,12 +106,12 @@ returns-in_err-object g c =
       writes = (
         before.0,
         before.1,
-        λ clean t at. begun_fails t before.0 (told_so_far t c.objects.after before.0 c.objects.tally (before.2 (c.in_err-object.ensures.rows.honest clean) t at).0)
+        λ clean t at. begun_fails t before.0 (reported_so_far t c.objects.after before.0 c.objects.tally (before.2 (c.in_err-object.ensures.rows.honest clean) t at).0)
             _ c.from_residual.result c.from_residual.ensures.1,
       );
       stays =
           let inv = c.objects.invariant in
-          keeps_then (state g.S.Store c.args.store.now) (state g.S.Store c.objects.store) (state g.S.Store c.next_object.new.self) inv.kept inv.stays (tells_keeps (state g.S.Store c.objects.store) (state g.S.Store c.next_object.new.self) _ _ c.in_err-object.ensures.rows);
+          keeps_then (state g.S.Store c.args.store.now) (state g.S.Store c.objects.store) (state g.S.Store c.next_object.new.self) inv.kept inv.stays (reports_keeps (state g.S.Store c.objects.store) (state g.S.Store c.next_object.new.self) _ _ c.in_err-object.ensures.rows);
       blames = blame_passed {X = Tally} _ _ _ c.objects.invariant.count Store (blame_none _ _ (Err Store) refl (λ is. cc is)) c.from_residual.result c.from_residual.ensures.1;
     }
 
@@ -122,8 +122,8 @@ returns g c =
         before.0,
         before.1,
         λ clean t at.
-            let told = before.2 clean t at in
-            (told_so_far t c.objects.after before.0 c.objects.tally told.0, inl (omega (arith, told.1, c.objects-test.false))),
+            let reported = before.2 clean t at in
+            (reported_so_far t c.objects.after before.0 c.objects.tally reported.0, inl (omega (arith, reported.1, c.objects-test.false))),
       );
       stays = c.objects.invariant.stays;
       blames = blame_none _ _ _ c.objects.invariant.count (λ is. cc is);

@@ -1,7 +1,7 @@
 use Rattle.std.proofs.Common.{◌≡◌, ℕ, List}
 use Rattle.sqlite.specs.State.{HasCleanDisk}
 use Rattle.sqlite.specs.Held.{state}
-use Rattle.dep_schema.specs.Standing.{Stands}
+use Rattle.dep_schema.specs.OpenTables.{StaysFile}
 use Rattle.std.specs.Io.KnownBytes.{Appends}
 use Rattle.dep_tables.specs.Tables.{Tables}
 use Rattle.dep_store.specs.Staying.{KeepsTables}
@@ -12,8 +12,8 @@ use Rattle.dep_commands.proofs.reporting.report_objects.Given as goal
 abbrev pub invariant-objects : goal.invariant-objects
 invariant-objects g l = record {
   stays : KeepsTables (state g.S.Store l.fn.store) (state g.S.Store l.store);
-  kept : HasCleanDisk (state g.S.Store l.store) → (t : Tables) → Stands (state g.S.Store l.fn.store) t → Stands (state g.S.Store l.store) t;
+  kept : HasCleanDisk (state g.S.Store l.store) → (t : Tables) → StaysFile (state g.S.Store l.fn.store) t → StaysFile (state g.S.Store l.store) t;
   writes : (written : List ℕ) × Appends (g.W.Outlet.taken l.fn.out) (g.W.Outlet.taken l.out) written
-      × (HasCleanDisk (state g.S.Store l.store) → (t : Tables) → Stands (state g.S.Store l.fn.store) t → IsCounted t l.after written l.tally l.counter);
+      × (HasCleanDisk (state g.S.Store l.store) → (t : Tables) → StaysFile (state g.S.Store l.fn.store) t → IsCounted t l.after written l.tally l.counter);
   count : g.W.Outlet.failures l.out ≡ g.W.Outlet.failures l.fn.out;
 }

@@ -5,7 +5,7 @@ use Rattle.dep_types.specs.Config.{IsChecked}
 use Rattle.dep_types.specs.State.{empty_state}
 use Rattle.dep_store.specs.Causes.{FailsToOpenTables}
 use Rattle.dep_store.specs.Migrating.{OpenLeaves}
-use Rattle.dep_schema.specs.States.{StandsFor}
+use Rattle.dep_schema.specs.States.{Represents}
 use Rattle.dep_hub.specs.Records.{first_world}
 use Rattle.dep_schema.specs.declared.opening.OpenFault.{OpenFault}
 use Rattle.dep_hub.specs.declared.faults.HubFault.{HubFault}
@@ -37,7 +37,7 @@ returns-in-Err g c =
       checked = λ fault said. absurd (other_fault why fault said);
       next = tt;
       left = λ fault said. absurd (other_fault why fault said);
-      told = λ fault said. absurd (other_fault why fault said);
+      reported = λ fault said. absurd (other_fault why fault said);
       known = λ clean said. absurd (other_fault why _ said);
       refused = λ said. (c.in-Err.ensures.refused (same_hub why _ said), refl);
       kept = λ said. inl refl;
@@ -54,19 +54,19 @@ returns-in-Ok-new g c =
     let begun = c.new.ensures in
     let same = ap (λ (a : HashingStore _). a.store) made.kept ∙ begun.store in
     record {
-      fresh = λ honest none. made.stands empty_state (record {
-        stands = subst (λ (h : Held _). StandsFor (state g.S.Store h) empty_state) (sym begun.store) (did.fresh (subst (λ (h : Held _). HasCleanDisk (state g.S.Store h)) same honest) none);
+      fresh = λ honest none. made.represents empty_state (record {
+        represents = subst (λ (h : Held _). Represents (state g.S.Store h) empty_state) (sym begun.store) (did.fresh (subst (λ (h : Held _). HasCleanDisk (state g.S.Store h)) same honest) none);
         hashed = begun.running empty_state;
       });
       again = λ honest found left first records run. made.again first records (first_world found) run (λ n. refl) (record {
-        stands = subst (λ (h : Held _). StandsFor (state g.S.Store h) found) (sym begun.store) (did.found (subst (λ (h : Held _). HasCleanDisk (state g.S.Store h)) same honest) found left);
+        represents = subst (λ (h : Held _). Represents (state g.S.Store h) found) (sym begun.store) (did.found (subst (λ (h : Held _). HasCleanDisk (state g.S.Store h)) same honest) found left);
         hashed = begun.running found;
       });
       config = made.config;
       checked = made.checked;
       next = made.next;
       left = tt;
-      told = tt;
+      reported = tt;
       known = tt;
       refused = tt;
       kept = tt;
@@ -89,15 +89,15 @@ returns-in-Err-new g c =
       checked = λ fault said. absurd (other_fault c.in-Err-new.fault fault said);
       next = tt;
       left = λ fault said. absurd (other_fault c.in-Err-new.fault fault said);
-      told = λ fault said. absurd (other_fault c.in-Err-new.fault fault said);
+      reported = λ fault said. absurd (other_fault c.in-Err-new.fault fault said);
       known = λ clean said. absurd (other_fault c.in-Err-new.fault _ said);
       refused = λ said. absurd (refused.refused (same_hub c.in-Err-new.fault _ said) checked);
       kept = λ said. inr (
         checked,
         λ honest.
             let is_honest = subst (λ (h : Held _). HasCleanDisk (state g.S.Store h)) same honest in (
-              λ none. subst (λ (h : Held _). StandsFor (state g.S.Store h) empty_state) (sym same) (did.fresh is_honest none),
-              λ found left. subst (λ (h : Held _). StandsFor (state g.S.Store h) found) (sym same) (did.found is_honest found left),
+              λ none. subst (λ (h : Held _). Represents (state g.S.Store h) empty_state) (sym same) (did.fresh is_honest none),
+              λ found left. subst (λ (h : Held _). Represents (state g.S.Store h) found) (sym same) (did.found is_honest found left),
             ),
       );
       honest = λ honest. did.honest (subst (λ (h : Held _). HasCleanDisk (state g.S.Store h)) same honest);
@@ -116,7 +116,7 @@ returns-in-Err-open g c =
       checked = λ fault said. checked;
       next = tt;
       left = λ fault said. did.left;
-      told = λ fault said clean. subst (FailsToOpenTables g.S.Store c.args.connection c.in-Err-open.connection) (same_open c.in-Err-open.fault fault said) (did.told clean);
+      reported = λ fault said clean. subst (FailsToOpenTables g.S.Store c.args.connection c.in-Err-open.connection) (same_open c.in-Err-open.fault fault said) (did.reported clean);
       known = λ clean said. did.refused clean (same_open c.in-Err-open.fault _ said);
       refused = λ said. absurd (other_fault _ c.in-Err-open.fault (sym said));
       kept = λ said. absurd (other_fault _ c.in-Err-open.fault (sym said));

@@ -8,5 +8,5 @@ returns-in-Ok g c = closed c.work-outcome.result.1 c.in-Ok.field-0 c.work-outcom
 
 pub returns : goal.returns
 returns g c =
-    subst (λ (o : Outcome). EndsWork g.D.Disk (g.W.Work.does c.args.work) c.args.connection o) (sym c.outcome_unclosed.ensures)
+    subst (λ (o : Outcome). EndsWork g.D.Disk (g.W.DatabaseWork.does c.args.work) c.args.connection o) (sym c.outcome_unclosed.ensures)
     (not_closed c.work-outcome.result.1 c.in-Err.store c.in-Err.field-0-0 c.work-outcome.ensures.does c.in-Err.ensures.err.1)

@@ -1,7 +1,7 @@
 use Rattle.std.proofs.Common.{◌≡◌, ◌∙◌, None, inl, refl, sym, ap, option_map}
 use Rattle.json.specs.Value.{value_view}
 use Rattle.dep_configuration.specs.Readings.{given_text}
-use Rattle.dep_configuration.specs.declared.field.Field.TheVariants.{Address}
+use Rattle.dep_configuration.specs.declared.field.ConfigurationField.TheVariants.{Address}
 use Rattle.dep_configuration.proofs.AddressesGiven.{address-absent, address-written}
 use Rattle.dep_configuration.proofs.values.address.Goals as goal
 

@@ -1,7 +1,7 @@
 use Rattle.std.proofs.Common.{◌∙◌, sym, ap, refl, option_map}
 use Rattle.json.specs.Value.{value_view}
 use Rattle.dep_configuration.specs.Fields.{wanted_of}
-use Rattle.dep_configuration.specs.declared.field.Field.TheVariants.{Base}
+use Rattle.dep_configuration.specs.declared.field.ConfigurationField.TheVariants.{Base}
 use Rattle.dep_configuration.proofs.ValuesGiven.{base-text, copied-text, there-seen}
 use Rattle.dep_configuration.proofs.values.base.Goals as goal
 

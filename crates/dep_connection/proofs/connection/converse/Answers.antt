@@ -2,7 +2,7 @@ use Rattle.std.proofs.Common.{â„•, Some, None, refl, sym, ap, subst, inl, inr, â
 use denote.Param.Always.{mut_next}
 use Rattle.dep_types.specs.Writing.{next_count}
 use Rattle.std.specs.Prelude.{IsSome}
-use Rattle.dep_hub.specs.Standing.{intake_of}
+use Rattle.dep_hub.specs.Representing.{intake_of}
 use Rattle.dep_connection.proofs.TalkLemmas.{talk_none, talk_open, talk_last, talk_bound, turn_at, reads_more}
 use Rattle.dep_connection.proofs.connection.converse.Goals as goal
 

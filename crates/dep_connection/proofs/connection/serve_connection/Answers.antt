@@ -2,8 +2,8 @@ use Rattle.std.proofs.Common.{sym, ◌∙◌, refl, subst, IsTrue}
 use denote.Param.Always.{mut_next}
 use Rattle.dep_types.specs.Conditions.{HasCleanDisk}
 use Rattle.dep_connection.specs.Conversation.{MayShow, outflow, wire, standing}
-use Rattle.dep_hub.specs.Standing.{store_of}
-use Rattle.dep_hub.proofs.HubLemmas.{same_stands_for}
+use Rattle.dep_hub.specs.Representing.{store_of}
+use Rattle.dep_hub.proofs.HubLemmas.{same_represents}
 use Rattle.dep_hub.proofs.Leaving.{stays_as}
 use Rattle.dep_connection.proofs.TalkLemmas.{serves_whole, unserved, next_served, clocks_keep}
 use Rattle.dep_connection.proofs.connection.serve_connection.Goals as goal
@@ -47,7 +47,7 @@ returns-in_default-connect-clause-goes g c = record {
 
 pub returns-in_default-connect-clause-converses : goal.returns-in_default-connect-clause-converses
 returns-in_default-connect-clause-converses g c = unserved g.A.Archive.condition c.args.clock.now c.args.hub.now c.connect.new.self (wire g.R.Inlet c.args.reader.now (outflow g.W.Outlet g.W.Flush.held g.W.Flush.has_failed c.args.writer.now))
-    c.in_default-connect.ensures.same c.connect.ensures.store c.connect.ensures.rests (same_stands_for g.A.Archive.condition c.args.hub.now c.connect.new.self c.connect.ensures.config c.in_default-connect.ensures.same)
+    c.in_default-connect.ensures.same c.connect.ensures.store c.connect.ensures.rests (same_represents g.A.Archive.condition c.args.hub.now c.connect.new.self c.connect.ensures.config c.in_default-connect.ensures.same)
 
 -- there was no memory for its pieces
 pub returns-in_default-clause-converses : goal.returns-in_default-clause-converses

@@ -6,4 +6,4 @@ use Rattle.dep_decisions.proofs.Accepted.{effect_sound}
 use Rattle.dep_decisions.proofs.laws.accepted_keeps_sound.Goals as goal
 
 pub returns : goal.returns
-returns c config s fields op told accepted sound = effect_sound config s op (subst (λ (f : SwordFields). AreFit f) (sym told) (fields_are_fit fields)) accepted sound
+returns c config s fields op reported accepted sound = effect_sound config s op (subst (λ (f : SwordFields). AreFit f) (sym reported) (fields_are_fit fields)) accepted sound

@@ -7,5 +7,5 @@ use Rattle.dep_docs_out.proofs.service.service_doc.Goals as goal
 pub returns : goal.returns
 unfolding service_data
 returns c =
-    let told = c.add_offers.ensures ⨾ c.add_limits.ensures ⨾ c.add_places.ensures in
-    IfOk-weaker c.ended.result _ _ (λ text e. e.1 ∙ whole_text c.in_ok-document.ensures told e.0) c.ended.ensures
+    let reported = c.add_offers.ensures ⨾ c.add_limits.ensures ⨾ c.add_places.ensures in
+    IfOk-weaker c.ended.result _ _ (λ text e. e.1 ∙ whole_text c.in_ok-document.ensures reported e.0) c.ended.ensures

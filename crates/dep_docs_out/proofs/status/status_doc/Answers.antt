@@ -7,5 +7,5 @@ use Rattle.dep_docs_out.proofs.status.status_doc.Goals as goal
 pub returns : goal.returns
 unfolding status_data
 returns c =
-    let told = c.add_object.ensures ⨾ (c.add_links.ensures ⨾ c.add_state.ensures) in
-    IfOk-weaker c.ended.result _ _ (λ text e. e.1 ∙ whole_text c.in_ok-document.ensures told e.0) c.ended.ensures
+    let reported = c.add_object.ensures ⨾ (c.add_links.ensures ⨾ c.add_state.ensures) in
+    IfOk-weaker c.ended.result _ _ (λ text e. e.1 ∙ whole_text c.in_ok-document.ensures reported e.0) c.ended.ensures

@@ -7,21 +7,21 @@ pub returns-in-Ok : goal.returns-in-Ok
 returns-in-Ok g c =
     let old = state g.S.Store c.args.connection.now in
     let new = state g.S.Store c.query_all.new.self in
-    let told = rw c.in-Ok.is at c.query_all.ensures in
+    let reported = rw c.in-Ok.is at c.query_all.ensures in
     record {
-      shows = told.ok;
+      shows = reported.ok;
       cause = λ clean. tt;
       reads = record {
-        stays = stays_shown _ _ _ c.requires told.ok told.mode told.survives;
-        same = λ clean. shown_reads _ _ old new c.requires _ (told.ok clean);
+        stays = stays_shown _ _ _ c.requires reported.ok reported.mode reported.survives;
+        same = λ clean. shown_reads _ _ old new c.requires _ (reported.ok clean);
       };
     }
 
 pub returns-in-Err : goal.returns-in-Err
 returns-in-Err g c =
-    let told = rw c.in-Err.is at c.query_all.ensures in
+    let reported = rw c.in-Err.is at c.query_all.ensures in
     record {
       shows = λ clean. tt;
-      cause = λ clean. (c.in-Err.error, inl (told.err clean), c.fault_of.ensures);
-      reads = record { stays = stays_refused _ _ c.in-Err.error c.requires told.err told.mode told.survives; same = λ clean. tt };
+      cause = λ clean. (c.in-Err.error, inl (reported.err clean), c.fault_of.ensures);
+      reads = record { stays = stays_refused _ _ c.in-Err.error c.requires reported.err reported.mode reported.survives; same = λ clean. tt };
     }

@@ -12,13 +12,13 @@ use Rattle.dep_tables.specs.Tables.{Tables, tables_of}
 use Rattle.dep_files.specs.Fixity.{HasFixity, KeepsDamaged, number_if_damaged}
 use Rattle.dep_files.proofs.Stills.{IsStill, ours_still, stays_then, still_same}
 use Rattle.dep_files.proofs.Digests.{one_more}
-use Rattle.dep_files.proofs.Told.{passed_on}
+use Rattle.dep_files.proofs.Reported.{passed_on}
 use Rattle.dep_files.proofs.auditing.audit_files.Goals as goal
 
 pub files-init : goal.files-init
 files-init g c =
-    let told = c.in_ok-rows.ensures in
-    (told.reads.stays, told.reads.same, λ clean ours. (c.as_slice-row-items.ensures.value ∙ told.ok clean ours, ([], tt, c.new-damaged.ensures.items)))
+    let reported = c.in_ok-rows.ensures in
+    (reported.reads.stays, reported.reads.same, λ clean ours. (c.as_slice-row-items.ensures.value ∙ reported.ok clean ours, ([], tt, c.new-damaged.ensures.items)))
 
 pub files-preserved : goal.files-preserved
 files-preserved g c =
@@ -71,9 +71,9 @@ returns g c =
 -- the files were not listed
 pub returns-in_err-rows : goal.returns-in_err-rows
 returns-in_err-rows g c =
-    let told = c.in_err-rows.ensures in
+    let reported = c.in_err-rows.ensures in
     let passed = passed_on c.from_residual.result c.in_err-rows.field-0.0 c.from_residual.ensures.1 in
-    rw passed record { audits = λ clean ours. tt; cause = λ clean ours. inl (told.cause clean); reads = record { stays = told.reads.stays; same = λ clean. tt } }
+    rw passed record { audits = λ clean ours. tt; cause = λ clean ours. inl (reported.cause clean); reads = record { stays = reported.reads.stays; same = λ clean. tt } }
 
 -- one was not checked
 pub returns-in_err-keep_damaged : goal.returns-in_err-keep_damaged
@@ -81,16 +81,16 @@ returns-in_err-keep_damaged g c =
     let old = state g.S.Store c.args.connection.now in
     let mid = state g.S.Store c.files.connection in
     let inv = c.files.invariant in
-    let told = c.in_err-keep_damaged.ensures in
+    let reported = c.in_err-keep_damaged.ensures in
     let still : HasCleanDisk mid → IsStill old mid = λ clean. still_same old mid (inv.1 clean) in
     let passed = passed_on c.from_residual-in_err-keep_damaged.result c.in_err-keep_damaged.field-0.0 c.from_residual-in_err-keep_damaged.ensures.1 in
     rw passed record {
       audits = λ clean ours. tt;
       cause = λ clean ours.
-          let so_far = still (told.reads.stays.honest clean) in
-          let failed = told.cause clean (ours_still old mid so_far ours) in
+          let so_far = still (reported.reads.stays.honest clean) in
+          let failed = reported.cause clean (ours_still old mid so_far ours) in
           let row = c.row-item.result in
           let there = subst (Contains c.as_slice-row-items.result.now) (sym c.row-item.is) (Contains-get_or c.as_slice-row-items.result.now c.files.row-index _ c.files-test.true) in
-          inr (row, subst (λ (l : List Row). Contains l row) (inv.2 (told.reads.stays.honest clean) ours).0 there, c.files.connection, so_far.now_is, failed);
-      reads = record { stays = stays_then inv.0 still told.reads.stays; same = λ clean. tt };
+          inr (row, subst (λ (l : List Row). Contains l row) (inv.2 (reported.reads.stays.honest clean) ours).0 there, c.files.connection, so_far.now_is, failed);
+      reads = record { stays = stays_then inv.0 still reported.reads.stays; same = λ clean. tt };
     }

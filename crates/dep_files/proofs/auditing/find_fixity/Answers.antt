@@ -10,7 +10,7 @@ use Rattle.dep_files.specs.Fixity.{AreDigestsOf}
 use Rattle.dep_files.proofs.KnownTables.{blocks_plain}
 use Rattle.dep_files.proofs.Stills.{known_still, ours_known, stays_itself, stays_then, still_same}
 use Rattle.dep_files.proofs.Streams.{blocks_from}
-use Rattle.dep_files.proofs.Told.{passed_on}
+use Rattle.dep_files.proofs.Reported.{passed_on}
 use Rattle.dep_files.proofs.auditing.find_fixity.Goals as goal
 
 known_then : (a b : State) → IsUnchanged a b → IsOurs a → IsKnown b
@@ -19,19 +19,19 @@ known_then a b same ours = known_still a b (still_same a b same) (ours_known a o
 -- the row has no number
 pub returns-in_err-file : goal.returns-in_err-file
 returns-in_err-file g c =
-    let told = c.in_err-file.ensures.refused in
+    let reported = c.in_err-file.ensures.refused in
     let passed = passed_on c.from_residual.result c.in_err-file.field-0.0 c.from_residual.ensures.1 in
-    rw passed record { ok = λ clean ours. tt; cause = λ clean ours. no_file told.0 told.1; reads = record { stays = stays_itself c.args.connection.now; same = λ clean. tt } }
+    rw passed record { ok = λ clean ours. tt; cause = λ clean ours. no_file reported.0 reported.1; reads = record { stays = stays_itself c.args.connection.now; same = λ clean. tt } }
 
 -- the SHA-512 that is kept was not told
 pub returns-in_err-sha512 : goal.returns-in_err-sha512
 returns-in_err-sha512 g c =
-    let told = c.in_err-sha512.ensures in
+    let reported = c.in_err-sha512.ensures in
     let passed = passed_on c.from_residual-in_err-sha512.result c.in_err-sha512.field-0.0 c.from_residual-in_err-sha512.ensures.1 in
     rw passed record {
       ok = λ clean ours. tt;
-      cause = λ clean ours. no_sha512 c.in_ok-file.file c.in_ok-file.ensures.told (told.cause clean);
-      reads = record { stays = told.reads.stays; same = λ clean. tt };
+      cause = λ clean ours. no_sha512 c.in_ok-file.file c.in_ok-file.ensures.reported (reported.cause clean);
+      reads = record { stays = reported.reads.stays; same = λ clean. tt };
     }
 
 pub returns : goal.returns
@@ -46,7 +46,7 @@ returns g c =
           let before = second.reads.stays.honest clean in
           let same = first.reads.same before in
           record {
-            number = c.in_ok-file.ensures.told;
+            number = c.in_ok-file.ensures.reported;
             sha256 = c.digest_at.ensures;
             sha512 = first.ok before ours;
             digests = subst (λ (t : Tables). AreDigestsOf t (owner.File c.in_ok-file.file) c.in_ok-digests.digests) (same_tables old mid same)
@@ -73,7 +73,7 @@ returns-in_err-digests g c =
       ok = λ clean ours. tt;
       cause = λ clean ours.
           let same = first.reads.same (second.reads.stays.honest clean) in
-          no_blocks c.in_ok-file.file c.in_ok-file.ensures.told
+          no_blocks c.in_ok-file.file c.in_ok-file.ensures.reported
           (blocks_from (owner.File c.in_ok-file.file) None old mid new fault (blocks_plain old (ours_known old ours)) same first.reads.stays.survives
           (second.cause clean (known_then old mid same ours)));
       reads = record { stays = stays_then first.reads.stays (λ clean. still_same old mid (first.reads.same clean)) second.reads.stays; same = λ clean. tt };

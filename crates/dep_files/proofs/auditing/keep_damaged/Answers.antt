@@ -1,31 +1,31 @@
 use Rattle.std.proofs.Common.{refl}
 use Rattle.dep_files.specs.Causes.FailsToCheck.{not_found, not_noted}
 use Rattle.dep_types.specs.declared.store_fault.StoreFault.TheVariants.{Memory}
-use Rattle.dep_files.proofs.Told.{passed_on}
+use Rattle.dep_files.proofs.Reported.{passed_on}
 use Rattle.dep_files.proofs.auditing.keep_damaged.Goals as goal
 
 pub returns-in_err-found : goal.returns-in_err-found
 returns-in_err-found g c =
-    let told = c.in_err-found.ensures in
+    let reported = c.in_err-found.ensures in
     let passed = passed_on c.from_residual.result c.in_err-found.field-0.0 c.from_residual.ensures.1 in
-    rw passed record { notes = λ clean ours. tt; cause = λ clean ours. not_found (told.cause clean ours); reads = record { stays = told.reads.stays; same = λ clean. tt } }
+    rw passed record { notes = λ clean ours. tt; cause = λ clean ours. not_found (reported.cause clean ours); reads = record { stays = reported.reads.stays; same = λ clean. tt } }
 
 pub returns : goal.returns
 returns g c =
-    let told = c.in_ok-found.ensures in
+    let reported = c.in_ok-found.ensures in
     record {
-      notes = λ clean ours. record { found = c.in_ok-found.found; its = told.ok clean ours; noted = c.in_ok-note.ensures.ok };
+      notes = λ clean ours. record { found = c.in_ok-found.found; its = reported.ok clean ours; noted = c.in_ok-note.ensures.ok };
       cause = λ clean ours. tt;
-      reads = record { stays = told.reads.stays; same = told.reads.same };
+      reads = record { stays = reported.reads.stays; same = reported.reads.same };
     }
 
 -- there was no memory to note it
 pub returns-in_err-note : goal.returns-in_err-note
 returns-in_err-note g c =
-    let told = c.in_ok-found.ensures in
+    let reported = c.in_ok-found.ensures in
     let passed = passed_on c.from_residual-in_err-note.result Memory c.from_residual-in_err-note.ensures.1 in
     rw passed record {
       notes = λ clean ours. tt;
-      cause = λ clean ours. not_noted c.in_ok-found.found (told.ok clean ours) c.in_err-note.ensures.cause refl;
-      reads = record { stays = told.reads.stays; same = λ clean. tt };
+      cause = λ clean ours. not_noted c.in_ok-found.found (reported.ok clean ours) c.in_err-note.ensures.cause refl;
+      reads = record { stays = reported.reads.stays; same = λ clean. tt };
     }

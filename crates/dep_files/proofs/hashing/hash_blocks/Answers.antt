@@ -12,12 +12,12 @@ pub returns : goal.returns
 returns g c =
     let old = state g.S.Store c.args.connection.now in
     let o = c.args.owner in
-    let told = rw (c.blocks_query.ensures, c.owner_params.ensures) at c.hash_rows.ensures in
+    let reported = rw (c.blocks_query.ensures, c.owner_params.ensures) at c.hash_rows.ensures in
     record {
-      hashes = λ clean known. if_then c.hash_rows.result (told.hashes clean (blocks_plain old known))
+      hashes = λ clean known. if_then c.hash_rows.result (reported.hashes clean (blocks_plain old known))
           (λ digests it. record { rows = it.rows; ordered = blocks_in_order old o known it.rows it.shown; are = it.are });
-      cause = λ clean known. if_err c.hash_rows.result (told.cause clean (blocks_plain old known)) (λ fault it. not_given it);
-      reads = told.reads;
+      cause = λ clean known. if_err c.hash_rows.result (reported.cause clean (blocks_plain old known)) (λ fault it. not_given it);
+      reads = reported.reads;
     }
 
 pub returns-then-not-is_storable_owner : goal.returns-then-not-is_storable_owner

@@ -8,7 +8,7 @@ use Rattle.dep_files.proofs.SendingLemmas.{begins_from}
 use Rattle.dep_files.specs.Causes.FailsToGive.{uncounted}
 use Rattle.dep_types.specs.declared.store_fault.StoreFault.TheVariants.{Store}
 use Rattle.dep_files.proofs.RowByRow.{EndsHashing, hashed_more, stays, not_begun, ends_whole, ends_failed, ends_refused}
-use Rattle.dep_files.proofs.Told.{passed_on}
+use Rattle.dep_files.proofs.Reported.{passed_on}
 use Rattle.dep_files.proofs.hashing.hash_rows.Goals as goal
 
 pub returns-in-Err : goal.returns-in-Err

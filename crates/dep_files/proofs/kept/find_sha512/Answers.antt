@@ -1,11 +1,11 @@
 use Rattle.std.proofs.Common.{map, subst}
 use Rattle.sqlite.specs.Held.{state}
 use Rattle.sqlite.specs.Order.{column}
-use Rattle.dep_files.specs.Causes.FailsToFindSha512.{not_told}
+use Rattle.dep_files.specs.Causes.FailsToFindSha512.{not_reported}
 use Rattle.dep_files.specs.Fixity.{IsKeptDigest}
 use Rattle.dep_files.proofs.KeptFound.{finds_kept}
 use Rattle.dep_files.proofs.Queries.{sha512_reads}
-use Rattle.dep_files.proofs.Told.{passed_on}
+use Rattle.dep_files.proofs.Reported.{passed_on}
 use Rattle.dep_files.proofs.kept.find_sha512.Goals as goal
 
 pub ask-requires : goal.ask-requires
@@ -13,16 +13,16 @@ ask-requires g c = sha512_reads
 
 pub returns : goal.returns
 returns g c =
-    let told = rw c.owner_params.ensures at c.in_ok-rows.ensures in
+    let reported = rw c.owner_params.ensures at c.in_ok-rows.ensures in
     record {
-      ok = λ clean ours. finds_kept (state g.S.Store c.args.connection.now) (state g.S.Store c.ask.new.connection) c.args.owner _ c.only.result ours (told.shows clean)
+      ok = λ clean ours. finds_kept (state g.S.Store c.args.connection.now) (state g.S.Store c.ask.new.connection) c.args.owner _ c.only.result ours (reported.shows clean)
           (subst (λ rows. IsKeptDigest 64 (map (λ row. column row 0) rows) c.only.result) c.as_slice.ensures.value c.only.ensures);
       cause = λ clean. tt;
-      reads = record { stays = told.reads.stays; same = told.reads.same };
+      reads = record { stays = reported.reads.stays; same = reported.reads.same };
     }
 
 pub returns-in_err-rows : goal.returns-in_err-rows
 returns-in_err-rows g c =
-    let told = rw c.owner_params.ensures at c.in_err-rows.ensures in
+    let reported = rw c.owner_params.ensures at c.in_err-rows.ensures in
     let passed = passed_on c.from_residual.result c.in_err-rows.field-0.0 c.from_residual.ensures.1 in
-    rw passed record { ok = λ clean ours. tt; cause = λ clean. not_told (told.cause clean); reads = record { stays = told.reads.stays; same = λ clean. tt } }
+    rw passed record { ok = λ clean ours. tt; cause = λ clean. not_reported (reported.cause clean); reads = record { stays = reported.reads.stays; same = λ clean. tt } }

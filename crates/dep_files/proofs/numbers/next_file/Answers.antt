@@ -4,10 +4,10 @@ use Rattle.sqlite.specs.Held.{state}
 use Rattle.dep_tables.specs.Clauses.{AtMostOne, IsFaultAt}
 use Rattle.dep_tables.specs.Rows.{IsNumberRow}
 use Rattle.dep_tables.proofs.Results.{if_ok, if_then, if_err}
-use Rattle.dep_files.specs.Causes.FailsToFindFile.{not_told}
+use Rattle.dep_files.specs.Causes.FailsToFindFile.{not_reported}
 use Rattle.dep_files.proofs.KnownTables.{nexts_file}
 use Rattle.dep_files.proofs.Queries.{files_read}
-use Rattle.dep_files.proofs.Told.{passed_on}
+use Rattle.dep_files.proofs.Reported.{passed_on}
 use Rattle.dep_files.proofs.numbers.next_file.Goals as goal
 
 pub ask-requires : goal.ask-requires
@@ -17,17 +17,17 @@ pub returns : goal.returns
 returns g c =
     let old = state g.S.Store c.args.connection.now in
     let new = state g.S.Store c.ask.new.connection in
-    let told = rw c.key_param.ensures at c.in_ok-rows.ensures in
+    let reported = rw c.key_param.ensures at c.in_ok-rows.ensures in
     record {
-      ok = λ clean known. if_then c.only.result c.only.ensures.told
-          (λ found read. nexts_file old new c.args.after found _ known (told.shows clean) (read ∙ ap (map (columns_from 0 1)) c.as_slice.ensures.value));
+      ok = λ clean known. if_then c.only.result c.only.ensures.reported
+          (λ found read. nexts_file old new c.args.after found _ known (reported.shows clean) (read ∙ ap (map (columns_from 0 1)) c.as_slice.ensures.value));
       cause = λ clean. if_err c.only.result c.only.ensures.refused
-          (λ fault it. not_told (inr (_, told.shows clean, subst (λ rows. IsFaultAt ⊥ (AtMostOne IsNumberRow) rows fault) c.as_slice.ensures.value it)));
-      reads = record { stays = told.reads.stays; same = λ clean. if_ok c.only.result (told.reads.same clean) };
+          (λ fault it. not_reported (inr (_, reported.shows clean, subst (λ rows. IsFaultAt ⊥ (AtMostOne IsNumberRow) rows fault) c.as_slice.ensures.value it)));
+      reads = record { stays = reported.reads.stays; same = λ clean. if_ok c.only.result (reported.reads.same clean) };
     }
 
 pub returns-in_err-rows : goal.returns-in_err-rows
 returns-in_err-rows g c =
-    let told = rw c.key_param.ensures at c.in_err-rows.ensures in
+    let reported = rw c.key_param.ensures at c.in_err-rows.ensures in
     let passed = passed_on c.from_residual.result c.in_err-rows.field-0.0 c.from_residual.ensures.1 in
-    rw passed record { ok = λ clean known. tt; cause = λ clean. not_told (inl (told.cause clean)); reads = record { stays = told.reads.stays; same = λ clean. tt } }
+    rw passed record { ok = λ clean known. tt; cause = λ clean. not_reported (inl (reported.cause clean)); reads = record { stays = reported.reads.stays; same = λ clean. tt } }

@@ -4,7 +4,7 @@ use Rattle.dep_types.specs.declared.stream_fault.StreamFault.TheVariants.{Store}
 use Rattle.dep_files.proofs.NextRow.{answered}
 use Rattle.dep_files.proofs.RowsSent.{EndsSending, not_begun, none_sent, one_more, ends_failed, ends_short, ends_cut, ends_whole, ends_uncounted}
 use Rattle.dep_types.specs.StoreFaults.{stream_fault_for}
-use Rattle.dep_files.proofs.Told.{passed_on}
+use Rattle.dep_files.proofs.Reported.{passed_on}
 use Rattle.dep_files.proofs.sending.stream_sized.Goals as goal
 
 pub returns-in-Err : goal.returns-in-Err

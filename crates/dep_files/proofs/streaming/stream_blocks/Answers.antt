@@ -11,7 +11,7 @@ use Rattle.dep_tables.specs.Rows.{owner_values}
 use Rattle.dep_files.specs.Causes.{FailsToGive, FailsToGiveBlocks}
 use Rattle.dep_files.specs.Causes.FailsToGiveBlocks.{no_owner, not_given}
 use Rattle.dep_files.specs.Clauses.{OnlyReads, OnlyShows}
-use Rattle.dep_files.proofs.FaultsTold.{none_failed, store_stopped, store_there, stopped_more}
+use Rattle.dep_files.proofs.FaultsReported.{none_failed, store_stopped, store_there, stopped_more}
 use Rattle.dep_files.proofs.OrderedBlocks.{sends_owner, owner_is}
 use Rattle.dep_files.proofs.Queries.{blocks_read}
 use Rattle.dep_files.proofs.Stills.{stays_itself}

@@ -14,10 +14,10 @@ use Rattle.dep_tables.proofs.Leading.{plain_here}
 use Rattle.dep_tables.proofs.Results.{ok_then, if_err}
 use Rattle.dep_files.proofs.OrderedBlocks.{owner_is}
 use Rattle.dep_files.proofs.Stills.{stays_then, still_left, still_same}
-use Rattle.dep_files.proofs.FaultsTold.{no_file_failed, asked_failed, none_streamed, told_for, stopped_then}
-use Rattle.dep_files.proofs.Told.{passed_on}
+use Rattle.dep_files.proofs.FaultsReported.{no_file_failed, asked_failed, none_streamed, reported_for, stopped_then}
+use Rattle.dep_files.proofs.Reported.{passed_on}
 use Rattle.dep_files.proofs.Results.{same_tables}
-use Rattle.dep_files.proofs.Streams.{SizeTold, size_told, streamed, blocks_from}
+use Rattle.dep_files.proofs.Streams.{SizeReported, size_reported, streamed, blocks_from}
 use Rattle.dep_tables.proofs.Chains.{still_ours}
 use Rattle.dep_files.proofs.streaming.stream_content.Goals as goal
 
@@ -28,7 +28,7 @@ returns-in_err-found g c =
     let passed = passed_on c.from_residual.result (stream_fault_for fault) c.from_residual.ensures.1 in
     rw passed record {
       streams = ([], Appends-nil _, λ clean ours s are. none_streamed s c.args.file fault);
-      why = λ clean ours. told_for (FailsToStream c.args.file _ _) fault (no_size (failed.cause clean));
+      why = λ clean ours. reported_for (FailsToStream c.args.file _ _) fault (no_size (failed.cause clean));
       reads = record { stays = failed.reads.stays; same = λ clean. tt };
       outlet = record { kept = tt; cause = λ e. absurd (asked_failed fault e); others = λ _. refl };
     }
@@ -41,7 +41,7 @@ returns-in_default g c =
       streams = (
         [],
         Appends-nil _,
-        λ clean ours s are. (refl, subst (SizeTold s c.args.file) c.in_default.is (size_told (tables_of old) s c.args.file c.in_ok-found.field-0 are ours.trees.ordered.1.1.1.1.0 (sized.ok clean ours))),
+        λ clean ours s are. (refl, subst (SizeReported s c.args.file) c.in_default.is (size_reported (tables_of old) s c.args.file c.in_ok-found.field-0 are ours.trees.ordered.1.1.1.1.0 (sized.ok clean ours))),
       );
       why = λ clean ours. tt;
       reads = record { stays = sized.reads.stays; same = λ clean. tt };
@@ -63,9 +63,9 @@ returns g c =
         sent.streams.1,
         λ clean ours s are.
             let same = sized.reads.same (before clean) in
-            let told = subst (SizeTold s c.args.file) c.in-Some.is (size_told (tables_of old) s c.args.file c.in_ok-found.field-0 are ours.trees.ordered.1.1.1.1.0 (sized.ok (before clean) ours)) in
+            let reported = subst (SizeReported s c.args.file) c.in-Some.is (size_reported (tables_of old) s c.args.file c.in_ok-found.field-0 are ours.trees.ordered.1.1.1.1.0 (sized.ok (before clean) ours)) in
             let sends = subst (λ (t : Tables). SendsBlocks (filter (is_block_of (owner.File c.args.file)) t.blocks) size sent.streams.0 c.stream_blocks.result) (same_tables old mid same) (sent.streams.2 clean (still_ours old mid same ours)) in
-            streamed (tables_of old) s c.args.file size sent.streams.0 c.stream_blocks.result are told sends,
+            streamed (tables_of old) s c.args.file size sent.streams.0 c.stream_blocks.result are reported sends,
       );
       why = λ clean ours.
           let same = sized.reads.same (before clean) in

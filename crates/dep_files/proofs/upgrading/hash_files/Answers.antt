@@ -8,7 +8,7 @@ use Rattle.dep_files.proofs.Stills.{known_still, stays_itself, stays_then, still
 use Rattle.dep_files.proofs.KnownTables.{known_files_ordered}
 use Rattle.dep_files.proofs.Valued.{AreValuesTo, no_values, one_more, all_valued}
 use Rattle.dep_types.specs.declared.store_fault.StoreFault.TheVariants.{Memory}
-use Rattle.dep_files.proofs.Told.{passed_on}
+use Rattle.dep_files.proofs.Reported.{passed_on}
 use Rattle.dep_files.proofs.upgrading.hash_files.Goals as goal
 
 pub files-init : goal.files-init
@@ -25,15 +25,15 @@ files-preserved g c =
     let mid = state g.S.Store c.files.connection in
     let new = state g.S.Store c.next_value.new.connection in
     let inv = c.files.invariant in
-    let told = c.in_ok-value.ensures in
-    let earlier = told.reads.stays.honest in
+    let reported = c.in_ok-value.ensures in
+    let earlier = reported.reads.stays.honest in
     let pushed : is_ok c.push.result ≡ true = search rules in (
-      stays_then inv.0 inv.1 told.reads.stays,
-      λ clean. still_same old new (still_then old mid new (inv.1 (earlier clean)) (told.reads.same clean)),
+      stays_then inv.0 inv.1 reported.reads.stays,
+      λ clean. still_same old new (still_then old mid new (inv.1 (earlier clean)) (reported.reads.same clean)),
       λ clean known.
           let before = earlier clean in
           let still = inv.1 before in
-          let next = subst (λ (t : Tables). IsValueAfter t c.files.last c.in_ok-value.field-0) (tables_still old mid still) (told.ok clean (known_still old mid still known)) in
+          let next = subst (λ (t : Tables). IsValueAfter t c.files.last c.in_ok-value.field-0) (tables_still old mid still) (reported.ok clean (known_still old mid still known)) in
           let some = subst (IsValueAfter (tables_of old) c.files.last) c.in-Some.is next in
           subst (λ vs. AreValuesTo (tables_of old) vs c.in-Some.value.file (c.files.counter + 1)) (sym (rw pushed at c.push.ensures.items))
           (one_more (tables_of old) c.files.values.items c.files.last c.files.counter c.in-Some.value (known_files_ordered old known) (inv.2 before known) some),
@@ -46,16 +46,16 @@ returns-in_default g c =
     let mid = state g.S.Store c.files.connection in
     let new = state g.S.Store c.next_value.new.connection in
     let inv = c.files.invariant in
-    let told = c.in_ok-value.ensures in
-    let earlier = told.reads.stays.honest in
+    let reported = c.in_ok-value.ensures in
+    let earlier = reported.reads.stays.honest in
     record {
       hashes = λ clean known.
           let before = earlier clean in
           let still = inv.1 before in
-          let next = subst (λ (t : Tables). IsValueAfter t c.files.last c.in_ok-value.field-0) (tables_still old mid still) (told.ok clean (known_still old mid still known)) in
+          let next = subst (λ (t : Tables). IsValueAfter t c.files.last c.in_ok-value.field-0) (tables_still old mid still) (reported.ok clean (known_still old mid still known)) in
           all_valued (tables_of old) c.files.values.items c.files.last c.files.counter (inv.2 before known) (subst (IsValueAfter (tables_of old) c.files.last) c.in_default.is next);
       cause = λ clean known. tt;
-      reads = record { stays = stays_then inv.0 inv.1 told.reads.stays; same = λ clean. still_then old mid new (inv.1 (earlier clean)) (told.reads.same clean) };
+      reads = record { stays = stays_then inv.0 inv.1 reported.reads.stays; same = λ clean. still_then old mid new (inv.1 (earlier clean)) (reported.reads.same clean) };
     }
 
 -- one could not be kept
@@ -64,16 +64,16 @@ returns-in_err-push g c =
     let old = state g.S.Store c.args.connection.now in
     let mid = state g.S.Store c.files.connection in
     let inv = c.files.invariant in
-    let told = c.in_ok-value.ensures in
+    let reported = c.in_ok-value.ensures in
     let passed = passed_on c.from_residual-in_err-push.result Memory c.from_residual-in_err-push.ensures.1 in
     rw passed record {
       hashes = λ clean known. tt;
       cause = λ clean known.
-          let before = told.reads.stays.honest clean in
+          let before = reported.reads.stays.honest clean in
           let still = inv.1 before in
-          let next = subst (λ (t : Tables). IsValueAfter t c.files.last c.in_ok-value.field-0) (tables_still old mid still) (told.ok clean (known_still old mid still known)) in
+          let next = subst (λ (t : Tables). IsValueAfter t c.files.last c.in_ok-value.field-0) (tables_still old mid still) (reported.ok clean (known_still old mid still known)) in
           (c.files.last, (inv.2 before known).reached, inr (c.in-Some.value, subst (IsValueAfter (tables_of old) c.files.last) c.in-Some.is next, refl));
-      reads = record { stays = stays_then inv.0 inv.1 told.reads.stays; same = λ clean. tt };
+      reads = record { stays = stays_then inv.0 inv.1 reported.reads.stays; same = λ clean. tt };
     }
 
 -- one was not found, or not hashed
@@ -82,15 +82,15 @@ returns-in_err-value g c =
     let old = state g.S.Store c.args.connection.now in
     let mid = state g.S.Store c.files.connection in
     let inv = c.files.invariant in
-    let told = c.in_err-value.ensures in
+    let reported = c.in_err-value.ensures in
     let passed = passed_on c.from_residual.result c.in_err-value.field-0.0 c.from_residual.ensures.1 in
     rw passed record {
       hashes = λ clean known. tt;
       cause = λ clean known.
-          let before = told.reads.stays.honest clean in
+          let before = reported.reads.stays.honest clean in
           let still = inv.1 before in
-          (c.files.last, (inv.2 before known).reached, inl (c.files.connection, still.now_is, told.cause clean (known_still old mid still known)));
-      reads = record { stays = stays_then inv.0 inv.1 told.reads.stays; same = λ clean. tt };
+          (c.files.last, (inv.2 before known).reached, inl (c.files.connection, still.now_is, reported.cause clean (known_still old mid still known)));
+      reads = record { stays = stays_then inv.0 inv.1 reported.reads.stays; same = λ clean. tt };
     }
 
 -- So many files would have greater numbers than a table has.

@@ -10,25 +10,25 @@ use Rattle.dep_files.specs.Sha512s.{IsFileAfter}
 use Rattle.dep_files.proofs.KnownTables.{blocks_plain}
 use Rattle.dep_files.proofs.Stills.{known_still, stays_then, still_same}
 use Rattle.dep_files.proofs.Streams.{blocks_from}
-use Rattle.dep_files.proofs.Told.{passed_on}
+use Rattle.dep_files.proofs.Reported.{passed_on}
 use Rattle.dep_files.proofs.upgrading.next_value.Goals as goal
 
 -- the file was not told
 pub returns-in_err-file : goal.returns-in_err-file
 returns-in_err-file g c =
-    let told = c.in_err-file.ensures in
+    let reported = c.in_err-file.ensures in
     let passed = passed_on c.from_residual.result c.in_err-file.field-0.0 c.from_residual.ensures.1 in
-    rw passed record { ok = λ clean known. tt; cause = λ clean known. no_file (told.cause clean); reads = record { stays = told.reads.stays; same = λ clean. tt } }
+    rw passed record { ok = λ clean known. tt; cause = λ clean known. no_file (reported.cause clean); reads = record { stays = reported.reads.stays; same = λ clean. tt } }
 
 -- there is none
 pub returns-in_default : goal.returns-in_default
 returns-in_default g c =
     let old = state g.S.Store c.args.connection.now in
-    let told = c.in_ok-file.ensures in
+    let reported = c.in_ok-file.ensures in
     record {
-      ok = λ clean known. (subst (IsFileAfter (tables_of old) c.args.after) c.in_default.is (told.ok clean known), tt);
+      ok = λ clean known. (subst (IsFileAfter (tables_of old) c.args.after) c.in_default.is (reported.ok clean known), tt);
       cause = λ clean known. tt;
-      reads = record { stays = told.reads.stays; same = told.reads.same };
+      reads = record { stays = reported.reads.stays; same = reported.reads.same };
     }
 
 pub returns : goal.returns

@@ -1,5 +1,5 @@
 use Rattle.std.proofs.Common.{Bool, sym, subst, ◌∙◌}
-use Rattle.dep_hub.specs.Errands.{WorkedAhead, Runs}
+use Rattle.dep_hub.specs.ArchiveCalls.{WorkedAhead, Runs}
 use Rattle.dep_host.proofs.serving.go_on.Goals as goal
 
 pub returns-clause-asks : goal.returns-clause-asks
@@ -9,6 +9,6 @@ returns-clause-asks g c = record {
   works = c.work_ahead-is_left.ensures.goes;
   prepares = c.work_ahead-is_left.ensures.prepares;
   stays = c.work_ahead-is_left.ensures.stays;
-  seats = c.work_ahead-is_left.ensures.seats ∙ c.is_open-is_open.ensures.seats;
-  ahead = subst (λ (b : Bool). Runs (WorkedAhead b) (g.A.Archive.account c.is_open-is_open.new.self.hub.store) (g.A.Archive.account c.work_ahead-is_left.new.self.hub.store)) (sym c.work_ahead-is_left.ensures.left) c.work_ahead-is_left.ensures.asked;
+  slots = c.work_ahead-is_left.ensures.slots ∙ c.is_open-is_open.ensures.slots;
+  ahead = subst (λ (b : Bool). Runs (WorkedAhead b) (g.A.Archive.call_log c.is_open-is_open.new.self.hub.store) (g.A.Archive.call_log c.work_ahead-is_left.new.self.hub.store)) (sym c.work_ahead-is_left.ensures.left) c.work_ahead-is_left.ensures.asked;
 }

@@ -6,7 +6,7 @@ use Rattle.dep_host.proofs.MeetLemmas.{admitted, may_refuse, none_offered}
 use Rattle.dep_host.proofs.serving.let_in.Goals as goal
 
 pub returns-in-Some : goal.returns-in-Some
-returns-in-Some g c = admitted g.A.Archive.condition g.R.Source.unread g.K.Sink.taken g.S.Spool.held g.A.Archive.account g.S.Spool.size (causes_of g.R.Source.halts g.K.Sink.halts g.S.Spool.failures) g.L.HostLog.notes _ _ _ _ c.args.vacancy c.in-Some.at c.args.client c.admit-told.result c.in-Some.is c.admit-told.ensures
+returns-in-Some g c = admitted g.A.Archive.condition g.R.Source.unread g.K.Sink.taken g.S.Spool.held g.A.Archive.call_log g.S.Spool.size (causes_of g.R.Source.halts g.K.Sink.halts g.S.Spool.failures) g.L.HostLog.notes _ _ _ _ c.args.vacancy c.in-Some.at c.args.client c.admit-reported.result c.in-Some.is c.admit-reported.ensures
 
 pub returns-in-None : goal.returns-in-None
 returns-in-None g c = (

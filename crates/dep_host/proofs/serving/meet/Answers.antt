@@ -1,7 +1,7 @@
 use Rattle.std.proofs.Common.{◌≡◌, Option, false, [], refl, sym, subst}
 use Rattle.std.proofs.lemmas.Result.{IfOk-weaker}
 use Rattle.dep_host.specs.Causes.{causes_of}
-use Rattle.dep_host.specs.Courses.{is_overdue}
+use Rattle.dep_host.specs.ConnectionStates.{is_overdue}
 use Rattle.dep_host.specs.Coming.{seconds_of}
 use Rattle.dep_host.specs.Hosting.{GoesRound, position}
 use Rattle.dep_host.specs.declared.events.Event.{Event}
@@ -11,17 +11,17 @@ use Rattle.dep_host.proofs.MeetLemmas.{meets_as, round_met, offer_kept}
 use Rattle.dep_host.proofs.serving.meet.Goals as goal
 
 pub returns-in-Ready-clause-met : goal.returns-in-Ready-clause-met
-returns-in-Ready-clause-met g c = meets_as g.A.Archive.condition g.R.Source.unread g.K.Sink.taken g.S.Spool.held g.A.Archive.account g.S.Spool.size (causes_of g.R.Source.halts g.K.Sink.halts g.S.Spool.failures) g.L.HostLog.notes _ _ _ _ c.args.now.vacancy c.args.event _ c.in-Ready.is ([], wakes c.awake.ensures refl)
+returns-in-Ready-clause-met g c = meets_as g.A.Archive.condition g.R.Source.unread g.K.Sink.taken g.S.Spool.held g.A.Archive.call_log g.S.Spool.size (causes_of g.R.Source.halts g.K.Sink.halts g.S.Spool.failures) g.L.HostLog.notes _ _ _ _ c.args.now.vacancy c.args.event _ c.in-Ready.is ([], wakes c.set_ready.ensures refl)
 
 pub returns-in-Client-clause-met : goal.returns-in-Client-clause-met
-returns-in-Client-clause-met g c = meets_as g.A.Archive.condition g.R.Source.unread g.K.Sink.taken g.S.Spool.held g.A.Archive.account g.S.Spool.size (causes_of g.R.Source.halts g.K.Sink.halts g.S.Spool.failures) g.L.HostLog.notes _ _ _ _ c.args.now.vacancy c.args.event _ c.in-Client.is c.let_in.ensures
+returns-in-Client-clause-met g c = meets_as g.A.Archive.condition g.R.Source.unread g.K.Sink.taken g.S.Spool.held g.A.Archive.call_log g.S.Spool.size (causes_of g.R.Source.halts g.K.Sink.halts g.S.Spool.failures) g.L.HostLog.notes _ _ _ _ c.args.now.vacancy c.args.event _ c.in-Client.is c.let_in.ensures
 
 pub returns-in-End-clause-met : goal.returns-in-End-clause-met
 returns-in-End-clause-met g c = (c.in-End.is, refl, refl)
 
 pub returns-in-Round-clause-met : goal.returns-in-Round-clause-met
-returns-in-Round-clause-met g c = round_met g.A.Archive.condition g.R.Source.unread g.K.Sink.taken g.S.Spool.held g.A.Archive.account g.S.Spool.size (causes_of g.R.Source.halts g.K.Sink.halts g.S.Spool.failures) g.L.HostLog.notes _ _ _ _ c.args.now.vacancy c.args.event c.go_on-next.result c.go_on-next.ensures.end c.go_on-next.ensures.unspent
-    (meets_as g.A.Archive.condition g.R.Source.unread g.K.Sink.taken g.S.Spool.held g.A.Archive.account g.S.Spool.size (causes_of g.R.Source.halts g.K.Sink.halts g.S.Spool.failures) g.L.HostLog.notes _ _ _ _ c.args.now.vacancy c.args.event _ c.in-Round.is (
+returns-in-Round-clause-met g c = round_met g.A.Archive.condition g.R.Source.unread g.K.Sink.taken g.S.Spool.held g.A.Archive.call_log g.S.Spool.size (causes_of g.R.Source.halts g.K.Sink.halts g.S.Spool.failures) g.L.HostLog.notes _ _ _ _ c.args.now.vacancy c.args.event c.go_on-next.result c.go_on-next.ensures.end c.go_on-next.ensures.unspent
+    (meets_as g.A.Archive.condition g.R.Source.unread g.K.Sink.taken g.S.Spool.held g.A.Archive.call_log g.S.Spool.size (causes_of g.R.Source.halts g.K.Sink.halts g.S.Spool.failures) g.L.HostLog.notes _ _ _ _ c.args.now.vacancy c.args.event _ c.in-Round.is (
       _,
       makes_round (record {
         mid = c.round-is_busy.new.self;
@@ -33,7 +33,7 @@ returns-in-Round-clause-met g c = round_met g.A.Archive.condition g.R.Source.unr
     ))
 
 pub returns-in-Ready-clause-vacant : goal.returns-in-Ready-clause-vacant
-returns-in-Ready-clause-vacant g c = offer_kept c.args.host.now c.awake.new.self _ _ _ _ c.requires.vacant c.awake.ensures
+returns-in-Ready-clause-vacant g c = offer_kept c.args.host.now c.set_ready.new.self _ _ _ _ c.requires.vacant c.set_ready.ensures
 
 pub returns-in-Round-clause-time : goal.returns-in-Round-clause-time
 returns-in-Round-clause-time g c =
@@ -43,8 +43,8 @@ pub returns-in-Round-clause-shut : goal.returns-in-Round-clause-shut
 returns-in-Round-clause-shut g c = λ why ends. subst (λ (event : Event _ _ _). MayEnd c.go_on-next.new.host why (seconds_of event)) (sym c.in-Round.is) (c.go_on-next.ensures.shut why ends)
 
 pub returns-in-Stop-clause-met : goal.returns-in-Stop-clause-met
-returns-in-Stop-clause-met g c = round_met g.A.Archive.condition g.R.Source.unread g.K.Sink.taken g.S.Spool.held g.A.Archive.account g.S.Spool.size (causes_of g.R.Source.halts g.K.Sink.halts g.S.Spool.failures) g.L.HostLog.notes _ _ _ _ c.args.now.vacancy c.args.event c.wind_up.result c.wind_up.ensures.end c.wind_up.ensures.unspent
-    (meets_as g.A.Archive.condition g.R.Source.unread g.K.Sink.taken g.S.Spool.held g.A.Archive.account g.S.Spool.size (causes_of g.R.Source.halts g.K.Sink.halts g.S.Spool.failures) g.L.HostLog.notes _ _ _ _ c.args.now.vacancy c.args.event _ c.in-Stop.is ([], stops c.stop.ensures refl))
+returns-in-Stop-clause-met g c = round_met g.A.Archive.condition g.R.Source.unread g.K.Sink.taken g.S.Spool.held g.A.Archive.call_log g.S.Spool.size (causes_of g.R.Source.halts g.K.Sink.halts g.S.Spool.failures) g.L.HostLog.notes _ _ _ _ c.args.now.vacancy c.args.event c.wind_up.result c.wind_up.ensures.end c.wind_up.ensures.unspent
+    (meets_as g.A.Archive.condition g.R.Source.unread g.K.Sink.taken g.S.Spool.held g.A.Archive.call_log g.S.Spool.size (causes_of g.R.Source.halts g.K.Sink.halts g.S.Spool.failures) g.L.HostLog.notes _ _ _ _ c.args.now.vacancy c.args.event _ c.in-Stop.is ([], stops c.stop.ensures refl))
 
 pub returns-in-Stop-clause-time : goal.returns-in-Stop-clause-time
 returns-in-Stop-clause-time g c =

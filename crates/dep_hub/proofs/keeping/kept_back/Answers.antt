@@ -1,5 +1,5 @@
 use Rattle.std.proofs.Common.{sym, ◌∙◌}
-use Rattle.dep_hub.specs.StandsOwing.{waits_still}
+use Rattle.dep_hub.specs.RepresentsOwing.{waits_still}
 use Rattle.dep_hub.proofs.keeping.kept_back.Goals as goal
 
 pub returns-then-has_to_wait-clause-kept : goal.returns-then-has_to_wait-clause-kept

@@ -1,8 +1,8 @@
-use Rattle.dep_hub.proofs.PreparingLemmas.{ahead_contents, ahead_stands}
+use Rattle.dep_hub.proofs.PreparingLemmas.{ahead_contents, ahead_represents}
 use Rattle.dep_hub.proofs.laws.working_ahead_is_no_event.Goals as goal
 
 pub returns : goal.returns
 returns g c = record {
-  stands = ahead_stands g.A.Archive.condition;
+  represents = ahead_represents g.A.Archive.condition;
   contents = ahead_contents g.A.Archive.condition;
 }

@@ -80,7 +80,7 @@ returns-in-Ok-Refused g c =
       takes_next c.args.context.now.site.now c.args.intake.now c.next.new.self c.args.context.now.moment
           (outside (g.O.Outlet.taken c.args.out.now) (g.O.Outlet.failures c.args.out.now) (g.A.Archive.condition c.args.store.now))
           (outside (with_more (g.O.Outlet.taken c.answer_fault-answer.new.out) y.0) (g.O.Outlet.failures c.answer_fault-answer.new.out) (g.A.Archive.condition c.answer_fault-answer.new.store))
-          (Fault c.in-Ok-Refused.refusal c.in-Ok-Refused.is_bare) h c.answer_fault-answer.result true
+          (Fault c.in-Ok-Refused.refusal c.in-Ok-Refused.is_head_only) h c.answer_fault-answer.result true
           (λ _. fault_shuts _ _ _ _ _ h.first) (λ e. cc) y.3
           c.next_after.new.intake c.next_after.ensures.read c.next_after.result c.next_after.ensures.next,
     )

@@ -11,5 +11,5 @@ returns g c = λ config moment.
     answers_reply config (g.O.Outlet.taken c.args.out.now) (g.O.Outlet.taken c.send.new.out) (g.O.Outlet.failures c.args.out.now) (g.O.Outlet.failures c.send.new.out)
     (g.A.Archive.condition c.args.store.now) Continue moment c.send.result continue_line
     (g.met.A.Archive.settled c.args.store.now)
-    c.send.ensures.sends c.send.ensures.kept c.send.ensures.cause (λ s stands. (stands, sym (append-nil continue_line)))
+    c.send.ensures.sends c.send.ensures.kept c.send.ensures.cause (λ s represents. (represents, sym (append-nil continue_line)))
     (λ sent h. h)

@@ -24,12 +24,12 @@ returns-in-Ok-refuse g c =
           honest = λ h. c.tick.ensures.does.honest (x.passes.honest h);
           clean = λ h. c.tick.ensures.does.was_open (x.passes.clean h);
         };
-        steps = λ disk s stands.
-            let t = (rw (c.config.ensures ∙ c.service.ensures) at c.in-Ok.ensures.does).ok (x.passes.honest disk) s stands tt in
+        steps = λ disk s represents.
+            let t = (rw (c.config.ensures ∙ c.service.ensures) at c.in-Ok.ensures.does).ok (x.passes.honest disk) s represents tt in
             let now = tick config s c.args.context.now.moment in
-            made_from config s (Fault c.args.fault.refusal c.args.fault.is_bare) c.args.context.now.moment x.sent _ _ _ c.send_performed-answered.result refl
-            (answers_from config s (Fault c.args.fault.refusal c.args.fault.is_bare) c.args.context.now.moment x.sent _ _ c.send_performed-answered.result
-            (x.sends disk (step config s (Fault c.args.fault.refusal c.args.fault.is_bare) c.args.context.now.moment)
+            made_from config s (Fault c.args.fault.refusal c.args.fault.is_head_only) c.args.context.now.moment x.sent _ _ _ c.send_performed-answered.result refl
+            (answers_from config s (Fault c.args.fault.refusal c.args.fault.is_head_only) c.args.context.now.moment x.sent _ _ c.send_performed-answered.result
+            (x.sends disk (step config s (Fault c.args.fault.refusal c.args.fault.is_head_only) c.args.context.now.moment)
             (record { state = t.1; ready = c.in-Ok-refuse.ensures now t.0 })));
         shut = λ disk none. absurd (none (c.in-Ok.ensures.shut.opened (x.passes.honest disk)));
       },
@@ -43,13 +43,13 @@ returns-in-Err-refuse g c =
       None,
       none_later (g.A.Archive.condition c.tick.new.self) _ c.requires,
       (c.send_fault.ensures.0, c.send_fault.ensures.1),
-      answers_fixed config (outside (g.O.Outlet.taken c.args.out.now) (g.O.Outlet.failures c.args.out.now) (g.A.Archive.condition c.args.store.now)) (outside (g.O.Outlet.taken c.send_fault.new.out) (g.O.Outlet.failures c.send_fault.new.out) (g.A.Archive.condition c.tick.new.self)) (Fault c.args.fault.refusal c.args.fault.is_bare) c.args.context.now.moment c.in-Err-refuse.store_fault
+      answers_fixed config (outside (g.O.Outlet.taken c.args.out.now) (g.O.Outlet.failures c.args.out.now) (g.A.Archive.condition c.args.store.now)) (outside (g.O.Outlet.taken c.send_fault.new.out) (g.O.Outlet.failures c.send_fault.new.out) (g.A.Archive.condition c.tick.new.self)) (Fault c.args.fault.refusal c.args.fault.is_head_only) c.args.context.now.moment c.in-Err-refuse.store_fault
           c.tick.ensures.does.honest c.tick.ensures.does.was_open
-          (λ disk s stands.
-          let t = (rw (c.config.ensures ∙ c.service.ensures) at c.in-Ok.ensures.does).ok disk s stands tt in record {
+          (λ disk s represents.
+          let t = (rw (c.config.ensures ∙ c.service.ensures) at c.in-Ok.ensures.does).ok disk s represents tt in record {
             left = tick config s c.args.context.now.moment;
             is_left = inr refl;
-            stands = λ _. t.1;
+            represents = λ _. t.1;
             stop = leaves_wider new _ _ (λ found e. inr (inl e))
                 (stays_as new (tick config s c.args.context.now.moment) (g.met.A.Archive.settled c.tick.new.self) t.1);
           })
@@ -64,13 +64,13 @@ returns-in-Err g c =
       None,
       none_later (g.A.Archive.condition c.tick.new.self) _ c.requires,
       (c.send_fault-in-Err.ensures.0, c.send_fault-in-Err.ensures.1),
-      answers_fixed c.args.context.now.site.now (outside (g.O.Outlet.taken c.args.out.now) (g.O.Outlet.failures c.args.out.now) (g.A.Archive.condition c.args.store.now)) (outside (g.O.Outlet.taken c.send_fault-in-Err.new.out) (g.O.Outlet.failures c.send_fault-in-Err.new.out) (g.A.Archive.condition c.tick.new.self)) (Fault c.args.fault.refusal c.args.fault.is_bare) c.args.context.now.moment c.in-Err.store_fault
+      answers_fixed c.args.context.now.site.now (outside (g.O.Outlet.taken c.args.out.now) (g.O.Outlet.failures c.args.out.now) (g.A.Archive.condition c.args.store.now)) (outside (g.O.Outlet.taken c.send_fault-in-Err.new.out) (g.O.Outlet.failures c.send_fault-in-Err.new.out) (g.A.Archive.condition c.tick.new.self)) (Fault c.args.fault.refusal c.args.fault.is_head_only) c.args.context.now.moment c.in-Err.store_fault
           c.tick.ensures.does.honest c.tick.ensures.does.was_open
-          (λ disk s stands. record {
+          (λ disk s represents. record {
             left = s;
             is_left = inl refl;
-            stands = λ is_open. c.in-Err.ensures.does.err is_open s stands;
-            stop = leaves_wider new _ _ (λ found e. elim e [ inl same ↦ inl same | inr next ↦ inr (inl next) ]) ((rw (c.config.ensures ∙ c.service.ensures) at c.tick.ensures.does).stop disk s stands tt);
+            represents = λ is_open. c.in-Err.ensures.does.err is_open s represents;
+            stop = leaves_wider new _ _ (λ found e. elim e [ inl same ↦ inl same | inr next ↦ inr (inl next) ]) ((rw (c.config.ensures ∙ c.service.ensures) at c.tick.ensures.does).stop disk s represents tt);
           })
           (λ sent answer h. h) c.tick.ensures.shut.left
           c.send_fault-in-Err.result c.send_fault-in-Err.ensures,

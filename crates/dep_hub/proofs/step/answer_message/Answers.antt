@@ -26,9 +26,9 @@ returns-in-Ok-answer_routed g c =
           honest = λ h. c.tick.ensures.does.honest (c.answer_routed.ensures.honest (x.passes.honest h));
           clean = λ h. c.tick.ensures.does.was_open (c.answer_routed.ensures.was_open (x.passes.clean h));
         };
-        steps = λ disk s stands.
+        steps = λ disk s represents.
             let between = x.passes.honest disk in
-            let t = (rw (c.config.ensures ∙ c.service.ensures) at c.in-Ok.ensures.does).ok (c.answer_routed.ensures.honest between) s stands tt in
+            let t = (rw (c.config.ensures ∙ c.service.ensures) at c.in-Ok.ensures.does).ok (c.answer_routed.ensures.honest between) s represents tt in
             let p = c.in-Ok-answer_routed.ensures.ok between (tick config s c.args.context.now.moment) t.1 tt in
             made_from config s (Request m) c.args.context.now.moment x.sent _ _ _ c.send_performed-answered.result refl
             (answers_from config s (Request m) c.args.context.now.moment x.sent _ _ c.send_performed-answered.result (x.sends disk (step config s (Request m) c.args.context.now.moment) (record { state = p.1; ready = p.0 t.0 })));
@@ -47,11 +47,11 @@ returns-in-Err-answer_routed g c =
       (c.send_fault.ensures.0, c.send_fault.ensures.1),
       answers_fixed config (outside (g.O.Outlet.taken c.args.out.now) (g.O.Outlet.failures c.args.out.now) (g.A.Archive.condition c.args.store.now)) (outside (g.O.Outlet.taken c.send_fault.new.out) (g.O.Outlet.failures c.send_fault.new.out) (g.A.Archive.condition c.answer_routed.new.store)) (Request m) c.args.context.now.moment c.in-Err-answer_routed.fault
           (λ h. c.tick.ensures.does.honest (c.answer_routed.ensures.honest h)) (λ h. c.tick.ensures.does.was_open (c.answer_routed.ensures.was_open h))
-          (λ disk s stands.
-          let t = (rw (c.config.ensures ∙ c.service.ensures) at c.in-Ok.ensures.does).ok (c.answer_routed.ensures.honest disk) s stands tt in record {
+          (λ disk s represents.
+          let t = (rw (c.config.ensures ∙ c.service.ensures) at c.in-Ok.ensures.does).ok (c.answer_routed.ensures.honest disk) s represents tt in record {
             left = tick config s c.args.context.now.moment;
             is_left = inr refl;
-            stands = λ is_open. c.in-Err-answer_routed.ensures.err is_open (tick config s c.args.context.now.moment) t.1;
+            represents = λ is_open. c.in-Err-answer_routed.ensures.err is_open (tick config s c.args.context.now.moment) t.1;
             stop = leaves_wider new _ _ (λ found e. inr e) (c.answer_routed.ensures.stop disk (tick config s c.args.context.now.moment) t.1 tt);
           })
           (λ sent answer h. h) (λ disk none. absurd (none (c.in-Ok.ensures.shut.opened (c.answer_routed.ensures.honest disk))))
@@ -67,11 +67,11 @@ returns-in-Err g c =
       (c.send_fault-in-Err.ensures.0, c.send_fault-in-Err.ensures.1),
       answers_fixed c.args.context.now.site.now (outside (g.O.Outlet.taken c.args.out.now) (g.O.Outlet.failures c.args.out.now) (g.A.Archive.condition c.args.store.now)) (outside (g.O.Outlet.taken c.send_fault-in-Err.new.out) (g.O.Outlet.failures c.send_fault-in-Err.new.out) (g.A.Archive.condition c.tick.new.self)) (Request c.args.item.message) c.args.context.now.moment c.in-Err.fault
           c.tick.ensures.does.honest c.tick.ensures.does.was_open
-          (λ disk s stands. record {
+          (λ disk s represents. record {
             left = s;
             is_left = inl refl;
-            stands = λ is_open. c.in-Err.ensures.does.err is_open s stands;
-            stop = leaves_wider new _ _ (λ found e. elim e [ inl same ↦ inl same | inr next ↦ inr (inl next) ]) ((rw (c.config.ensures ∙ c.service.ensures) at c.tick.ensures.does).stop disk s stands tt);
+            represents = λ is_open. c.in-Err.ensures.does.err is_open s represents;
+            stop = leaves_wider new _ _ (λ found e. elim e [ inl same ↦ inl same | inr next ↦ inr (inl next) ]) ((rw (c.config.ensures ∙ c.service.ensures) at c.tick.ensures.does).stop disk s represents tt);
           })
           (λ sent answer h. h) c.tick.ensures.shut.left
           c.send_fault-in-Err.result c.send_fault-in-Err.ensures,

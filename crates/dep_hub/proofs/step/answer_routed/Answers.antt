@@ -16,14 +16,14 @@ returns-in-To g c =
 
 pub returns-in-NotFound : goal.returns-in-NotFound
 returns-in-NotFound g c =
-    none_answered c.args.site.now c.args.item.message c.args.clock c.is_without_body-is_bare.result c.args.item.is_last c.is_without_body-is_bare.ensures c.requires
+    none_answered c.args.site.now c.args.item.message c.args.clock c.is_without_body-is_head_only.result c.args.item.is_last c.is_without_body-is_head_only.ensures c.requires
     (g.A.Archive.condition c.args.store.now) (g.met.A.Archive.settled c.args.store.now) c.refuse.result
     (c.in-NotFound.ensures ∙ asked_same c.args.item.message.head c.take_path-path.new.self c.method.result.now (string_bytes c.take_path-path.result) c.method.ensures c.take_path-path.ensures.rest c.take_path-path.ensures.path)
     c.refuse.ensures
 
 pub returns-in-NotAllowed : goal.returns-in-NotAllowed
 returns-in-NotAllowed g c =
-    not_allowed_answered c.args.site.now c.args.item.message c.args.clock c.is_without_body-is_bare.result c.args.item.is_last c.is_without_body-is_bare.ensures c.requires
+    not_allowed_answered c.args.site.now c.args.item.message c.args.clock c.is_without_body-is_head_only.result c.args.item.is_last c.is_without_body-is_head_only.ensures c.requires
     (g.A.Archive.condition c.args.store.now) (g.met.A.Archive.settled c.args.store.now) c.refuse-in-NotAllowed.result c.as_str.result.now
     ((λ i. NotAllowed (c.as_str.ensures i)) ∙ c.in-NotAllowed.ensures ∙ asked_same c.args.item.message.head c.take_path-path.new.self c.method.result.now (string_bytes c.take_path-path.result) c.method.ensures c.take_path-path.ensures.rest c.take_path-path.ensures.path)
     c.refuse-in-NotAllowed.ensures

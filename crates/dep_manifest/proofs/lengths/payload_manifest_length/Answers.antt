@@ -3,7 +3,7 @@ use Rattle.dep_types.specs.Sinks.{Entry}
 use Rattle.dep_types.specs.declared.rows.FileRow.{FileRow}
 use Rattle.dep_manifest.specs.Lengths.{in_64_bits}
 use Rattle.dep_manifest.specs.Manifest.{digest_by, manifest_of}
-use Rattle.dep_manifest.specs.Told.{row_path}
+use Rattle.dep_manifest.specs.Reported.{row_path}
 use Rattle.dep_manifest.specs.declared.algorithm.Algorithm.{Algorithm}
 use Rattle.dep_manifest.proofs.ByPaths.{payload_length, rows_length}
 use Rattle.dep_manifest.proofs.lengths.payload_manifest_length.Goals as goal

@@ -1,7 +1,7 @@
 use Rattle.std.proofs.Common.{◌++◌, arith}
 use Rattle.std.proofs.lemmas.List.{drop_all, nil_from_length}
 use Rattle.dep_manifest.specs.Manifest.{manifest}
-use Rattle.dep_manifest.specs.Told.{row_checksums}
+use Rattle.dep_manifest.specs.Reported.{row_checksums}
 use Rattle.dep_manifest.specs.declared.algorithm.Algorithm.TheVariants.{Sha512}
 use Rattle.dep_manifest.proofs.Beside.{no_files_left, no_values_left, none_passed}
 use Rattle.dep_manifest.proofs.payload.sha512_lines.Goals as goal

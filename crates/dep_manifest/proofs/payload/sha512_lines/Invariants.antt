@@ -1,6 +1,6 @@
 use Rattle.std.proofs.Common.{◌≡◌, ◌++◌, drop}
 use Rattle.dep_manifest.specs.Manifest.{manifest}
-use Rattle.dep_manifest.specs.Told.{row_checksums}
+use Rattle.dep_manifest.specs.Reported.{row_checksums}
 use Rattle.dep_manifest.specs.declared.algorithm.Algorithm.TheVariants.{Sha512}
 use Rattle.dep_manifest.proofs.payload.sha512_lines.Given as goal
 

@@ -9,7 +9,7 @@ returns-in-Err c = (
   take c.args.end c.args.bytes.now,
   drop c.args.end c.args.bytes.now,
   sym (take-append-drop c.args.end c.args.bytes.now),
-  rw (c.refusal_for.ensures, c.is_without_body-bare.ensures) (bad_framing c.in-Err.fault c.requires.1 (sym c.in-Err.ensures)),
+  rw (c.refusal_for.ensures, c.is_without_body-head_only.ensures) (bad_framing c.in-Err.fault c.requires.1 (sym c.in-Err.ensures)),
 )
 
 pub returns-in-Ok : goal.returns-in-Ok

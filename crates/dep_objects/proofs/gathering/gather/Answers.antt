@@ -9,8 +9,8 @@ use Rattle.dep_files.proofs.Results.{pushed}
 use Rattle.dep_objects.proofs.Named.{one_more}
 use Rattle.dep_objects.proofs.gathering.gather.Goals as goal
 
-pub returns-then-eq-clause-told : goal.returns-then-eq-clause-told
-returns-then-eq-clause-told c =
+pub returns-then-eq-clause-reported : goal.returns-then-eq-clause-reported
+returns-then-eq-clause-reported c =
     let same = (slice_eq-Decides {E = eqb} (λ a b. (eqb-true a b, eq-eqb a b)) c.as_str.result.now c.as_str-in-Some.result.now _ c.eq.ensures).0 c.if-eq.true in
     one_more c.args.metadata.now c.in-Some.last.name c.args.row.name c.in-Some.last.texts.items c.push.new.self.items c.args.row.value (sym c.as_str.ensures ∙ same ∙ c.as_str-in-Some.ensures) (pushed c.push.result c.push.new.self.items _ _ (ap is_err c.in_ok-push.was) c.push.ensures.items)
     ∙ ap (λ last. added (closed c.args.metadata.now last) (pair_of c.args.row)) (sym c.in-Some.is)

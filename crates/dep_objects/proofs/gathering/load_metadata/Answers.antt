@@ -12,7 +12,7 @@ returns g c = record {
   does = record {
     found = λ clean inside ours s are.
         let read = texts_read (tables_of (g.T.Statements.state c.args.tx.now)) s are c.args.object c.in_ok-metadata_of.field-0.items (c.in_ok-metadata_of.ensures.does.ok clean ours) in
-        if_then c.gathered.result c.gathered.ensures.told (λ metadata is. is ∙ ap grouped read.1);
+        if_then c.gathered.result c.gathered.ensures.reported (λ metadata is. is ∙ ap grouped read.1);
     keeps = reads_ok c.in_ok-metadata_of.ensures.does.keeps;
   };
 }

@@ -22,7 +22,7 @@ returns-then-has_whole_escapes c =
       second = c.in_ok-escaped.ensures;
       utf8 = sym c.is_utf8_charset.ensures ∙ c.if-is_utf8_charset.true;
       whole = c.has_whole_escapes.ensures.0 c.if-has_whole_escapes.true;
-      told = refl;
+      reported = refl;
     })
 
 pub returns-else-is_utf8_charset : goal.returns-else-is_utf8_charset

@@ -1,4 +1,4 @@
-use Rattle.dep_params.proofs.ToldNames.{file_name-complete}
+use Rattle.dep_params.proofs.ReportedNames.{file_name-complete}
 use Rattle.dep_params.proofs.laws.one_file_name.Goals as goal
 
 pub returns : goal.returns

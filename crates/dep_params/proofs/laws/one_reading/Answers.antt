@@ -1,4 +1,4 @@
-use Rattle.dep_params.proofs.ToldReadings.{same_reading}
+use Rattle.dep_params.proofs.ReportedReadings.{same_reading}
 use Rattle.dep_params.proofs.laws.one_reading.Goals as goal
 
 pub returns : goal.returns

@@ -12,12 +12,12 @@ returns-clause-does g c =
     let mid = g.T.Statements.state c.rule.new.tx in
     let new = g.T.Statements.state c.follow-performed.new.tx in
     let ruled = c.in_ok-ruled.ensures.map in
-    let told = c.in_ok-performed.ensures in
-    let before = λ (clean : HasCleanDisk new). clean_before told.map.keeps.stays clean in
+    let reported = c.in_ok-performed.ensures in
+    let before = λ (clean : HasCleanDisk new). clean_before reported.map.keeps.stays clean in
     record {
       map = λ clean within ours s are sound running fit.
           let rules = rw c.config.ensures at (ruled.found (before clean) within ours s are sound running).1 in
-          told.map.done clean (ruled.keeps.stays.inside (before clean) within) (reads_ours ruled.keeps (before clean) within ours) s
+          reported.map.done clean (ruled.keeps.stays.inside (before clean) within) (reads_ours ruled.keeps (before clean) within ours) s
           (sees_still old mid s (ruled.keeps.same (before clean) ours).0.now_is are) sound fit rules;
       changes = λ clean within ours s are sound running.
           let rules = rw c.config.ensures at (ruled.found (before clean) within ours s are sound running).1 in (
@@ -26,10 +26,10 @@ returns-clause-does g c =
           );
       unchanged = λ none clean ours.
           let same = ruled.keeps.same (before clean) ours in
-          let more = told.unchanged (c.lets_change-has_changes.ensures.0 none) same.0.is_open clean (subst HasOurTables (sym same.0.now_is) ours) in
+          let more = reported.unchanged (c.lets_change-has_changes.ensures.0 none) same.0.is_open clean (subst HasOurTables (sym same.0.now_is) ours) in
           unchanged_then old mid new same more;
       ours = λ clean within ours.
-          told.map.keeps.ours clean (ruled.keeps.stays.inside (before clean) within) (reads_ours ruled.keeps (before clean) within ours);
+          reported.map.keeps.ours clean (ruled.keeps.stays.inside (before clean) within) (reads_ours ruled.keeps (before clean) within ours);
     }
 
 pub returns-clause-stays : goal.returns-clause-stays

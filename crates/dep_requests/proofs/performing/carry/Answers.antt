@@ -6,7 +6,7 @@ use Rattle.dep_row_maps.specs.Clauses.{SeesState}
 use Rattle.dep_row_maps.proofs.Changing.{changes_err, changes_ok, changes_put, changes_then}
 use Rattle.dep_decisions.specs.Effects.{effect}
 use Rattle.dep_decisions.proofs.Accepted.{effect_sound}
-use Rattle.dep_changes.specs.Told.{IsAccepted}
+use Rattle.dep_changes.specs.Reported.{IsAccepted}
 use Rattle.dep_changes.proofs.Carried.{request_made}
 use Rattle.dep_changes.proofs.KnownShown.{has_known}
 use Rattle.dep_objects.specs.Objects.{HasRow}
@@ -52,7 +52,7 @@ returns-clause-map g c = record {
       let known = has_known s op.content c.args.decision.now c.args.ruled.now.view.object c.row_after.result (c.row_after.ensures s op.content accepted) in
       let then = c.in_ok-carry_out.ensures.map.keeps.ours before within ours in
       let next = next_after config s op c.args.ruled.now.view c.args.decision.now c.after_taking-next.result rules.view ruling.1 (rw c.numbers_for.ensures at c.after_taking-next.ensures) in
-      shown_after (effect config s op) op mid (g.T.Statements.state c.load_shown.new.tx) c.after_taking-next.result c.of-subject.result c.load_shown.result made c.of-subject.ensures next
+      shown_after (effect config s op) op mid (g.T.Statements.state c.load_shown.new.tx) c.after_taking-next.result c.of-read_set.result c.load_shown.result made c.of-read_set.ensures next
       (c.load_shown.ensures.does.still clean then)
       (c.load_shown.ensures.does.map.found clean (c.in_ok-carry_out.ensures.map.keeps.stays.inside before within) then (effect config s op) made (effect_sound config s op fit ruling.0 sound)
       (subst (λ (after : State). IfSome c.row_after.result (HasRow after)) becomes known));

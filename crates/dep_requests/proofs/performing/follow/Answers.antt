@@ -16,7 +16,7 @@ returns-in-Refuse-clause-map g c = record {
       let op = c.args.operation.now in
       let config = c.args.service.now in
       let way = delivered s op c.args.ruled.now.view.clock c.delivery_at-delivery.result sound rules.clock
-      c.delivery_at-delivery.ensures.clock c.delivery_at-delivery.ensures.bare c.delivery_at-delivery.ensures.closes in
+      c.delivery_at-delivery.ensures.clock c.delivery_at-delivery.ensures.head_only c.delivery_at-delivery.ensures.closes in
       refused_then config s op (SeesState (g.T.Statements.state c.args.tx.now)) _ c.delivery_at-delivery.result c.refused.result
       (subst (λ (r : Ruling). IsRuling config s op r) c.in-Refuse.is rules.ruling) way are c.refused.ensures.says;
   keeps = changes_put g.T.Statements.lenders g.T.Statements.state c.args.tx.now c.refused.result;
@@ -28,7 +28,7 @@ returns-in_ok-shown-in-Do-clause-map g c = record {
       let op = c.args.operation.now in
       let config = c.args.service.now in
       let way = delivered s op c.args.ruled.now.view.clock c.delivery_at-delivery.result sound rules.clock
-      c.delivery_at-delivery.ensures.clock c.delivery_at-delivery.ensures.bare c.delivery_at-delivery.ensures.closes in
+      c.delivery_at-delivery.ensures.clock c.delivery_at-delivery.ensures.head_only c.delivery_at-delivery.ensures.closes in
       let ruling = subst (λ (r : Ruling). IsRuling config s op r) c.in-Do.is rules.ruling in
       let seen = subst (λ (r : Ruling). SeesFor config s op c.args.ruled.now r) c.in-Do.is rules.seen in
       let carried = c.in_ok-shown-in-Do.ensures.map.done clean within ours s are config sound fit seen ruling in

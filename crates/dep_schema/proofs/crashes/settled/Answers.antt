@@ -7,6 +7,6 @@ pub returns : goal.returns
 returns g c =
     let store = c.args.connection.now.store in
     record {
-      left = λ tables stands trees may. left_as_was (state g.S.Store c.args.connection.now) tables (λ trees h. g.met.S.Store.settled store trees stands.is_open h) stands trees may;
+      left = λ tables represents trees may. left_as_was (state g.S.Store c.args.connection.now) tables (λ trees h. g.met.S.Store.settled store trees represents.is_open h) represents trees may;
       clean = λ is_open. clean_if_open (g.S.Store.view store) (g.met.S.Store.shut_if_dirty store) is_open;
     }

@@ -10,23 +10,23 @@ returns-in-Ok g c =
     let old = state g.S.Store c.args.connection in
     let new = state g.S.Store c.prepare.new.connection in
     let store = c.prepare.new.connection.store in
-    let told = c.in-Ok.ensures in
+    let reported = c.in-Ok.ensures in
     let live = c.schema-schema.ensures.live in
     record {
       fresh = λ clean none.
-          let empty = sees_none old (live (told.opened clean)).0 none in
-          (told.fresh clean empty, told.made clean (empty_lacks _ empty));
-      found = λ clean its known tables held. finds_tables its c.in-Ok.found old new (live (told.opened clean)).0 tables held (told.found clean its known);
-      made = λ clean lacks. told.made clean lacks;
-      still = λ clean. told.still clean;
-      known = told.known;
-      free = λ clean lacks. told.free clean lacks;
-      beside = λ clean lacks has. told.beside clean lacks has;
+          let empty = sees_none old (live (reported.opened clean)).0 none in
+          (reported.fresh clean empty, reported.made clean (empty_lacks _ empty));
+      found = λ clean its known tables held. finds_tables its c.in-Ok.found old new (live (reported.opened clean)).0 tables held (reported.found clean its known);
+      made = λ clean lacks. reported.made clean lacks;
+      still = λ clean. reported.still clean;
+      known = reported.known;
+      free = λ clean lacks. reported.free clean lacks;
+      beside = λ clean lacks has. reported.beside clean lacks has;
       version = tt;
-      told = λ clean. told.told clean;
+      reported = λ clean. reported.reported clean;
       ours = tt;
       left = tt;
-      opened = λ is_open. told.opened (clean_if_open (g.S.Store.view store) (g.met.S.Store.shut_if_dirty store) is_open);
+      opened = λ is_open. reported.opened (clean_if_open (g.S.Store.view store) (g.met.S.Store.shut_if_dirty store) is_open);
       mode = c.prepare.ensures.mode;
       crash = survives_live old new live c.prepare.ensures.crash;
     }
@@ -35,7 +35,7 @@ pub returns-in-Err : goal.returns-in-Err
 returns-in-Err g c =
     let old = state g.S.Store c.args.connection in
     let new = state g.S.Store c.prepare.new.connection in
-    let told = c.in-Err.ensures in
+    let reported = c.in-Err.ensures in
     record {
       fresh = tt;
       found = tt;
@@ -49,10 +49,10 @@ returns-in-Err g c =
         | inr (inl lacks) ↦ c.prepare.ensures.lacking clean (c.in-Err.is ∙ ap Err said) lacks
         | inr (inr there) ↦ (c.prepare.ensures.version clean (c.in-Err.is ∙ ap Err said)).1 there.0 there.1
       ];
-      told = λ clean. told.told clean;
-      ours = λ clean known. told.ours clean known;
-      left = λ clean is_open. told.left clean is_open;
-      opened = λ is_open. told.refused is_open;
+      reported = λ clean. reported.reported clean;
+      ours = λ clean known. reported.ours clean known;
+      left = λ clean is_open. reported.left clean is_open;
+      opened = λ is_open. reported.refused is_open;
       mode = c.prepare.ensures.mode;
       crash = survives_live old new c.schema-schema.ensures.live c.prepare.ensures.crash;
     }

@@ -10,7 +10,7 @@ use Rattle.dep_schema.proofs.Prepared.{fresh, found, made_new, still, free, besi
 use Rattle.dep_schema.specs.OpenFaults.{open_fault_for, FailsToFindOrMake, ShowsOrMakes, begun}
 use Rattle.dep_schema.proofs.Causes.{if_err_is}
 use Rattle.dep_schema.proofs.Refusing.{match_err, refuses_known, uncommitted, failed_only, clean_last}
-use Rattle.dep_schema.proofs.Version.{never_passed, never_refused, told_as}
+use Rattle.dep_schema.proofs.Version.{never_passed, never_refused, reported_as}
 use Rattle.dep_schema.proofs.opening.prepare.Goals as goal
 
 -- where the tables were not found, nothing is said of an Ok
@@ -21,17 +21,17 @@ returns-in_err-version g c =
     let new = c.connection-1.given.0 in
     let same : c.drop-tx.new.self.0 ≡ new = sym (c.connection-1.given.1 (sym (c.in_err-version.ensures.stays.same_reference ∙ c.transaction-tx.ensures.same_reference))) in
     let fault = c.in_err-version.field-0.0 in
-    let told = c.in_err-version.ensures in
+    let reported = c.in_err-version.ensures in
     let missed = subst (λ h. AreMissed (state g.S.Store h) (state g.S.Store last) fault) c.transaction-tx.ensures.begun
     (record {
-      version = λ clean is. told.version clean (ap Err is);
-      lacking = λ clean is. told.lacking clean (ap Err is);
-      kept = told.stays.kept;
-      survives = told.stays.survives;
+      version = λ clean is. reported.version clean (ap Err is);
+      lacking = λ clean is. reported.lacking clean (ap Err is);
+      kept = reported.stays.kept;
+      survives = reported.stays.survives;
     }) in
     let ended = subst (λ h. IsGivenUp (state g.S.Store last) (state g.S.Store h)) same
     (record { ended = c.drop-tx.ensures.ended; undone = c.drop-tx.ensures.undone; survives = c.drop-tx.ensures.survives }) in
-    let failed = subst (λ h. HasCleanDisk (state g.S.Store last) → IsTrue (state g.S.Store h).in_transaction → FailsToFindOrMake g.S.Store h last fault) c.transaction-tx.ensures.begun told.told in
+    let failed = subst (λ h. HasCleanDisk (state g.S.Store last) → IsTrue (state g.S.Store h).in_transaction → FailsToFindOrMake g.S.Store h last fault) c.transaction-tx.ensures.begun reported.reported in
     let result = c.from_residual.result in
     let is_err = c.from_residual.ensures.0 in
     let before = was_clean (state g.S.Store last) (state g.S.Store new) ended.survives in
@@ -42,9 +42,9 @@ returns-in_err-version g c =
       made = λ clean lacks. IfOk-from_err result _ is_err;
       still = λ clean. IfOk-from_err result _ is_err;
       known = IfOk-from_err result _ is_err;
-      version = λ clean said. missed.version (before clean) (told_as result fault _ c.from_residual.ensures.1 said);
-      lacking = λ clean said. missed.lacking (before clean) (told_as result fault _ c.from_residual.ensures.1 said);
-      told = λ clean. match_err _ _ result fault c.from_residual.ensures.1 (inl (last, failed (before clean) refl, ended.survives));
+      version = λ clean said. missed.version (before clean) (reported_as result fault _ c.from_residual.ensures.1 said);
+      lacking = λ clean said. missed.lacking (before clean) (reported_as result fault _ c.from_residual.ensures.1 said);
+      reported = λ clean. match_err _ _ result fault c.from_residual.ensures.1 (inl (last, failed (before clean) refl, ended.survives));
       ours = λ clean known. if_err_is _ result fault c.from_residual.ensures.1
           (refuses_known g.S.Store old last new known fault (failed (before clean) refl) missed.survives ended.survives (clean_last (state g.S.Store (begun old)) (state g.S.Store last) _ missed.survives (before clean)));
       free = λ clean lacks. IfOk-from_err result _ is_err;
@@ -63,12 +63,12 @@ returns g c =
     let last = c.find_or_make.new.tx.conn.now in
     let new = c.connection-2-1.given.0 in
     let same : c.commit.new.tx.0 ≡ new = sym (c.connection-2-1.given.1 (sym (c.in_ok-version.ensures.stays.same_reference ∙ c.transaction-tx.ensures.same_reference))) in
-    let told = c.in_ok-version.ensures in
+    let reported = c.in_ok-version.ensures in
     let version = c.in_ok-version.version in
-    let stays = told.stays in
+    let stays = reported.stays in
     let made = subst (λ h. AreMade (state g.S.Store h) (state g.S.Store last) version) c.transaction-tx.ensures.begun
-    (record { empty = told.empty; ours = told.ours; gains = told.gains; new = told.made; still = told.still; inside = stays.inside; kept = stays.kept; survives = stays.survives }) in
-    let shown = subst (λ h. HasCleanDisk (state g.S.Store last) → IsTrue (state g.S.Store h).in_transaction → ShowsOrMakes g.S.Store h version) c.transaction-tx.ensures.begun told.told in
+    (record { empty = reported.empty; ours = reported.ours; gains = reported.gains; new = reported.made; still = reported.still; inside = stays.inside; kept = stays.kept; survives = stays.survives }) in
+    let shown = subst (λ h. HasCleanDisk (state g.S.Store last) → IsTrue (state g.S.Store h).in_transaction → ShowsOrMakes g.S.Store h version) c.transaction-tx.ensures.begun reported.reported in
     let ended = subst (λ h. IsCommitted (state g.S.Store last) (state g.S.Store h)) same
     (record { ended = c.commit.ensures.ended; shows = λ clean. (c.in_ok-commit.ensures.ok clean).0; survives = c.commit.ensures.survives }) in
     record {
@@ -76,10 +76,10 @@ returns g c =
       found = found g.S.Store old last new version made ended;
       made = made_new g.S.Store old last new version made ended;
       still = still g.S.Store old last new version made ended;
-      known = told.known;
+      known = reported.known;
       version = λ clean said. absurd (never_refused _ _ said);
       lacking = λ clean said lacks. never_refused _ _ said;
-      told = λ clean. shown (clean_last (state g.S.Store last) (state g.S.Store new) _ ended.survives clean) refl;
+      reported = λ clean. shown (clean_last (state g.S.Store last) (state g.S.Store new) _ ended.survives clean) refl;
       ours = λ clean known. tt;
       free = free g.S.Store old last new version made ended;
       beside = beside g.S.Store old last new version made ended;
@@ -97,11 +97,11 @@ returns-in_err-commit g c =
     let last = c.find_or_make.new.tx.conn.now in
     let new = c.connection-2-1.given.0 in
     let same : c.commit.new.tx.0 ≡ new = sym (c.connection-2-1.given.1 (sym (c.in_ok-version.ensures.stays.same_reference ∙ c.transaction-tx.ensures.same_reference))) in
-    let told = c.in_ok-version.ensures in
+    let reported = c.in_ok-version.ensures in
     let version = c.in_ok-version.version in
-    let stays = told.stays in
+    let stays = reported.stays in
     let made = subst (λ h. AreMade (state g.S.Store h) (state g.S.Store last) version) c.transaction-tx.ensures.begun
-    (record { empty = told.empty; ours = told.ours; gains = told.gains; new = told.made; still = told.still; inside = stays.inside; kept = stays.kept; survives = stays.survives }) in
+    (record { empty = reported.empty; ours = reported.ours; gains = reported.gains; new = reported.made; still = reported.still; inside = stays.inside; kept = stays.kept; survives = stays.survives }) in
     let fault = c.in_err-commit.field-0.0 in
     let ended = subst (λ h. IsUncommitted (state g.S.Store last) (state g.S.Store h) fault) same
     (record { ended = c.commit.ensures.ended; failed = c.in_err-commit.ensures.err; survives = c.commit.ensures.survives }) in
@@ -110,7 +110,7 @@ returns-in_err-commit g c =
     let is_err = c.from_residual-in_err-commit.ensures.0 in
     let is = c.from_residual-in_err-commit.ensures.1 in
     let passed = open_fault_for fault in
-    let tells = λ (clean : HasCleanDisk (state g.S.Store new)). ap open_fault_for (ended.failed clean).2 in
+    let reports = λ (clean : HasCleanDisk (state g.S.Store new)). ap open_fault_for (ended.failed clean).2 in
     let since = survives_begin g.S.Store old (state g.S.Store last) (λ _. ⊥) made.survives in
     let before = clean_last (state g.S.Store last) (state g.S.Store new) _ ended.survives in
     let failed = λ (clean : HasCleanDisk (state g.S.Store new)). failed_only (state g.S.Store last) (state g.S.Store new) (ended.failed clean).0 (made.inside (before clean) refl) (ended.failed clean).1 in
@@ -122,10 +122,10 @@ returns-in_err-commit g c =
       known = IfOk-from_err result _ is_err;
       version = λ clean said. absurd (never_passed result fault is said);
       lacking = λ clean said lacks. never_passed result fault is said;
-      told = λ clean. match_err _ _ result passed is
-          (inr (last, (ended.failed clean).0, (λ lacks. (made.gains (before clean) refl lacks).free), since, failed clean, tells clean));
+      reported = λ clean. match_err _ _ result passed is
+          (inr (last, (ended.failed clean).0, (λ lacks. (made.gains (before clean) refl lacks).free), since, failed clean, reports clean));
       ours = λ clean known. if_err_is _ result passed is
-          (uncommitted g.S.Store old last new known passed (ended.failed clean).0 (failed clean) (tells clean) since ended.survives.counts (before clean));
+          (uncommitted g.S.Store old last new known passed (ended.failed clean).0 (failed clean) (reports clean) since ended.survives.counts (before clean));
       free = λ clean lacks. IfOk-from_err result _ is_err;
       beside = λ clean lacks has. IfOk-from_err result _ is_err;
       left = λ clean is_open. on_err_by result (left g.S.Store old last new made.kept ended.survives.clean undone clean is_open);

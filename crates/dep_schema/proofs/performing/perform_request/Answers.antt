@@ -20,7 +20,7 @@ returns-in_err-performed g c =
     let is_err = c.from_residual.ensures.0 in
     record {
       transacts = gave_up g.S.Store old inside new _ result is_err work c.drop-tx.ensures.undone c.drop-tx.ensures.survives _ same;
-      changes = λ clean s stands running. IfOk-from_err result _ is_err;
+      changes = λ clean s represents running. IfOk-from_err result _ is_err;
       running = keeps_running g.S.Store old inside new c.args.running.now c.answer_within.new.running _ c.transaction-tx.ensures.begun c.in_err-performed.ensures.running c.drop-tx.ensures.survives work.shut _ same;
       back = IfOk-from_err result _ is_err;
     }
@@ -31,19 +31,19 @@ returns-then-performed g c =
     let old = c.args.connection.now in
     let inside = c.answer_within.new.tx.conn.now in
     let new = c.commit.new.tx.0 in
-    let told = c.in_ok-performed.ensures in
-    let worked = worked_on g.S.Store old inside c.args.service.now c.args.operation.now c.args.running.now c.in_ok-performed.performed c.transaction-tx.ensures.begun told.does in
-    let work = works_on g.S.Store old new told.stays c.transaction-tx.ensures.begun (λ is_open trees h. g.met.S.Store.settled old.store trees is_open h)
+    let reported = c.in_ok-performed.ensures in
+    let worked = worked_on g.S.Store old inside c.args.service.now c.args.operation.now c.args.running.now c.in_ok-performed.performed c.transaction-tx.ensures.begun reported.does in
+    let work = works_on g.S.Store old new reported.stays c.transaction-tx.ensures.begun (λ is_open trees h. g.met.S.Store.settled old.store trees is_open h)
     (clean_if_open (g.S.Store.view new.store) (g.met.S.Store.shut_if_dirty new.store)) in
     let ended = by_commit g.S.Store old inside c.args.service.now c.args.operation.now c.args.running.now c.in_ok-performed.performed worked new c.commit.result work
-    (still_on g.S.Store old told.stays c.transaction-tx.ensures.begun) c.commit.ensures.ok c.commit.ensures.err c.commit.ensures.survives c.if-performed.true in
+    (still_on g.S.Store old reported.stays c.transaction-tx.ensures.begun) c.commit.ensures.ok c.commit.ensures.err c.commit.ensures.survives c.if-performed.true in
     let last = c.connection-then-performed-1.given.0 in
-    let same : new ≡ last = sym (c.connection-then-performed-1.given.1 (on_connection g.S.Store told.stays c.transaction-tx.ensures.same_reference)) in
+    let same : new ≡ last = sym (c.connection-then-performed-1.given.1 (on_connection g.S.Store reported.stays c.transaction-tx.ensures.same_reference)) in
     let it = subst (IsPerformed (state g.S.Store old) (state g.S.Store last) c.args.service.now c.args.operation.now c.args.running.now) (sym c.and.ensures) (ended last same) in
     record {
       transacts = it.transacts;
       changes = it.changes;
-      running = keeps_running g.S.Store old inside new c.args.running.now c.answer_within.new.running _ c.transaction-tx.ensures.begun told.running c.commit.ensures.survives work.shut last same;
+      running = keeps_running g.S.Store old inside new c.args.running.now c.answer_within.new.running _ c.transaction-tx.ensures.begun reported.running c.commit.ensures.survives work.shut last same;
       back = it.back;
     }
 
@@ -54,12 +54,12 @@ returns g c =
     let inside = c.answer_within.new.tx.conn.now in
     let mid = c.rollback.new.self.0 in
     let new = c.check_open.new.connection in
-    let told = c.in_ok-performed.ensures in
-    let worked = worked_on g.S.Store old inside c.args.service.now c.args.operation.now c.args.running.now c.in_ok-performed.performed c.transaction-tx.ensures.begun told.does in
-    let work = works_on g.S.Store old mid told.stays c.transaction-tx.ensures.begun (λ is_open trees h. g.met.S.Store.settled old.store trees is_open h)
+    let reported = c.in_ok-performed.ensures in
+    let worked = worked_on g.S.Store old inside c.args.service.now c.args.operation.now c.args.running.now c.in_ok-performed.performed c.transaction-tx.ensures.begun reported.does in
+    let work = works_on g.S.Store old mid reported.stays c.transaction-tx.ensures.begun (λ is_open trees h. g.met.S.Store.settled old.store trees is_open h)
     (clean_if_open (g.S.Store.view mid.store) (g.met.S.Store.shut_if_dirty mid.store)) in
     let last = c.connection-2-1.given.0 in
-    let same : mid ≡ last = sym (c.connection-2-1.given.1 (on_connection g.S.Store told.stays c.transaction-tx.ensures.same_reference)) in
+    let same : mid ≡ last = sym (c.connection-2-1.given.1 (on_connection g.S.Store reported.stays c.transaction-tx.ensures.same_reference)) in
     let it = subst (IsPerformed (state g.S.Store old) (state g.S.Store new) c.args.service.now c.args.operation.now c.args.running.now) (sym c.and-2.ensures)
     (by_rollback g.S.Store old inside c.args.service.now c.args.operation.now c.args.running.now c.in_ok-performed.performed worked mid last new same c.check_open.result work
     c.rollback.ensures.undone c.rollback.ensures.survives (c.is_autocommit-between.ensures.settled (c.is_autocommit-between.ensures.value ∙ ap not c.requires.settled)) c.check_open.ensures c.if-performed.false) in
@@ -68,7 +68,7 @@ returns g c =
       transacts = it.transacts;
       changes = it.changes;
       running =
-          keeps_running g.S.Store old inside new c.args.running.now c.answer_within.new.running _ c.transaction-tx.ensures.begun told.running
+          keeps_running g.S.Store old inside new c.args.running.now c.answer_within.new.running _ c.transaction-tx.ensures.begun reported.running
           (none_then (state g.S.Store inside) (state g.S.Store mid) (state g.S.Store new) c.rollback.ensures.survives later) (clean_if_open (g.S.Store.view new.store) (g.met.S.Store.shut_if_dirty new.store)) new refl;
       back = it.back;
     }

@@ -3,7 +3,7 @@ use Rattle.std.proofs.lemmas.List.{take_all}
 use Rattle.dep_tables.proofs.Chains.{clean_before, stays_then, stays_ok}
 use Rattle.dep_tables.specs.Tables.{tables_of}
 use Rattle.dep_schema.proofs.Causes.{works_failed}
-use Rattle.dep_schema.proofs.Upgraded.{one_more_value, put_fails, told_fault}
+use Rattle.dep_schema.proofs.Upgraded.{one_more_value, put_fails, reported_fault}
 use Rattle.dep_schema.proofs.upgrading.insert_values.Goals as goal
 
 pub values-preserved : goal.values-preserved
@@ -33,7 +33,7 @@ returns-in_err-insert_sha512-clause-works g c =
     let goes_on = stays.inside before inside in
     let failed = c.in_err-insert_sha512.ensures.does in
     put_fails g.T.Statements.state c.args.values.now c.args.tx.now c.values.tx c.insert_sha512.new.tx stays.survives c.values.value-index _ within _
-    (λ below. failed.cause below clean goes_on) (λ above. told_fault (failed.numbers above).0))
+    (λ below. failed.cause below clean goes_on) (λ above. reported_fault (failed.numbers above).0))
 
 pub returns-clause-works : goal.returns-clause-works
 returns-clause-works g c = record { cause = λ clean inside. tt; stays = stays_ok c.values.invariant.0 }

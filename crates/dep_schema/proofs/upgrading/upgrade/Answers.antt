@@ -42,13 +42,13 @@ returns g c =
     let left : c.upgrade_tables.new.tx.tx.now ≡ c.tx-2-1.given.0 = sym (c.tx-2-1.given.1 (lent_name g.S.Store c.in_ok-upgrade_tables.ensures.works.stays)) in
     let inside = c.tx-2-1.given.0.conn.now in
     let new = c.commit.new.tx.0 in
-    let told = c.in_ok-upgrade_tables.ensures in
-    let worked = rewritten_within g.S.Store old c.args.values.now told.works.stays c.transaction-tx.ensures.begun left (record { ok = told.ok; free = told.free }) in
-    let work = works_within g.S.Store old new told.works.stays c.transaction-tx.ensures.begun left (λ is_open trees h. g.met.S.Store.settled old.store trees is_open h)
+    let reported = c.in_ok-upgrade_tables.ensures in
+    let worked = rewritten_within g.S.Store old c.args.values.now reported.works.stays c.transaction-tx.ensures.begun left (record { ok = reported.ok; free = reported.free }) in
+    let work = works_within g.S.Store old new reported.works.stays c.transaction-tx.ensures.begun left (λ is_open trees h. g.met.S.Store.settled old.store trees is_open h)
     (clean_if_open (g.S.Store.view new.store) (g.met.S.Store.shut_if_dirty new.store)) in
     let same : new ≡ c.connection-2-1.given.0 = sym (c.connection-2-1.given.1 (lent_connection g.S.Store c.in_ok-upgrade_tables.ensures.works.stays left c.transaction-tx.ensures.same_reference)) in
     let end = ended g.S.Store c.args.values.now old new c.connection-2-1.given.0 _ c.upgrade_tables.new.tx c.tx-2-1.given.0 c.transaction-tx.ensures.begun left same
-    c.commit.result told.works.stays work worked c.commit.ensures.ok c.commit.ensures.err c.commit.ensures.survives in
+    c.commit.result reported.works.stays work worked c.commit.ensures.ok c.commit.ensures.err c.commit.ensures.survives in
     record {
       mode = subst (λ (h : Held g.row.S.Denot). (state g.S.Store h).in_transaction ≡ false) same c.commit.ensures.ended;
       upgrades = end.upgrades;

@@ -1,4 +1,4 @@
-use Rattle.dep_server.proofs.BareLemmas.{heads_have_no_body}
+use Rattle.dep_server.proofs.HeadOnlyLemmas.{heads_have_no_body}
 use Rattle.dep_server.proofs.laws.heads_have_no_body.Goals as goal
 
 pub returns : goal.returns

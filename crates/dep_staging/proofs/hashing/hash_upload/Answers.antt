@@ -4,7 +4,7 @@ use Rattle.dep_fixity.specs.Fixity.{Holds, digests_of}
 use Rattle.dep_fixity.specs.declared.hasher.Hasher.{Hasher}
 use Rattle.dep_tables.specs.Clauses.{MayReadWithin}
 use Rattle.dep_tables.proofs.Chains.{may_err, may_ok}
-use Rattle.dep_staging.proofs.AheadLemmas.{digests_told}
+use Rattle.dep_staging.proofs.AheadLemmas.{digests_reported}
 use Rattle.dep_staging.proofs.hashing.hash_upload.Goals as goal
 
 pub returns-in_err-hashed : goal.returns-in_err-hashed
@@ -35,7 +35,7 @@ returns g c = record {
     map = λ is_open clean ours s are sound running.
         let run = c.hash_blocks-hashed.ensures.does.map is_open clean ours s are sound (c.take-run.ensures.taken s running).0 in (
           c.put.ensures s (c.take-run.ensures.others s running) run.0,
-          digests_told s c.args.row.now c.hash_blocks-hashed.new.run c.finish-digests.result sound run.0 (run.1 ∙ (c.take-run.ensures.taken s running).1) c.if-not-is_whole.false
+          digests_reported s c.args.row.now c.hash_blocks-hashed.new.run c.finish-digests.result sound run.0 (run.1 ∙ (c.take-run.ensures.taken s running).1) c.if-not-is_whole.false
               (subst (λ (h : Hasher). (message : List ℕ) → Holds h message → c.finish-digests.result ≡ digests_of message) c.copied.ensures c.finish-digests.ensures),
         );
     keeps = may_ok (subst (MayReadWithin g.T.Statements.lenders g.T.Statements.state c.args.tx.now c.hash_blocks-hashed.new.tx) c.in_ok-hashed.was c.hash_blocks-hashed.ensures.does.keeps);

@@ -3,7 +3,7 @@ use Rattle.std.specs.Prelude.{option_map}
 use Rattle.std.proofs.lemmas.Result.{IfOk-weaker}
 use Rattle.dep_tables.proofs.Chains.{reads_ok}
 use Rattle.dep_staging.specs.FileBlocks.{part_of}
-use Rattle.dep_staging.specs.NextBytes.{StandsAt}
+use Rattle.dep_staging.specs.NextBytes.{IsAtByte}
 use Rattle.dep_staging.proofs.NextBytes.{block_has, byte_in, grown_by_block, not_grown}
 use Rattle.dep_staging.proofs.reading_on.append_next.Goals as goal
 
@@ -16,7 +16,7 @@ returns-in-Some-2 g c = record {
         IfOk-weaker c.append_behind.result _ _
         (λ some a. λ h all is.
         let part = part_of h c.args.file byte.part in
-        let at = byte_in h c.args.file c.args.size all (c.args.start + length c.args.bytes.now.items) byte is (subst (λ n. StandsAt c.args.size (c.args.start + n) byte) long c.in-Some.ensures) in
+        let at = byte_in h c.args.file c.args.size all (c.args.start + length c.args.bytes.now.items) byte is (subst (λ n. IsAtByte c.args.size (c.args.start + n) byte) long c.in-Some.ensures) in
         let has = block_has (λ bytes. bytes.items) part (byte.within / 65536) c.in_ok-block.field-0 (c.in_ok-block.ensures.does.map clean ours s are h) in
         let found = ap (λ o. unwrap_or (option_map (λ bytes. bytes.items) o) []) c.in-Some-2.is in
         let block : c.as_slice.result.now ≡ take 65536 (drop (byte.within / 65536 * 65536) part) = c.as_slice.ensures.value ∙ (sym found ∙ has) in
@@ -33,7 +33,7 @@ returns-in-None g c = record {
         let byte = c.in-Some.byte in
         let part = part_of h c.args.file byte.part in
         let long : c.len.result ≡ length c.args.bytes.now.items = omega (arith, c.len.ensures) in
-        let at = byte_in h c.args.file c.args.size all (c.args.start + length c.args.bytes.now.items) byte is (subst (λ n. StandsAt c.args.size (c.args.start + n) byte) long c.in-Some.ensures) in
+        let at = byte_in h c.args.file c.args.size all (c.args.start + length c.args.bytes.now.items) byte is (subst (λ n. IsAtByte c.args.size (c.args.start + n) byte) long c.in-Some.ensures) in
         let has = block_has (λ bytes. bytes.items) part (byte.within / 65536) c.in_ok-block.field-0 (c.in_ok-block.ensures.does.map clean ours s are h) in
         let none = ap (λ o. unwrap_or (option_map (λ bytes. bytes.items) o) []) c.in-None.is in
         not_grown all part c.args.bytes.now.items c.args.start byte.within at.0 at.1 at.2 (sym none ∙ has);

@@ -9,7 +9,7 @@ use Rattle.dep_row_maps.specs.TablesAre.{TablesAre}
 use Rattle.dep_files.proofs.Stills.{still_left}
 use Rattle.dep_files.proofs.Streams.{streamed, IsSized}
 use Rattle.dep_types.specs.State.{State}
-use Rattle.dep_schema.specs.States.{StandsFor}
+use Rattle.dep_schema.specs.States.{Represents}
 use Rattle.dep_schema.proofs.Transacting.{leaves_still}
 use Rattle.dep_store.proofs.Carrying.{ok_unchanged, err_kept}
 use Rattle.dep_store.proofs.ShutLemmas.{back_on_ok, fails_still, open_still, state_back, was_open_then}
@@ -38,17 +38,17 @@ returns-then-it-file g c =
         streams = (
           sent.0,
           sent.1,
-          λ clean s stands.
-              streamed (tables_of old) s c.args.file it.size sent.0 result (subst (λ (t : Tables). TablesAre t s) (sym stands.stands.rows) stands.means.are)
-              (subst (λ n. IsSized s n it.size) c.if-it-file.true (sized_file s it (there.0 s stands))) (sent.2 clean stands.stands.ours),
+          λ clean s represents.
+              streamed (tables_of old) s c.args.file it.size sent.0 result (subst (λ (t : Tables). TablesAre t s) (sym represents.represents.rows) represents.means.are)
+              (subst (λ n. IsSized s n it.size) c.if-it-file.true (sized_file s it (there.0 s represents))) (sent.2 clean represents.represents.ours),
         );
         does =
             keeps_state old new result
-            (λ clean s at. ok_unchanged old new result s at (same clean at.stands.is_open))
+            (λ clean s at. ok_unchanged old new result s at (same clean at.represents.is_open))
             (λ is_open s at. err_kept old new result s at is_open (stays.kept (clean_now is_open)))
             stays.honest
             (λ is_open. stays.was_open (clean_now is_open) is_open)
-            (λ clean s at. leaves_still old new s (λ trees h. g.met.S.Store.settled first.store trees at.stands.is_open h) at stays.survives clean);
+            (λ clean s at. leaves_still old new s (λ trees h. g.met.S.Store.settled first.store trees at.represents.is_open h) at stays.survives clean);
         count = counts _ _ result did.outlet;
         stays = record {
           shut = was_open_then old new result was;
@@ -69,15 +69,15 @@ returns g c =
     let sent = c.stream_content.ensures.streams in
     let opened = λ (clean : HasCleanDisk new). c.in_ok-check_open.ensures.opened (reads.stays.honest clean) in
     let clean_now = clean_if_open (g.S.Store.view store) (g.met.S.Store.shut_if_dirty store) in
-    let now = λ (clean : HasCleanDisk new) (s : State) (at : StandsFor old s). state_back old mid s restored.back (opened clean) at in
+    let now = λ (clean : HasCleanDisk new) (s : State) (at : Represents old s). state_back old mid s restored.back (opened clean) at in
     record {
       sends = record {
         streams = (
           sent.0,
           sent.1,
-          λ clean s stands.
-              let then = now clean s stands in
-              sent.2 clean then.stands.ours s (subst (λ (t : Tables). TablesAre t s) (sym then.stands.rows) then.means.are),
+          λ clean s represents.
+              let then = now clean s represents in
+              sent.2 clean then.represents.ours s (subst (λ (t : Tables). TablesAre t s) (sym then.represents.rows) then.means.are),
         );
         does =
             keeps_state old new c.stream_content.result
@@ -85,7 +85,7 @@ returns g c =
             (λ is_open s at. err_kept mid new c.stream_content.result s (now (clean_now is_open) s at) is_open (reads.stays.kept (clean_now is_open)))
             (λ clean. honest_back old mid restored.survives (reads.stays.honest clean))
             (λ is_open. (restored.back (reads.stays.was_open (clean_now is_open) is_open)).0)
-            (λ clean s at. leaves_still mid new s (λ trees h. g.met.S.Store.settled c.check_open.new.connection.store trees (now clean s at).stands.is_open h) (now clean s at) reads.stays.survives clean);
+            (λ clean s at. leaves_still mid new s (λ trees h. g.met.S.Store.settled c.check_open.new.connection.store trees (now clean s at).represents.is_open h) (now clean s at) reads.stays.survives clean);
         count = counts _ _ c.stream_content.result c.stream_content.ensures.outlet;
         stays = record {
           shut = was_open_then old new c.stream_content.result (λ clean. (restored.back (opened clean)).0);

@@ -3,7 +3,7 @@ use Rattle.std.proofs.KnownBytes.{Appends-nil}
 use Rattle.sqlite.specs.State.{HasCleanDisk}
 use Rattle.sqlite.specs.Held.{state}
 use Rattle.dep_types.specs.State.{State}
-use Rattle.dep_schema.specs.States.{StandsFor}
+use Rattle.dep_schema.specs.States.{Represents}
 use Rattle.dep_staging.specs.NextBytes.{IsNextIn}
 use Rattle.dep_store.proofs.SentOn.{Comes, all_sent, keeps_open, none_taken, nothing_sent, restored_then, stays_open, streams_on, takes_few}
 use Rattle.dep_store.proofs.ShutLemmas.{fails_staying, state_back}
@@ -20,7 +20,7 @@ returns-in_err-size g c =
     let restored = c.find_size.ensures.finds.restored in
     record {
       sends = record {
-        streams = ([], Appends-nil _, λ clean s stands. nothing_sent s c.args.place.it c.args.place.start result failed);
+        streams = ([], Appends-nil _, λ clean s represents. nothing_sent s c.args.place.it c.args.place.start result failed);
         few = none_taken _;
         does = failed_keeping old new result failed (λ is_open trees h. g.met.S.Store.settled c.args.connection.now.store trees is_open h) restored.back restored.survives;
         count = search rules;
@@ -36,7 +36,7 @@ returns-then-place-size g c =
     let did = c.in_ok-size.ensures in
     record {
       sends = record {
-        streams = ([], Appends-nil _, λ clean s stands. all_sent s c.args.place.it c.args.place.start c.in_ok-size.size (omega arith) (did.tells clean s stands));
+        streams = ([], Appends-nil _, λ clean s represents. all_sent s c.args.place.it c.args.place.start c.in_ok-size.size (omega arith) (did.reports clean s represents));
         few = none_taken _;
         does = keeps_open old new did.finds.restored did.finds.opened (Ok None) (λ is_open trees h. g.met.S.Store.settled c.args.connection.now.store trees is_open h);
         count = record { kept = refl; cause = λ is. cc is; others = λ other. refl };
@@ -49,13 +49,13 @@ pub returns-in_err-bytes : goal.returns-in_err-bytes
 returns-in_err-bytes g c =
     let old = state g.S.Store c.args.connection.now in
     let mid = state g.S.Store c.find_size.new.connection in
-    let new = state g.S.Store c.glance_open.new.connection in
+    let new = state g.S.Store c.read_if_open.new.connection in
     let result = c.from_residual-in_err-bytes.result in
     let failed = c.from_residual-in_err-bytes.ensures.0 in
-    let restored = restored_then old mid new c.find_size.ensures.finds.restored c.glance_open.ensures.finds.restored in
+    let restored = restored_then old mid new c.find_size.ensures.finds.restored c.read_if_open.ensures.finds.restored in
     record {
       sends = record {
-        streams = ([], Appends-nil _, λ clean s stands. nothing_sent s c.args.place.it c.args.place.start result failed);
+        streams = ([], Appends-nil _, λ clean s represents. nothing_sent s c.args.place.it c.args.place.start result failed);
         few = none_taken _;
         does = failed_keeping old new result failed (λ is_open trees h. g.met.S.Store.settled c.args.connection.now.store trees is_open h) restored.back restored.survives;
         count = search rules;
@@ -68,7 +68,7 @@ pub returns : goal.returns
 returns g c =
     let old = state g.S.Store c.args.connection.now in
     let mid = state g.S.Store c.find_size.new.connection in
-    let new = state g.S.Store c.glance_open.new.connection in
+    let new = state g.S.Store c.read_if_open.new.connection in
     let found = c.in_ok-size.ensures in
     let read = c.in_ok-bytes.ensures in
     let result = c.give_next.result in
@@ -76,10 +76,10 @@ returns g c =
     let start = c.args.place.start in
     let restored = restored_then old mid new found.finds.restored read.finds.restored in
     let opened = read.finds.opened in
-    let comes = λ (clean : HasCleanDisk new) (s : State) (stands : StandsFor old s).
+    let comes = λ (clean : HasCleanDisk new) (s : State) (represents : Represents old s).
     let before = honest_back mid new read.finds.restored.survives clean in
-    let next = read.tells clean s (state_back old mid s found.finds.restored.back (found.finds.opened before) stands) in
-    let both : Comes s it start c.in_ok-size.size c.as_slice.result.now = (found.tells before s stands, subst (IsNextIn s it.file start) (sym c.as_slice.ensures.value) next) in
+    let next = read.reports clean s (state_back old mid s found.finds.restored.back (found.finds.opened before) represents) in
+    let both : Comes s it start c.in_ok-size.size c.as_slice.result.now = (found.reports before s represents, subst (IsNextIn s it.file start) (sym c.as_slice.ensures.value) next) in
     both in
     record {
       sends = record {

@@ -4,7 +4,7 @@ use Rattle.sqlite.specs.Held.{state}
 use Rattle.sqlite.proofs.StateLemmas.{clean_if_open}
 use Rattle.std.proofs.lemmas.Result.{IfOk-from_err}
 use Rattle.dep_schema.proofs.Transacting.{fails_back}
-use Rattle.dep_requests.specs.Remembering.{is_plain_read}
+use Rattle.dep_requests.specs.Caching.{is_plain_read}
 use Rattle.dep_store.proofs.KnownFiles.{performs, shows_file}
 use Rattle.dep_store.proofs.ShutLemmas.{fails_still}
 use Rattle.dep_store.proofs.showing.perform_if_open.Goals as goal
@@ -16,10 +16,10 @@ returns-in_err-check_open g c = record {
   transacts =
       fails_back (state g.S.Store c.args.connection.now) (state g.S.Store c.check_open.new.connection) c.from_residual.result _ c.from_residual.ensures.0
       (λ is_open trees h. g.met.S.Store.settled c.args.connection.now.store trees is_open h) c.check_open.ensures.restored.back c.check_open.ensures.restored.survives;
-  changes = λ clean s stands running. IfOk-from_err c.from_residual.result _ c.from_residual.ensures.0;
-  hashed = λ is_open s stands are. are;
+  changes = λ clean s represents running. IfOk-from_err c.from_residual.result _ c.from_residual.ensures.0;
+  hashed = λ is_open s represents are. are;
   back = IfOk-from_err c.from_residual.result _ c.from_residual.ensures.0;
-  shows = λ plain clean s stands. IfOk-from_err c.from_residual.result _ c.from_residual.ensures.0;
+  shows = λ plain clean s represents. IfOk-from_err c.from_residual.result _ c.from_residual.ensures.0;
 }
 
 -- it needs nothing that was hashed
@@ -30,7 +30,7 @@ returns-then-is_plain_read g c =
     let did = c.perform_request.ensures in
     performs (state g.S.Store c.args.connection.now) (state g.S.Store c.check_open.new.connection) (state g.S.Store c.perform_request.new.connection)
     c.args.service.now c.args.operation.now none c.args.running.now c.args.running.now c.perform_request.result (λ is_open trees h. g.met.S.Store.settled c.args.connection.now.store trees is_open h)
-    (clean_if_open (g.S.Store.view store) (g.met.S.Store.shut_if_dirty store)) c.in_ok-check_open.ensures (λ s are. c.new-none.ensures s) (λ is_open s stands are. are)
+    (clean_if_open (g.S.Store.view store) (g.met.S.Store.shut_if_dirty store)) c.in_ok-check_open.ensures (λ s are. c.new-none.ensures s) (λ is_open s represents are. are)
     (λ plain. shows_file _ _ c.args.service.now c.args.operation.now none c.perform_request.result c.new-none.ensures plain did.transacts) did.transacts did.changes did.back
 
 pub returns : goal.returns

@@ -4,8 +4,8 @@ use Rattle.sqlite.proofs.StateLemmas.{clean_if_open}
 use Rattle.dep_types.specs.declared.store_fault.StoreFault.{StoreFault}
 use Rattle.dep_schema.specs.Transactions.{Transacts}
 use Rattle.dep_schema.proofs.Asking.{lent_connection, lent_name}
-use Rattle.dep_schema.proofs.Transacting.{gave_up, committed, uncommitted, began_open, nothing_told, works_within, still_inside}
-use Rattle.dep_files.proofs.Told.{passed_on}
+use Rattle.dep_schema.proofs.Transacting.{gave_up, committed, uncommitted, began_open, nothing_reported, works_within, still_inside}
+use Rattle.dep_files.proofs.Reported.{passed_on}
 use Rattle.dep_store.proofs.Carrying.{made_inside}
 use Rattle.dep_store.proofs.ShutLemmas.{under_way}
 use Rattle.dep_store.proofs.Tries.{busy_transacts}
@@ -31,7 +31,7 @@ returns-in_err-answer g c =
     let is_err = c.from_residual.ensures.0 in
     record {
       transacts = gave_up g.S.Store old inside new _ result is_err work c.drop-tx.ensures.undone c.drop-tx.ensures.survives _ same;
-      opened = λ clean. nothing_told result _ is_err;
+      opened = λ clean. nothing_reported result _ is_err;
     }
 
 pub returns : goal.returns
@@ -71,5 +71,5 @@ returns-in_err-commit g c =
     uncommitted g.S.Store old inside new _ c.in_ok-answer.answer fault work made (still_inside g.S.Store old did.stays begun.begun left) c.in_err-commit.ensures.err c.commit.ensures.survives _ same in
     record {
       transacts = subst (λ (r : Result _ StoreFault). Transacts (state g.S.Store old) (state g.S.Store last) r (g.K.Task.makes c.args.task.now)) (sym (passed_on result fault c.from_residual-in_err-commit.ensures.1)) failed;
-      opened = λ clean. nothing_told result _ c.from_residual-in_err-commit.ensures.0;
+      opened = λ clean. nothing_reported result _ c.from_residual-in_err-commit.ensures.0;
     }

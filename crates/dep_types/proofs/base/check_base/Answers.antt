@@ -22,10 +22,10 @@ scheme_is text url h reads =
 
 -- what a test for other bytes tells
 other_bytes : (a b : List ℕ) (apart : Bool) → apart ≡ not (pointwise nat_eq a b) → apart ≡ true → a ≡ b → ⊥
-other_bytes a b apart test told = search rules
+other_bytes a b apart test reported = search rules
 
 same_bytes : (a b : List ℕ) (apart : Bool) → apart ≡ not (pointwise nat_eq a b) → apart ≡ false → a ≡ b
-same_bytes a b apart test told = search rules
+same_bytes a b apart test reported = search rules
 
 spelled_so : (text front serialized : List ℕ) (last : ℕ) → serialized ≡ front ++ last ∷ [] → last ≡ 47 → front ≡ text → serialized ≡ text ++ 47 ∷ []
 spelled_so text front serialized last spelled slash same = spelled ∙ rw (slash, same) refl

@@ -1,7 +1,7 @@
 use Rattle.std.proofs.lemmas.Result.{IfOk-from_err}
 use Rattle.std.proofs.Common.{sym, ◌∙◌}
 use Rattle.dep_tables.proofs.Chains.{may_ok, may_err, may_put}
-use Rattle.dep_views.proofs.Hashed.{told_gone, told_hashed}
+use Rattle.dep_views.proofs.Hashed.{reported_gone, reported_hashed}
 use Rattle.dep_views.proofs.digests.hash_state.Goals as goal
 
 pub returns-in_ok-digests-in-Live : goal.returns-in_ok-digests-in-Live
@@ -10,7 +10,7 @@ returns-in_ok-digests-in-Live g c = record {
     found = λ clean inside ours s are is_open sound running.
         let hashed = c.in_ok-digests-in-Live.ensures.map.found clean inside ours s are is_open sound running in (
           hashed.0,
-          λ u seen. told_hashed s u c.in-Live.live c.in_ok-digests-in-Live.digests (sym c.in-Live.is ∙ seen) hashed.1,
+          λ u seen. reported_hashed s u c.in-Live.live c.in_ok-digests-in-Live.digests (sym c.in-Live.is ∙ seen) hashed.1,
         );
     keeps = may_ok c.in_ok-digests-in-Live.ensures.map.keeps;
   };
@@ -19,7 +19,7 @@ returns-in_ok-digests-in-Live g c = record {
 pub returns-in-TimedOut : goal.returns-in-TimedOut
 returns-in-TimedOut g c = record {
   map = record {
-    found = λ clean inside ours s are is_open sound running. (running, λ u seen. told_gone s u _ (λ live is. cc is) (sym c.in-TimedOut.is ∙ seen));
+    found = λ clean inside ours s are is_open sound running. (running, λ u seen. reported_gone s u _ (λ live is. cc is) (sym c.in-TimedOut.is ∙ seen));
     keeps = may_put g.T.Statements.lenders g.T.Statements.state c.args.tx.now _;
   };
 }
@@ -27,7 +27,7 @@ returns-in-TimedOut g c = record {
 pub returns-in-Unknown : goal.returns-in-Unknown
 returns-in-Unknown g c = record {
   map = record {
-    found = λ clean inside ours s are is_open sound running. (running, λ u seen. told_gone s u _ (λ live is. cc is) (sym c.in-Unknown.is ∙ seen));
+    found = λ clean inside ours s are is_open sound running. (running, λ u seen. reported_gone s u _ (λ live is. cc is) (sym c.in-Unknown.is ∙ seen));
     keeps = may_put g.T.Statements.lenders g.T.Statements.state c.args.tx.now _;
   };
 }

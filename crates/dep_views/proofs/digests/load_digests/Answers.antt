@@ -24,8 +24,8 @@ returns g c = record {
           hashed.0,
           λ content t same.
               let some = c.is_none.ensures ∙ ap not c.if-is_none.false in
-              let told = hashed.1 (subst (All (IsUndigested s)) (sym c.as_slice.ensures) (all_undigested s content t c.args.loaded same some)) in
-              hashed_all s content t c.args.loaded same c.in_ok-uploads.uploads c.with_uploads.result some (told ∙ ap (map (λ (v : UploadView). upload_view true s v.upload)) c.as_slice.ensures) c.with_uploads.ensures,
+              let reported = hashed.1 (subst (All (IsUndigested s)) (sym c.as_slice.ensures) (all_undigested s content t c.args.loaded same some)) in
+              hashed_all s content t c.args.loaded same c.in_ok-uploads.uploads c.with_uploads.result some (reported ∙ ap (map (λ (v : UploadView). upload_view true s v.upload)) c.as_slice.ensures) c.with_uploads.ensures,
         );
     keeps = may_ok c.in_ok-uploads.ensures.map.keeps;
   };

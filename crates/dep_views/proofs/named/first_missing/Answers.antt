@@ -5,7 +5,7 @@ use Rattle.dep_decisions.specs.LookUps.{in_state}
 use Rattle.dep_decisions.specs.Rules.{each, upload_refusal}
 use Rattle.dep_tables.proofs.Chains.{clean_before, may_err, may_ok, may_read, may_then, still_ours}
 use Rattle.dep_views.proofs.Chains.{still_seen}
-use Rattle.dep_views.proofs.Lacking.{each_passed, each_refused, missing_told}
+use Rattle.dep_views.proofs.Lacking.{each_passed, each_refused, missing_reported}
 use Rattle.dep_views.proofs.named.first_missing.Goals as goal
 
 pub loop-upload-preserved : goal.loop-upload-preserved
@@ -19,7 +19,7 @@ loop-upload-preserved g c =
           let same = inv.0.same is_open before ours in
           let so_far = inv.1 is_open before inside ours s are ∙ ap (each (upload_refusal (in_state s))) c.in-Some.ensures.cases.0 in
           let it = c.in_ok-state.ensures.does.map clean (still_ours old mid same ours) s (still_seen old mid s same are) in
-          so_far ∙ each_passed (upload_refusal (in_state s)) c.in-Some.upload.now c.in-Some.behind.now (missing_told s _ false c.in_ok-state.state _ c.state_rule.ensures it ∙ c.in_default-state_rule.is),
+          so_far ∙ each_passed (upload_refusal (in_state s)) c.in-Some.upload.now c.in-Some.behind.now (missing_reported s _ false c.in_ok-state.state _ c.state_rule.ensures it ∙ c.in_default-state_rule.is),
     )
 
 pub returns-in-Some-state_rule : goal.returns-in-Some-state_rule
@@ -34,7 +34,7 @@ returns-in-Some-state_rule g c = record {
         let so_far = inv.1 is_open before inside ours s are ∙ ap (each (upload_refusal (in_state s))) c.in-Some.ensures.cases.0 in
         let it = c.in_ok-state.ensures.does.map clean (still_ours old mid same ours) s (still_seen old mid s same are) in
         sym (so_far ∙ each_refused (upload_refusal (in_state s)) c.in-Some.upload.now c.in-Some.behind.now c.in-Some-state_rule.refusal
-        (missing_told s _ false c.in_ok-state.state _ c.state_rule.ensures it ∙ c.in-Some-state_rule.is));
+        (missing_reported s _ false c.in_ok-state.state _ c.state_rule.ensures it ∙ c.in-Some-state_rule.is));
     keeps = may_ok (may_then {r = Ok c.in_ok-state.state} c.loop-upload.invariant.0 (may_read c.in_ok-state.ensures.does.keeps));
   };
 }

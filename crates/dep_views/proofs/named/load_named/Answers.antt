@@ -5,7 +5,7 @@ use Rattle.dep_files.proofs.Results.{pushed}
 use Rattle.dep_operations.specs.declared.view.UploadView.{UploadView}
 use Rattle.dep_tables.proofs.Chains.{clean_before, may_err, may_ok, may_put, may_read, may_then, still_ours}
 use Rattle.dep_views.proofs.Chains.{found_behind, still_seen}
-use Rattle.dep_views.proofs.Lacking.{IsLeft, left_at_first, left_lacking, left_missing, left_more, missing_told, none_left, segments_told}
+use Rattle.dep_views.proofs.Lacking.{IsLeft, left_at_first, left_lacking, left_missing, left_more, missing_reported, none_left, segments_reported}
 use Rattle.dep_views.proofs.named.load_named.Goals as goal
 
 pub loop-upload-init : goal.loop-upload-init
@@ -26,8 +26,8 @@ loop-upload-preserved g c =
           let view : UploadView = record { upload = u; state = c.in_ok-state.state } in
           let grown = pushed c.push.result c.push.new.self.items (c.loop-upload.views.items ++ view ∷ []) c.loop-upload.views.items (ap is_err c.in_ok-push.was) c.push.ensures.items in
           left_more s c.args.uploads.now c.loop-upload.views.items u c.in-Some.behind.now so_far c.in_ok-state.state c.push.new.self.items
-          (missing_told s u true c.in_ok-state.state _ c.state_rule.ensures it ∙ c.in_default-state_rule.is)
-          (segments_told s u c.in_ok-state.state _ c.segments_rule.ensures it ∙ c.in_default-segments_rule.is) it grown,
+          (missing_reported s u true c.in_ok-state.state _ c.state_rule.ensures it ∙ c.in_default-state_rule.is)
+          (segments_reported s u c.in_ok-state.state _ c.segments_rule.ensures it ∙ c.in_default-segments_rule.is) it grown,
     )
 
 pub returns-in-Some-state_rule : goal.returns-in-Some-state_rule
@@ -42,7 +42,7 @@ returns-in-Some-state_rule g c = record {
         let so_far = subst (IsLeft s c.args.uploads.now c.loop-upload.views.items) c.in-Some.ensures.cases.0 (inv.1 is_open before inside ours s are sound running) in
         let it = c.in_ok-state.ensures.map.found clean (inv.0.stays.inside before inside) (still_ours old mid same ours) s (still_seen old mid s same are) sound running in
         left_missing s c.args.uploads.now c.loop-upload.views.items c.in-Some.upload.now c.in-Some.behind.now so_far c.in-Some-state_rule.refusal
-        (missing_told s c.in-Some.upload.now true c.in_ok-state.state _ c.state_rule.ensures it ∙ c.in-Some-state_rule.is);
+        (missing_reported s c.in-Some.upload.now true c.in_ok-state.state _ c.state_rule.ensures it ∙ c.in-Some-state_rule.is);
     keeps = may_ok (may_then {r = Ok c.in_ok-state.state} c.loop-upload.invariant.0 (may_read c.in_ok-state.ensures.map.keeps));
   };
 }
@@ -63,8 +63,8 @@ returns-in-Some-segments_rule g c = record {
         let so_far = subst (IsLeft s c.args.uploads.now c.loop-upload.views.items) c.in-Some.ensures.cases.0 (inv.1 is_open before inside ours s are sound running) in
         let it = c.in_ok-state.ensures.map.found clean_two (inv.0.stays.inside before inside) (still_ours old mid same ours) s (still_seen old mid s same are) sound running in
         left_lacking s c.args.uploads.now c.loop-upload.views.items u c.in-Some.behind.now so_far c.in_ok-missing.missing c.in-Some-segments_rule.refusal
-        (missing_told s u true c.in_ok-state.state _ c.state_rule.ensures it ∙ c.in_default-state_rule.is)
-        (segments_told s u c.in_ok-state.state _ c.segments_rule.ensures it ∙ c.in-Some-segments_rule.is) missing
+        (missing_reported s u true c.in_ok-state.state _ c.state_rule.ensures it ∙ c.in_default-state_rule.is)
+        (segments_reported s u c.in_ok-state.state _ c.segments_rule.ensures it ∙ c.in-Some-segments_rule.is) missing
         ∙ ap Some (sym c.unwrap_or.ensures);
     keeps = may_ok (may_then (may_then {r = Ok c.in_ok-state.state} c.loop-upload.invariant.0 (may_read c.in_ok-state.ensures.map.keeps)) c.in_ok-missing.ensures.map.keeps);
   };

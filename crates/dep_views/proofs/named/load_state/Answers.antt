@@ -6,7 +6,7 @@ use Rattle.dep_operations.specs.declared.view.UploadState.TheVariants.{TimedOut,
 use Rattle.dep_tables.proofs.Chains.{clean_before, reads_err, reads_may_then, reads_ok, still_ours}
 use Rattle.dep_staging.proofs.Loaded.{live}
 use Rattle.dep_views.proofs.Chains.{still_seen}
-use Rattle.dep_views.proofs.Found.{live_before, told_live, told_timed_out, told_unknown, undigested_told}
+use Rattle.dep_views.proofs.Found.{live_before, reported_live, reported_timed_out, reported_unknown, undigested_reported}
 use Rattle.dep_views.proofs.named.load_state.Goals as goal
 
 pub returns-in_ok-is_whole-in-Live : goal.returns-in_ok-is_whole-in-Live
@@ -21,7 +21,7 @@ returns-in_ok-is_whole-in-Live g c = record {
         let same = c.in_ok-row.ensures.does.keeps.same before ours in
         let it = live s u row (sym c.in-Live.is ∙ c.in_ok-row.ensures.does.map before ours s are) in
         let at = ap (λ (r : UploadRow). finmap.get s.uploads r.upload) it.2 ∙ it.1 in
-        told_live s u row it.0 it.1 it.2 c.in_ok-is_whole-in-Live.is_whole
+        reported_live s u row it.0 it.1 it.2 c.in_ok-is_whole-in-Live.is_whole
         (c.in_ok-is_whole-in-Live.ensures.map.found clean (c.in_ok-row.ensures.does.keeps.stays.inside before inside) (still_ours old mid same ours) s (still_seen old mid s same are) sound running it.0 at
         (ap (λ (r : UploadRow). r.count) it.2));
     keeps = reads_ok (reads_may_then c.in_ok-row.ensures.does.keeps c.in_ok-is_whole-in-Live.ensures.map.keeps);
@@ -32,7 +32,7 @@ pub returns-in-TimedOut : goal.returns-in-TimedOut
 returns-in-TimedOut g c = record {
   map = record {
     found = λ clean inside ours s are sound running.
-        told_timed_out s c.args.upload (live_before s c.args.upload) TimedOut Unknown (sym (c.in_ok-row.ensures.does.map clean ours s are) ∙ c.in-TimedOut.is) ∙ undigested_told s c.args.upload;
+        reported_timed_out s c.args.upload (live_before s c.args.upload) TimedOut Unknown (sym (c.in_ok-row.ensures.does.map clean ours s are) ∙ c.in-TimedOut.is) ∙ undigested_reported s c.args.upload;
     keeps = reads_ok c.in_ok-row.ensures.does.keeps;
   };
 }
@@ -41,7 +41,7 @@ pub returns-in-Unknown : goal.returns-in-Unknown
 returns-in-Unknown g c = record {
   map = record {
     found = λ clean inside ours s are sound running.
-        told_unknown s c.args.upload (live_before s c.args.upload) TimedOut Unknown (sym (c.in_ok-row.ensures.does.map clean ours s are) ∙ c.in-Unknown.is) ∙ undigested_told s c.args.upload;
+        reported_unknown s c.args.upload (live_before s c.args.upload) TimedOut Unknown (sym (c.in_ok-row.ensures.does.map clean ours s are) ∙ c.in-Unknown.is) ∙ undigested_reported s c.args.upload;
     keeps = reads_ok c.in_ok-row.ensures.does.keeps;
   };
 }

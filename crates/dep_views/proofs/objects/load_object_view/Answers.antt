@@ -3,7 +3,7 @@ use Rattle.dep_tables.proofs.Chains.{clean_before, reads_ok, reads_then, reads_e
 use Rattle.dep_objects.proofs.Puts.{has_row, its_number}
 use Rattle.dep_views.specs.Shown.{IsViewOf}
 use Rattle.dep_views.proofs.Chains.{still_seen}
-use Rattle.dep_views.proofs.Told.{none_viewed}
+use Rattle.dep_views.proofs.Reported.{none_viewed}
 use Rattle.dep_views.proofs.objects.load_object_view.Goals as goal
 
 pub returns-in_default-clause-map : goal.returns-in_default-clause-map

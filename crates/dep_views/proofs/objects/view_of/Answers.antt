@@ -2,7 +2,7 @@ use Rattle.std.proofs.lemmas.Result.{IfOk-from_err}
 use Rattle.std.proofs.Common.{◌∙◌}
 use Rattle.dep_tables.proofs.Chains.{clean_before, reads_ok, reads_may_then, reads_then, reads_err, still_ours}
 use Rattle.dep_views.proofs.Chains.{still_seen}
-use Rattle.dep_views.proofs.Told.{viewed}
+use Rattle.dep_views.proofs.Reported.{viewed}
 use Rattle.dep_views.proofs.objects.view_of.Goals as goal
 
 pub returns : goal.returns

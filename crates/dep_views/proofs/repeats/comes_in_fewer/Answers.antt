@@ -13,10 +13,10 @@ returns-in-Live c = record {
 
 pub returns-in-TimedOut : goal.returns-in-TimedOut
 returns-in-TimedOut c = record {
-  lacks = λ told s by u sound is. lacks_all s by u TimedOut (λ live e. cc) (sym c.in-TimedOut.is ∙ is) c.args.number;
+  lacks = λ reported s by u sound is. lacks_all s by u TimedOut (λ live e. cc) (sym c.in-TimedOut.is ∙ is) c.args.number;
 }
 
 pub returns-in-Unknown : goal.returns-in-Unknown
 returns-in-Unknown c = record {
-  lacks = λ told s by u sound is. lacks_all s by u Unknown (λ live e. cc) (sym c.in-Unknown.is ∙ is) c.args.number;
+  lacks = λ reported s by u sound is. lacks_all s by u Unknown (λ live e. cc) (sym c.in-Unknown.is ∙ is) c.args.number;
 }

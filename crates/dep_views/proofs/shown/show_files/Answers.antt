@@ -1,11 +1,11 @@
-use Rattle.dep_answers.specs.declared.subject.Subject.TheVariants as subject
+use Rattle.dep_answers.specs.declared.read_set.ReadSet.TheVariants as read_set
 use Rattle.dep_tables.proofs.Chains.{reads_err}
 use Rattle.dep_views.proofs.Shows.{shown_behind, shown_failed}
 use Rattle.dep_views.proofs.shown.show_files.Goals as goal
 
 pub returns-in-Some : goal.returns-in-Some
 returns-in-Some g c = record {
-  does = shown_behind (λ n. subject.Files n) c.args.object c.in-Some.row c.in-Some.is c.in_ok-row.ensures.does c.show_listed.ensures.does;
+  does = shown_behind (λ n. read_set.Files n) c.args.object c.in-Some.row c.in-Some.is c.in_ok-row.ensures.does c.show_listed.ensures.does;
 }
 
 pub returns-in_err-row : goal.returns-in_err-row

@@ -1,6 +1,6 @@
 use Rattle.std.proofs.Common.{◌∙◌}
 use Rattle.dep_types.specs.Rows.{sha512s_of}
-use Rattle.dep_answers.specs.declared.subject.Shown.TheVariants as shown
+use Rattle.dep_answers.specs.declared.read_set.Shown.TheVariants as shown
 use Rattle.dep_tables.proofs.Chains.{clean_before, reads_ok, reads_may_then, reads_err, still_ours}
 use Rattle.dep_views.proofs.Chains.{still_seen}
 use Rattle.dep_views.proofs.Shows.{listed_shown, shown_failed}

@@ -1,5 +1,5 @@
 use Rattle.std.proofs.Common.{[], ◌∙◌}
-use Rattle.dep_answers.specs.declared.subject.Shown.TheVariants as shown
+use Rattle.dep_answers.specs.declared.read_set.Shown.TheVariants as shown
 use Rattle.dep_tables.proofs.Chains.{reads_ok, reads_err}
 use Rattle.dep_views.proofs.Shows.{listed_shown, shown_failed}
 use Rattle.dep_views.proofs.shown.show_listed.Goals as goal

@@ -9,7 +9,7 @@ pub returns-in_ok-numbers_of-in-Live : goal.returns-in_ok-numbers_of-in-Live
 returns-in_ok-numbers_of-in-Live g c = record {
   does = record {
     map = record {
-      found = λ clean inside ours s are sound told.
+      found = λ clean inside ours s are sound reported.
           upload_shown s c.args.upload c.in-Live.staged c.in_ok-numbers_of-in-Live.field-0 (subst (IsFound s c.args.upload) c.in-Live.is (c.in_ok-staged.ensures.does.map clean ours s are))
           (c.in_ok-numbers_of-in-Live.ensures.ok ∙ ap (map (λ segment. segment.number)) c.as_slice.ensures.value);
       keeps = reads_ok c.in_ok-staged.ensures.does.keeps;
@@ -21,7 +21,7 @@ pub returns-in-TimedOut : goal.returns-in-TimedOut
 returns-in-TimedOut g c = record {
   does = record {
     map = record {
-      found = λ clean inside ours s are sound told.
+      found = λ clean inside ours s are sound reported.
           no_upload_shown s c.args.upload TimedOut (λ its e. cc) (subst (IsFound s c.args.upload) c.in-TimedOut.is (c.in_ok-staged.ensures.does.map clean ours s are));
       keeps = reads_ok c.in_ok-staged.ensures.does.keeps;
     };
@@ -32,7 +32,7 @@ pub returns-in-Unknown : goal.returns-in-Unknown
 returns-in-Unknown g c = record {
   does = record {
     map = record {
-      found = λ clean inside ours s are sound told.
+      found = λ clean inside ours s are sound reported.
           no_upload_shown s c.args.upload Unknown (λ its e. cc) (subst (IsFound s c.args.upload) c.in-Unknown.is (c.in_ok-staged.ensures.does.map clean ours s are));
       keeps = reads_ok c.in_ok-staged.ensures.does.keeps;
     };

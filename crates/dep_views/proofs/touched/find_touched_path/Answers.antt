@@ -3,10 +3,10 @@ use Rattle.std.specs.List.{list_any}
 use Rattle.std.specs.Option.{option_copied, option_to_list}
 use Rattle.dep_types.specs.BagPaths.{tag_paths}
 use Rattle.dep_types.specs.declared.rows.FileRow.{FileRow}
-use Rattle.dep_manifest.specs.Told.{row_path}
+use Rattle.dep_manifest.specs.Reported.{row_path}
 use Rattle.dep_views.specs.Seen.{file_at_path}
 use Rattle.dep_tables.proofs.Chains.{may_ok}
-use Rattle.dep_views.proofs.Paths.{path_told, payload_seen}
+use Rattle.dep_views.proofs.Paths.{path_reported, payload_seen}
 use Rattle.dep_views.proofs.touched.find_touched_path.Goals as goal
 
 pub returns-in_ok-payload-in-Some-Some : goal.returns-in_ok-payload-in-Some-Some
@@ -20,7 +20,7 @@ returns-in_ok-payload-in-Some-Some g c = record {
         c.has_path_with.ensures
         ∙ ap (λ (x : Option FileRow). list_any (bytes_eq c.as_slice-path.result.now) (tag_paths ++ map row_path (option_to_list x))) found
         ∙ ap (λ (p : List ℕ). list_any (bytes_eq p) (tag_paths ++ map row_path (option_to_list (file_at_path s c.in-Some-Some.object.now.object p)))) c.as_slice-path.ensures
-        ∙ path_told s touched c.in-Some-Some.object.now c.in-Some-Some.path sound object c.in-Some-Some.is-1 in
+        ∙ path_reported s touched c.in-Some-Some.object.now c.in-Some-Some.path sound object c.in-Some-Some.is-1 in
         let payload =
         found
         ∙ ap (file_at_path s c.in-Some-Some.object.now.object) c.as_slice-path.ensures

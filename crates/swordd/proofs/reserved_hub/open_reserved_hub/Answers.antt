@@ -5,7 +5,7 @@ use Rattle.dep_types.specs.Config.{IsChecked}
 use Rattle.dep_types.specs.State.{empty_state}
 use Rattle.dep_store.specs.HashingStores.{Keeps}
 use Rattle.dep_store.specs.Migrating.{OpenLeaves}
-use Rattle.dep_schema.specs.States.{StandsFor}
+use Rattle.dep_schema.specs.States.{Represents}
 use Rattle.dep_schema.specs.declared.opening.OpenFault.{OpenFault}
 use Rattle.dep_hub.specs.Records.{first_world}
 use Rattle.dep_hub.specs.declared.faults.HubFault.{HubFault}
@@ -47,8 +47,8 @@ returns-in-Ok-new-clause-fresh g c honest none =
     let begun = c.new.ensures in
     let whole = c.new-archive.ensures.archive in
     let same = ap (λ (a : ReservedArchive (HashingStore _) _). a.archive.store) made.kept ∙ ap (λ (a : HashingStore _). a.store) whole ∙ begun.store in
-    made.stands empty_state (subst (λ (a : HashingStore _). Keeps (state g.S.Store a.store) a.running empty_state) (sym whole) (record {
-      stands = subst (λ (h : Held _). StandsFor (state g.S.Store h) empty_state) (sym begun.store)
+    made.represents empty_state (subst (λ (a : HashingStore _). Keeps (state g.S.Store a.store) a.running empty_state) (sym whole) (record {
+      represents = subst (λ (h : Held _). Represents (state g.S.Store h) empty_state) (sym begun.store)
           (c.in-Ok.ensures.fresh (subst (λ (h : Held _). HasCleanDisk (state g.S.Store h)) same honest) none);
       hashed = begun.running empty_state;
     }))
@@ -60,7 +60,7 @@ returns-in-Ok-new-clause-again g c honest found left first records run =
     let whole = c.new-archive.ensures.archive in
     let same = ap (λ (a : ReservedArchive (HashingStore _) _). a.archive.store) made.kept ∙ ap (λ (a : HashingStore _). a.store) whole ∙ begun.store in
     made.again first records (first_world found) run (λ n. refl) (subst (λ (a : HashingStore _). Keeps (state g.S.Store a.store) a.running found) (sym whole) (record {
-      stands = subst (λ (h : Held _). StandsFor (state g.S.Store h) found) (sym begun.store)
+      represents = subst (λ (h : Held _). Represents (state g.S.Store h) found) (sym begun.store)
           (c.in-Ok.ensures.found (subst (λ (h : Held _). HasCleanDisk (state g.S.Store h)) same honest) found left);
       hashed = begun.running found;
     }))
@@ -81,8 +81,8 @@ returns-in-Err-new-clause-kept g c said = inr (
       let whole = c.into_archive.ensures ∙ ap (λ (a : ReservedArchive (HashingStore _) _). a.archive) c.in-Err-new.ensures.store ∙ c.new-archive.ensures.archive in
       let same = c.close-connection.ensures ∙ c.into_store.ensures ∙ ap (λ (a : HashingStore _). a.store) whole ∙ c.new.ensures.store in
       let is_honest = subst (λ (h : Held _). HasCleanDisk (state g.S.Store h)) same honest in (
-        λ none. subst (λ (h : Held _). StandsFor (state g.S.Store h) empty_state) (sym same) (did.fresh is_honest none),
-        λ found left. subst (λ (h : Held _). StandsFor (state g.S.Store h) found) (sym same) (did.found is_honest found left),
+        λ none. subst (λ (h : Held _). Represents (state g.S.Store h) empty_state) (sym same) (did.fresh is_honest none),
+        λ found left. subst (λ (h : Held _). Represents (state g.S.Store h) found) (sym same) (did.found is_honest found left),
       ),
 )
 

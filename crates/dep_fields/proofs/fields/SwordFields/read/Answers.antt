@@ -4,9 +4,9 @@ use Rattle.dep_head.proofs.AnyError.{on_err}
 use Rattle.dep_fields.specs.Fields.{as_it_stands, content_type, is_behalf}
 use Rattle.dep_fields.specs.Kinds.{IsKind, truth}
 use Rattle.dep_fields.specs.Values.{HasValue, IsReadFrom, read_from}
-use Rattle.dep_fields.specs.Told.{fields_of}
-use Rattle.dep_fields.proofs.OneTelling.{one_telling}
-use Rattle.dep_fields.proofs.ToldFields.{fields_are_told}
+use Rattle.dep_fields.specs.Reported.{fields_of}
+use Rattle.dep_fields.proofs.OneReporting.{one_reporting}
+use Rattle.dep_fields.proofs.ReportedFields.{fields_are_reported}
 use Rattle.dep_fields.proofs.fields.SwordFields.read.Goals as goal
 
 pub returns-clause-fields : goal.returns-clause-fields
@@ -22,7 +22,7 @@ returns-clause-fields c = record {
 }
 
 pub returns-clause-one : goal.returns-clause-one
-returns-clause-one c = one_telling c.args.head.now.fields _ (fields_of c.args.head.now.fields) (returns-clause-fields c) (fields_are_told c.args.head.now.fields)
+returns-clause-one c = one_reporting c.args.head.now.fields _ (fields_of c.args.head.now.fields) (returns-clause-fields c) (fields_are_reported c.args.head.now.fields)
 
 pub returns-in_err-media-clause-wanted : goal.returns-in_err-media-clause-wanted
 returns-in_err-media-clause-wanted c = on_err c.from_residual-in_err-media.result (content_type (subst (λ t. HasValue (read_from (if_passes is_media) t)) c.single-6.ensures c.in_err-media.ensures))

@@ -1,58 +1,58 @@
 use Rattle.std.proofs.Common.{◌≡◌, None, refl, sym, subst, [], ◌∷◌, inr, ◌∙◌, arith, rules}
 use Rattle.std.specs.Io.KnownBytes.{IsAtEnd}
 use Rattle.dep_hub.specs.Records.{Live}
-use Rattle.dep_hub.specs.Holding.{MovesLine}
-use Rattle.dep_outbox.specs.Wires.{told}
+use Rattle.dep_hub.specs.Holding.{LineTransition}
+use Rattle.dep_outbox.specs.Wires.{reported}
 use Rattle.dep_host.specs.Notes.{Grows, LetIn}
-use Rattle.dep_host.specs.declared.log.Refusal.TheVariants.{Address, Full, Memory}
-use Rattle.dep_hub.specs.Standing.{intake_of}
+use Rattle.dep_host.specs.declared.log.Rejection.TheVariants.{Address, Full, Memory}
+use Rattle.dep_hub.specs.Representing.{intake_of}
 use Rattle.dep_host.proofs.HostLemmas.{nothing_behind, untouched, unopened, stays_same, stays_set}
 use Rattle.dep_host.proofs.MeetLemmas.{turned}
 use Rattle.dep_host.proofs.host.Host.admit.Goals as goal
 
-pub returns-then-seated_from-self : goal.returns-then-seated_from-self
-returns-then-seated_from-self g c =
-    turned g.A.Archive.condition g.R.Source.unread g.K.Sink.taken g.S.Spool.held g.L.HostLog.notes _ _ _ _ c.args.at c.args.client Address _ c.turn_away.ensures.same (record {
+pub returns-then-slots_from-self : goal.returns-then-slots_from-self
+returns-then-slots_from-self g c =
+    turned g.A.Archive.condition g.R.Source.unread g.K.Sink.taken g.S.Spool.held g.L.HostLog.notes _ _ _ _ c.args.at c.args.client Address _ c.reject.ensures.same (record {
       keeps = untouched g.A.Archive.condition g.R.Source.unread g.K.Sink.taken g.S.Spool.held _ _ refl refl refl refl;
-      may = omega (arith, c.seated_from.ensures, c.if-seated_from-self.true);
+      may = omega (arith, c.slots_from.ensures, c.if-slots_from-self.true);
       stays = stays_same _;
-      noted = c.turn_away.ensures.noted;
+      noted = c.reject.ensures.noted;
     })
 
 pub returns-in-Err-Full : goal.returns-in-Err-Full
 returns-in-Err-Full g c =
-    turned g.A.Archive.condition g.R.Source.unread g.K.Sink.taken g.S.Spool.held g.L.HostLog.notes _ _ _ _ c.args.at c.args.client Full _ c.turn_away-in-Err-Full.ensures.same (record {
+    turned g.A.Archive.condition g.R.Source.unread g.K.Sink.taken g.S.Spool.held g.L.HostLog.notes _ _ _ _ c.args.at c.args.client Full _ c.reject-in-Err-Full.ensures.same (record {
       keeps = unopened g.A.Archive.condition g.R.Source.unread g.K.Sink.taken g.S.Spool.held _ _ refl c.in-Err-Full.ensures.kept c.connect.ensures.behind c.in-Err-Full.ensures.holding c.connect.ensures.store c.connect.ensures.config refl refl;
       may = (c.requires.vacant.2, inr (c.in-Err-Full.ensures.full (search rules)));
       stays = record { places = refl; limits = refl; shut = refl; unanswered = refl; first = refl };
-      noted = c.turn_away-in-Err-Full.ensures.noted;
+      noted = c.reject-in-Err-Full.ensures.noted;
     })
 
 pub returns-in-Err-Memory : goal.returns-in-Err-Memory
 returns-in-Err-Memory g c =
-    turned g.A.Archive.condition g.R.Source.unread g.K.Sink.taken g.S.Spool.held g.L.HostLog.notes _ _ _ _ c.args.at c.args.client Memory _ c.turn_away-in-Err-Memory.ensures.same (record {
+    turned g.A.Archive.condition g.R.Source.unread g.K.Sink.taken g.S.Spool.held g.L.HostLog.notes _ _ _ _ c.args.at c.args.client Memory _ c.reject-in-Err-Memory.ensures.same (record {
       keeps = unopened g.A.Archive.condition g.R.Source.unread g.K.Sink.taken g.S.Spool.held _ _ refl c.in-Err-Memory.ensures.kept c.connect.ensures.behind c.in-Err-Memory.ensures.holding c.connect.ensures.store c.connect.ensures.config refl refl;
       may = c.requires.vacant.2;
       stays = record { places = refl; limits = refl; shut = refl; unanswered = refl; first = refl };
-      noted = c.turn_away-in-Err-Memory.ensures.noted;
+      noted = c.reject-in-Err-Memory.ensures.noted;
     })
 
 pub returns : goal.returns
 returns g c = record {
-  seat = c.new.result;
+  slot = c.new.result;
   comes = record {
     there = c.requires.vacant.0;
     free = c.requires.vacant.1;
     sits = refl;
     is_next = c.new.ensures.number ∙ c.in-Ok.ensures.next.0;
     next = c.in-Ok.ensures.next.1;
-    moves = subst (λ n. MovesLine g.A.Archive.condition c.args.self.now.hub c.connect.new.self n (Live []) (λ kept. kept)) (sym c.new.ensures.number) c.in-Ok.ensures.holding;
+    moves = subst (λ n. LineTransition g.A.Archive.condition c.args.self.now.hub c.connect.new.self n (Live []) (λ kept. kept)) (sym c.new.ensures.number) c.in-Ok.ensures.holding;
     unowed = nothing_behind _ _ c.new.result.connection (c.connect.ensures.behind c.new.result.connection)
         (subst (λ n. intake_of c.args.self.now.hub.connections.items n ≡ None) (sym c.new.ensures.number) c.in-Ok.ensures.fresh);
     behind = c.connect.ensures.behind;
     same_store = c.connect.ensures.store;
     same_config = c.connect.ensures.config;
-    fresh = subst (λ w. IsAtEnd (told g.K.Sink.taken g.S.Spool.held w)) (sym c.new.ensures.wire) c.requires.fresh;
+    fresh = subst (λ w. IsAtEnd (reported g.K.Sink.taken g.S.Spool.held w)) (sym c.new.ensures.wire) c.requires.fresh;
     opens = c.new.ensures.phase;
     uncounted = c.new.ensures.unfinished;
     is_open = c.requires.vacant.2;
@@ -64,7 +64,7 @@ returns g c = record {
   address = c.new.ensures.address;
   readable = c.new.ensures.readable;
   writable = c.new.ensures.writable;
-  room = omega (arith, c.seated_from.ensures, c.if-seated_from-self.false);
+  room = omega (arith, c.slots_from.ensures, c.if-slots_from-self.false);
   stays = stays_set _ _ c.args.at _ refl refl refl refl refl;
   noted = subst (λ n. Grows (g.L.HostLog.notes c.args.log.now) (g.L.HostLog.notes c.opened.new.self) (LetIn n c.args.client.address ∷ [])) (sym c.new.ensures.number) c.opened.ensures.noted;
 }

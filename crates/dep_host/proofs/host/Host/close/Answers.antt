@@ -8,10 +8,10 @@ pub returns-in-Some-clause-goes : goal.returns-in-Some-clause-goes
 returns-in-Some-clause-goes g c = record {
   goes =
       let sat = slot_read _ _ _ c.requires.there c.index_mut.ensures.value ∙ (sym c.take.ensures.value ∙ c.in-Some.is) in
-      closing g.A.Archive.condition g.R.Source.unread g.K.Sink.taken g.S.Spool.held _ _ c.args.at c.args.second c.args.closing _ c.in-Some.seat sat (record {
+      closing g.A.Archive.condition g.R.Source.unread g.K.Sink.taken g.S.Spool.held _ _ c.args.at c.args.second c.args.closing _ c.in-Some.slot sat (record {
         there = c.requires.there;
         sat = sat;
-        gone = ap (λ y. set c.args.self.now.seats.items c.args.at y) c.take.ensures.after;
+        gone = ap (λ y. set c.args.self.now.slots.items c.args.at y) c.take.ensures.after;
         done = subst (λ o. MayGo (position c.args.self.now) c.args.second c.args.closing o) sat c.requires.done;
         next = c.close.ensures.kept.next;
         moves = c.close.ensures.holding;

@@ -1,13 +1,13 @@
 use Rattle.std.proofs.Common.{[], false, true, Ok, Err, inl, inr, refl, sym, ◌∙◌, rules}
 use Rattle.std.proofs.lemmas.List.Elements.{Contains-push}
 use Rattle.dep_hub.specs.Archives.{KeepsAll}
-use Rattle.dep_host.proofs.HostLemmas.{asked_alone, stands_still, told_shut, told_open, told_as}
+use Rattle.dep_host.proofs.HostLemmas.{asked_alone, represents_still, reported_shut, reported_open, reported_as}
 use Rattle.dep_host.proofs.host.Host.is_open.Goals as goal
 
 pub returns-then-is_some-clause-asks : goal.returns-then-is_some-clause-asks
 returns-then-is_some-clause-asks g c = record {
-  steps = stands_still g.A.Archive.condition g.R.Source.unread g.K.Sink.taken g.S.Spool.held _;
-  told = inl refl;
+  steps = represents_still g.A.Archive.condition g.R.Source.unread g.K.Sink.taken g.S.Spool.held _;
+  reported = inl refl;
   limits = refl;
   first = refl;
   known = inl (sym c.is_some.ensures ∙ c.if-is_some.true, refl);
@@ -15,34 +15,34 @@ returns-then-is_some-clause-asks g c = record {
 
 pub returns-in-Ok-false-clause-asks : goal.returns-in-Ok-false-clause-asks
 returns-in-Ok-false-clause-asks g c = record {
-  steps = asked_alone g.A.Archive.condition g.R.Source.unread g.K.Sink.taken g.S.Spool.held _ _ KeepsAll c.is_open.ensures.rests c.is_open.ensures.rests.store.kept c.is_open.ensures.rests.store.was_open c.is_open.ensures.rests.store.honest refl refl (inr (sym c.is_some.ensures ∙ c.if-is_some.false, λ is. told_shut (g.A.Archive.condition c.is_open.new.self.store) c.in-Ok-false.field-0 (search rules) c.in-Ok-false.ensures.told));
-  told = inr (sym c.is_some.ensures ∙ c.if-is_some.false, Contains-push [] c.args.second);
+  steps = asked_alone g.A.Archive.condition g.R.Source.unread g.K.Sink.taken g.S.Spool.held _ _ KeepsAll c.is_open.ensures.rests c.is_open.ensures.rests.store.kept c.is_open.ensures.rests.store.was_open c.is_open.ensures.rests.store.honest refl refl (inr (sym c.is_some.ensures ∙ c.if-is_some.false, λ is. reported_shut (g.A.Archive.condition c.is_open.new.self.store) c.in-Ok-false.field-0 (search rules) c.in-Ok-false.ensures.reported));
+  reported = inr (sym c.is_some.ensures ∙ c.if-is_some.false, Contains-push [] c.args.second);
   limits = refl;
   first = refl;
   known = inr (
     Ok false,
-    told_as (g.A.Archive.account c.args.self.now.hub.store) (g.A.Archive.account c.is_open.new.self.store) c.in-Ok-false.field-0 false (search rules) c.in-Ok-false.ensures.asked,
-    (refl, refl, told_shut (g.A.Archive.condition c.is_open.new.self.store) c.in-Ok-false.field-0 (search rules) c.in-Ok-false.ensures.told),
+    reported_as (g.A.Archive.call_log c.args.self.now.hub.store) (g.A.Archive.call_log c.is_open.new.self.store) c.in-Ok-false.field-0 false (search rules) c.in-Ok-false.ensures.asked,
+    (refl, refl, reported_shut (g.A.Archive.condition c.is_open.new.self.store) c.in-Ok-false.field-0 (search rules) c.in-Ok-false.ensures.reported),
   );
 }
 
 pub returns-in-Ok-true-clause-asks : goal.returns-in-Ok-true-clause-asks
 returns-in-Ok-true-clause-asks g c = record {
   steps = asked_alone g.A.Archive.condition g.R.Source.unread g.K.Sink.taken g.S.Spool.held _ _ KeepsAll c.is_open.ensures.rests c.is_open.ensures.rests.store.kept c.is_open.ensures.rests.store.was_open c.is_open.ensures.rests.store.honest refl refl (inl refl);
-  told = inl refl;
+  reported = inl refl;
   limits = refl;
   first = refl;
   known = inr (
     Ok true,
-    told_as (g.A.Archive.account c.args.self.now.hub.store) (g.A.Archive.account c.is_open.new.self.store) c.in-Ok-true.field-0 true (search rules) c.in-Ok-true.ensures.asked,
-    (sym c.is_some.ensures ∙ c.if-is_some.false, refl, told_open (g.A.Archive.condition c.is_open.new.self.store) c.in-Ok-true.field-0 (search rules) c.in-Ok-true.ensures.told),
+    reported_as (g.A.Archive.call_log c.args.self.now.hub.store) (g.A.Archive.call_log c.is_open.new.self.store) c.in-Ok-true.field-0 true (search rules) c.in-Ok-true.ensures.asked,
+    (sym c.is_some.ensures ∙ c.if-is_some.false, refl, reported_open (g.A.Archive.condition c.is_open.new.self.store) c.in-Ok-true.field-0 (search rules) c.in-Ok-true.ensures.reported),
   );
 }
 
 pub returns-in-Err-clause-asks : goal.returns-in-Err-clause-asks
 returns-in-Err-clause-asks g c = record {
   steps = asked_alone g.A.Archive.condition g.R.Source.unread g.K.Sink.taken g.S.Spool.held _ _ KeepsAll c.is_open.ensures.rests c.is_open.ensures.rests.store.kept c.is_open.ensures.rests.store.was_open c.is_open.ensures.rests.store.honest refl refl (inl refl);
-  told = inl refl;
+  reported = inl refl;
   limits = refl;
   first = refl;
   known = inr (Err c.in-Err._fault, c.in-Err.ensures.asked, (sym c.is_some.ensures ∙ c.if-is_some.false, c.saturating_add-self.ensures, c.in-Err.ensures.cause));

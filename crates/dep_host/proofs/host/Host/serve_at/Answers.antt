@@ -1,7 +1,7 @@
 use Rattle.std.proofs.Common.{Option, None, Some, refl, sym, subst, ◌∙◌, arith}
 use Rattle.std.proofs.Math.ListN.{length-set}
 use Rattle.dep_host.specs.Causes.{causes_of}
-use Rattle.dep_host.specs.declared.seat.Seat.{Seat}
+use Rattle.dep_host.specs.declared.slot.Slot.{Slot}
 use Rattle.dep_host.specs.Hosting.{HasTime, IsWaiting}
 use Rattle.std.proofs.lemmas.List.{get_or-set_same, get_or-set_other}
 use Rattle.dep_host.proofs.HostLemmas.{within_still, free_once_left, free_where_sat, slot_read, closes_there, stays_on, stays_set}
@@ -15,12 +15,12 @@ returns-in_default-clause-goes g c =
 pub returns-clause-goes : goal.returns-clause-goes
 returns-clause-goes g c =
     let begins = c.begin_turn.ensures in
-    served g.A.Archive.condition g.R.Source.unread g.K.Sink.taken g.S.Spool.held g.S.Spool.size (causes_of g.R.Source.halts g.K.Sink.halts g.S.Spool.failures) _ _ c.args.at c.args.turn.now.time c.args.turn.now.is_full c.args.turn.now.is_shut c.args.turn.now.may_send c.sends_on-has_sent.result _ _ _ c.in-Some.seat c.begin_turn.new.self c.take_turn.new.self
+    served g.A.Archive.condition g.R.Source.unread g.K.Sink.taken g.S.Spool.held g.S.Spool.size (causes_of g.R.Source.halts g.K.Sink.halts g.S.Spool.failures) _ _ c.args.at c.args.turn.now.time c.args.turn.now.is_full c.args.turn.now.is_shut c.args.turn.now.may_send c.sends_on-has_sent.result _ _ _ c.in-Some.slot c.begin_turn.new.self c.take_turn.new.self
     c.take_turn.ensures.noted c.requires.there (slot_read _ _ _ c.requires.there c.index_mut.ensures.value ∙ c.in-Some.is) refl refl refl begins.same begins.opens begins.ended begins.unfinished begins.phase begins.readable begins.writable c.requires.shut (begins.awaited ∙ c.is_awaited-is_awaited.ensures) refl c.sends_on-has_sent.ensures.yes c.sends_on-has_sent.ensures.no c.take_turn.ensures.turn
 
 pub returns-clause-here : goal.returns-clause-here
 returns-clause-here g c =
-    subst (λ (o : Option (Seat _ _ _)). HasTime c.args.turn.now.time.second c.args.self.now.limits o) (sym (get_or-set_same _ c.args.at _ None c.requires.there)) (sym c.closing-closing.ensures ∙ c.in_default-closing.is)
+    subst (λ (o : Option (Slot _ _ _)). HasTime c.args.turn.now.time.second c.args.self.now.limits o) (sym (get_or-set_same _ c.args.at _ None c.requires.there)) (sym c.closing-closing.ensures ∙ c.in_default-closing.is)
 
 pub returns-clause-others : goal.returns-clause-others
 returns-clause-others g c = λ place ne. get_or-set_other _ c.args.at place _ None ne
@@ -29,7 +29,7 @@ pub returns-clause-stays : goal.returns-clause-stays
 returns-clause-stays g c = stays_set _ _ c.args.at _ refl refl refl refl refl
 
 pub close-requires-clause-there : goal.close-requires-clause-there
-close-requires-clause-there g c = let there = c.requires.there in omega (arith, there, length-set c.args.self.now.seats.items c.args.at (Some c.take_turn.new.self))
+close-requires-clause-there g c = let there = c.requires.there in omega (arith, there, length-set c.args.self.now.slots.items c.args.at (Some c.take_turn.new.self))
 
 pub close-requires-clause-done : goal.close-requires-clause-done
 close-requires-clause-done g c =
@@ -40,7 +40,7 @@ returns-in-Some-closing-clause-goes g c =
     let begins = c.begin_turn.ensures in
     closes_served g.A.Archive.condition g.R.Source.unread g.K.Sink.taken g.S.Spool.held g.S.Spool.size (causes_of g.R.Source.halts g.K.Sink.halts g.S.Spool.failures) _ _ _ c.args.at c.args.turn.now.time c.args.turn.now.is_full c.args.turn.now.may_send c.sends_on-has_sent.result _ _ _ c.in-Some-closing.closing _ c.close.ensures.goes.goes
     (closes_there _ c.args.at c.args.turn.now.time.second c.take_turn.new.self c.closing-closing.result c.in-Some-closing.closing (get_or-set_same _ c.args.at _ None c.requires.there) c.closing-closing.ensures c.in-Some-closing.is)
-    (served g.A.Archive.condition g.R.Source.unread g.K.Sink.taken g.S.Spool.held g.S.Spool.size (causes_of g.R.Source.halts g.K.Sink.halts g.S.Spool.failures) _ _ c.args.at c.args.turn.now.time c.args.turn.now.is_full c.args.turn.now.is_shut c.args.turn.now.may_send c.sends_on-has_sent.result _ _ _ c.in-Some.seat c.begin_turn.new.self c.take_turn.new.self
+    (served g.A.Archive.condition g.R.Source.unread g.K.Sink.taken g.S.Spool.held g.S.Spool.size (causes_of g.R.Source.halts g.K.Sink.halts g.S.Spool.failures) _ _ c.args.at c.args.turn.now.time c.args.turn.now.is_full c.args.turn.now.is_shut c.args.turn.now.may_send c.sends_on-has_sent.result _ _ _ c.in-Some.slot c.begin_turn.new.self c.take_turn.new.self
     c.take_turn.ensures.noted c.requires.there (slot_read _ _ _ c.requires.there c.index_mut.ensures.value ∙ c.in-Some.is) refl refl refl begins.same begins.opens begins.ended begins.unfinished begins.phase begins.readable begins.writable c.requires.shut (begins.awaited ∙ c.is_awaited-is_awaited.ensures) refl c.sends_on-has_sent.ensures.yes c.sends_on-has_sent.ensures.no c.take_turn.ensures.turn)
     c.close.ensures.noted
 
@@ -51,10 +51,10 @@ pub returns-in-Some-closing-clause-stays : goal.returns-in-Some-closing-clause-s
 returns-in-Some-closing-clause-stays g c = stays_on _ _ _ (stays_set _ _ c.args.at _ refl refl refl refl refl) c.close.ensures.goes.stays
 
 pub returns-in_default-clause-here : goal.returns-in_default-clause-here
-returns-in_default-clause-here g c = subst (λ (o : Option (Seat _ _ _)). HasTime c.args.turn.now.time.second c.args.self.now.limits o) (sym (get_or-set_same _ c.args.at _ None c.requires.there ∙ c.in_default.is)) tt
+returns-in_default-clause-here g c = subst (λ (o : Option (Slot _ _ _)). HasTime c.args.turn.now.time.second c.args.self.now.limits o) (sym (get_or-set_same _ c.args.at _ None c.requires.there ∙ c.in_default.is)) tt
 
 pub returns-in_default-clause-waits : goal.returns-in_default-clause-waits
-returns-in_default-clause-waits g c = λ idle. subst (λ (o : Option (Seat _ _ _)). IsWaiting g.S.Spool.size o) (sym (get_or-set_same _ c.args.at _ None c.requires.there ∙ c.in_default.is)) tt
+returns-in_default-clause-waits g c = λ idle. subst (λ (o : Option (Slot _ _ _)). IsWaiting g.S.Spool.size o) (sym (get_or-set_same _ c.args.at _ None c.requires.there ∙ c.in_default.is)) tt
 
 pub returns-in_default-clause-others : goal.returns-in_default-clause-others
 returns-in_default-clause-others g c = λ place ne. get_or-set_other _ c.args.at place _ None ne
@@ -63,13 +63,13 @@ pub returns-in_default-clause-stays : goal.returns-in_default-clause-stays
 returns-in_default-clause-stays g c = stays_set _ _ c.args.at _ refl refl refl refl refl
 
 pub returns-in-Some-closing-clause-here : goal.returns-in-Some-closing-clause-here
-returns-in-Some-closing-clause-here g c = subst (λ (o : Option (Seat _ _ _)). HasTime c.args.turn.now.time.second c.close.new.self.limits o) (sym c.close.ensures.goes.gone) tt
+returns-in-Some-closing-clause-here g c = subst (λ (o : Option (Slot _ _ _)). HasTime c.args.turn.now.time.second c.close.new.self.limits o) (sym c.close.ensures.goes.gone) tt
 
 pub returns-in-Some-closing-clause-waits : goal.returns-in-Some-closing-clause-waits
-returns-in-Some-closing-clause-waits g c = λ idle. subst (λ (o : Option (Seat _ _ _)). IsWaiting g.S.Spool.size o) (sym c.close.ensures.goes.gone) tt
+returns-in-Some-closing-clause-waits g c = λ idle. subst (λ (o : Option (Slot _ _ _)). IsWaiting g.S.Spool.size o) (sym c.close.ensures.goes.gone) tt
 
 pub returns-clause-waits : goal.returns-clause-waits
-returns-clause-waits g c = λ idle. subst (λ (o : Option (Seat _ _ _)). IsWaiting g.S.Spool.size o) (sym (get_or-set_same _ c.args.at _ None c.requires.there)) (c.is_busy-is_busy.ensures.waits idle)
+returns-clause-waits g c = λ idle. subst (λ (o : Option (Slot _ _ _)). IsWaiting g.S.Spool.size o) (sym (get_or-set_same _ c.args.at _ None c.requires.there)) (c.is_busy-is_busy.ensures.waits idle)
 
 pub invariant_of-self : goal.invariant_of-self
 invariant_of-self g c = record {
@@ -80,5 +80,5 @@ invariant_of-self g c = record {
 pub invariant_of-self-2 : goal.invariant_of-self-2
 invariant_of-self-2 g c = record {
   within = within_still _ c.args.at _ _ c.args.self.now.within;
-  free = free_where_sat _ c.args.at _ _ c.in-Some.seat (slot_read _ _ _ c.requires.there c.index_mut.ensures.value ∙ c.in-Some.is) c.args.self.now.free;
+  free = free_where_sat _ c.args.at _ _ c.in-Some.slot (slot_read _ _ _ c.requires.there c.index_mut.ensures.value ∙ c.in-Some.is) c.args.self.now.free;
 }

@@ -1,8 +1,8 @@
 use Rattle.std.proofs.Common.{ℕ, ◌<◌, ◌≡◌, None}
-use Rattle.dep_host.specs.Hosting.{slot}
+use Rattle.dep_host.specs.Hosting.{slot_at}
 use Rattle.dep_host.proofs.host.Host.vacancy.Given as goal
 
 abbrev pub invariant-loop-at : goal.invariant-loop-at
 invariant-loop-at g l = record {
-  taken : (place : ℕ) → place < l.at → slot place l.self.seats.items ≡ None → ⊥;
+  taken : (place : ℕ) → place < l.at → slot_at place l.self.slots.items ≡ None → ⊥;
 }

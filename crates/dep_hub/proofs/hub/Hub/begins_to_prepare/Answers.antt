@@ -2,7 +2,7 @@ use Rattle.std.proofs.Common.{refl, sym, ap, subst, ◌∙◌, if◌then◌else�
 use Rattle.std.proofs.lemmas.Bool.{eq-eqb}
 use Rattle.dep_message.specs.Places.{Reading}
 use Rattle.dep_hub.specs.Preparing.{NamesNone, BeginsToPrepare as Begins}
-use Rattle.dep_hub.specs.StandsOwing.{behind_at}
+use Rattle.dep_hub.specs.RepresentsOwing.{behind_at}
 use Rattle.dep_hub.specs.declared.connections.Connection.{Connection}
 use Rattle.dep_hub.specs.declared.rest.Behind.{Behind}
 use Rattle.dep_hub.proofs.ConnectionLemmas.{ascends_set, index_some}

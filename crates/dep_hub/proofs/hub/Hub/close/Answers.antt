@@ -2,12 +2,12 @@ use Rattle.std.proofs.Common.{◌≡◌, ◌==◌, ℕ, Bool, if◌then◌else�
 use Rattle.std.proofs.lemmas.Bool.{eq-eqb}
 use Rattle.dep_hub.specs.Numbers.{index_of, Ascends}
 use Rattle.dep_hub.specs.Records.{Close}
-use Rattle.dep_hub.specs.Standing.{intake_of}
+use Rattle.dep_hub.specs.Representing.{intake_of}
 use Rattle.dep_hub.specs.declared.connections.Connection.{Connection}
 use Rattle.dep_hub.proofs.ConnectionLemmas.{index_none, intake_remove, ascends_remove}
 use Rattle.dep_hub.proofs.HubLemmas.{closes_moves, moves_adds, absent_already, leaves_as_before}
 use Rattle.dep_hub.proofs.HoldingLemmas.{closes_line}
-use Rattle.dep_hub.specs.StandsOwing.{behind_at}
+use Rattle.dep_hub.specs.RepresentsOwing.{behind_at}
 use Rattle.dep_hub.proofs.BehindLemmas.{behind_gone, behind_none, behind_remove}
 use Rattle.dep_hub.specs.Claims.{is_any_pending, is_any_waiting}
 use Rattle.dep_hub.proofs.hub.Hub.close.Goals as goal

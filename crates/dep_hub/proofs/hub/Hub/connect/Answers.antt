@@ -4,13 +4,13 @@ use Rattle.dep_types.specs.declared.config.Config.{Config}
 use Rattle.dep_message.specs.Places.{Open}
 use Rattle.dep_hub.specs.Numbers.{Ascends}
 use Rattle.dep_hub.specs.Records.{Connect}
-use Rattle.dep_hub.specs.Standing.{intake_of}
+use Rattle.dep_hub.specs.Representing.{intake_of}
 use Rattle.dep_hub.specs.declared.connections.Connection.{Connection}
 use Rattle.dep_hub.proofs.ConnectionLemmas.{absent_above, ascends_push, pushed_there}
 use Rattle.dep_hub.proofs.HubLemmas.{connects_moves, moves_adds, leaves_as_before}
 use Rattle.dep_hub.proofs.HoldingLemmas.{connects_line, holds_same}
 use Rattle.dep_hub.specs.declared.rest.Behind.TheVariants.{Nothing}
-use Rattle.dep_hub.specs.StandsOwing.{behind_at}
+use Rattle.dep_hub.specs.RepresentsOwing.{behind_at}
 use Rattle.dep_hub.proofs.BehindLemmas.{behind_push}
 use Rattle.dep_hub.specs.Claims.{is_any_pending, is_any_waiting}
 use Rattle.dep_hub.proofs.PendingLemmas.{pending_push, waiting_push}

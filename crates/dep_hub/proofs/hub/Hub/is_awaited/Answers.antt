@@ -1,5 +1,5 @@
 use Rattle.std.proofs.Common.{sym, ◌∙◌}
-use Rattle.dep_hub.specs.StandsOwing.{behind_at}
+use Rattle.dep_hub.specs.RepresentsOwing.{behind_at}
 use Rattle.dep_hub.proofs.PendingLemmas.{none_awaited}
 use Rattle.dep_hub.proofs.hub.Hub.is_awaited.Goals as goal
 

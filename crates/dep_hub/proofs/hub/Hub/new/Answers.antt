@@ -2,7 +2,7 @@ use Rattle.std.proofs.Common.{sym, ap, subst, List, [], arith}
 use Rattle.dep_hub.specs.Numbers.{Ascends}
 use Rattle.dep_types.specs.declared.config.Config.{Config}
 use Rattle.dep_hub.specs.Records.{Line, Run, begins, first_world}
-use Rattle.dep_hub.specs.Standing.{IsKeptAs, intake_of}
+use Rattle.dep_hub.specs.Representing.{IsKeptAs, intake_of}
 use Rattle.dep_hub.specs.declared.connections.Connection.{Connection}
 use Rattle.dep_hub.specs.Claims.{is_any_pending, is_any_waiting}
 use Rattle.dep_hub.proofs.hub.Hub.new.Goals as goal
@@ -14,8 +14,8 @@ pub returns-in_default-clause-refused : goal.returns-in_default-clause-refused
 returns-in_default-clause-refused g c = λ e. cc
 
 -- no connection is there yet
-pub returns-clause-stands : goal.returns-clause-stands
-returns-clause-stands g c = λ first e. record {
+pub returns-clause-represents : goal.returns-clause-represents
+returns-clause-represents g c = λ first e. record {
   world = first_world first;
   run = begins;
   at = record {

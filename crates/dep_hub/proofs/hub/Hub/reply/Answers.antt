@@ -3,7 +3,7 @@ use Rattle.std.proofs.KnownBytes.{Appends-nil, Keeps-refl}
 use Rattle.dep_hub.specs.Numbers.{index_of}
 use Rattle.dep_hub.specs.Owing.{IsOwed}
 use Rattle.dep_hub.specs.Preparing.{is_preparing}
-use Rattle.dep_hub.specs.StandsOwing.{is_looked_at, is_unsent}
+use Rattle.dep_hub.specs.RepresentsOwing.{is_looked_at, is_unsent}
 use Rattle.dep_hub.specs.declared.rest.Behind.{Behind}
 use Rattle.dep_hub.proofs.ConnectionLemmas.{index_none}
 use Rattle.dep_hub.proofs.HubLemmas.{same_hub, none_there}
@@ -26,7 +26,7 @@ returns-in_default-clause-replies g c =
         same = same_hub c.args.self.now _ _ _;
         sends_nothing = Keeps-refl (g.O.Outlet.taken c.args.out.now);
       };
-      owes = λ honest s stands. subst (λ (b : Behind). IsOwed s b []) (sym empty) refl;
+      owes = λ honest s represents. subst (λ (b : Behind). IsOwed s b []) (sym empty) refl;
       paid = ap is_unsent empty;
       prepared = ap is_preparing empty;
       let_go = ap is_looked_at empty;

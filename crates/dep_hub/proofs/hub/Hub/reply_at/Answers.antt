@@ -4,7 +4,7 @@ use Rattle.std.proofs.lemmas.Bool.{eq-eqb}
 use Rattle.dep_message.specs.Places.{Reading}
 use Rattle.dep_hub.specs.Owing.{IsOwed, with_more, bytes_later}
 use Rattle.dep_hub.specs.Claims.{is_any_pending, is_any_waiting, is_waiting}
-use Rattle.dep_hub.specs.StandsOwing.{IsFree, KeptBack, behind_at, is_looked_at, is_unsent}
+use Rattle.dep_hub.specs.RepresentsOwing.{IsFree, KeptBack, behind_at, is_looked_at, is_unsent}
 use Rattle.dep_hub.specs.Preparing.{is_preparing}
 use Rattle.dep_hub.specs.declared.connections.Connection.{Connection}
 use Rattle.dep_hub.specs.declared.rest.Behind.{Behind}
@@ -127,10 +127,10 @@ returns-clause-replies g c =
           index c.index_mut-kept.ensures.value refl refl (g.met.A.Archive.settled c.take_next-next.new.store)
           (g.O.Outlet.taken c.args.out.now) (with_more (g.O.Outlet.taken c.take_next-next.new.out) y.0) (g.O.Outlet.failures c.args.out.now) (g.O.Outlet.failures c.take_next-next.new.out)
           c.args.moment y.3.keeps.limit y.3.keeps.dead c.take_next-next.result y.3.answers;
-      owes = λ honest s stands.
+      owes = λ honest s represents.
           owed_at s n items _ b behinds (bytes_later y.0)
           (subst (λ (later : Behind). IsOwed s later (bytes_later y.0)) (sym c.behind_of-behind.ensures)
-          (owed_later store c.take_next-next.new.contents.rest y.0 y.1 honest s stands));
+          (owed_later store c.take_next-next.new.contents.rest y.0 y.1 honest s represents));
       paid = ap is_unsent (behind_some n c.args.i items x index c.index.ensures) ∙ (c.kept_back.ensures.free c.in_default.is).0.0;
       prepared = ap is_preparing (behind_some n c.args.i items x index c.index.ensures) ∙ (c.kept_back.ensures.free c.in_default.is).0.1;
       let_go = ap is_looked_at here ∙ not_looked c.take_next-next.new.contents.rest;

@@ -3,7 +3,7 @@ use Rattle.dep_hub.specs.Numbers.{index_of}
 use Rattle.dep_hub.specs.Owing.{IsOwed}
 use Rattle.dep_hub.specs.Claims.{is_any_pending, is_content, is_pending, is_waiting}
 use Rattle.dep_hub.proofs.PendingLemmas.{pending_set, waiting_set}
-use Rattle.dep_hub.specs.StandsOwing.{behind_at}
+use Rattle.dep_hub.specs.RepresentsOwing.{behind_at}
 use Rattle.dep_hub.specs.declared.rest.Behind.{Behind}
 use Rattle.dep_hub.specs.declared.rest.Behind.TheVariants.{Nothing, Content, Broken}
 use Rattle.dep_hub.specs.declared.sent_on.SentOn.TheVariants.{Part, All, Broken as BrokenOff}

@@ -9,15 +9,15 @@ use Rattle.dep_message.proofs.intake.Intake.feed.Goals as goal
 
 pub returns-in-Live-clause-err : goal.returns-in-Live-clause-err
 returns-in-Live-clause-err c =
-    let work = c.self.inside.work in
+    let unparsed = c.self.inside.unparsed in
     let piece = c.args.piece.now in
     let some : 0 < length piece = grind (arith, nat_tests, c.is_empty.ensures, c.if-not-is_empty.true) in
     on_err_weaker c.feed.result
     (λ keeps.
-    let still = stands_still work c.feed.new.self c.self.inside.standing c.args.self.now c.in-Live.is c.self.view_is keeps in (
+    let still = stands_still unparsed c.feed.new.self c.self.inside.standing c.args.self.now c.in-Live.is c.self.view_is keeps in (
       still.0,
       subst (λ (p : Place). HasBytes (place_with p piece)) still.1
-          (has_bytes work.continued (kept_bytes work ++ piece) (omega (arith, length-append (kept_bytes work) piece))),
+          (has_bytes unparsed.continued (kept_bytes unparsed ++ piece) (omega (arith, length-append (kept_bytes unparsed) piece))),
     ))
     c.feed.ensures.err
 

@@ -8,8 +8,8 @@ use Rattle.dep_message.proofs.intake.Intake.next.Goals as goal
 
 pub returns-in_err-next : goal.returns-in_err-next
 returns-in_err-next c =
-    let work = c.self.inside.work in
+    let unparsed = c.self.inside.unparsed in
     let wants = c.in_err-next.ensures in
-    let still = stands_still work c.next.new.self c.self.inside.standing c.args.self.now c.in-Live.is c.self.view_is wants.0 in
+    let still = stands_still unparsed c.next.new.self c.self.inside.standing c.args.self.now c.in-Live.is c.self.view_is wants.0 in
     let err = err_from_is_err_and c.from_residual.result c.from_residual.ensures.1 in
-    rw (err.1) (still.0, subst HasBytes still.1 (head_bytes work.continued _ wants.1), subst HasFirstHead still.1 wants.1)
+    rw (err.1) (still.0, subst HasBytes still.1 (head_bytes unparsed.continued _ wants.1), subst HasFirstHead still.1 wants.1)

@@ -3,7 +3,7 @@ use Rattle.std.proofs.lemmas.Str.{IsUtf8-from_is_utf8}
 use Rattle.std.specs.Str.{is_utf8}
 use Rattle.dep_types.specs.Names.{is_good_name}
 use Rattle.dep_params.proofs.Runs.{and_both, not_both}
-use Rattle.dep_params.proofs.ToldNames.{same_name}
+use Rattle.dep_params.proofs.ReportedNames.{same_name}
 use Rattle.dep_params.proofs.disposition.Disposition.file_name.Goals as goal
 
 utf8_of : (name : List ℕ) → is_good_name name ≡ true → is_utf8 name ≡ true
@@ -11,14 +11,14 @@ utf8_of name good = (and_both _ _ (and_both _ _ (and_both _ _ (and_both _ _ good
 
 pub returns-then-not-is_good_name-clause-unnamed : goal.returns-then-not-is_good_name-clause-unnamed
 returns-then-not-is_good_name-clause-unnamed c = λ h name is.
-    let told = c.in_ok-name.name.items in
-    let same : name ≡ told = same_name c.args.self.now name told is.told c.in_ok-name.ensures.told in
+    let reported = c.in_ok-name.name.items in
+    let same : name ≡ reported = same_name c.args.self.now name reported is.reported c.in_ok-name.ensures.reported in
     let good : is_good_name c.deref.result.now ≡ true = ap (λ (n : List ℕ). is_good_name n) (c.deref.ensures.value ∙ sym same) ∙ is.good in
     not_both _ (c.is_good_name.ensures ∙ good) c.if-not-is_good_name.true
 
 pub returns-clause-unnamed : goal.returns-clause-unnamed
 returns-clause-unnamed c = λ h name is.
-    let told = c.in_ok-name.name.items in
-    let good : is_good_name told ≡ true = ap (λ (n : List ℕ). is_good_name n) (sym c.deref.ensures.value) ∙ sym c.is_good_name.ensures ∙ c.if-not-is_good_name.false in
-    let ok = c.in-Err.ensures.succeeds (IsUtf8-from_is_utf8 told (utf8_of told good)) in
+    let reported = c.in_ok-name.name.items in
+    let good : is_good_name reported ≡ true = ap (λ (n : List ℕ). is_good_name n) (sym c.deref.ensures.value) ∙ sym c.is_good_name.ensures ∙ c.if-not-is_good_name.false in
+    let ok = c.in-Err.ensures.succeeds (IsUtf8-from_is_utf8 reported (utf8_of reported good)) in
     cc ok

@@ -45,7 +45,7 @@ returns-clause-does g c =
     let done : Result Performed StoreFault = Ok c.in_ok-performed.performed in
     subst (λ (h : Held _). MakesStep (shown_by old runs) (shown_by (state g.S.Store h) later) (λ s. AreFit op.fields) (λ s. operation_step config s op) done) (sym c.note.ensures.store)
     (tries_hashed old (state g.S.Store c.perform.new.self) runs later _ (λ s. AreFit op.fields) (λ s p. IsReady (operation_step config s op) p) (λ s. (operation_step config s op).state) done
-    (λ s fit are. (fit, are)) (λ is_open s stands are. c.note.ensures.running s (c.in_ok-performed.ensures.running is_open s stands are))
+    (λ s fit are. (fit, are)) (λ is_open s represents are. c.note.ensures.running s (c.in_ok-performed.ensures.running is_open s represents are))
     (λ s are. are_running_still s (operation_step config s op).state later (step_keeps_segments config s op) are)
     c.in_ok-performed.ensures.does)
 

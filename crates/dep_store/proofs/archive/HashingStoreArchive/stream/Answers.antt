@@ -6,13 +6,13 @@ use Rattle.dep_store.proofs.archive.HashingStoreArchive.stream.Goals as goal
 pub returns-clause-streams : goal.returns-clause-streams
 returns-clause-streams g c =
     let sent = c.stream.ensures.streams in
-    (sent.0, sent.1, λ clean s keeps. sent.2 clean s keeps.stands)
+    (sent.0, sent.1, λ clean s keeps. sent.2 clean s keeps.represents)
 
 pub returns-clause-does : goal.returns-clause-does
 returns-clause-does g c =
     let runs = c.args.self.now.running in
     tries_hashed (state g.S.Store c.args.self.now.store) (state g.S.Store c.stream.new.self) runs runs Always Always (λ s answer. Unit {0}) (λ s. s) c.stream.result
-    (λ s its are. tt) (λ is_open s stands are. are) (λ s are. are) c.stream.ensures.does
+    (λ s its are. tt) (λ is_open s represents are. are) (λ s are. are) c.stream.ensures.does
 
 pub returns-clause-shut : goal.returns-clause-shut
 returns-clause-shut g c =

@@ -11,7 +11,7 @@ returns-clause-does g c =
     let runs = c.args.self.now.running in
     let config = c.args.config.now in
     tries_hashed (state g.S.Store c.args.self.now.store) (state g.S.Store c.tick.new.self) runs runs Always Always (λ s clock. clock ≡ (tick config s c.args.moment).clock)
-    (λ s. tick config s c.args.moment) c.tick.result (λ s its are. tt) (λ is_open s stands are. are)
+    (λ s. tick config s c.args.moment) c.tick.result (λ s its are. tt) (λ is_open s represents are. are)
     (λ s are. are_running_still s (tick config s c.args.moment) runs (tick_keeps_segments config s c.args.moment) are) c.tick.ensures.does
 
 pub returns-clause-shut : goal.returns-clause-shut

@@ -20,7 +20,7 @@ returns-then-count-clause-rests g c =
     let result = c.copy_log-copied.result in
     keeps_either (shown_by old runs) (shown_by new runs) result
     (clean_if_open (g.S.Store.view store.store) (g.met.S.Store.shut_if_dirty store.store))
-    (tries_hashed old new runs runs Always Always (λ s answer. Unit {0}) (λ s. s) result (λ s its are. tt) (λ is_open s stands are. are) (λ s are. are) c.copy_log-copied.ensures.does)
+    (tries_hashed old new runs runs Always Always (λ s answer. Unit {0}) (λ s. s) result (λ s its are. tt) (λ is_open s represents are. are) (λ s are. are) c.copy_log-copied.ensures.does)
     (shut_hashed old new runs runs result c.copy_log-copied.ensures.shut)
 
 -- nothing is hashed in this call
@@ -29,7 +29,7 @@ returns-then-is_left-clause-rests g c =
     let runs = c.args.self.now.running in
     let store = c.args.self.now.store in
     keeps_itself (shown_by (state g.S.Store store) runs)
-    (λ s keeps. leaves_as_was _ s (λ trees h. g.met.S.Store.settled store.store trees keeps.stands.stands.is_open h) keeps.stands)
+    (λ s keeps. leaves_as_was _ s (λ trees h. g.met.S.Store.settled store.store trees keeps.represents.represents.is_open h) keeps.represents)
 
 pub returns-clause-rests : goal.returns-clause-rests
 returns-clause-rests g c =
@@ -39,7 +39,7 @@ returns-clause-rests g c =
     let new = state g.S.Store c.hash.new.self.store in
     let later = c.hash.new.self.running in
     keeps_each (shown_by old runs) (shown_by new later)
-    (λ s keeps. leaves_as_was _ s (λ trees h. g.met.S.Store.settled store.store trees keeps.stands.stands.is_open h) keeps.stands)
+    (λ s keeps. leaves_as_was _ s (λ trees h. g.met.S.Store.settled store.store trees keeps.represents.represents.is_open h) keeps.represents)
     (keeps_hashed old new runs later c.hash.ensures.hashes.running c.hash.ensures.hashes.rests)
 
 -- ---- what was due

@@ -1,7 +1,7 @@
 use Rattle.sqlite.specs.Held.{state}
 use Rattle.sqlite.proofs.StateLemmas.{clean_if_open}
 use Rattle.dep_schema.proofs.Transacting.{kept_alone}
-use Rattle.dep_store.proofs.Sources.{stands_still}
+use Rattle.dep_store.proofs.Sources.{represents_still}
 use Rattle.dep_store.proofs.source.StoreBagSource.stream.Goals as goal
 
 pub returns-clause-kept : goal.returns-clause-kept
@@ -10,5 +10,5 @@ returns-clause-kept g c clean s given = kept_alone _ _ _ (c.stream.ensures.does.
 pub returns-clause-still : goal.returns-clause-still
 returns-clause-still g c =
     let new = c.stream.new.self in
-    stands_still (state g.S.Store c.args.self.now) (state g.S.Store new) _ c.stream.result
+    represents_still (state g.S.Store c.args.self.now) (state g.S.Store new) _ c.stream.result
     (clean_if_open (g.S.Store.view new.store) (g.met.S.Store.shut_if_dirty new.store)) c.stream.ensures.does

@@ -2,11 +2,11 @@ use Rattle.sqlite.specs.Held.{state}
 use Rattle.sqlite.proofs.StateLemmas.{clean_if_open}
 use Rattle.dep_files.specs.Fixity.{IsAudited}
 use Rattle.dep_store.specs.Shut.{FailsIfShut}
-use Rattle.dep_store.specs.Staying.{TellsTables}
-use Rattle.dep_store.proofs.Carrying.{ok_told}
+use Rattle.dep_store.specs.Staying.{ReportsTables}
+use Rattle.dep_store.proofs.Carrying.{ok_reported}
 use Rattle.dep_store.proofs.Migrated.{tables_kept}
 use Rattle.dep_store.proofs.ShutLemmas.{leaves_no_more}
-use Rattle.dep_store.proofs.Remembered.{forgotten}
+use Rattle.dep_store.proofs.Cache.{forgotten}
 use Rattle.dep_tables.proofs.Results.{ok_then}
 use Rattle.dep_schema.proofs.Transacting.{left_still}
 use Rattle.dep_store.proofs.store.Store.audit.Goals as goal
@@ -20,8 +20,8 @@ returns g c =
     let result = c.audit_files.result in
     let reads = c.audit_files.ensures.reads in
     let clean_now = clean_if_open (g.S.Store.view last.store) (g.met.S.Store.shut_if_dirty last.store) in
-    let does : TellsTables old new (λ t. IsAudited t c.args.object) result = record {
-      ok = λ clean t at. ok_told old new result (λ t. IsAudited t c.args.object) t at (reads.same clean) (c.audit_files.ensures.audits clean at.ours);
+    let does : ReportsTables old new (λ t. IsAudited t c.args.object) result = record {
+      ok = λ clean t at. ok_reported old new result (λ t. IsAudited t c.args.object) t at (reads.same clean) (c.audit_files.ensures.audits clean at.ours);
       still = λ is_open t at. tables_kept old new t at is_open (reads.stays.kept (clean_now is_open));
       honest = reads.stays.honest;
       was_open = λ is_open. reads.stays.was_open (clean_now is_open) is_open;

@@ -1,7 +1,7 @@
 use Rattle.std.proofs.Common.{IsTrue, rules}
 use Rattle.sqlite.specs.Held.{state}
-use Rattle.dep_store.proofs.Begun.{begins_if_found, begins_not, busy_begins, remembered_still}
-use Rattle.dep_store.proofs.Remembered.{forgotten}
+use Rattle.dep_store.proofs.Begun.{begins_if_found, begins_not, busy_begins, cached_still}
+use Rattle.dep_store.proofs.Cache.{forgotten}
 use Rattle.dep_store.proofs.ShutLemmas.{under_way}
 use Rattle.dep_store.proofs.store.Store.begin.Goals as goal
 
@@ -32,4 +32,4 @@ invariant_of-self g c = forgotten (state g.S.Store c.find_size.new.connection)
 pub invariant_of-self-2 : goal.invariant_of-self-2
 invariant_of-self-2 g c =
     let did = c.in_ok-find_size.ensures.finds in
-    remembered_still (state g.S.Store c.self.inside.connection) (state g.S.Store c.find_size.new.connection) _ _ did.restored.back (search rules) did.opened c.self.invariant
+    cached_still (state g.S.Store c.self.inside.connection) (state g.S.Store c.find_size.new.connection) _ _ did.restored.back (search rules) did.opened c.self.invariant

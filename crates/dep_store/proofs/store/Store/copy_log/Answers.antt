@@ -6,7 +6,7 @@ use Rattle.dep_store.specs.Copying.{CopiesLog}
 use Rattle.dep_store.proofs.Copied.{copies, copies_open}
 use Rattle.dep_store.proofs.ShutLemmas.{fails_still, under_way}
 use Rattle.dep_store.proofs.Tries.{busy_tries, busy_transacts, busy_fails}
-use Rattle.dep_store.proofs.Remembered.{forgotten}
+use Rattle.dep_store.proofs.Cache.{forgotten}
 use Rattle.dep_store.proofs.store.Store.copy_log.Goals as goal
 
 pub returns-in_err-check_open : goal.returns-in_err-check_open

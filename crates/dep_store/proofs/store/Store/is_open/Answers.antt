@@ -3,7 +3,7 @@ use Rattle.sqlite.specs.State.{HasCleanDisk}
 use Rattle.sqlite.specs.Held.{Held, state}
 use Rattle.dep_hub.specs.Archives.{KeepsAll}
 use Rattle.dep_store.specs.Archive.{shown_by}
-use Rattle.dep_store.specs.Shut.{FailsToTell}
+use Rattle.dep_store.specs.Shut.{FailsToReport}
 use Rattle.dep_store.specs.Staying.{LeavesOnly}
 use Rattle.dep_store.proofs.ShutLemmas.{under_way}
 use Rattle.dep_store.proofs.Tries.{keeps_back, keeps_same, leaves_only}
@@ -12,21 +12,21 @@ use Rattle.dep_store.proofs.store.Store.is_open.Goals as goal
 pub returns-in-Some : goal.returns-in-Some
 returns-in-Some g c =
     let known = c.self.invariant.1 c.in-Some.field-0 c.in-Some.is in
-    record { told = rw c.self.view_is at known; cause = λ clean. tt; rests = keeps_same (state g.S.Store c.args.self.now); left = λ clean trees h. h }
+    record { reported = rw c.self.view_is at known; cause = λ clean. tt; rests = keeps_same (state g.S.Store c.args.self.now); left = λ clean trees h. h }
 
 pub returns-then-not-is_autocommit : goal.returns-then-not-is_autocommit
 returns-then-not-is_autocommit g c =
     let busy = under_way c.self.inside.connection.in_transaction c.if-not-is_autocommit.ensures.value in
-    record { told = tt; cause = λ clean. inl (rw c.self.view_is at busy, refl); rests = keeps_same (state g.S.Store c.args.self.now); left = λ clean trees h. h }
+    record { reported = tt; cause = λ clean. inl (rw c.self.view_is at busy, refl); rests = keeps_same (state g.S.Store c.args.self.now); left = λ clean trees h. h }
 
 pub returns-else-not-is_autocommit : goal.returns-else-not-is_autocommit
 returns-else-not-is_autocommit g c =
     let old = state g.S.Store c.self.inside.connection in
-    let new = state g.S.Store c.tell_open.new.connection in
-    let asked = c.tell_open.ensures in
+    let new = state g.S.Store c.report_open.new.connection in
+    let asked = c.report_open.ensures in
     record {
-      told = asked.told;
-      cause = subst (λ (h : Held _). HasCleanDisk new → IfErr c.tell_open.result (FailsToTell (state g.S.Store h) new)) c.self.view_is asked.cause;
+      reported = asked.reported;
+      cause = subst (λ (h : Held _). HasCleanDisk new → IfErr c.report_open.result (FailsToReport (state g.S.Store h) new)) c.self.view_is asked.cause;
       rests = subst (λ (h : Held _). KeepsAll (shown_by (state g.S.Store h)) (shown_by new)) c.self.view_is (keeps_back old new asked.restored);
       left = subst (λ (h : Held _). LeavesOnly (state g.S.Store h) new) c.self.view_is (leaves_only old new asked.restored.survives);
     }

@@ -7,10 +7,10 @@ use Rattle.dep_tables.specs.Schema.{our_schema, older_schema}
 use Rattle.dep_tables.specs.Versions.{our_version, HasVersion}
 use Rattle.dep_store.proofs.Opened.{opened_stood, first_means, leaves_migrated, leaves_opened, is_openable, stood_back}
 use Rattle.dep_schema.proofs.Version.{not_older}
-use Rattle.dep_store.proofs.Older.{never_unknown, one_left, tells_older, known_since, back_since, had_free, not_upgraded}
+use Rattle.dep_store.proofs.Older.{never_unknown, one_left, reports_older, known_since, back_since, had_free, not_upgraded}
 use Rattle.dep_schema.specs.OpenFaults.{begun, ShowsOrMakes}
-use Rattle.dep_schema.specs.Standing.{Stands, first_tables}
-use Rattle.dep_files.proofs.Told.{passed_on}
+use Rattle.dep_schema.specs.OpenTables.{StaysFile, first_tables}
+use Rattle.dep_files.proofs.Reported.{passed_on}
 use Rattle.dep_store.proofs.store.Store.open.Goals as goal
 
 pub returns-then-version-eq2 : goal.returns-then-version-eq2
@@ -21,16 +21,16 @@ returns-then-version-eq2 g c =
     let did = c.in_ok-schema.ensures in
     let two : c.in_ok-schema.schema.found ≡ our_version = omega (arith, c.if-version-eq2.true, c.version-version.ensures) in
     rw c.over.ensures record {
-      fresh = λ clean none. record { tables = first_tables; stands = (did.fresh clean none).0; means = first_means };
+      fresh = λ clean none. record { tables = first_tables; represents = (did.fresh clean none).0; means = first_means };
       found = λ clean s left. elim (opened_stood old new c.in_ok-schema.schema.found s (did.found clean) left) [
         | inl it ↦ it.1
         | inr it ↦ absurd (not_older (sym two ∙ it.0))
       ];
-      tables = λ clean t holds. subst (λ (n : ℕ). HasVersion n t × Stands new t) two (did.found clean our_schema (inl refl) t holds);
+      tables = λ clean t holds. subst (λ (n : ℕ). HasVersion n t × StaysFile new t) two (did.found clean our_schema (inl refl) t holds);
       older = λ clean t holds.
           let it = did.found clean older_schema (inr refl) t holds in
           inr (subst (λ (n : ℕ). HasVersion n t) two it.0, it.1);
-      told = λ clean. inl (subst (ShowsOrMakes g.S.Store (begun first)) two (did.told clean));
+      reported = λ clean. inl (subst (ShowsOrMakes g.S.Store (begun first)) two (did.reported clean));
       refused = tt;
       known = tt;
       left = tt;
@@ -67,10 +67,10 @@ returns-in-Ok g c =
       older = λ clean t holds.
           let its = did.found (it.honest clean) older_schema (inr refl) t holds in
           inl (subst (λ (n : ℕ). HasVersion n t) one its.0, it.ok clean t its.1);
-      told = λ clean.
+      reported = λ clean.
           let before = it.honest clean in
           let still = did.still before one in
-          inr (tells_older g.S.Store first found one (did.told before), had_free g.S.Store first opened still (moved.free clean still.is_open));
+          inr (reports_older g.S.Store first found one (did.reported before), had_free g.S.Store first opened still (moved.free clean still.is_open));
       refused = tt;
       known = tt;
       left = tt;
@@ -101,11 +101,11 @@ returns-in-Err g c =
       found = tt;
       tables = tt;
       older = tt;
-      told = λ clean.
+      reported = λ clean.
           let before = it.honest clean in
           let still = did.still before one in
           inr (
-            tells_older g.S.Store first found one (did.told before),
+            reports_older g.S.Store first found one (did.reported before),
             opened,
             still,
             c.in-Err.fault,
@@ -120,7 +120,7 @@ returns-in-Err g c =
           let between = c.is_autocommit-between.ensures.settled (search rules) still.was_open in
           record {
             known = λ known. back_since old mid new between still (moved.left is_open (still.now ∙ sym still.committed) (known_since old mid still known));
-            other = λ none. absurd (none (tells_older g.S.Store first found one (did.told before)));
+            other = λ none. absurd (none (reports_older g.S.Store first found one (did.reported before)));
           };
       stood = λ is_open s left. elim (opened_stood old mid found s (did.found (it.honest (shut is_open))) left) [
         | inl newest ↦ absurd (not_older (sym newest.0 ∙ one))
@@ -146,7 +146,7 @@ returns-in_err-schema g c =
       found = tt;
       tables = tt;
       older = tt;
-      told = λ clean. inl (refused.told clean);
+      reported = λ clean. inl (refused.reported clean);
       refused = refused.version;
       known = λ clean is_open s left said. refused.version clean said (is_openable old c.schema-schema.ensures.live is_open s left);
       left = λ is_open. let back = refused.left (shut is_open) is_open in record { known = λ known. back; other = λ none. back };

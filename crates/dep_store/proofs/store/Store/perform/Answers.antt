@@ -12,15 +12,15 @@ use Rattle.std.proofs.Common.{IsTrue, ◌≡◌, ◌∙◌, Option, Some, false,
 use Rattle.std.specs.Prelude.{IfSome}
 use Rattle.sqlite.proofs.StateLemmas.{clean_if_open}
 use Rattle.dep_answers.specs.declared.performed.StoredFile.{StoredFile}
-use Rattle.dep_store.specs.Remembering.{IsOfSize}
+use Rattle.dep_store.specs.Caching.{IsOfSize}
 use Rattle.std.proofs.lemmas.Result.{IfOk-from_err}
 use Rattle.dep_requests.specs.declared.performing.Done.{Done}
 use Rattle.dep_schema.specs.Transactions.{OverStates, Transacts, IsGivenBack}
 use Rattle.dep_schema.proofs.Transacting.{stood_before}
 use Rattle.dep_schema.proofs.Transacting.{unmoved}
-use Rattle.dep_requests.specs.declared.remembering.Remembered.{Remembered}
-use Rattle.dep_requests.proofs.Recalling.{known_still}
-use Rattle.dep_store.proofs.Remembered.{forgotten, service_made}
+use Rattle.dep_requests.specs.declared.caching.Cache.{Cache}
+use Rattle.dep_requests.proofs.CacheLemmas.{known_still}
+use Rattle.dep_store.proofs.Cache.{forgotten, service_made}
 use Rattle.dep_store.proofs.Tries.{back_as_was, busy_tries, busy_fails, tries_over}
 use Rattle.dep_store.specs.Shut.{FailsIfShut}
 use Rattle.dep_store.proofs.ShutLemmas.{under_way, was_open_then}
@@ -44,18 +44,18 @@ returns-in-Some g c =
     let d = state g.S.Store c.self.inside.connection in
     let config = c.args.service.now in
     let op = c.args.operation.now in
-    let told = c.recalled.ensures.told c.in-Some.it c.in-Some.is in
+    let reported = c.cached.ensures.reported c.in-Some.it c.in-Some.is in
     let result = c.show_service.result in
     let still : Transacts d d result (Made config op) = unmoved d result (Made config op) (λ is_open trees h. g.met.S.Store.settled c.self.inside.connection.store trees is_open h)
-    (λ t stands. service_made d t config op c.in-Some.it result stands (c.self.invariant.0 c.in-Some.it told.0) c.show_service.ensures) in
-    let was_open = c.self.invariant.1 c.in-Some.it told.0 in
+    (λ t represents. service_made d t config op c.in-Some.it result represents (c.self.invariant.0 c.in-Some.it reported.0) c.show_service.ensures) in
+    let was_open = c.self.invariant.1 c.in-Some.it reported.0 in
     let between : d.in_transaction ≡ false = search rules in
     let back : IsGivenBack d d = back_as_was d was_open between in
     let shut : FailsIfShut d d result = was_open_then d d _ was_open in
     record {
       does = tries_over _ _ result (Made config op) _ (ready config op) (next config op) (λ s its t p after made means. made its.0 s means) (rw c.self.view_is at still);
       unchanged = λ clean s given running nothing. if_ok result (rw c.self.view_is at back);
-      running = λ is_open s stands are. are;
+      running = λ is_open s represents are. are;
       shut = rw c.self.view_is at shut;
     }
 
@@ -96,8 +96,8 @@ returns g c =
     record {
       does = record { ok = did.ok; err = λ is_open s at. tt; honest = did.honest; was_open = did.was_open; stop = did.stop };
       unchanged = λ clean s given running nothing.
-          let stands = rw (← c.self.view_is) at given in
-          subst (λ h. IsGivenBack (state g.S.Store h) (state g.S.Store c.perform_if_open.new.connection)) c.self.view_is (done.back ((done.changes clean s stands running).1 nothing));
+          let represents = rw (← c.self.view_is) at given in
+          subst (λ h. IsGivenBack (state g.S.Store h) (state g.S.Store c.perform_if_open.new.connection)) c.self.view_is (done.back ((done.changes clean s represents running).1 nothing));
       running = rw c.self.view_is at done.hashed;
       shut = record { opened = shut.opened; left = shut.left };
     }
@@ -106,24 +106,24 @@ pub returns-then-not-is_autocommit : goal.returns-then-not-is_autocommit
 returns-then-not-is_autocommit g c =
     let d = state g.S.Store c.args.self.now in
     let busy : IsTrue d.in_transaction = rw c.self.view_is at (under_way c.self.inside.connection.in_transaction c.if-not-is_autocommit.ensures.value) in
-    record { does = busy_tries d busy; unchanged = λ clean s given running nothing. tt; running = λ is_open s stands are. are; shut = busy_fails d busy }
+    record { does = busy_tries d busy; unchanged = λ clean s given running nothing. tt; running = λ is_open s represents are. are; shut = busy_fails d busy }
 
 pub invariant_of-self : goal.invariant_of-self
 invariant_of-self g c = forgotten (state g.S.Store c.perform_if_open.new.connection)
 
 pub invariant_of-self-2 : goal.invariant_of-self-2
 invariant_of-self-2 g c =
-    let known = λ (m : Remembered) (is : c.still_known-self-inside.result ≡ Some m). known_still c.in_ok-done.done.has_changes c.self.inside.remembered m (sym c.still_known-self-inside.ensures ∙ is) in (
-      λ m is s stands.
-          c.self.invariant.0 m (known m is).0 s (stood_before (state g.S.Store c.self.inside.connection) (state g.S.Store c.perform_if_open.new.connection) (c.in_ok-done.ensures.back (known m is).1).back (search rules) s stands),
+    let known = λ (m : Cache) (is : c.still_known-self-inside.result ≡ Some m). known_still c.in_ok-done.done.has_changes c.self.inside.cache m (sym c.still_known-self-inside.ensures ∙ is) in (
+      λ m is s represents.
+          c.self.invariant.0 m (known m is).0 s (stood_before (state g.S.Store c.self.inside.connection) (state g.S.Store c.perform_if_open.new.connection) (c.in_ok-done.ensures.back (known m is).1).back (search rules) s represents),
       λ m is clean. (c.in_ok-done.ensures.back (known m is).1).opened clean,
       λ it is.
-          let shown = c.file_shown-self-inside.ensures.told it is in
+          let shown = c.file_shown-self-inside.ensures.reported it is in
           let given = c.in_ok-done.ensures.back shown.1 in
           let store = c.perform_if_open.new.connection.store in (
-            λ s stands.
-                let clean = clean_if_open (g.S.Store.view store) (g.met.S.Store.shut_if_dirty store) stands.stands.is_open in
-                let was = stood_before (state g.S.Store c.self.inside.connection) (state g.S.Store c.perform_if_open.new.connection) given.back (search rules) s stands in
+            λ s represents.
+                let clean = clean_if_open (g.S.Store.view store) (g.met.S.Store.shut_if_dirty store) represents.represents.is_open in
+                let was = stood_before (state g.S.Store c.self.inside.connection) (state g.S.Store c.perform_if_open.new.connection) given.back (search rules) s represents in
                 subst (λ (o : Option StoredFile). IfSome o (IsOfSize s)) shown.2 (c.in_ok-done.ensures.shows shown.0 clean s was),
             λ clean. given.opened clean,
           ),

@@ -4,9 +4,9 @@ use Rattle.dep_schema.proofs.Transacting.{leaves_as_was}
 use Rattle.dep_store.proofs.store.Store.settled.Goals as goal
 
 pub returns-clause-left : goal.returns-clause-left
-returns-clause-left g c s stands =
+returns-clause-left g c s represents =
     let store = c.args.self.now.store in
-    leaves_as_was (state g.S.Store c.args.self.now) s (λ trees h. g.met.S.Store.settled store trees stands.stands.is_open h) stands
+    leaves_as_was (state g.S.Store c.args.self.now) s (λ trees h. g.met.S.Store.settled store trees represents.represents.is_open h) represents
 
 pub returns-clause-clean : goal.returns-clause-clean
 returns-clause-clean g c is_open =

@@ -2,18 +2,18 @@ use Rattle.std.proofs.Common.{IsTrue, rules}
 use Rattle.std.proofs.lemmas.Result.{err_from_is_err_and}
 use Rattle.sqlite.specs.Held.{state}
 use Rattle.dep_schema.proofs.Transacting.{stood_before}
-use Rattle.dep_requests.proofs.Recalling.{none_is}
-use Rattle.dep_store.proofs.Remembered.{forgotten}
+use Rattle.dep_requests.proofs.CacheLemmas.{none_is}
+use Rattle.dep_store.proofs.Cache.{forgotten}
 use Rattle.dep_store.proofs.ShutLemmas.{under_way}
 use Rattle.dep_store.proofs.Tries.{busy_sends}
 use Rattle.dep_store.proofs.store.Store.stream.Goals as goal
 
--- what was remembered is so still, since all is as it was
+-- what was cached is so still, since all is as it was
 pub invariant_of-self-2 : goal.invariant_of-self-2
 invariant_of-self-2 g c = (
-  λ m is s stands.
+  λ m is s represents.
       c.self.invariant.0 m is s
-      (stood_before (state g.S.Store c.self.inside.connection) (state g.S.Store c.stream_known.new.connection) c.in_ok-stream_known.ensures.sends.stays.back (search rules) s stands),
+      (stood_before (state g.S.Store c.self.inside.connection) (state g.S.Store c.stream_known.new.connection) c.in_ok-stream_known.ensures.sends.stays.back (search rules) s represents),
   λ m is clean. c.in_ok-stream_known.ensures.sends.stays.opened clean,
   λ it is. absurd (none_is is),
 )
@@ -29,8 +29,8 @@ returns-then-not-is_autocommit g c =
 
 pub returns-in_err-stream_known : goal.returns-in_err-stream_known
 returns-in_err-stream_known g c =
-    let told = err_from_is_err_and c.from_residual.result c.from_residual.ensures.1 in
-    rw (told.1, told.2) (rw c.self.view_is at c.in_err-stream_known.ensures.sends)
+    let reported = err_from_is_err_and c.from_residual.result c.from_residual.ensures.1 in
+    rw (reported.1, reported.2) (rw c.self.view_is at c.in_err-stream_known.ensures.sends)
 
 pub returns : goal.returns
 returns g c = rw c.self.view_is at c.in_ok-stream_known.ensures.sends

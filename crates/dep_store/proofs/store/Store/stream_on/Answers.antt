@@ -1,16 +1,16 @@
 use Rattle.std.proofs.Common.{IsTrue, rules}
 use Rattle.std.proofs.lemmas.Result.{err_from_is_err_and}
 use Rattle.sqlite.specs.Held.{state}
-use Rattle.dep_store.proofs.Begun.{busy_sends_on, remembered_still}
-use Rattle.dep_store.proofs.Remembered.{forgotten}
+use Rattle.dep_store.proofs.Begun.{busy_sends_on, cached_still}
+use Rattle.dep_store.proofs.Cache.{forgotten}
 use Rattle.dep_store.proofs.ShutLemmas.{under_way}
 use Rattle.dep_store.proofs.store.Store.stream_on.Goals as goal
 
--- what was remembered is so still, since all is as it was
+-- what was cached is so still, since all is as it was
 pub invariant_of-self-2 : goal.invariant_of-self-2
 invariant_of-self-2 g c =
     let did = c.in_ok-next.ensures.sends.stays in
-    remembered_still (state g.S.Store c.self.inside.connection) (state g.S.Store c.send_on.new.connection) _ _ did.back (search rules) did.opened c.self.invariant
+    cached_still (state g.S.Store c.self.inside.connection) (state g.S.Store c.send_on.new.connection) _ _ did.back (search rules) did.opened c.self.invariant
 
 pub send_on-requires-clause-there : goal.send_on-requires-clause-there
 send_on-requires-clause-there g c = c.self.invariant.2
@@ -23,8 +23,8 @@ returns-then-not-is_autocommit g c =
 
 pub returns-in_err-next : goal.returns-in_err-next
 returns-in_err-next g c =
-    let told = err_from_is_err_and c.from_residual.result c.from_residual.ensures.1 in
-    rw (told.1, told.2) (rw c.self.view_is at c.in_err-next.ensures.sends)
+    let reported = err_from_is_err_and c.from_residual.result c.from_residual.ensures.1 in
+    rw (reported.1, reported.2) (rw c.self.view_is at c.in_err-next.ensures.sends)
 
 pub returns : goal.returns
 returns g c = rw c.self.view_is at c.in_ok-next.ensures.sends

@@ -6,23 +6,23 @@ use Rattle.dep_types.specs.declared.store_fault.StoreFault.{StoreFault}
 use Rattle.dep_schema.specs.Transactions.{Transacts}
 use Rattle.dep_schema.proofs.Transacting.{unmoved, after_back, fails_back}
 use Rattle.dep_store.specs.Shut.{FailsIfShut}
-use Rattle.dep_requests.proofs.Recalling.{none_is}
-use Rattle.dep_store.proofs.Remembered.{clock_made, forgotten}
+use Rattle.dep_requests.proofs.CacheLemmas.{none_is}
+use Rattle.dep_store.proofs.Cache.{clock_made, forgotten}
 use Rattle.dep_store.proofs.ShutLemmas.{under_way, fails_still, was_open_then}
 use Rattle.dep_store.proofs.Tries.{busy_tries, busy_fails, Clocked, ticks_over}
 use Rattle.dep_store.proofs.store.Store.tick.Goals as goal
 
-abbrev told : ℕ → Result ℕ StoreFault
-told clock = Ok clock
+abbrev reported : ℕ → Result ℕ StoreFault
+reported clock = Ok clock
 
 pub returns-in-Some : goal.returns-in-Some
 returns-in-Some g c =
     let d = state g.S.Store c.self.inside.connection in
     let config = c.args.config.now in
-    let its = c.clock_still.ensures.told c.in-Some.clock c.in-Some.is in
-    let shown = told c.new-shown.result in
+    let its = c.clock_still.ensures.reported c.in-Some.clock c.in-Some.is in
+    let shown = reported c.new-shown.result in
     let still : Transacts d d shown (Clocked config c.secs-secs.result) = unmoved d _ _ (λ is_open trees h. g.met.S.Store.settled c.self.inside.connection.store trees is_open h)
-    (λ t stands. clock_made d t config c.secs-secs.result its.0 c.new-shown.result stands (λ s at. (c.self.invariant.0 its.0 its.1 s at, its.3, sym its.4))
+    (λ t represents. clock_made d t config c.secs-secs.result its.0 c.new-shown.result represents (λ s at. (c.self.invariant.0 its.0 its.1 s at, its.3, sym its.4))
     (c.new-shown.ensures ∙ ap (λ (n : ℕ). min n greatest_moment) its.2)) in
     let shut : FailsIfShut d d shown = was_open_then d d _ (c.self.invariant.1 its.0 its.1) in
     record {
@@ -52,11 +52,11 @@ returns-in-Some-found g c =
     let config = c.args.config.now in
     let looked = c.in_ok-found.ensures in
     let restored = looked.finds.restored in
-    let shown = told c.new-told.result in
+    let shown = reported c.new-reported.result in
     let moved : Transacts old mid shown (Clocked config c.secs-secs.result) = after_back old mid mid _ _ (λ is_open trees h. g.met.S.Store.settled c.self.inside.connection.store trees is_open h)
     (clean_if_open (g.S.Store.view store) (g.met.S.Store.shut_if_dirty store)) restored.back restored.survives looked.finds.opened
     (unmoved mid _ _ (λ is_open trees h. g.met.S.Store.settled store trees is_open h)
-    (λ t stands. clock_made mid t config c.secs-secs.result c.in-Some-found.it c.new-told.result stands (λ s at. looked.recalls s at c.in-Some-found.it c.in-Some-found.is) c.new-told.ensures)) in
+    (λ t represents. clock_made mid t config c.secs-secs.result c.in-Some-found.it c.new-reported.result represents (λ s at. looked.is_cache s at c.in-Some-found.it c.in-Some-found.is) c.new-reported.ensures)) in
     let shut : FailsIfShut old mid shown = was_open_then old mid _ (λ clean. (restored.back (looked.finds.opened clean)).0) in
     record {
       does = ticks_over _ _ _ config _ _ c.secs-secs.ensures.seconds (rw c.self.view_is at moved);
@@ -79,9 +79,9 @@ returns-in-None g c =
       shut = rw c.self.view_is at shut;
     }
 
--- what was read is remembered
+-- what was read is cached
 pub invariant_of-self-in-Some-found : goal.invariant_of-self-in-Some-found
-invariant_of-self-in-Some-found g c = (λ m is s stands. (c.in_ok-found.ensures.recalls s stands m (c.in-Some-found.is ∙ is)).0, λ m is clean. c.in_ok-found.ensures.finds.opened clean, λ it is. absurd (none_is is))
+invariant_of-self-in-Some-found g c = (λ m is s represents. (c.in_ok-found.ensures.is_cache s represents m (c.in-Some-found.is ∙ is)).0, λ m is clean. c.in_ok-found.ensures.finds.opened clean, λ it is. absurd (none_is is))
 
 pub returns-then-not-is_autocommit : goal.returns-then-not-is_autocommit
 returns-then-not-is_autocommit g c =

@@ -11,8 +11,8 @@ returns-in_err-moved g c = record {
 
 pub returns : goal.returns
 returns g c =
-    let told = c.in_ok-moved.ensures.does in
+    let reported = c.in_ok-moved.ensures.does in
     record {
-      made = ticks (g.T.Statements.state c.args.tx.now) (g.T.Statements.state c.tick.new.tx) c.args.self.now.config.now c.args.self.now.moment c.in_ok-moved.moved c.new-clock.result c.new-clock.ensures told.done told.keeps.ours;
-      stays = stays_ok told.keeps.stays;
+      made = ticks (g.T.Statements.state c.args.tx.now) (g.T.Statements.state c.tick.new.tx) c.args.self.now.config.now c.args.self.now.moment c.in_ok-moved.moved c.new-clock.result c.new-clock.ensures reported.done reported.keeps.ours;
+      stays = stays_ok reported.keeps.stays;
     }

@@ -9,5 +9,5 @@ returns-in_err-number_at-clause-refused c = passed_on _ c.from_residual.result c
 pub returns-in_err-number_at-2-clause-refused : goal.returns-in_err-number_at-2-clause-refused
 returns-in_err-number_at-2-clause-refused c = passed_on _ c.from_residual-in_err-number_at-2.result c.from_residual-in_err-number_at-2.ensures.0 c.in_err-number_at-2.ensures.refused (kind_at place_kinds c.args.row.now 1 (omega arith))
 
-pub returns-clause-told : goal.returns-clause-told
-returns-clause-told c = next_column c.in_ok-number_at.ensures.told (next_column c.in_ok-number_at-2.ensures.told refl)
+pub returns-clause-reported : goal.returns-clause-reported
+returns-clause-reported c = next_column c.in_ok-number_at.ensures.reported (next_column c.in_ok-number_at-2.ensures.reported refl)

@@ -33,5 +33,5 @@ returns-in_err-flag_at-clause-refused c = passed_on _ c.from_residual-in_err-fla
 pub returns-in_err-digest_at-clause-refused : goal.returns-in_err-digest_at-clause-refused
 returns-in_err-digest_at-clause-refused c = passed_on _ c.from_residual-in_err-digest_at.result c.from_residual-in_err-digest_at.ensures.0 c.in_err-digest_at.ensures.refused (kind_at file_kinds c.args.row.now 9 (omega arith))
 
-pub returns-clause-told : goal.returns-clause-told
-returns-clause-told c = next_column c.in_ok-number_at.ensures.told (next_column c.in_ok-number_at-2.ensures.told (next_column c.in_ok-text_at.ensures.told (next_column c.in_ok-text_at-2.ensures.told (next_column c.in_ok-number_at-3.ensures.told (next_column c.in_ok-number_at-4.ensures.told (next_column c.in_ok-number_at-5.ensures.told (next_column c.in_ok-text_or_null_at.ensures.told (next_column c.in_ok-flag_at.ensures.told (next_column c.in_ok-digest_at.ensures.told refl)))))))))
+pub returns-clause-reported : goal.returns-clause-reported
+returns-clause-reported c = next_column c.in_ok-number_at.ensures.reported (next_column c.in_ok-number_at-2.ensures.reported (next_column c.in_ok-text_at.ensures.reported (next_column c.in_ok-text_at-2.ensures.reported (next_column c.in_ok-number_at-3.ensures.reported (next_column c.in_ok-number_at-4.ensures.reported (next_column c.in_ok-number_at-5.ensures.reported (next_column c.in_ok-text_or_null_at.ensures.reported (next_column c.in_ok-flag_at.ensures.reported (next_column c.in_ok-digest_at.ensures.reported refl)))))))))

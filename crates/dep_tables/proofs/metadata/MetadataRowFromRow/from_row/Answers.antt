@@ -15,5 +15,5 @@ returns-in_err-number_at-2-clause-refused c = passed_on _ c.from_residual-in_err
 pub returns-in_err-text_at-2-clause-refused : goal.returns-in_err-text_at-2-clause-refused
 returns-in_err-text_at-2-clause-refused c = copied_on c.from_residual-in_err-text_at-2.result c.in_err-text_at-2.field-0.0 c.from_residual-in_err-text_at-2.ensures.1 c.in_err-text_at-2.ensures.refused (kind_at metadata_kinds c.args.row.now 3 (omega arith))
 
-pub returns-clause-told : goal.returns-clause-told
-returns-clause-told c = next_column c.in_ok-number_at.ensures.told (next_column c.in_ok-text_at.ensures.told (next_column c.in_ok-number_at-2.ensures.told (next_column c.in_ok-text_at-2.ensures.told refl)))
+pub returns-clause-reported : goal.returns-clause-reported
+returns-clause-reported c = next_column c.in_ok-number_at.ensures.reported (next_column c.in_ok-text_at.ensures.reported (next_column c.in_ok-number_at-2.ensures.reported (next_column c.in_ok-text_at-2.ensures.reported refl)))

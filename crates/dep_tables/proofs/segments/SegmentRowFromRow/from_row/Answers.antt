@@ -12,5 +12,5 @@ returns-in_err-number_at-2-clause-refused c = passed_on _ c.from_residual-in_err
 pub returns-in_err-number_at-3-clause-refused : goal.returns-in_err-number_at-3-clause-refused
 returns-in_err-number_at-3-clause-refused c = passed_on _ c.from_residual-in_err-number_at-3.result c.from_residual-in_err-number_at-3.ensures.0 c.in_err-number_at-3.ensures.refused (kind_at segment_kinds c.args.row.now 2 (omega arith))
 
-pub returns-clause-told : goal.returns-clause-told
-returns-clause-told c = next_column c.in_ok-number_at.ensures.told (next_column c.in_ok-number_at-2.ensures.told (next_column c.in_ok-number_at-3.ensures.told refl))
+pub returns-clause-reported : goal.returns-clause-reported
+returns-clause-reported c = next_column c.in_ok-number_at.ensures.reported (next_column c.in_ok-number_at-2.ensures.reported (next_column c.in_ok-number_at-3.ensures.reported refl))

@@ -21,5 +21,5 @@ returns-in_err-digest_or_null_at-clause-refused c = passed_on _ c.from_residual-
 pub returns-in_err-number_at-5-clause-refused : goal.returns-in_err-number_at-5-clause-refused
 returns-in_err-number_at-5-clause-refused c = passed_on _ c.from_residual-in_err-number_at-5.result c.from_residual-in_err-number_at-5.ensures.0 c.in_err-number_at-5.ensures.refused (kind_at upload_kinds c.args.row.now 5 (omega arith))
 
-pub returns-clause-told : goal.returns-clause-told
-returns-clause-told c = next_column c.in_ok-number_at.ensures.told (next_column c.in_ok-number_at-2.ensures.told (next_column c.in_ok-number_at-3.ensures.told (next_column c.in_ok-number_at-4.ensures.told (next_column c.in_ok-digest_or_null_at.ensures.told (next_column c.in_ok-number_at-5.ensures.told refl)))))
+pub returns-clause-reported : goal.returns-clause-reported
+returns-clause-reported c = next_column c.in_ok-number_at.ensures.reported (next_column c.in_ok-number_at-2.ensures.reported (next_column c.in_ok-number_at-3.ensures.reported (next_column c.in_ok-number_at-4.ensures.reported (next_column c.in_ok-digest_or_null_at.ensures.reported (next_column c.in_ok-number_at-5.ensures.reported refl)))))

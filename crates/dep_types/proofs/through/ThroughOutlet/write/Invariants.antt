@@ -2,7 +2,7 @@ use Rattle.std.proofs.Common.{◌≡◌, List, ◌++◌, ℕ, length}
 use Rattle.std.specs.Io.KnownBytes.{Appends}
 use Rattle.dep_types.proofs.through.ThroughOutlet.write.Given as goal
 
--- the writer took the front of the bytes, and no write failed
+-- the writer took the prefix of the bytes, and no write failed
 abbrev pub invariant-loop-rest : goal.invariant-loop-rest
 invariant-loop-rest g l =
     ((front : List ℕ) × (l.bytes ≡ front ++ l.rest)

@@ -1,5 +1,0 @@
-use Rattle.dep_bag.proofs.Numbered.{payload_numbered}
-use Rattle.dep_bag.proofs.laws.payload_path_tells_its_number.Goals as goal
-
-pub returns : goal.returns
-returns c = payload_numbered

@@ -1,0 +1,7 @@
+use Rattle.std.proofs.Common.{ap, ◌∙◌}
+use Rattle.dep_host.specs.Hosting.{slot_at}
+use Rattle.dep_host.proofs.HostLemmas.{none_more}
+use Rattle.dep_host.proofs.host.empty_slots.Goals as goal
+
+pub loop-preserved : goal.loop-preserved
+loop-preserved g c = λ at. ap (λ l. slot_at at l) c.in_default.ensures.items ∙ none_more _ c.loop.invariant at

@@ -1,5 +1,0 @@
-use Rattle.dep_host.proofs.ShutLemmas.{steps_outgoing}
-use Rattle.dep_host.proofs.laws.told_hosts_take_nothing.Goals as goal
-
-pub returns : goal.returns
-returns g c = λ p q deeds since told steps. steps_outgoing g.A.Archive.condition g.R.Source.unread g.K.Sink.taken g.S.Spool.held since steps told

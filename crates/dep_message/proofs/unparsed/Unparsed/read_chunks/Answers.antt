@@ -1,0 +1,71 @@
+use Rattle.std.proofs.Common.{List, ℕ, ◌∙◌, ◌++◌, sym, ap, subst, refl}
+use Rattle.dep_message.specs.Stream.{IsRequestText}
+use Rattle.dep_message.specs.Working.{Keeps, ReadsChunks}
+use Rattle.dep_message.specs.declared.progress.Progress.TheVariants.{Chunked}
+use Rattle.dep_message.specs.declared.unparsed.Unparsed.{Unparsed}
+use Rattle.dep_message.proofs.Chunks.{used_bytes, part_now, waits_on, chunks_text, chunks_whole, faulty_now, reads_on}
+use Rattle.dep_message.proofs.Keeping.{keeps_chunked, keeps_found, keeps_request, keeps_used}
+use Rattle.dep_message.proofs.unparsed.Unparsed.read_chunks.Goals as goal
+
+pub returns-in-Err : goal.returns-in-Err
+returns-in-Err c =
+    let w = c.args.self.now in
+    let r = c.args.request in
+    let on : ReadsChunks w.limit w.continued (record r { reader = c.feed.new.self }) = rw c.in-Err.ensures.err c.requires.known in (
+      subst (λ (new : Unparsed). Keeps w.limit w.continued (r.used.items ++ w.buffer) new) (sym c.keep_place.ensures) (keeps_chunked w _ on),
+      used_bytes w.limit w.continued r w.buffer c.requires.known,
+    )
+
+pub returns-in-Ok-More : goal.returns-in-Ok-More
+returns-in-Ok-More c =
+    let w = c.args.self.now in
+    let r = c.args.request in
+    let piece = c.as_slice-bytes.result.now in
+    let reads = c.requires.known in
+    let fed = c.in-Ok-More.ensures in
+    let same = c.as_slice-bytes.ensures in
+    let reported = rw c.in-Ok-More.field-0-is at (fed.reported reads.fed reads.has_fed) in
+    let part = part_now w.limit w.continued r piece w.buffer reads same c.feed.new.self.limit c.feed.new.self.content (fed.limit ∙ reads.limit_is) reported in
+    let on = reads_on w.limit w.continued r piece c.feed.new.self c.and-request.result reads c.and-request.ensures fed.limit (fed.fed reads.fed reads.has_fed) part in
+    let all = c.and-request.ensures ∙ ap (λ l. r.used.items ++ l) same in
+    let new_is = c.keep_place-in-Ok-More.ensures ∙ ap (λ (b : List ℕ). record w { buffer = b; progress = Chunked (record r { reader = c.feed.new.self; used = c.and-request.result }) }) c.clear.ensures in (
+      subst (λ (new : Unparsed). Keeps w.limit w.continued (r.used.items ++ w.buffer) new) (sym new_is) (keeps_used w _ (r.used.items ++ w.buffer) on all),
+      rw (ap (λ w. w.progress) new_is) (waits_on w.limit w.continued r piece w.buffer reads same c.feed.new.self.limit c.feed.new.self.content (fed.limit ∙ reads.limit_is) reported),
+    )
+
+pub returns-in-Ok-Done : goal.returns-in-Ok-Done
+returns-in-Ok-Done c =
+    let w = c.args.self.now in
+    let r = c.args.request in
+    let piece = c.as_slice-bytes.result.now in
+    let count = c.in-Ok-Done.count in
+    let reads = c.requires.known in
+    let fed = c.in-Ok-Done.ensures in
+    let same = c.as_slice-bytes.ensures in
+    let read = c.feed.new.self in
+    let used = c.and-used.result in
+    let reported = rw c.in-Ok-Done.field-0-is at (fed.reported reads.fed reads.has_fed) in
+    keeps_request w c.keep_whole.new.self (r.used.items ++ w.buffer) used count _ c.keep_whole.ensures
+    (chunks_whole w.limit w.continued r piece w.buffer reads same read.limit read.content (fed.limit ∙ reads.limit_is) count used c.and-used.ensures)
+    (subst (λ (l : List ℕ). IsRequestText w.limit w.continued used.items (record { head = r.head; content = l })) (sym c.content.ensures)
+    (chunks_text w.limit w.continued r piece w.buffer reads same read.limit read.content (fed.limit ∙ reads.limit_is) count used reported c.and-used.ensures))
+
+pub returns-in-Ok-Bad : goal.returns-in-Ok-Bad
+returns-in-Ok-Bad c =
+    let w = c.args.self.now in
+    let r = c.args.request in
+    let reads = c.requires.known in
+    let fed = c.in-Ok-Bad.ensures in
+    let reported = rw c.in-Ok-Bad.field-0-is at (fed.reported reads.fed reads.has_fed) in
+    keeps_found w c.keep_found.new.self (r.used.items ++ w.buffer) _ r.used c.keep_found.ensures refl
+    (rw c.fault_of.ensures (faulty_now w.limit w.continued r c.as_slice-bytes.result.now w.buffer reads c.as_slice-bytes.ensures c.feed.new.self.limit c.feed.new.self.content (fed.limit ∙ reads.limit_is) _ reported))
+
+pub returns-in-Ok-TooLarge : goal.returns-in-Ok-TooLarge
+returns-in-Ok-TooLarge c =
+    let w = c.args.self.now in
+    let r = c.args.request in
+    let reads = c.requires.known in
+    let fed = c.in-Ok-TooLarge.ensures in
+    let reported = rw c.in-Ok-TooLarge.field-0-is at (fed.reported reads.fed reads.has_fed) in
+    keeps_found w c.keep_found-in-Ok-TooLarge.new.self (r.used.items ++ w.buffer) _ r.used c.keep_found-in-Ok-TooLarge.ensures refl
+    (rw c.fault_of-in-Ok-TooLarge.ensures (faulty_now w.limit w.continued r c.as_slice-bytes.result.now w.buffer reads c.as_slice-bytes.ensures c.feed.new.self.limit c.feed.new.self.content (fed.limit ∙ reads.limit_is) _ reported))

@@ -1,7 +1,0 @@
-use Rattle.std.proofs.lemmas.Result.{err_from_is_err_and}
-use Rattle.dep_message.proofs.work.Work.next.Goals as goal
-
-pub returns-in_err-read_on : goal.returns-in_err-read_on
-returns-in_err-read_on c =
-    let err = err_from_is_err_and c.from_residual.result c.from_residual.ensures.1 in
-    rw (err.1) c.in_err-read_on.ensures

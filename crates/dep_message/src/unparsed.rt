@@ -1,0 +1,376 @@
+//! The bytes of a connection that no item has used, and what is known of them.
+ghost use Rattle.std.specs.Prelude.{◌≡◌, ◌≤◌, [], ◌++◌, Some, false, length, drop, IfOk, OnOk, OnErr, MatchResult};
+ghost use Rattle.dep_message.specs.Giving.{BeginsWithHead};
+ghost use Rattle.dep_message.specs.Heads.{is_head_only};
+ghost use Rattle.dep_message.specs.Places.{Open};
+ghost use Rattle.dep_message.specs.Showing.{ShowsNext};
+ghost use Rattle.dep_message.specs.Stream.{refusal_of};
+ghost use Rattle.dep_message.specs.Working.{HasLeft, FindsHead, IsAtHead, IsFound, IsReadOn, Keeps, Finds, FindsNext, ReadsOn, IsSearched, IsWorking, ReportsFirst, first_of, kept_bytes};
+ghost use Rattle.dep_message.specs.declared.progress.Progress.TheVariants.{Searched, Sized, Chunked};
+
+use crate::buffer::Buffer;
+use crate::first::{FirstHead, FramedHead, SearchedBytes, first_head, refusal_for};
+use crate::heads::{is_hashed_early, is_without_body};
+use crate::message::Message;
+use crate::preview::Preview;
+use crate::progress::{ChunkedRequest, FirstItem, Found, Progress, SizedRequest};
+use crate::question::Question;
+use crate::used::UsedBytes;
+use dep_body::{ChunkReader, Fed, FrameFault, Framing};
+use dep_fixity::HashedOctets;
+use dep_head::Head;
+use std::alloc::{AllocError, Global};
+use std::mem;
+
+/// The bytes of a connection that no item has used, and how far the first request of them was read.
+#[derive(Drop)]
+pub(crate) struct Unparsed {
+    pub alloc: Global,
+    pub limit: u64,
+    /// The client of the first request was sent `100 Continue`.
+    pub continued: bool,
+    pub buffer: Buffer,
+    pub progress: Progress,
+}
+
+impl Unparsed {
+    /// Nothing has come. A content may have at most `limit` bytes. It takes no memory.
+    pub fn new(alloc: Global, limit: u64) -> Unparsed
+        ensures { Keeps limit false [] result }
+    {
+        Unparsed {
+            alloc,
+            limit,
+            continued: false,
+            buffer: Buffer::new(alloc),
+            progress: Progress::Searched(0),
+        }
+    }
+
+    /// Takes the next piece of the stream. An `Err` changes nothing.
+    pub fn feed(&mut self, piece: &[u8]) -> Result<(), AllocError>
+        requires { IsWorking self.old }
+        ensures ok { OnOk result
+            (Keeps self.old.limit self.old.continued (kept_bytes self.old ++ piece.now) self.new) }
+        ensures err { OnErr result
+            (Keeps self.old.limit self.old.continued (kept_bytes self.old) self.new) }
+    {
+        match &mut self.progress {
+            Progress::Sized(request) => request.append(piece),
+            _ => self.buffer.append(piece),
+        }
+    }
+
+    /// Takes the first item, where one is complete. An `Err` changes nothing.
+    pub fn next(&mut self) -> Result<Option<Found>, AllocError>
+        requires { IsWorking self.old }
+        ensures { FindsNext self.old (kept_bytes self.old) self.new result }
+    {
+        self.read_on()?;
+        Ok(self.take())
+    }
+
+    /// Shows the first request, where it has come whole, and takes nothing. It returns whether one was shown.
+    pub fn preview<P: Preview>(&mut self, by: &mut P) -> Result<bool, AllocError>
+        requires { IsWorking self.old }
+        ensures keeps { Keeps self.old.limit self.old.continued (kept_bytes self.old) self.new }
+        ensures shows { MatchResult result
+            (ShowsNext P.sees by.old by.new self.old.limit
+            (Open self.old.continued (kept_bytes self.old)))
+            (λ _. BeginsWithHead (kept_bytes self.old) × (by.new ≡ by.old)) }
+    {
+        self.read_on()?;
+        match &mut self.progress {
+            Progress::First(first) => Ok(first.show(by)),
+            _ => Ok(false),
+        }
+    }
+
+    // Takes the first item, where one was found.
+    fn take(&mut self) -> Option<Found>
+        requires known { IsWorking self.old }
+        requires read { IsReadOn self.old }
+        ensures { Finds self.old.limit self.old.continued (kept_bytes self.old) self.new result }
+    {
+        match mem::replace(&mut self.progress, Progress::Searched(0)) {
+            Progress::First(first) => {
+                self.continued = matches!(first.item, Found::Continue);
+                Some(first.item)
+            }
+            other => {
+                self.keep_place(other);
+                None
+            }
+        }
+    }
+
+    // Reads the first item as far as its bytes have come. An `Err` changes nothing.
+    fn read_on(&mut self) -> Result<(), AllocError>
+        requires { IsWorking self.old }
+        ensures { ReadsOn self.old (kept_bytes self.old) self.new result }
+    {
+        match mem::replace(&mut self.progress, Progress::Searched(0)) {
+            Progress::Searched(searched) => self.search(searched),
+            Progress::Sized(request) => self.read_sized(request),
+            Progress::Chunked(request) => self.read_chunks(request),
+            Progress::First(first) => {
+                self.keep_place(Progress::First(first));
+                Ok(())
+            }
+        }
+    }
+
+    /// What is answered for the head of the first request, where that may be complete.
+    pub fn ask_next<Q: Question>(&self, question: &Q) -> Result<Option<Q::Answer>, AllocError>
+        requires { IsWorking self.now }
+        ensures { ReportsFirst (Q.answer question.now) self.now (kept_bytes self.now) result }
+    {
+        match &self.progress {
+            Progress::Searched(searched) => self.ask_searched(*searched, question),
+            Progress::Sized(request) => {
+                if request.behind.as_slice().len() < request.length {
+                    return Ok(None);
+                }
+                reported_of(&request.head, question)
+            }
+            Progress::Chunked(request) => reported_of(&request.head, question),
+            Progress::First(first) => self.ask_found(first, question),
+        }
+    }
+
+    // The same where this was found.
+    fn ask_found<Q: Question>(
+        &self,
+        first: &FirstItem,
+        question: &Q,
+    ) -> Result<Option<Q::Answer>, AllocError>
+        requires { IsFound self.now.limit self.now.continued self.now.buffer first.now }
+        ensures { ReportsFirst (Q.answer question.now) self.now
+            (first.now.used.items ++ self.now.buffer) result }
+    {
+        match &first.item {
+            Found::Message(message) => reported_of(&message.head, question),
+            Found::Continue => Ok(None),
+            Found::Fault(_, _) => Ok(None),
+        }
+    }
+
+    // The same where no head ends in so many bytes.
+    fn ask_searched<Q: Question>(
+        &self,
+        searched: usize,
+        question: &Q,
+    ) -> Result<Option<Q::Answer>, AllocError>
+        requires { IsSearched searched self.now.buffer }
+        ensures { ReportsFirst (Q.answer question.now) self.now self.now.buffer result }
+    {
+        let bytes = self.buffer.as_slice();
+        let front = SearchedBytes { bytes, searched };
+        match first_head(self.alloc, self.limit, self.continued, front)? {
+            FirstHead::Head(first) => self.ask_framed(first, question),
+            FirstHead::Continue => Ok(None),
+            FirstHead::Fault(_, _) => Ok(None),
+            FirstHead::Nothing => Ok(None),
+        }
+    }
+
+    // The same where this head stands first.
+    fn ask_framed<Q: Question>(
+        &self,
+        first: FramedHead,
+        question: &Q,
+    ) -> Result<Option<Q::Answer>, AllocError>
+        requires { FindsHead self.now.limit self.now.continued self.now.buffer
+            (FirstHead.Head first) }
+        ensures { ReportsFirst (Q.answer question.now) self.now self.now.buffer result }
+    {
+        let come = self.buffer.as_slice().len() - first.length;
+        if let Framing::Length(length) = first.framing {
+            if come < length as usize {
+                drop(first);
+                return Ok(None);
+            }
+        }
+        let reported = reported_of(&first.head, question);
+        drop(first);
+        reported
+    }
+
+    // Reads on where no head ends in so many bytes.
+    fn search(&mut self, searched: usize) -> Result<(), AllocError>
+        requires { HasLeft self.old (Searched searched) }
+        ensures { ReadsOn self.old self.old.buffer self.new result }
+    {
+        let bytes = self.buffer.as_slice();
+        let front = SearchedBytes { bytes, searched };
+        match first_head(self.alloc, self.limit, self.continued, front)? {
+            FirstHead::Nothing => {
+                let searched = bytes.len();
+                self.keep_place(Progress::Searched(searched));
+                Ok(())
+            }
+            FirstHead::Fault(refusal, head_only) => {
+                self.keep_found(Found::Fault(refusal, head_only), UsedBytes::new());
+                Ok(())
+            }
+            FirstHead::Continue => {
+                self.keep_found(Found::Continue, UsedBytes::new());
+                Ok(())
+            }
+            FirstHead::Head(first) => self.begin(first),
+        }
+    }
+
+    // Reads the body behind the first head.
+    fn begin(&mut self, first: FramedHead) -> Result<(), AllocError>
+        requires { IsAtHead self.old first.length first.head first.framing }
+        ensures { ReadsOn self.old self.old.buffer self.new result }
+    {
+        match first.framing {
+            Framing::Empty => {
+                let used = UsedBytes::new().and(&self.buffer.as_slice()[..first.length]);
+                let octets = HashedOctets::from_vec(Vec::new(self.alloc));
+                self.keep_whole(used, first.length, first.head, octets);
+                Ok(())
+            }
+            Framing::Length(length) => self.begin_sized(first.head, first.length, length as usize),
+            Framing::Chunked => self.begin_chunks(first.head, first.length),
+        }
+    }
+
+    fn begin_sized(&mut self, head: Head, head_length: usize, size: usize) -> Result<(), AllocError>
+        requires { IsAtHead self.old head_length head (Framing.Length size) }
+        ensures { ReadsOn self.old self.old.buffer self.new result }
+    {
+        let behind = &self.buffer.as_slice()[head_length..];
+        let come = behind.len().min(size);
+        let content = Vec::from_slice(self.alloc, &behind[..come])?;
+        let octets = HashedOctets::from_vec(content);
+        if come == size {
+            let used = UsedBytes::new().and(&self.buffer.as_slice()[..head_length + size]);
+            self.keep_whole(used, head_length + size, head, octets);
+            return Ok(());
+        }
+        self.buffer.truncate(head_length);
+        self.keep_place(Progress::Sized(SizedRequest {
+            is_hashed: is_hashed_early(&head),
+            head,
+            length: size,
+            behind: octets,
+        }));
+        Ok(())
+    }
+
+    fn begin_chunks(&mut self, head: Head, head_length: usize) -> Result<(), AllocError>
+        requires { IsAtHead self.old head_length head Framing.Chunked }
+        ensures { ReadsOn self.old self.old.buffer self.new result }
+    {
+        let used = UsedBytes::new().and(&self.buffer.as_slice()[..head_length]);
+        self.buffer.drop_front(head_length);
+        let is_hashed = is_hashed_early(&head);
+        self.read_chunks(ChunkedRequest {
+            head,
+            used,
+            reader: ChunkReader::new(self.alloc, self.limit, is_hashed),
+        })
+    }
+
+    // Reads on where the bytes are a head, and those behind it stand apart.
+    fn read_sized(&mut self, mut request: SizedRequest) -> Result<(), AllocError>
+        requires { HasLeft self.old (Sized request) }
+        ensures { ReadsOn self.old (self.old.buffer ++ request.behind) self.new result }
+    {
+        if request.behind.as_slice().len() < request.length {
+            self.keep_place(Progress::Sized(request));
+            return Ok(());
+        }
+        let head = self.buffer.as_slice();
+        let head_length = head.len();
+        let (body, rest) = request.behind.as_slice().split_at(request.length);
+        let used = UsedBytes::new().and(head).and(body);
+        match self.buffer.append(rest) {
+            Err(error) => {
+                self.keep_place(Progress::Sized(request));
+                Err(error)
+            }
+            Ok(()) => {
+                request.behind.truncate(request.length);
+                self.keep_whole(used, head_length, request.head, request.behind);
+                Ok(())
+            }
+        }
+    }
+
+    // Reads on where the first request comes in chunks: the reader is fed the buffer, which is dropped then.
+    fn read_chunks(&mut self, mut request: ChunkedRequest) -> Result<(), AllocError>
+        requires { HasLeft self.old (Chunked request) }
+        ensures { ReadsOn self.old (request.used.items ++ self.old.buffer) self.new result }
+    {
+        let bytes = self.buffer.as_slice();
+        match request.reader.feed(bytes) {
+            Err(error) => {
+                self.keep_place(Progress::Chunked(request));
+                Err(error)
+            }
+            Ok(Fed::More) => {
+                request.used = request.used.and(bytes);
+                self.buffer.clear();
+                self.keep_place(Progress::Chunked(request));
+                Ok(())
+            }
+            Ok(Fed::Done(count)) => {
+                let used = request.used.and(&bytes[..count]);
+                self.keep_whole(used, count, request.head, request.reader.content());
+                Ok(())
+            }
+            Ok(Fed::Bad) => {
+                self.keep_found(fault_of(&request.head, FrameFault::Bad), request.used);
+                Ok(())
+            }
+            Ok(Fed::TooLarge) => {
+                self.keep_found(fault_of(&request.head, FrameFault::TooLarge), request.used);
+                Ok(())
+            }
+        }
+    }
+
+    // Keeps a whole request: its bytes, and of these so many are in the buffer, and leave it.
+    fn keep_whole(&mut self, used: UsedBytes, count: usize, head: Head, content: HashedOctets)
+        requires { count ≤ length self.old.buffer }
+        ensures { self.new ≡ record self.old {
+          buffer = drop count self.old.buffer;
+          progress = first_of (Found.Message (record { head = head; content = content })) used;
+        } }
+    {
+        self.buffer.drop_front(count);
+        self.keep_found(Found::Message(Message { head, content }), used);
+    }
+
+    fn keep_found(&mut self, item: Found, used: UsedBytes)
+        ensures { self.new ≡ record self.old { progress = first_of item used } }
+    {
+        self.keep_place(Progress::First(FirstItem { item, used }));
+    }
+
+    fn keep_place(&mut self, progress: Progress)
+        ensures { self.new ≡ record self.old { progress = progress } }
+    {
+        drop(mem::replace(&mut self.progress, progress));
+    }
+}
+
+// What is answered for a head.
+fn reported_of<Q: Question>(head: &Head, question: &Q) -> Result<Option<Q::Answer>, AllocError>
+    ensures { IfOk result (λ reported. reported ≡ Some (Q.answer question.now head.now)) }
+{
+    match question.ask(head) {
+        Ok(reported) => Ok(Some(reported)),
+        Err(AllocError) => Err(AllocError),
+    }
+}
+
+fn fault_of(head: &Head, fault: FrameFault) -> Found
+    ensures { result ≡ Found.Fault (refusal_of fault) (is_head_only head.now) }
+{
+    Found::Fault(refusal_for(fault), is_without_body(head))
+}

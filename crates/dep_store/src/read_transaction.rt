@@ -1,0 +1,177 @@
+//! What is read in a transaction that is given back.
+
+ghost use Rattle.std.specs.Prelude.{◌≡◌, false, Result};
+ghost use Rattle.sqlite.specs.Held.{state};
+ghost use Rattle.dep_types.specs.State.{State};
+ghost use Rattle.dep_staging.specs.HashedAhead.{AreRunning};
+ghost use Rattle.dep_types.specs.declared.store_fault.StoreFault.{StoreFault};
+ghost use Rattle.dep_tables.specs.Clauses.{StaysWithin};
+ghost use Rattle.dep_store.specs.ReadTransactions.{GivesBack, ReportsFrom, ReadsOpen};
+
+use dep_decisions::Operation;
+use dep_files::find_file;
+use dep_requests::hash_for;
+use dep_schema::{Lent, check_open};
+use dep_staging::{RunningHashes, hash_ahead, next_bytes};
+use dep_tables::Statements;
+use dep_types::{Config, FileRow, StoreFault};
+use sqlite::{Alter, Connection};
+use std::alloc::Global;
+use std::mem;
+
+/// What is read in a transaction, whatever runs the statements.
+pub(crate) trait ReadTransaction {
+    /// What is returned of it.
+    type Answer: Drop;
+
+    /// What it tells of a state, by what it was before and after.
+    ghost reported: { Self → Self → Result Self.Answer StoreFault → State → Type 0 };
+
+    /// Reads it.
+    fn read<T: Statements>(&mut self, tx: &mut T) -> Result<Self::Answer, StoreFault>
+        ensures reports { ReportsFrom (T.state tx.old) (T.state tx.new)
+            (reported self.old self.new result) }
+        ensures stays { StaysWithin T.lenders T.state tx.old tx.new result };
+}
+
+/// Reads it in a transaction of its own, which is given back.
+pub(crate) fn read_in_transaction<S: Alter, K: ReadTransaction>(
+    connection: &mut Connection<S>,
+    what: &mut K,
+) -> Result<K::Answer, StoreFault>
+    requires settled { (state S.Store connection.old).in_transaction ≡ false }
+    ensures { GivesBack (state S.Store connection.old) (state S.Store connection.new)
+        (K.reported what.old what.new result) }
+{
+    let _between = connection.is_autocommit();
+    let mut tx = connection.transaction();
+    let answer = what.read(&mut Lent { tx: &mut tx });
+    tx.rollback();
+    answer
+}
+
+/// Reads it so, and looks whether the store is open then: the end of the transaction may have shut it.
+pub(crate) fn read_if_open<S: Alter, K: ReadTransaction>(
+    connection: &mut Connection<S>,
+    what: &mut K,
+) -> Result<K::Answer, StoreFault>
+    requires settled { (state S.Store connection.old).in_transaction ≡ false }
+    ensures { ReadsOpen (state S.Store connection.old) (state S.Store connection.new)
+        (K.reported what.old what.new) result }
+{
+    let answer = read_in_transaction(connection, what)?;
+    check_open(connection)?;
+    Ok(answer)
+}
+
+/// A few blocks of uploads are hashed, before an object is made of them. Returns whether more may be left.
+impl ReadTransaction for RunningHashes {
+    ghost use Rattle.dep_staging.specs.HashedAhead.{AreRunning};
+
+    type Answer = bool;
+
+    ghost reported = { λ before after more s. AreRunning s before → AreRunning s after };
+
+    fn read<T: Statements>(&mut self, tx: &mut T) -> Result<bool, StoreFault> {
+        hash_ahead(tx, self)
+    }
+}
+
+/// A part of the uploads that references in a request name is hashed. Returns whether more may be left.
+#[derive(Drop)]
+struct NamedHashes<'a> {
+    alloc: Global,
+    running: RunningHashes,
+    config: &'a Config,
+    operation: &'a Operation<'a>,
+}
+
+impl ReadTransaction for NamedHashes<'_> {
+    ghost use Rattle.dep_staging.specs.HashedAhead.{AreRunning};
+
+    type Answer = bool;
+
+    ghost reported = { λ before after more s. AreRunning s before.running → AreRunning s after.running };
+
+    fn read<T: Statements>(&mut self, tx: &mut T) -> Result<bool, StoreFault> {
+        hash_for(
+            tx,
+            self.alloc,
+            &mut self.running,
+            self.config,
+            self.operation,
+        )
+    }
+}
+
+/// Hashes a part of the uploads that references in a request name, and returns whether more may be left.
+pub(crate) fn hash_named_by<S: Alter>(
+    connection: &mut Connection<S>,
+    alloc: Global,
+    running: &mut RunningHashes,
+    config: &Config,
+    operation: &Operation<'_>,
+) -> Result<bool, StoreFault>
+    requires settled { (state S.Store connection.old).in_transaction ≡ false }
+    ensures { GivesBack (state S.Store connection.old) (state S.Store connection.new)
+        (λ s. AreRunning s running.old → AreRunning s running.new) }
+{
+    let mut asked = NamedHashes {
+        alloc,
+        running: mem::replace(running, RunningHashes::new(alloc)),
+        config,
+        operation,
+    };
+    let more = read_in_transaction(connection, &mut asked);
+    let NamedHashes {
+        running: hashed,
+        ..
+    } = asked;
+    drop(mem::replace(running, hashed));
+    more
+}
+
+/// The row of a file, if there is one.
+#[derive(Clone, Copy)]
+pub(crate) struct FindFile {
+    pub(crate) object: u64,
+    pub(crate) file: u64,
+}
+
+impl ReadTransaction for FindFile {
+    ghost use Rattle.std.specs.Prelude.{IfOk, option_map};
+    ghost use Rattle.dep_types.specs.Rows.{file_row};
+    ghost use Rattle.dep_types.specs.State.{file_at};
+
+    type Answer = Option<FileRow>;
+
+    ghost reported = { λ before after result s. IfOk result
+        (λ found. found ≡ option_map (file_row before.object before.file)
+        (file_at s before.object before.file)) };
+
+    fn read<T: Statements>(&mut self, tx: &mut T) -> Result<Option<FileRow>, StoreFault> {
+        find_file(tx, self.object, self.file)
+    }
+}
+
+/// The next bytes of the content of a file that is there, behind so many.
+#[derive(Clone, Copy)]
+pub(crate) struct NextBytes {
+    pub(crate) alloc: Global,
+    pub(crate) file: u64,
+    pub(crate) start: u64,
+}
+
+impl ReadTransaction for NextBytes {
+    ghost use Rattle.std.specs.Prelude.{IfOk};
+    ghost use Rattle.dep_staging.specs.NextBytes.{IsNextIn};
+
+    type Answer = Vec<u8>;
+
+    ghost reported = { λ before after result s. IfOk result
+        (λ bytes. IsNextIn s before.file before.start bytes.items) };
+
+    fn read<T: Statements>(&mut self, tx: &mut T) -> Result<Vec<u8>, StoreFault> {
+        next_bytes(tx, self.alloc, self.file, self.start)
+    }
+}
