@@ -4,10 +4,10 @@ use Rattle.std.proofs.lemmas.List.{append-nil}
 use Rattle.std.proofs.lemmas.Bool.{ne_eqb, eq-eqb}
 use Rattle.dep_hub.specs.declared.sent_on.SentOn.{SentOn}
 use Rattle.dep_outbox.specs.Wires.{reported}
-use Rattle.dep_host.specs.declared.slot.Time.{Time}
+use Rattle.dep_slot.specs.declared.slot.Time.{Time}
 use Rattle.dep_host.specs.Hosting.{note_of, closings_of, HostAction, answers_at, pieces_at, sending_at, sendings_at, sendings_in, AreDoneAt}
 use Rattle.std.proofs.lemmas.Grind.{flat_map-append}
-use Rattle.dep_host.specs.Notes.{Note, Grows}
+use Rattle.dep_slot.specs.Notes.{Note, Grows}
 use Rattle.dep_host.proofs.HostLemmas.{grows_on}
 
 pub answers_append : (place : ℕ) (xs ys : List HostAction) → answers_at place (xs ++ ys) ≡ answers_at place xs + answers_at place ys

@@ -7,10 +7,10 @@ use Rattle.dep_hub.specs.Records.{Record}
 use Rattle.dep_hub.specs.Holding.{RepresentsHoldingAfter}
 use Rattle.dep_hub.specs.Representing.{IsClean, ServesAs}
 use Rattle.dep_hub.specs.declared.hub.Hub.{Hub}
-use Rattle.dep_host.specs.declared.slot.Slot.{Slot}
-use Rattle.dep_host.specs.declared.log.Closing.{Closing}
+use Rattle.dep_slot.specs.declared.slot.Slot.{Slot}
+use Rattle.dep_slot.specs.declared.log.Closing.{Closing}
 use Rattle.dep_host.specs.Hosting.{Position, slot_at, HostAction, Opens, Takes, Replies, Sends, Declines, Closes, Step, refused, asks, comes, rests, offers, delays, sends, refuses, answers, leaves, Steps, begins, goes_on, GoesOn}
-use Rattle.dep_host.specs.Slots.{HubStays}
+use Rattle.dep_slot.specs.Slots.{HubStays}
 use Rattle.dep_host.specs.Runs.{KeepsPromise, OwesNone, Promises}
 
 tails : {X : Type 0} (x y : X) (xs ys : List X) → x ∷ xs ≡ y ∷ ys → (x ≡ y) × (xs ≡ ys)

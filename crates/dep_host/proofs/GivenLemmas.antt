@@ -5,8 +5,8 @@ use Rattle.std.proofs.lemmas.Bool.{eq-eqb, ne_eqb}
 use Rattle.std.proofs.KnownBytes.{Keeps-refl}
 use Rattle.std.specs.Io.KnownBytes.{Keeps, Consumes}
 use Rattle.dep_types.specs.Conditions.{Condition}
-use Rattle.dep_host.specs.declared.slot.Slot.{Slot}
-use Rattle.dep_host.specs.ConnectionStates.{is_ended}
+use Rattle.dep_slot.specs.declared.slot.Slot.{Slot}
+use Rattle.dep_slot.specs.ConnectionStates.{is_ended}
 use Rattle.dep_host.specs.Hosting.{Position, slot_at, HostAction, Opens, Takes, Replies, Sends, Declines, Closes, Reports, Step, refused, asks, comes, rests, offers, delays, sends, refuses, answers, leaves, HasTurn, Steps, begins, goes_on}
 use Rattle.dep_host.specs.Runs.{read_by, read_of, given_by, given_of, IsGiven}
 use Rattle.dep_host.proofs.ReadLemmas.{read_append}

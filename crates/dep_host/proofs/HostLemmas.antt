@@ -22,14 +22,14 @@ use Rattle.dep_hub.specs.Shut.{ReportsOpen}
 use Rattle.dep_hub.specs.ArchiveCalls.{CallLog, Asked, Runs}
 use Rattle.dep_outbox.specs.declared.wire.Wire.{Wire}
 use Rattle.dep_outbox.specs.Wires.{reported}
-use Rattle.dep_host.specs.ConnectionStates.{SendsStill, is_ended, closing as why}
-use Rattle.dep_host.specs.declared.slot.Slot.{Slot}
+use Rattle.dep_slot.specs.ConnectionStates.{SendsStill, is_ended, closing as why}
+use Rattle.dep_slot.specs.declared.slot.Slot.{Slot}
 use Rattle.dep_host.specs.declared.host.Host.{Host}
-use Rattle.dep_host.specs.declared.log.Closing.{Closing}
-use Rattle.dep_host.specs.declared.log.Closing.TheVariants.{Large}
-use Rattle.dep_host.specs.declared.connection_state.Phase.TheVariants.{Open}
-use Rattle.dep_host.specs.Notes.{Note, Grows}
-use Rattle.dep_host.specs.Slots.{SameBehind, SameClient}
+use Rattle.dep_slot.specs.declared.log.Closing.{Closing}
+use Rattle.dep_slot.specs.declared.log.Closing.TheVariants.{Large}
+use Rattle.dep_slot.specs.declared.connection_state.Phase.TheVariants.{Open}
+use Rattle.dep_slot.specs.Notes.{Note, Grows}
+use Rattle.dep_slot.specs.Slots.{SameBehind, SameClient}
 use Rattle.dep_host.specs.Hosting.{Position, slot_at, farewell, MayGo, Stays, HostAction, Closes, unfinished_of, unfinished_in, Goes, IsRightlyReported, Asks, Refused, Step, refused, asks, rests, Steps, begins, goes_on, EvictsLargest}
 
 -- what a log is told

@@ -1,6 +1,3 @@
-mod PhaseLemmas
-mod SlotLemmas
-mod CountedLemmas
 mod HostLemmas
 mod ShareLemmas
 mod ActionLemmas

@@ -10,30 +10,30 @@ use Rattle.std.proofs.lemmas.List.{append-nil, length-append, set-get_or, get_or
 use Rattle.std.proofs.lemmas.Grind.{flat_map-append}
 use Rattle.dep_types.specs.Conditions.{Condition}
 use Rattle.dep_hub.specs.ArchiveCalls.{CallLog}
-use Rattle.dep_host.specs.declared.slot.Slot.{Slot}
+use Rattle.dep_slot.specs.declared.slot.Slot.{Slot}
 use Rattle.dep_host.specs.declared.host.Host.{Host}
 use Rattle.dep_host.specs.declared.ending.Cause.{Cause}
 use Rattle.dep_host.specs.declared.ending.Cause.TheVariants as cause
 use Rattle.dep_host.specs.declared.ending.Shut.{Shut}
-use Rattle.dep_host.specs.declared.log.Rejection.{Rejection}
-use Rattle.dep_host.specs.declared.events.Client.{Client}
+use Rattle.dep_slot.specs.declared.log.Rejection.{Rejection}
+use Rattle.dep_slot.specs.declared.client.Client.{Client}
 use Rattle.dep_host.specs.declared.events.Event.{Event}
 use Rattle.dep_host.specs.declared.events.Event.TheVariants as came
 use Rattle.dep_host.specs.declared.serving.Ended.{Ended}
 use Rattle.dep_host.specs.declared.serving.Ended.TheVariants as ended
 use Rattle.dep_host.specs.Coming.{Call, seconds_of, seconds_in}
-use Rattle.dep_host.specs.ConnectionStates.{is_overdue, is_past}
-use Rattle.dep_host.specs.Causes.{Causes}
-use Rattle.dep_host.specs.Slots.{woken_slot}
+use Rattle.dep_slot.specs.ConnectionStates.{is_past}
+use Rattle.dep_slot.specs.Causes.{Causes}
+use Rattle.dep_slot.specs.Slots.{woken_slot}
 use Rattle.dep_hub.specs.declared.hub.Hub.{Hub}
 use Rattle.dep_hub.specs.Representing.{IsClean, IsHonest}
 use Rattle.dep_hub.specs.Holding.{RepresentsHolding}
 use Rattle.dep_hub.specs.RepresentsOwing.{behind_at}
 use Rattle.dep_host.specs.Hosting.{HostAction, IsEmpty, Position, Steps, position, slot_at, refused, comes, StandsStill}
 use Rattle.dep_host.specs.Meeting.{IsOffer, MayCall, IsShutBy, MayEnd, Stops, Wakes, MayRefuse, TurnsAway, Admits, Meets, refusal_for, refusal_of, shut_by, wakes, lets_in, turns_away, makes_round, stops, IsMet, begins, goes_on, all_given, Met}
-use Rattle.dep_host.specs.Notes.{Note, Grows}
-use Rattle.dep_host.specs.Rounds.{IsReported, EndsInTime}
-use Rattle.dep_host.proofs.PhaseLemmas.{still_same}
+use Rattle.dep_slot.specs.Notes.{Note, Grows}
+use Rattle.dep_host.specs.Rounds.{IsReported, EndsInTime, is_overdue}
+use Rattle.dep_slot.proofs.PhaseLemmas.{still_same}
 use Rattle.dep_host.proofs.HostLemmas.{grows_none, grows_on, asked, untouched, woken, alone, represents_still, steps_join}
 use Rattle.dep_host.proofs.RoundLemmas.{rounds_begin, rounds_go_on, one_second}
 

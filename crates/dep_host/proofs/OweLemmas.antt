@@ -23,10 +23,10 @@ use Rattle.dep_hub.specs.declared.sent_on.SentOn.{SentOn}
 use Rattle.dep_hub.specs.declared.sent_on.SentOn.TheVariants.{Part, All, Broken as BrokenOff}
 use Rattle.dep_hub.specs.declared.rest.Behind.TheVariants.{Nothing, Content, Broken, Waits, Prepares, Prepared}
 use Rattle.dep_outbox.specs.Wires.{reported}
-use Rattle.dep_host.specs.declared.connection_state.Phase.{Phase}
-use Rattle.dep_host.specs.declared.connection_state.Phase.TheVariants.{Open, Over}
-use Rattle.dep_host.specs.ConnectionStates.{is_sending}
-use Rattle.dep_host.specs.Slots.{SameBehind}
+use Rattle.dep_slot.specs.declared.connection_state.Phase.{Phase}
+use Rattle.dep_slot.specs.declared.connection_state.Phase.TheVariants.{Open, Over}
+use Rattle.dep_slot.specs.ConnectionStates.{is_sending}
+use Rattle.dep_slot.specs.Slots.{SameBehind}
 use Rattle.dep_host.specs.Hosting.{Position, slot_at, Reports, HostAction, Opens, Takes, Replies, Sends, Declines, Closes, sent_by, replies_to, StandsStill, Step, refused, asks, comes, rests, offers, delays, sends, refuses, answers, leaves, Steps, begins, goes_on}
 use Rattle.dep_host.specs.Runs.{Follows, begins as follows_none, opens, takes, replies, sends as follows_sent, declines, closes, StaysOpen, replies_of, parts_of, sent_for, sent_of, KeepsPromise, OwesNone}
 use Rattle.dep_host.proofs.CloseLemmas.{clean_before}

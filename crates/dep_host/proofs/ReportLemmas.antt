@@ -4,7 +4,7 @@ use Rattle.std.proofs.lemmas.List.{append-nil, get_or-set_same, get_or-set_other
 use Rattle.std.proofs.lemmas.Bool.{cases_eq, eq-eqb, ne_eqb}
 use Rattle.std.specs.Io.KnownBytes.{Appends, Keeps, IsAtEnd, prepend_known}
 use Rattle.dep_types.specs.Conditions.{Condition}
-use Rattle.dep_host.specs.declared.slot.Slot.{Slot}
+use Rattle.dep_slot.specs.declared.slot.Slot.{Slot}
 use Rattle.dep_outbox.specs.Wires.{front_of, joined, reported}
 use Rattle.dep_host.specs.Runs.{StaysOpen}
 use Rattle.dep_host.specs.Hosting.{Position, slot_at, HostAction, Opens, Takes, Replies, Sends, Declines, Closes, sent_by, replies_to, Reports, Step, refused, asks, comes, rests, offers, delays, sends, refuses, answers, leaves, HasTurn, Steps, begins, goes_on}

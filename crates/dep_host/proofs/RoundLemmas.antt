@@ -8,15 +8,15 @@ use Rattle.std.specs.List.{AllByRecursion}
 use Rattle.std.specs.List.Sorted.{IsNonDecreasing}
 use Rattle.dep_host.specs.declared.ending.Cause.{Cause}
 use Rattle.dep_host.specs.declared.ending.Shut.{Shut}
-use Rattle.dep_host.specs.declared.limits.Limits.{Limits}
-use Rattle.dep_host.specs.declared.slot.Time.{Time}
+use Rattle.dep_slot.specs.declared.limits.Limits.{Limits}
+use Rattle.dep_slot.specs.declared.slot.Time.{Time}
 use Rattle.dep_host.specs.declared.events.Event.{Event}
 use Rattle.dep_host.specs.declared.events.Event.TheVariants.{Ready, Client, Round, Stop, End}
 use Rattle.dep_host.specs.declared.serving.Ended.{Ended}
 use Rattle.dep_host.specs.declared.serving.Ended.TheVariants as ended
 use Rattle.dep_host.specs.Coming.{seconds_of}
-use Rattle.dep_host.specs.ConnectionStates.{is_past, is_overdue}
-use Rattle.dep_host.specs.Rounds.{IsReported, gone_on, EndsInTime}
+use Rattle.dep_slot.specs.ConnectionStates.{is_past}
+use Rattle.dep_host.specs.Rounds.{IsReported, gone_on, EndsInTime, is_overdue}
 
 -- who isn't shut isn't overdue
 pub unreported_in_time : (o : Option Shut) (second : ℕ) (limits : Limits) → is_some o ≡ false → is_overdue o second limits ≡ false

@@ -13,11 +13,11 @@ use Rattle.dep_hub.specs.declared.rest.Behind.{Behind}
 use Rattle.dep_hub.specs.declared.rest.Behind.TheVariants.{Nothing, Content, Broken, Waits, Prepares, Prepared}
 use Rattle.dep_hub.specs.declared.sent_on.SentOn.{SentOn}
 use Rattle.dep_hub.specs.declared.sent_on.SentOn.TheVariants.{Part, All, Broken as BrokenOff}
-use Rattle.dep_host.specs.declared.connection_state.Phase.{Phase}
-use Rattle.dep_host.specs.declared.connection_state.Phase.TheVariants.{Open, Answering, Sending, SendingLast, Last, Draining, Over}
-use Rattle.dep_host.specs.declared.slot.Slot.{Slot}
-use Rattle.dep_host.specs.ConnectionStates.{is_ended, is_sending, SendsStill}
-use Rattle.dep_host.specs.Slots.{SameBehind, phase_answered, phase_sent}
+use Rattle.dep_slot.specs.declared.connection_state.Phase.{Phase}
+use Rattle.dep_slot.specs.declared.connection_state.Phase.TheVariants.{Open, Answering, Sending, SendingLast, Last, Draining, Over}
+use Rattle.dep_slot.specs.declared.slot.Slot.{Slot}
+use Rattle.dep_slot.specs.ConnectionStates.{is_ended, is_sending, SendsStill}
+use Rattle.dep_slot.specs.Slots.{SameBehind, phase_answered, phase_sent}
 use Rattle.dep_host.specs.Hosting.{Position, slot_at, HostAction, Step, refused, asks, comes, rests, offers, delays, sends, refuses, answers, leaves, HasTurn, Steps, begins, goes_on}
 use Rattle.dep_host.proofs.ReportLemmas.{Tidy, steps_tidy, slot_set, some_same, no_some}
 

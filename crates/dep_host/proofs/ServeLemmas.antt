@@ -13,21 +13,21 @@ use Rattle.dep_outbox.specs.declared.socket.Delivered.TheVariants as takes
 use Rattle.dep_outbox.specs.declared.wire.Wire.{Wire}
 use Rattle.dep_outbox.specs.Wires.{reported, owed_count}
 use Rattle.dep_host.specs.declared.ending.Shut.{Shut}
-use Rattle.dep_host.specs.declared.connection_state.Phase.{Phase}
-use Rattle.dep_host.specs.ConnectionStates.{SendsStill, StaysOrIsOver, next_action, is_ended, is_held_back, is_sending, phase_begun}
-use Rattle.dep_host.specs.Causes.{Causes, HasCauses}
-use Rattle.dep_host.specs.declared.slot.Slot.{Slot}
-use Rattle.dep_host.specs.declared.slot.Time.{Time}
-use Rattle.dep_host.specs.declared.log.Closing.{Closing}
-use Rattle.dep_host.specs.declared.connection_state.Phase.TheVariants.{Open, Over}
-use Rattle.dep_host.specs.declared.connection_state.NextAction.{NextAction}
-use Rattle.dep_host.specs.declared.connection_state.NextAction.TheVariants as to
-use Rattle.dep_host.specs.Slots.{IsPutOff, IsUnknown, MayRest, ActsOnce, TakesTurn, slot_action, phase_sent}
+use Rattle.dep_slot.specs.declared.connection_state.Phase.{Phase}
+use Rattle.dep_slot.specs.ConnectionStates.{SendsStill, StaysOrIsOver, next_action, is_ended, is_held_back, is_sending, phase_begun}
+use Rattle.dep_slot.specs.Causes.{Causes, HasCauses}
+use Rattle.dep_slot.specs.declared.slot.Slot.{Slot}
+use Rattle.dep_slot.specs.declared.slot.Time.{Time}
+use Rattle.dep_slot.specs.declared.log.Closing.{Closing}
+use Rattle.dep_slot.specs.declared.connection_state.Phase.TheVariants.{Open, Over}
+use Rattle.dep_slot.specs.declared.connection_state.NextAction.{NextAction}
+use Rattle.dep_slot.specs.declared.connection_state.NextAction.TheVariants as to
+use Rattle.dep_slot.specs.Slots.{IsPutOff, IsUnknown, MayRest, ActsOnce, TakesTurn, slot_action, phase_sent}
 use Rattle.dep_host.specs.Hosting.{Position, slot_at, MayGo, farewell, closings_of, HostAction, Takes, Replies, Sends, Declines, Closes, answers_at, pieces_at, sendings_at, sendings_in, unfinished_of, AreDoneAt, HasTurn, Goes, rests, offers, delays, sends, refuses, answers, leaves, Steps, begins, goes_on, IsOnce, IsLost, IsServed, IsServedAt, turn_action, Serves}
-use Rattle.dep_host.specs.Notes.{Note, LetGo, Grows}
+use Rattle.dep_slot.specs.Notes.{Note, LetGo, Grows}
 use Rattle.dep_host.proofs.HostLemmas.{grows_same, slot_read, steps_join, unchanged, woken}
 use Rattle.dep_host.proofs.ActionLemmas.{answers_append, pieces_append, sendings_in_append, counted_by, sendings_after, in_time_append, noted_on, one_at_most, one_here, one_sent, none_sent, none_elsewhere}
-use Rattle.dep_host.proofs.PhaseLemmas.{asks_sending, begun_once, over_begun, sends_begun, still_begun}
+use Rattle.dep_slot.proofs.PhaseLemmas.{asks_sending, begun_once, over_begun, sends_begun, still_begun}
 use Rattle.dep_host.proofs.StretchLemmas.{none_read, lost_before, kept_back_before, closed_there, at_after}
 
 -- what was set twice is as it was set last

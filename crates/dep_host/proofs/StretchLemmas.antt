@@ -7,17 +7,17 @@ use Rattle.dep_hub.specs.declared.hub.Hub.{Hub}
 use Rattle.dep_hub.specs.declared.sent_on.SentOn.{SentOn}
 use Rattle.dep_outbox.specs.Wires.{reported}
 use Rattle.dep_host.specs.declared.ending.Shut.{Shut}
-use Rattle.dep_host.specs.ConnectionStates.{StaysOrIsOver, is_held_back, phase_begun}
-use Rattle.dep_host.specs.Causes.{Causes}
-use Rattle.dep_host.specs.declared.slot.Slot.{Slot}
-use Rattle.dep_host.specs.declared.log.Closing.{Closing}
-use Rattle.dep_host.specs.declared.connection_state.NextAction.{NextAction}
-use Rattle.dep_host.specs.declared.connection_state.NextAction.TheVariants as to
-use Rattle.dep_host.specs.Slots.{IsUnknown, phase_sent}
+use Rattle.dep_slot.specs.ConnectionStates.{StaysOrIsOver, is_held_back, phase_begun}
+use Rattle.dep_slot.specs.Causes.{Causes}
+use Rattle.dep_slot.specs.declared.slot.Slot.{Slot}
+use Rattle.dep_slot.specs.declared.log.Closing.{Closing}
+use Rattle.dep_slot.specs.declared.connection_state.NextAction.{NextAction}
+use Rattle.dep_slot.specs.declared.connection_state.NextAction.TheVariants as to
+use Rattle.dep_slot.specs.Slots.{IsUnknown, phase_sent}
 use Rattle.dep_host.specs.Hosting.{Position, slot_at, HostAction, Closes, answers_at, pieces_at, sendings_at, unfinished_of, Goes, Steps, begins, IsClosed, IsLeftAs, IsOnce, IsLost, IsKeptBack, IsServed, IsServedAt, turn_action}
 use Rattle.dep_host.proofs.HostLemmas.{steps_join}
 use Rattle.dep_host.proofs.ActionLemmas.{answers_append, pieces_append, sendings_after, sendings_before}
-use Rattle.dep_host.proofs.SlotLemmas.{lost_too}
+use Rattle.dep_slot.proofs.SlotLemmas.{lost_too}
 
 -- one slot is at a place
 some_same : {X : Type 0} (x y : X) → Some x ≡ Some y → x ≡ y

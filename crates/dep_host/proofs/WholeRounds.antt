@@ -5,21 +5,21 @@ use Rattle.std.proofs.lemmas.Bool.{cases_eq, cases_lt, lt-ltb, ltb-true}
 use Rattle.dep_types.specs.Conditions.{Condition}
 use Rattle.dep_hub.specs.declared.sent_on.SentOn.{SentOn}
 use Rattle.dep_outbox.specs.Wires.{reported, owed_count}
-use Rattle.dep_host.specs.ConnectionStates.{is_sending}
-use Rattle.dep_host.specs.Causes.{Causes}
-use Rattle.dep_host.specs.declared.slot.Slot.{Slot}
-use Rattle.dep_host.specs.declared.slot.Time.{Time}
-use Rattle.dep_host.specs.declared.log.Closing.TheVariants.{Large}
-use Rattle.dep_host.specs.declared.connection_state.NextAction.{NextAction}
-use Rattle.dep_host.specs.declared.connection_state.NextAction.TheVariants as to
+use Rattle.dep_slot.specs.ConnectionStates.{is_sending}
+use Rattle.dep_slot.specs.Causes.{Causes}
+use Rattle.dep_slot.specs.declared.slot.Slot.{Slot}
+use Rattle.dep_slot.specs.declared.slot.Time.{Time}
+use Rattle.dep_slot.specs.declared.log.Closing.TheVariants.{Large}
+use Rattle.dep_slot.specs.declared.connection_state.NextAction.{NextAction}
+use Rattle.dep_slot.specs.declared.connection_state.NextAction.TheVariants as to
 use Rattle.dep_host.specs.Hosting.{Position, slot_at, closings_of, HostAction, Closes, answers_at, pieces_at, sendings_at, sendings_in, unfinished_of, unfinished_in, AreDoneAt, leaves, Steps, begins, goes_on, IsClosed, IsServed, IsServedAt, IsTurned, WasAwaited, Serves, GoesRound, EvictsLargest}
-use Rattle.dep_host.specs.Notes.{Note, Grows}
+use Rattle.dep_slot.specs.Notes.{Note, Grows}
 use Rattle.dep_host.specs.declared.share.Share.{Share}
 use Rattle.dep_host.specs.Sharing.{IsNext, counted, is_turn, most_sent}
 use Rattle.dep_host.proofs.ShareLemmas.{SharesSo, room_left, shares_begin, shares_on, shares_end, sent_few}
 use Rattle.dep_host.proofs.HostLemmas.{grows_none, steps_join}
 use Rattle.dep_host.proofs.ActionLemmas.{answers_append, pieces_append, sendings_in_append, sendings_after, sendings_before, in_time_append, noted_on}
-use Rattle.dep_host.proofs.PhaseLemmas.{sending_action, sent_unless}
+use Rattle.dep_slot.proofs.PhaseLemmas.{sending_action, sent_unless}
 use Rattle.dep_host.proofs.StretchLemmas.{closed_there, at_before, at_after}
 
 module _ {A R K S : Type 0} (condition : A → Condition) (unread : R → Option (List ℕ)) (taken : K → Option (List ℕ)) (held : S → Option (List ℕ)) (size : S → ℕ) (causes : Causes R K S) where

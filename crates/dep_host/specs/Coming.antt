@@ -6,7 +6,7 @@ use Rattle.std.specs.Net.Addr.{ipv4_bits, ipv6_bits}
 use Rattle.std.specs.declared.net.ip_addr.IpAddr.{IpAddr}
 use Rattle.std.specs.declared.net.ip_addr.IpAddr.TheVariants.{V4, V6}
 use Rattle.dep_outbox.specs.Wires.{reported}
-use Rattle.dep_host.specs.declared.slot.Slot.{Slot}
+use Rattle.dep_slot.specs.declared.slot.Slot.{Slot}
 use Rattle.dep_host.specs.declared.events.Event.{Event}
 use Rattle.dep_host.specs.declared.events.Event.TheVariants.{Ready, Client, Round, Stop, End}
 

@@ -12,21 +12,21 @@ use Rattle.dep_hub.specs.declared.rest.Behind.TheVariants.{Nothing}
 use Rattle.dep_hub.specs.declared.sent_on.SentOn.{SentOn}
 use Rattle.dep_hub.specs.declared.hub.Hub.{Hub}
 use Rattle.dep_outbox.specs.Wires.{reported, owed_count}
-use Rattle.dep_host.specs.declared.connection_state.Phase.TheVariants.{Open, Answering, Draining, Over}
-use Rattle.dep_host.specs.declared.connection_state.NextAction.{NextAction}
-use Rattle.dep_host.specs.declared.connection_state.NextAction.TheVariants as to
-use Rattle.dep_host.specs.declared.slot.Slot.{Slot}
-use Rattle.dep_host.specs.declared.slot.Time.{Time}
+use Rattle.dep_slot.specs.declared.connection_state.Phase.TheVariants.{Open, Answering, Draining, Over}
+use Rattle.dep_slot.specs.declared.connection_state.NextAction.{NextAction}
+use Rattle.dep_slot.specs.declared.connection_state.NextAction.TheVariants as to
+use Rattle.dep_slot.specs.declared.slot.Slot.{Slot}
+use Rattle.dep_slot.specs.declared.slot.Time.{Time}
 use Rattle.dep_host.specs.declared.host.Host.{Host}
 use Rattle.dep_host.specs.declared.ending.Cause.TheVariants as cause
 use Rattle.dep_host.specs.declared.ending.Shut.{Shut}
-use Rattle.dep_host.specs.declared.limits.Limits.{Limits}
-use Rattle.dep_host.specs.declared.log.Closing.{Closing}
-use Rattle.dep_host.specs.declared.log.Closing.TheVariants as ends
-use Rattle.dep_host.specs.ConnectionStates.{StaysOrIsOver, closing, next_action, is_ended, is_held_back, phase_begun}
-use Rattle.dep_host.specs.Causes.{Causes, HasCauses}
-use Rattle.dep_host.specs.Notes.{Note, LetGo, Grows}
-use Rattle.dep_host.specs.Slots.{HubStays, IsPutOff, SameBehind, SameClient, SendsOn, slot_action, phase_sent, IsUnknown, Rests, Offers, Refuses, Answers, Delays, Sends as SendsContent}
+use Rattle.dep_slot.specs.declared.limits.Limits.{Limits}
+use Rattle.dep_slot.specs.declared.log.Closing.{Closing}
+use Rattle.dep_slot.specs.declared.log.Closing.TheVariants as ends
+use Rattle.dep_slot.specs.ConnectionStates.{StaysOrIsOver, closing, next_action, is_ended, is_held_back, phase_begun}
+use Rattle.dep_slot.specs.Causes.{Causes, HasCauses}
+use Rattle.dep_slot.specs.Notes.{Note, LetGo, Grows}
+use Rattle.dep_slot.specs.Slots.{HubStays, IsPutOff, SameBehind, SameClient, SendsOn, slot_action, phase_sent, IsUnknown, Rests, Offers, Refuses, Answers, Delays, Sends as SendsContent}
 use Rattle.dep_host.specs.Sharing.{IsNext, is_turn, most_sent}
 
 -- the hub, who is where, what bounds them, and since when it is shut

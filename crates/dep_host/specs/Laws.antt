@@ -8,13 +8,13 @@ use Rattle.dep_hub.specs.Holding.{RepresentsHoldingAfter}
 use Rattle.dep_hub.specs.Claims.{is_content}
 use Rattle.dep_hub.specs.RepresentsOwing.{behind_at}
 use Rattle.dep_outbox.specs.Wires.{reported, owed_count}
-use Rattle.dep_host.specs.ConnectionStates.{is_sending}
-use Rattle.dep_host.specs.declared.connection_state.Phase.TheVariants.{Over}
+use Rattle.dep_slot.specs.ConnectionStates.{is_sending}
+use Rattle.dep_slot.specs.declared.connection_state.Phase.TheVariants.{Over}
 use Rattle.dep_host.specs.declared.ending.Shut.{Shut}
-use Rattle.dep_host.specs.declared.slot.Slot.{Slot}
-use Rattle.dep_host.specs.declared.slot.Time.{Time}
-use Rattle.dep_host.specs.Causes.{Causes}
-use Rattle.dep_host.specs.Notes.{Note}
+use Rattle.dep_slot.specs.declared.slot.Slot.{Slot}
+use Rattle.dep_slot.specs.declared.slot.Time.{Time}
+use Rattle.dep_slot.specs.Causes.{Causes}
+use Rattle.dep_slot.specs.Notes.{Note}
 use Rattle.dep_host.specs.Sharing.{is_turn}
 use Rattle.dep_host.specs.Hosting.{Position, HostAction, GoesRound, Steps, Reports, AreOutgoing, IsEmpty, WasAwaited, slot_at, replies_to, sendings_at}
 use Rattle.dep_host.specs.Runs.{RepresentsBehind, KeepsPromise, OwesNone, Follows, StaysOpen, read_of, arrived_of, parts_of, replies_of}

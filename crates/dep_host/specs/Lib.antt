@@ -1,8 +1,4 @@
-pub mod ConnectionStates
-pub mod Causes
-pub mod Slots
 pub mod Sharing
-pub mod Notes
 pub mod Hosting
 pub mod Runs
 pub mod Coming

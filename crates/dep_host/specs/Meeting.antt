@@ -12,26 +12,25 @@ use Rattle.dep_hub.specs.ArchiveCalls.{CallLog, Asked, WorkedAhead, Runs, FailsT
 use Rattle.dep_hub.specs.WorkingAhead.{RestsAhead}
 use Rattle.dep_hub.specs.Numbers.{most_connections, last_number}
 use Rattle.dep_hub.specs.declared.hub.Hub.{Hub}
-use Rattle.dep_host.specs.declared.slot.Slot.{Slot}
-use Rattle.dep_host.specs.declared.slot.Time.{Time}
+use Rattle.dep_slot.specs.declared.slot.Slot.{Slot}
+use Rattle.dep_slot.specs.declared.slot.Time.{Time}
 use Rattle.dep_host.specs.declared.host.Host.{Host}
 use Rattle.dep_host.specs.declared.ending.Cause.{Cause}
 use Rattle.dep_host.specs.declared.ending.Cause.TheVariants as cause
 use Rattle.dep_host.specs.declared.ending.Shut.{Shut}
-use Rattle.dep_host.specs.declared.log.Rejection.{Rejection}
-use Rattle.dep_host.specs.declared.log.Rejection.TheVariants as refusal
-use Rattle.dep_host.specs.declared.events.Client.{Client}
+use Rattle.dep_slot.specs.declared.log.Rejection.{Rejection}
+use Rattle.dep_slot.specs.declared.log.Rejection.TheVariants as refusal
+use Rattle.dep_slot.specs.declared.client.Client.{Client}
 use Rattle.dep_host.specs.declared.events.Event.{Event}
 use Rattle.dep_host.specs.declared.events.Event.TheVariants as came
 use Rattle.dep_host.specs.declared.serving.Ended.{Ended}
 use Rattle.dep_host.specs.declared.serving.Ended.TheVariants as ended
 use Rattle.dep_host.specs.Coming.{Call, origin, slots_from, seconds_in}
-use Rattle.dep_host.specs.ConnectionStates.{is_overdue}
-use Rattle.dep_host.specs.Causes.{Causes}
-use Rattle.dep_host.specs.Slots.{woken_slot}
+use Rattle.dep_slot.specs.Causes.{Causes}
+use Rattle.dep_slot.specs.Slots.{woken_slot}
 use Rattle.dep_host.specs.Hosting.{Comes, HostAction, Opens, GoesRound, HasTime, IsEmpty, IsVacant, IsWaiting, Refused, Stays, Steps, position, slot_at}
-use Rattle.dep_host.specs.Notes.{Note, LetIn, Rejected, Grows}
-use Rattle.dep_host.specs.Rounds.{EndsInTime, IsReported}
+use Rattle.dep_slot.specs.Notes.{Note, LetIn, Rejected, Grows}
+use Rattle.dep_host.specs.Rounds.{EndsInTime, IsReported, is_overdue}
 
 -- a further connection can be seated at the place that is offered, and nowhere where none is
 abbrev pub IsOffer : {A R K S : Type 0} → Host A R K S → Option ℕ → Type 0

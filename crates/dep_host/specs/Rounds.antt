@@ -1,12 +1,17 @@
 -- When a host ends that is shut.
-use Rattle.std.specs.Prelude.{◌≡◌, ◌⊎◌, ℕ, ◌-◌, List, length, take, Option, IfSome, IsNone, false}
+use Rattle.std.specs.Prelude.{◌≡◌, ◌⊎◌, ℕ, ◌-◌, List, length, take, Bool, Option, None, Some, IfSome, IsNone, false}
 use Rattle.std.specs.List.{All, Contains}
 use Rattle.std.specs.List.Sorted.{IsNonDecreasing}
 use Rattle.dep_host.specs.declared.ending.Shut.{Shut}
-use Rattle.dep_host.specs.declared.limits.Limits.{Limits}
+use Rattle.dep_slot.specs.declared.limits.Limits.{Limits}
 use Rattle.dep_host.specs.declared.serving.Ended.{Ended}
 use Rattle.dep_host.specs.declared.serving.Ended.TheVariants as ended
-use Rattle.dep_host.specs.ConnectionStates.{is_overdue}
+use Rattle.dep_slot.specs.ConnectionStates.{is_past}
+
+-- an idle time has passed since a host was shut, if it is
+abbrev pub is_overdue : Option Shut → (second : ℕ) → Limits → Bool
+is_overdue None second limits = false
+is_overdue (Some shut) second limits = is_past shut.second second limits
 
 -- a host was shut at one of these seconds, or it is as it was
 abbrev pub IsReported : (old new : Option Shut) → (rounds : List ℕ) → Type 0

@@ -13,9 +13,9 @@ use Rattle.dep_hub.specs.declared.rest.Behind.TheVariants.{Nothing}
 use Rattle.dep_hub.specs.declared.sent_on.SentOn.{SentOn}
 use Rattle.dep_hub.specs.declared.hub.Hub.{Hub}
 use Rattle.dep_outbox.specs.Wires.{reported}
-use Rattle.dep_host.specs.declared.slot.Slot.{Slot}
-use Rattle.dep_host.specs.ConnectionStates.{is_ended}
-use Rattle.dep_host.specs.declared.log.Closing.{Closing}
+use Rattle.dep_slot.specs.declared.slot.Slot.{Slot}
+use Rattle.dep_slot.specs.ConnectionStates.{is_ended}
+use Rattle.dep_slot.specs.declared.log.Closing.{Closing}
 use Rattle.dep_host.specs.Hosting.{Position, Steps, IsEmpty, slot_at, Reports, HostAction, Opens, Takes, Replies, Sends, Declines, Closes}
 
 -- The records of the actions, from what each connection held at first to what it holds now: a piece is

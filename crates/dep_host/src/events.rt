@@ -1,40 +1,11 @@
 //! What comes to a host from outside.
 ghost use Rattle.std.specs.Prelude.{◌≡◌, IsTrue, Bool, List, [], ◌∷◌, Option, None};
-ghost use Rattle.std.specs.Net.Addr.{MatchIp, IsCanonicalOf};
 ghost use Rattle.dep_host.specs.Coming.{IsFresh, origin, comes_from};
-ghost use Rattle.dep_host.specs.Notes.{Rejected, Grows};
+ghost use Rattle.dep_slot.specs.Notes.{Rejected, Grows};
 
-use crate::log::{HostLog, Rejection};
-use crate::slot::{Slot, Time};
-use dep_outbox::{Sink, Source, Spool, Wire};
+use dep_outbox::{Sink, Source, Spool};
+use dep_slot::{Client, HostLog, Rejection, Slot, Time};
 use std::net::IpAddr;
-
-/// A client that connects.
-#[derive(Drop)]
-pub struct Client<R, K, S> {
-    /// The half of its socket that gives its bytes.
-    pub source: R,
-    /// The way to it.
-    pub wire: Wire<K, S>,
-    /// Where it connects from.
-    pub address: IpAddr,
-}
-
-impl<R, K, S> Client<R, K, S> {
-    /// A client at an address. One that is an IPv4 address in the form of IPv6 is taken as that.
-    pub fn new(source: R, wire: Wire<K, S>, address: IpAddr) -> Client<R, K, S>
-        ensures source { result.source ≡ source }
-        ensures wire { result.wire ≡ wire }
-        ensures address { MatchIp address (λ _. result.address ≡ address)
-            (λ ip. IsCanonicalOf ip result.address) }
-    {
-        Client {
-            source,
-            wire,
-            address: address.to_canonical(),
-        }
-    }
-}
 
 /// A number for those addresses that one client may have: an IPv4 address, or all IPv6 addresses of
 /// the same first 64 bits.
@@ -61,7 +32,7 @@ pub(crate) fn comes_from<R: Source, K: Sink, S: Spool>(
     ensures { result ≡ comes_from from place.now }
 {
     match place {
-        Some(slot) => origin(slot.address) == from,
+        Some(slot) => origin(slot.address()) == from,
         None => false,
     }
 }

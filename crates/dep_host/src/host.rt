@@ -1,16 +1,12 @@
 //! All connections, over one hub.
 ghost use Rattle.std.specs.Prelude.{◌≡◌, ◌≤◌, ℕ, None, length, get_or, IfOk};
 
-use crate::connection_state::is_past;
 use crate::ending::{Cause, Shut};
-use crate::events::{Client, comes_from, origin, reject};
-use crate::limits::Limits;
-use crate::log::{Closing, HostLog, Rejection};
-use crate::read_buffer::ReadBuffer;
+use crate::events::{comes_from, origin, reject};
 use crate::share::Share;
-use crate::slot::{Slot, Time, Turn, is_read, unfinished};
 use dep_hub::{Archive, ConnectFault, Hub};
 use dep_outbox::{Sink, Source, Spool};
+use dep_slot::{Client, Closing, HostLog, Limits, ReadBuffer, Rejection, Slot, Time, Turn};
 use std::alloc::{AllocError, Global};
 use std::net::IpAddr;
 
@@ -45,9 +41,9 @@ impl<A: Archive, R: Source + Drop, K: Sink + Drop, S: Spool + Drop> Host<A, R, K
     ghost use Rattle.dep_hub.specs.WorkingAhead.{RestsAhead};
     ghost use Rattle.dep_host.specs.Hosting.{HostAction, Steps, Serves, Closed, GoesRound, EvictsLargest, Stays, HasTime, MayGo, IsEmpty, IsReadAt, farewell, IsVacant, IsWaiting, position, slot_at, unfinished_of, unfinished_in};
     ghost use Rattle.dep_host.specs.Coming.{origin, slots_from};
-    ghost use Rattle.dep_host.specs.ConnectionStates.{is_overdue};
-    ghost use Rattle.dep_host.specs.Causes.{causes_of};
-    ghost use Rattle.dep_host.specs.Notes.{Grows};
+    ghost use Rattle.dep_host.specs.Rounds.{is_overdue};
+    ghost use Rattle.dep_slot.specs.Causes.{causes_of};
+    ghost use Rattle.dep_slot.specs.Notes.{Grows};
     ghost use Rattle.dep_host.specs.Meeting.{Admits, IsAsked, IsOffer, MayEnd, Stops, Wakes, refusal_of};
 
     /// A host without connections, which are bounded by the limits. Where memory is refused the hub is handed back.
@@ -153,7 +149,7 @@ impl<A: Archive, R: Source + Drop, K: Sink + Drop, S: Spool + Drop> Host<A, R, K
         ensures stays { IsNone result → is_overdue self.now.shut second self.now.limits ≡ false }
     {
         match self.shut {
-            Some(shut) if self.is_empty() || is_past(shut.second, second, &self.limits) => {
+            Some(shut) if self.is_empty() || self.limits.is_past(shut.second, second) => {
                 Some(shut.cause)
             }
             Some(_) | None => None,
@@ -322,7 +318,7 @@ impl<A: Archive, R: Source + Drop, K: Sink + Drop, S: Spool + Drop> Host<A, R, K
         let has_sent = slot.sends_on(turn);
         slot.take_turn(&mut self.hub, buffer, turn, log);
         let is_busy = slot.is_busy();
-        let closing = slot.state.closing(turn.time.second, &self.limits);
+        let closing = slot.closing(turn.time.second, &self.limits);
         if let Some(closing) = closing {
             self.close(at, turn.time.second, closing, log);
             return TurnOutcome {
@@ -344,9 +340,9 @@ impl<A: Archive, R: Source + Drop, K: Sink + Drop, S: Spool + Drop> Host<A, R, K
             (farewell closing (slot_at at self.old.slots.items)) }
     {
         if let Some(slot) = self.slots[at].take() {
-            self.hub.close(slot.connection);
+            self.hub.close(slot.connection());
             slot.break_off(log);
-            log.closed(slot.connection, slot.address, closing, slot.bytes());
+            log.closed(slot.connection(), slot.address(), closing, slot.bytes());
             drop(slot);
         }
     }
@@ -437,4 +433,26 @@ fn empty_slots<R: Drop, K: Drop, S: Drop>(
         }
     }
     Ok(slots)
+}
+
+/// How many bytes of unfinished requests are kept for who is at a place.
+fn unfinished<R: Source, K: Sink, S: Spool>(place: &Option<Slot<R, K, S>>) -> u64
+    ensures { result ≡ unfinished_of place.now }
+{
+    match place {
+        Some(slot) => slot.unfinished(),
+        None => 0,
+    }
+}
+
+/// Whether who is at a place is read, and none of its requests may be complete.
+fn is_read<R: Source, K: Sink, S: Spool>(place: &Option<Slot<R, K, S>>) -> bool
+    ensures read { result ≡ true → IsSomeAnd place.now (λ slot. slot.state.phase ≡ Open) }
+    ensures unread { result ≡ false
+        → IsSomeAnd place.now (λ slot. slot.state.phase ≡ Open) → ⊥ }
+{
+    match place {
+        Some(slot) => slot.is_read(),
+        None => false,
+    }
 }

@@ -1,5 +1,5 @@
 //! What follows from how a host goes on, apart from any code.
-ghost use Rattle.dep_host.specs.Causes.{causes_of};
+ghost use Rattle.dep_slot.specs.Causes.{causes_of};
 ghost use Rattle.dep_host.specs.Sharing.{TurnsCome};
 ghost use Rattle.dep_host.specs.Laws.{GoesOnInTurn, SendingEnds, MakesRuns, TakesWhatIsSent, ReadsArrive, SitsApart, SitsOpen, KeepsPromises, TakesNothing, SendsContents};
 

@@ -2,20 +2,19 @@
 ghost use Rattle.std.specs.Prelude.{◌≡◌, ◌≢◌, ℕ, List, [], ◌∷◌, Err, IfOk, IsNone, IsTrue, false};
 ghost use Rattle.std.specs.List.{AllByRecursion};
 ghost use Rattle.dep_host.specs.Coming.{IsFresh, seconds_of};
-ghost use Rattle.dep_host.specs.Causes.{causes_of};
-ghost use Rattle.dep_host.specs.ConnectionStates.{is_overdue};
+ghost use Rattle.dep_slot.specs.Causes.{causes_of};
+ghost use Rattle.dep_host.specs.Rounds.{is_overdue};
 ghost use Rattle.dep_host.specs.Hosting.{HostAction, GoesOn, IsWaiting, position, slot_at};
 ghost use Rattle.dep_host.specs.Meeting.{AsksOn, IsIdle, IsMet, IsOffer, MayEnd, Meets, Met, most_events};
 ghost use Rattle.dep_host.specs.Runs.{Promises};
 
 use crate::ending::Cause;
-use crate::events::{Client, Event, Events};
+use crate::events::{Event, Events};
 use crate::host::Host;
 use crate::laws::hosts_keep_the_archive_promise;
-use crate::log::HostLog;
-use crate::read_buffer::ReadBuffer;
 use dep_hub::Archive;
 use dep_outbox::{Sink, Source, Spool};
+use dep_slot::{Client, HostLog, ReadBuffer};
 
 /// Why no more is served.
 #[derive(Clone, Copy, Debug, PartialEq, Eq)]

@@ -17,11 +17,11 @@ use Rattle.dep_host.specs.Runs as runs
 use Rattle.dep_program.specs.declared.outcome.Outcome.{Outcome}
 use Rattle.dep_sockets.specs.Outcomes.{outcome_at}
 use Rattle.dep_host.specs.Coming.{Call}
-use Rattle.dep_host.specs.Causes.{Causes}
+use Rattle.dep_slot.specs.Causes.{Causes}
 use Rattle.dep_host.specs.Meeting.{Met}
-use Rattle.dep_host.specs.Notes.{Note}
+use Rattle.dep_slot.specs.Notes.{Note}
 use Rattle.dep_host.specs.declared.host.Host.{Host}
-use Rattle.dep_host.specs.declared.limits.Limits.{Limits}
+use Rattle.dep_slot.specs.declared.limits.Limits.{Limits}
 use Rattle.dep_hub.specs.ArchiveCalls.{CallLog}
 use Rattle.dep_sockets.specs.Acceptors.{AcceptorState, ServesFrom, EndsHub, served, shut, stopped, broken_off, spent, not_begun, not_let_in, WentOn}
 

@@ -6,15 +6,15 @@ use Rattle.dep_hub.specs.Records.{Record}
 use Rattle.dep_hub.specs.ArchiveCalls.{CallLog}
 use Rattle.dep_hub.specs.Representing.{RepresentsAfter, IsClean, IsHonest}
 use Rattle.dep_hub.specs.declared.hub.Hub.{Hub}
-use Rattle.dep_host.specs.Causes.{Causes}
+use Rattle.dep_slot.specs.Causes.{Causes}
 use Rattle.dep_host.specs.Coming.{Call}
 use Rattle.dep_host.specs.Hosting.{HostAction, IsEmpty, position}
 use Rattle.dep_host.specs.Meeting.{Met, most_events}
-use Rattle.dep_host.specs.Notes.{Note}
+use Rattle.dep_slot.specs.Notes.{Note}
 use Rattle.dep_host.specs.Runs.{RepresentsBehind}
 use Rattle.dep_host.specs.declared.ending.Cause.TheVariants as cause
 use Rattle.dep_host.specs.declared.host.Host.{Host}
-use Rattle.dep_host.specs.declared.limits.Limits.{Limits}
+use Rattle.dep_slot.specs.declared.limits.Limits.{Limits}
 use Rattle.dep_host.specs.declared.serving.Ended.{Ended}
 use Rattle.dep_host.specs.declared.serving.Ended.TheVariants as ended
 use Rattle.dep_program.specs.declared.outcome.Outcome.{Outcome}

@@ -1,6 +1,6 @@
 //! A hub that is served by an acceptor.
 ghost use Rattle.std.specs.Prelude.{◌≡◌};
-ghost use Rattle.dep_host.specs.Causes.{causes_of};
+ghost use Rattle.dep_slot.specs.Causes.{causes_of};
 ghost use Rattle.dep_sockets.specs.Acceptors.{ServesHub, acceptor_state};
 ghost use Rattle.dep_sockets.specs.Outcomes.{outcome_at};
 

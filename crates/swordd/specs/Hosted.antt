@@ -20,11 +20,11 @@ use Rattle.dep_commands.specs.Starting.{OpeningLeaves}
 use Rattle.dep_hub.specs.Records.{World, Record, Run, first_world, stopped}
 use Rattle.dep_hub.specs.OpenTables.{RepresentsAfter, IsHonest}
 use Rattle.dep_hub.specs.declared.hub.Hub.{Hub}
-use Rattle.dep_host.specs.Causes.{Causes}
+use Rattle.dep_slot.specs.Causes.{Causes}
 use Rattle.dep_host.specs.Hosting.{HostAction}
 use Rattle.dep_host.specs.Runs.{Follows}
-use Rattle.dep_host.specs.Notes.{Note}
-use Rattle.dep_host.specs.declared.limits.Limits.{Limits as Bounds}
+use Rattle.dep_slot.specs.Notes.{Note}
+use Rattle.dep_slot.specs.declared.limits.Limits.{Limits as Bounds}
 use Rattle.std.specs.Net.Socket.{socket_ip, socket_port}
 use Rattle.dep_configuration.specs.declared.configuration.Configuration.{Configuration}
 use Rattle.dep_configuration.specs.declared.configuration.ServerLimits.{ServerLimits}

@@ -1,7 +1,7 @@
 //! A store in a file, served at an address.
 ghost use Rattle.std.specs.Prelude.{◌≡◌, false};
 ghost use Rattle.sqlite.specs.Held.{state};
-ghost use Rattle.dep_host.specs.Causes.{causes_of};
+ghost use Rattle.dep_slot.specs.Causes.{causes_of};
 ghost use Rattle.dep_sockets.specs.Acceptors.{acceptor_state};
 ghost use Rattle.swordd.specs.Hosted.{HostsDatabase, IsEntranceOf, IsPlaceOf, host_limits};
 
@@ -137,7 +137,7 @@ fn fails(rt: &HostRuntime, what: &str) -> Outcome {
 }
 
 impl DatabaseWork for HostService<'_> {
-    ghost use Rattle.dep_host.specs.Causes.{causes_of};
+    ghost use Rattle.dep_slot.specs.Causes.{causes_of};
     ghost use Rattle.dep_sockets.specs.Acceptors.{acceptor_state};
     ghost use Rattle.swordd.specs.Hosted.{ServesPlace};
 

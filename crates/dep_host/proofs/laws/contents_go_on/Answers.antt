@@ -1,4 +1,4 @@
-use Rattle.dep_host.specs.Causes.{causes_of}
+use Rattle.dep_slot.specs.Causes.{causes_of}
 use Rattle.dep_host.proofs.WholeRounds.{goes_on_in_turn}
 use Rattle.dep_host.proofs.laws.contents_go_on.Goals as goal
 

@@ -1,5 +1,5 @@
 use Rattle.std.proofs.Common.{[], refl}
-use Rattle.dep_host.specs.Causes.{causes_of}
+use Rattle.dep_slot.specs.Causes.{causes_of}
 use Rattle.dep_host.specs.Meeting.{turns_away}
 use Rattle.dep_host.proofs.HostLemmas.{untouched, stays_same}
 use Rattle.dep_host.proofs.MeetLemmas.{admitted, may_refuse, none_offered}

@@ -1,7 +1,7 @@
 use Rattle.std.proofs.Common.{◌≡◌, Option, false, [], refl, sym, subst}
 use Rattle.std.proofs.lemmas.Result.{IfOk-weaker}
-use Rattle.dep_host.specs.Causes.{causes_of}
-use Rattle.dep_host.specs.ConnectionStates.{is_overdue}
+use Rattle.dep_slot.specs.Causes.{causes_of}
+use Rattle.dep_host.specs.Rounds.{is_overdue}
 use Rattle.dep_host.specs.Coming.{seconds_of}
 use Rattle.dep_host.specs.Hosting.{GoesRound, position}
 use Rattle.dep_host.specs.declared.events.Event.{Event}

@@ -1,5 +1,5 @@
 use Rattle.std.proofs.Common.{◌≡◌, true, false, rules, [], Err, refl, ap, ◌∙◌}
-use Rattle.dep_host.specs.Causes.{causes_of}
+use Rattle.dep_slot.specs.Causes.{causes_of}
 use Rattle.dep_host.proofs.CloseLemmas.{promised}
 use Rattle.dep_host.proofs.ShutLemmas.{steps_rightly, reported_by_store, unreported_rightly}
 use Rattle.dep_host.proofs.MeetLemmas.{met_none, met_next, met_last, met_all, is_the_end}

@@ -1,5 +1,5 @@
 use Rattle.std.proofs.Common.{[], rules, sym, ap, refl, ◌∙◌}
-use Rattle.dep_host.specs.Causes.{causes_of}
+use Rattle.dep_slot.specs.Causes.{causes_of}
 use Rattle.dep_sockets.specs.Acceptors.{not_begun, not_let_in}
 use Rattle.dep_sockets.proofs.AcceptorLemmas.{ends_at, met_since, went_on}
 use Rattle.dep_sockets.proofs.hosting.serve_hub.Goals as goal

@@ -1,6 +1,6 @@
 use Rattle.std.proofs.Common.{ap, refl, ◌∙◌}
 use Rattle.sqlite.proofs.StateLemmas.{clean_if_open}
-use Rattle.dep_host.specs.Causes.{causes_of}
+use Rattle.dep_slot.specs.Causes.{causes_of}
 use Rattle.dep_store.specs.declared.archive.HashingStore.{HashingStore}
 use Rattle.swordd.proofs.HostedLemmas.{over_hub, without_hub}
 use Rattle.swordd.proofs.hosting.host_database.Goals as goal

@@ -3,8 +3,8 @@ use Rattle.std.specs.Io.KnownBytes.{IsAtEnd}
 use Rattle.dep_hub.specs.Records.{Live}
 use Rattle.dep_hub.specs.Holding.{LineTransition}
 use Rattle.dep_outbox.specs.Wires.{reported}
-use Rattle.dep_host.specs.Notes.{Grows, LetIn}
-use Rattle.dep_host.specs.declared.log.Rejection.TheVariants.{Address, Full, Memory}
+use Rattle.dep_slot.specs.Notes.{Grows, LetIn}
+use Rattle.dep_slot.specs.declared.log.Rejection.TheVariants.{Address, Full, Memory}
 use Rattle.dep_hub.specs.Representing.{intake_of}
 use Rattle.dep_host.proofs.HostLemmas.{nothing_behind, untouched, unopened, stays_same, stays_set}
 use Rattle.dep_host.proofs.MeetLemmas.{turned}

@@ -1,7 +1,7 @@
 use Rattle.std.proofs.Common.{◌≡◌, ◌<◌, Option, length, sym, subst, arith}
 use Rattle.std.specs.Prelude.{IsSomeAnd}
-use Rattle.dep_host.specs.declared.slot.Slot.{Slot}
-use Rattle.dep_host.specs.declared.connection_state.Phase.TheVariants.{Open}
+use Rattle.dep_slot.specs.declared.slot.Slot.{Slot}
+use Rattle.dep_slot.specs.declared.connection_state.Phase.TheVariants.{Open}
 use Rattle.dep_host.proofs.HostLemmas.{slot_read}
 use Rattle.dep_host.proofs.host.Host.is_read.Goals as goal
 

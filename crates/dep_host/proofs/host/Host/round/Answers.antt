@@ -1,7 +1,7 @@
 use Rattle.std.proofs.Common.{ℕ, Bool, Option, is_some, refl, sym, ap, subst, ◌∙◌, arith}
-use Rattle.dep_host.specs.Causes.{causes_of}
+use Rattle.dep_slot.specs.Causes.{causes_of}
 use Rattle.dep_host.specs.declared.ending.Shut.{Shut}
-use Rattle.dep_host.specs.declared.limits.Limits.{Limits}
+use Rattle.dep_slot.specs.declared.limits.Limits.{Limits}
 use Rattle.dep_host.specs.declared.share.Share.{Share}
 use Rattle.dep_host.specs.Hosting.{GoesRound, HasTime, IsWaiting, Position, Serves, position, slot_at}
 use Rattle.dep_host.proofs.HostLemmas.{each_goes_on, each_evicts, neither, stays_same, stays_on}

@@ -1,7 +1,7 @@
 use Rattle.std.proofs.Common.{Option, None, Some, refl, sym, subst, ◌∙◌, arith}
 use Rattle.std.proofs.Math.ListN.{length-set}
-use Rattle.dep_host.specs.Causes.{causes_of}
-use Rattle.dep_host.specs.declared.slot.Slot.{Slot}
+use Rattle.dep_slot.specs.Causes.{causes_of}
+use Rattle.dep_slot.specs.declared.slot.Slot.{Slot}
 use Rattle.dep_host.specs.Hosting.{HasTime, IsWaiting}
 use Rattle.std.proofs.lemmas.List.{get_or-set_same, get_or-set_other}
 use Rattle.dep_host.proofs.HostLemmas.{within_still, free_once_left, free_where_sat, slot_read, closes_there, stays_on, stays_set}

@@ -1,6 +1,6 @@
 use Rattle.std.proofs.Common.{◌<◌, length, refl, None, ◌∙◌, arith}
 use Rattle.std.proofs.lemmas.List.{get_or_past}
-use Rattle.dep_host.specs.Slots.{woken_slot}
+use Rattle.dep_slot.specs.Slots.{woken_slot}
 use Rattle.dep_host.proofs.HostLemmas.{within_still, free_once_left, free_where_sat, slot_read, stays_same, stays_set}
 use Rattle.dep_host.proofs.MeetLemmas.{changes_none, changes_one, changes_nobody}
 use Rattle.dep_host.proofs.host.Host.set_ready.Goals as goal

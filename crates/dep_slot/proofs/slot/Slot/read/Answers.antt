@@ -1,9 +1,9 @@
 use Rattle.std.proofs.Common.{◌≤◌, ℕ, List, length, take, inl, inr, refl, sym, subst, arith}
 use Rattle.std.specs.Io.KnownBytes.{Consumes}
 use Rattle.dep_hub.specs.Numbers.{most_read}
-use Rattle.dep_host.specs.Causes.{causes_of}
-use Rattle.dep_host.proofs.SlotLemmas.{received, none_read, ends_read, ended_asked, offered_to}
-use Rattle.dep_host.proofs.slot.Slot.read.Goals as goal
+use Rattle.dep_slot.specs.Causes.{causes_of}
+use Rattle.dep_slot.proofs.SlotLemmas.{received, none_read, ends_read, ended_asked, offered_to}
+use Rattle.dep_slot.proofs.slot.Slot.read.Goals as goal
 
 pub returns-in-Bytes-clause-turn : goal.returns-in-Bytes-clause-turn
 returns-in-Bytes-clause-turn g c = λ moment is_full is_shut may_send allowed unshut.

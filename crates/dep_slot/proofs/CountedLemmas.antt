@@ -3,12 +3,12 @@ use Rattle.std.proofs.Common.{◌≡◌, inl, inr, ◌+◌, ◌-◌, ◌^◌, �
 use Rattle.std.proofs.Math.Bool.{true-or}
 use Rattle.dep_types.specs.Conditions.{Condition}
 use Rattle.dep_hub.specs.declared.hub.Hub.{Hub}
-use Rattle.dep_host.specs.declared.slot.Slot.{Slot}
-use Rattle.dep_host.specs.declared.connection_state.ConnectionState.{ConnectionState}
-use Rattle.dep_host.specs.declared.connection_state.NextAction.{NextAction}
-use Rattle.dep_host.specs.declared.connection_state.NextAction.TheVariants.{Flush, Answer, Send, Read, Finish, Drain, Wait}
-use Rattle.dep_host.specs.Causes.{Causes}
-use Rattle.dep_host.specs.Slots.{IsRead, MayRest, ActsOnce, TakesTurn, slot_action}
+use Rattle.dep_slot.specs.declared.slot.Slot.{Slot}
+use Rattle.dep_slot.specs.declared.connection_state.ConnectionState.{ConnectionState}
+use Rattle.dep_slot.specs.declared.connection_state.NextAction.{NextAction}
+use Rattle.dep_slot.specs.declared.connection_state.NextAction.TheVariants.{Flush, Answer, Send, Read, Finish, Drain, Wait}
+use Rattle.dep_slot.specs.Causes.{Causes}
+use Rattle.dep_slot.specs.Slots.{IsRead, MayRest, ActsOnce, TakesTurn, slot_action}
 
 module _ {A R K S : Type 0} (condition : A → Condition) (unread : R → Option (List ℕ)) (taken : K → Option (List ℕ)) (held : S → Option (List ℕ)) where
   -- what was sent in a turn is counted behind it

@@ -1,6 +1,6 @@
-use Rattle.dep_host.specs.Causes.{causes_of}
-use Rattle.dep_host.proofs.CountedLemmas.{counted}
-use Rattle.dep_host.proofs.slot.Slot.take_turn.Goals as goal
+use Rattle.dep_slot.specs.Causes.{causes_of}
+use Rattle.dep_slot.proofs.CountedLemmas.{counted}
+use Rattle.dep_slot.proofs.slot.Slot.take_turn.Goals as goal
 
 pub returns-clause-turn : goal.returns-clause-turn
 returns-clause-turn g c =

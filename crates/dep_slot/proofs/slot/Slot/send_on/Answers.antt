@@ -1,8 +1,8 @@
 use Rattle.std.proofs.Common.{refl, ap}
-use Rattle.dep_host.specs.Causes.{causes_of}
-use Rattle.dep_host.specs.declared.connection_state.Phase.{Phase}
-use Rattle.dep_host.proofs.SlotLemmas.{sent_on}
-use Rattle.dep_host.proofs.slot.Slot.send_on.Goals as goal
+use Rattle.dep_slot.specs.Causes.{causes_of}
+use Rattle.dep_slot.specs.declared.connection_state.Phase.{Phase}
+use Rattle.dep_slot.proofs.SlotLemmas.{sent_on}
+use Rattle.dep_slot.proofs.slot.Slot.send_on.Goals as goal
 
 pub returns-clause-turn : goal.returns-clause-turn
 returns-clause-turn g c =

@@ -5,8 +5,8 @@ use Rattle.dep_outbox.specs.Sockets.{after_receive, after_send}
 use Rattle.dep_outbox.specs.declared.socket.Halts.{Halts}
 use Rattle.dep_outbox.specs.declared.socket.Received.TheVariants as gives
 use Rattle.dep_outbox.specs.declared.socket.Delivered.TheVariants as takes
-use Rattle.dep_host.specs.declared.slot.Slot.{Slot}
-use Rattle.dep_host.specs.declared.connection_state.Phase.TheVariants.{Over}
+use Rattle.dep_slot.specs.declared.slot.Slot.{Slot}
+use Rattle.dep_slot.specs.declared.connection_state.Phase.TheVariants.{Over}
 
 -- how often the halves of a socket gave or took no byte, and a spool failed
 pub record Causes (R K S : Type 0) : Type 0 where

@@ -18,13 +18,13 @@ use Rattle.dep_hub.specs.declared.arrived.Arrived.TheVariants as came
 use Rattle.dep_hub.specs.declared.next.Next.{Next}
 use Rattle.dep_hub.specs.declared.next.Next.TheVariants.{More, Waiting, Closed, Cut, NoSuch}
 use Rattle.dep_outbox.specs.Wires.{reported, owed, owed_count}
-use Rattle.dep_host.specs.declared.slot.Slot.{Slot}
-use Rattle.dep_host.specs.declared.connection_state.Phase.{Phase}
-use Rattle.dep_host.specs.declared.connection_state.Phase.TheVariants.{Open, Answering, Sending, SendingLast, Last, Draining, Over}
-use Rattle.dep_host.specs.declared.connection_state.NextAction.{NextAction}
-use Rattle.dep_host.specs.declared.connection_state.NextAction.TheVariants as to
-use Rattle.dep_host.specs.ConnectionStates.{SendsStill, StaysOrEnds, StaysOrIsOver, next_action, is_ended, is_held_back, is_sending, woken}
-use Rattle.dep_host.specs.Causes.{Causes, HasCauses}
+use Rattle.dep_slot.specs.declared.slot.Slot.{Slot}
+use Rattle.dep_slot.specs.declared.connection_state.Phase.{Phase}
+use Rattle.dep_slot.specs.declared.connection_state.Phase.TheVariants.{Open, Answering, Sending, SendingLast, Last, Draining, Over}
+use Rattle.dep_slot.specs.declared.connection_state.NextAction.{NextAction}
+use Rattle.dep_slot.specs.declared.connection_state.NextAction.TheVariants as to
+use Rattle.dep_slot.specs.ConnectionStates.{SendsStill, StaysOrEnds, StaysOrIsOver, next_action, is_ended, is_held_back, is_sending, woken}
+use Rattle.dep_slot.specs.Causes.{Causes, HasCauses}
 
 -- its socket may be ready
 abbrev pub woken_slot : {R K S : Type 0} → Slot R K S → (is_readable is_writable : Bool) → Slot R K S

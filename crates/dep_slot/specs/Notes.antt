@@ -1,8 +1,8 @@
 -- What a log is told of the clients that come, and how that grows.
 use Rattle.std.specs.Prelude.{◌≡◌, ℕ, List, ◌++◌, Option, None, Some}
 use Rattle.std.specs.declared.net.ip_addr.IpAddr.{IpAddr}
-use Rattle.dep_host.specs.declared.log.Rejection.{Rejection}
-use Rattle.dep_host.specs.declared.log.Closing.{Closing}
+use Rattle.dep_slot.specs.declared.log.Rejection.{Rejection}
+use Rattle.dep_slot.specs.declared.log.Closing.{Closing}
 
 -- a client was let in, over the connection of a number, or it was rejected, or that connection was
 -- closed for a reason

@@ -1,6 +1,6 @@
 //! How far a connection is, and what it does next.
 ghost use Rattle.std.specs.Prelude.{◌≡◌, ◌+◌, ◌^◌, ◌-◌, ◌||◌, nat_lt, min, if◌then◌else◌, true, false};
-ghost use Rattle.dep_host.specs.ConnectionStates.{next_action, closing, counts_anew, is_under_way, is_past, is_sending};
+ghost use Rattle.dep_slot.specs.ConnectionStates.{next_action, closing, counts_anew, is_under_way, is_sending};
 
 use crate::limits::Limits;
 use crate::log::Closing;
@@ -169,7 +169,7 @@ impl ConnectionState {
         let is_any = owes || self.unfinished > 0 || self.phase.is_sending();
         self.is_due = is_any && !self.is_kept_back;
         self.is_kept_back = false;
-        let is_enough = is_past(self.mark, second, limits) && self.moved >= limits.least_rate;
+        let is_enough = limits.is_past(self.mark, second) && self.moved >= limits.least_rate;
         if !self.is_due || is_enough {
             self.mark = second;
             self.moved = 0;
@@ -205,10 +205,10 @@ impl ConnectionState {
             Some(Closing::Over)
         } else if self.has_moved {
             None
-        } else if is_past(self.since, second, limits) {
+        } else if limits.is_past(self.since, second) {
             Some(Closing::Silent)
         } else if self.is_due
-            && is_past(self.mark, second, limits)
+            && limits.is_past(self.mark, second)
             && self.moved < limits.least_rate
         {
             Some(Closing::Slow)
@@ -216,11 +216,4 @@ impl ConnectionState {
             None
         }
     }
-}
-
-/// Whether an idle time has passed.
-pub(crate) fn is_past(since: u64, second: u64, limits: &Limits) -> bool
-    ensures { result ≡ is_past since second limits.now }
-{
-    second.saturating_sub(since) > limits.idle_seconds
 }

@@ -1,6 +1,6 @@
 //! What is told of each connection, for a log of them.
 ghost use Rattle.std.specs.Prelude.{◌≡◌, List, [], ◌∷◌, Option, None};
-ghost use Rattle.dep_host.specs.Notes.{Note, LetIn, Rejected, LetGo, Grows};
+ghost use Rattle.dep_slot.specs.Notes.{Note, LetIn, Rejected, LetGo, Grows};
 
 use dep_hub::{AccessLog, ConnId, Next, SentOn};
 use std::net::IpAddr;

@@ -1,14 +1,13 @@
 -- What a connection does next, and when it is closed.
 use Rattle.std.specs.Prelude.{◌≡◌, ◌⊎◌, ℕ, ◌-◌, Bool, true, false, not, ◌&&◌, ◌||◌, nat_lt, if◌then◌else◌, Option, None, Some}
-use Rattle.dep_host.specs.declared.connection_state.ConnectionState.{ConnectionState}
-use Rattle.dep_host.specs.declared.connection_state.Phase.{Phase}
-use Rattle.dep_host.specs.declared.connection_state.Phase.TheVariants.{Open, Answering, Sending, SendingLast, Last, Draining, Over}
-use Rattle.dep_host.specs.declared.connection_state.NextAction.{NextAction}
-use Rattle.dep_host.specs.declared.connection_state.NextAction.TheVariants.{Flush, Answer, Send, Read, Finish, Drain, Wait}
-use Rattle.dep_host.specs.declared.ending.Shut.{Shut}
-use Rattle.dep_host.specs.declared.limits.Limits.{Limits}
-use Rattle.dep_host.specs.declared.log.Closing.{Closing}
-use Rattle.dep_host.specs.declared.log.Closing.TheVariants as ends
+use Rattle.dep_slot.specs.declared.connection_state.ConnectionState.{ConnectionState}
+use Rattle.dep_slot.specs.declared.connection_state.Phase.{Phase}
+use Rattle.dep_slot.specs.declared.connection_state.Phase.TheVariants.{Open, Answering, Sending, SendingLast, Last, Draining, Over}
+use Rattle.dep_slot.specs.declared.connection_state.NextAction.{NextAction}
+use Rattle.dep_slot.specs.declared.connection_state.NextAction.TheVariants.{Flush, Answer, Send, Read, Finish, Drain, Wait}
+use Rattle.dep_slot.specs.declared.limits.Limits.{Limits}
+use Rattle.dep_slot.specs.declared.log.Closing.{Closing}
+use Rattle.dep_slot.specs.declared.log.Closing.TheVariants as ends
 
 -- What a connection does next to which a content is sent: it is sent on where nothing is owed, and where a
 -- request waits for it whatever is owed.
@@ -59,11 +58,6 @@ is_held_back c is_full is_shut = is_shut || (is_full && nat_lt 0 c.unfinished)
 -- an idle time has passed since a second
 abbrev pub is_past : (since second : ℕ) → Limits → Bool
 is_past since second limits = nat_lt limits.idle_seconds (second - since)
-
--- an idle time has passed since a host was shut, if it is
-abbrev pub is_overdue : Option Shut → (second : ℕ) → Limits → Bool
-is_overdue None second limits = false
-is_overdue (Some shut) second limits = is_past shut.second second limits
 
 -- it was silent for longer than it may be
 abbrev pub is_silent : ConnectionState → (second : ℕ) → Limits → Bool

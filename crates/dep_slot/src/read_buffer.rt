@@ -28,7 +28,7 @@ impl ReadBuffer {
     }
 
     /// Receives what is there, into a prefix of it. The source is asked once.
-    pub(crate) fn receive<R: Source>(&mut self, source: &mut R) -> Received
+    pub fn receive<R: Source>(&mut self, source: &mut R) -> Received
         ensures bytes { Receives (R.unread source.old) (R.unread source.new)
             self.new.bytes.items result }
         ensures asks { R.halts source.new ≡ after_receive result (R.halts source.old) }

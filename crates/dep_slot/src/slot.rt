@@ -1,18 +1,16 @@
 //! A connection that is served.
-ghost use Rattle.std.specs.Prelude.{IsSomeAnd, ◌≡◌, ◌≢◌, ◌<◌, ◌≤◌, ◌+◌, ◌-◌, ◌^◌, ◌||◌, ◌&&◌, min, nat_lt, length, true, false};
+ghost use Rattle.std.specs.Prelude.{◌≡◌, ◌≢◌, ◌<◌, ◌≤◌, ◌+◌, ◌-◌, ◌^◌, ◌||◌, ◌&&◌, min, nat_lt, length, true, false};
 ghost use Rattle.std.specs.Io.KnownBytes.{IsAtEnd};
 ghost use Rattle.dep_hub.specs.RepresentsOwing.{is_awaited_at};
 ghost use Rattle.dep_outbox.specs.Wires.{owed};
-ghost use Rattle.dep_host.specs.ConnectionStates.{StaysOrEnds, is_ended, is_held_back, is_sending, phase_begun};
-ghost use Rattle.dep_host.specs.Causes.{HasCauses, causes_of};
-ghost use Rattle.dep_host.specs.Hosting.{unfinished_of};
-ghost use Rattle.dep_host.specs.declared.connection_state.Phase.TheVariants.{Open};
-ghost use Rattle.dep_host.specs.Slots.{Finishes, Flushes, PutsOff, HubStays, IsDue, SameBehind, TakesTurn, MayRead, MayAnswer, MaySend, IsOffered, IsReplied, slot_action, phase_answered, phase_sent, woken_slot};
+ghost use Rattle.dep_slot.specs.ConnectionStates.{StaysOrEnds, closing, is_ended, is_held_back, is_sending, phase_begun};
+ghost use Rattle.dep_slot.specs.Causes.{HasCauses, causes_of};
+ghost use Rattle.dep_slot.specs.Slots.{Finishes, Flushes, PutsOff, HubStays, IsDue, SameBehind, TakesTurn, MayRead, MayAnswer, MaySend, IsOffered, IsReplied, slot_action, phase_answered, phase_sent, woken_slot};
 
 use crate::connection_state::{ConnectionState, NextAction, Phase};
-use crate::events::Client;
+use crate::client::Client;
 use crate::limits::Limits;
-use crate::log::{Bytes, HostLog};
+use crate::log::{Bytes, Closing, HostLog};
 use crate::read_buffer::ReadBuffer;
 use dep_hub::{AccessLog, Archive, Arrived, ConnId, Hub, Next, SentOn};
 use dep_moment::Moment;
@@ -30,7 +28,7 @@ pub struct Time {
 
 /// How a turn of a round goes.
 #[derive(Clone, Copy)]
-pub(crate) struct Turn {
+pub struct Turn {
     pub time: Time,
     /// Whether more bytes of unfinished requests are kept than may be, so that of none of these more
     /// is read.
@@ -44,11 +42,11 @@ pub(crate) struct Turn {
 /// A connection of the hub, the two ways to its client, and how far it is.
 #[derive(Drop)]
 pub struct Slot<R, K, S> {
-    pub(crate) connection: ConnId,
-    pub(crate) address: IpAddr,
+    connection: ConnId,
+    address: IpAddr,
     source: R,
     wire: Wire<K, S>,
-    pub(crate) state: ConnectionState,
+    state: ConnectionState,
     /// How many bytes were read, up to 2^64 - 1.
     received: u64,
     /// How many bytes the wire had taken before the last reply, up to 2^64 - 1.
@@ -57,7 +55,7 @@ pub struct Slot<R, K, S> {
 
 impl<R: Source, K: Sink, S: Spool> Slot<R, K, S> {
     /// A fresh connection of a client, whose socket may be ready.
-    pub(crate) fn new(connection: ConnId, client: Client<R, K, S>) -> Slot<R, K, S>
+    pub fn new(connection: ConnId, client: Client<R, K, S>) -> Slot<R, K, S>
         ensures number { result.connection ≡ connection }
         ensures address { result.address ≡ client.address }
         ensures source { result.source ≡ client.source }
@@ -85,6 +83,35 @@ impl<R: Source, K: Sink, S: Spool> Slot<R, K, S> {
         }
     }
 
+    /// The number that it has in its hub.
+    pub fn connection(&self) -> ConnId
+        ensures { result ≡ self.now.connection }
+    {
+        self.connection
+    }
+
+    /// Where its client connects from.
+    pub fn address(&self) -> IpAddr
+        ensures { result ≡ self.now.address }
+    {
+        self.address
+    }
+
+    /// How many bytes of its unfinished requests are kept.
+    pub fn unfinished(&self) -> u64
+        ensures { result ≡ self.now.state.unfinished }
+    {
+        self.state.unfinished
+    }
+
+    /// Whether it is read, and none of its requests may be complete.
+    pub fn is_read(&self) -> bool
+        ensures read { result ≡ true → self.now.state.phase ≡ Phase.Open }
+        ensures unread { result ≡ false → self.now.state.phase ≡ Phase.Open → ⊥ }
+    {
+        self.state.phase == Phase::Open
+    }
+
     /// How many bytes were read of it, and taken by its socket.
     pub fn bytes(&self) -> Bytes
         ensures received { result.received ≡ self.now.received }
@@ -97,7 +124,7 @@ impl<R: Source, K: Sink, S: Spool> Slot<R, K, S> {
     }
 
     /// Takes note that its socket may be ready.
-    pub(crate) fn set_ready(&mut self, is_readable: bool, is_writable: bool)
+    pub fn set_ready(&mut self, is_readable: bool, is_writable: bool)
         ensures { self.new ≡ woken_slot self.old is_readable is_writable }
     {
         self.state.is_readable = self.state.is_readable || is_readable;
@@ -105,14 +132,14 @@ impl<R: Source, K: Sink, S: Spool> Slot<R, K, S> {
     }
 
     /// Whether a content is sent behind its last reply.
-    pub(crate) fn is_sending(&self) -> bool
+    pub fn is_sending(&self) -> bool
         ensures { result ≡ is_sending self.now.state.phase }
     {
         self.state.phase.is_sending()
     }
 
     /// Whether a request waits for the content that is sent to it.
-    pub(crate) fn is_awaited<A: Archive>(&self, hub: &Hub<A>) -> bool
+    pub fn is_awaited<A: Archive>(&self, hub: &Hub<A>) -> bool
         ensures { result ≡ is_sending self.now.state.phase
             && is_awaited_at hub.now.connections.items self.now.connection }
     {
@@ -121,7 +148,7 @@ impl<R: Source, K: Sink, S: Spool> Slot<R, K, S> {
 
     /// Begins its turn. Once the host is shut it is read no more. `is_awaited` tells whether a request waits
     /// for the content that is sent to it.
-    pub(crate) fn begin_turn(
+    pub fn begin_turn(
         &mut self,
         second: u64,
         limits: &Limits,
@@ -149,15 +176,22 @@ impl<R: Source, K: Sink, S: Spool> Slot<R, K, S> {
     }
 
     /// Whether it can go on at once.
-    pub(crate) fn is_busy(&self) -> bool
+    pub fn is_busy(&self) -> bool
         ensures waits { result ≡ false → slot_action S.size self.now ≡ NextAction.Wait }
         ensures busy { slot_action S.size self.now ≡ NextAction.Wait → result ≡ false }
     {
         self.state.next_action(self.wire.owes()) != NextAction::Wait
     }
 
+    /// Why it is closed now, if it is.
+    pub fn closing(&self, second: u64, limits: &Limits) -> Option<Closing>
+        ensures { result ≡ closing self.now.state second limits.now }
+    {
+        self.state.closing(second, limits)
+    }
+
     /// Whether its content is sent on in a turn.
-    pub(crate) fn sends_on(&self, turn: &Turn) -> bool
+    pub fn sends_on(&self, turn: &Turn) -> bool
         ensures yes { result ≡ true
             → (turn.now.may_send ≡ true) × (slot_action S.size self.now ≡ NextAction.Send) }
         ensures no { result ≡ false → turn.now.may_send ≡ true
@@ -168,7 +202,7 @@ impl<R: Source, K: Sink, S: Spool> Slot<R, K, S> {
 
     /// Does what it does next: at most one piece is read, one item answered, or one step of a content sent.
     /// What its socket takes and what is read counts as moved.
-    pub(crate) fn take_turn<A: Archive, L: HostLog>(
+    pub fn take_turn<A: Archive, L: HostLog>(
         &mut self,
         hub: &mut Hub<A>,
         buffer: &mut ReadBuffer,
@@ -337,7 +371,7 @@ impl<R: Source, K: Sink, S: Spool> Slot<R, K, S> {
     }
 
     /// Tells the log that no more is sent of the content behind its last reply, where more of it was to be.
-    pub(crate) fn break_off<L: HostLog>(&self, log: &mut L)
+    pub fn break_off<L: HostLog>(&self, log: &mut L)
         ensures { L.notes log.new ≡ L.notes log.old }
     {
         if self.is_sending() {
@@ -452,27 +486,5 @@ fn phase_sent(phase: Phase, sent_on: SentOn) -> Phase
         SentOn::Part => phase,
         SentOn::All if phase == Phase::Sending => Phase::Answering,
         SentOn::All | SentOn::Broken => Phase::Last,
-    }
-}
-
-/// How many bytes of unfinished requests are kept for who is at a place.
-pub(crate) fn unfinished<R: Source, K: Sink, S: Spool>(place: &Option<Slot<R, K, S>>) -> u64
-    ensures { result ≡ unfinished_of place.now }
-{
-    match place {
-        Some(slot) => slot.state.unfinished,
-        None => 0,
-    }
-}
-
-/// Whether who is at a place is read, and none of its requests may be complete.
-pub(crate) fn is_read<R: Source, K: Sink, S: Spool>(place: &Option<Slot<R, K, S>>) -> bool
-    ensures read { result ≡ true → IsSomeAnd place.now (λ slot. slot.state.phase ≡ Open) }
-    ensures unread { result ≡ false
-        → IsSomeAnd place.now (λ slot. slot.state.phase ≡ Open) → ⊥ }
-{
-    match place {
-        Some(slot) => slot.state.phase == Phase::Open,
-        None => false,
     }
 }

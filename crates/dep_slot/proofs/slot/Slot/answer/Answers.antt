@@ -1,7 +1,7 @@
 use Rattle.std.proofs.Common.{refl}
-use Rattle.dep_host.specs.Causes.{causes_of}
-use Rattle.dep_host.proofs.SlotLemmas.{replied, client_of, source_of}
-use Rattle.dep_host.proofs.slot.Slot.answer.Goals as goal
+use Rattle.dep_slot.specs.Causes.{causes_of}
+use Rattle.dep_slot.proofs.SlotLemmas.{replied, client_of, source_of}
+use Rattle.dep_slot.proofs.slot.Slot.answer.Goals as goal
 
 pub returns-clause-turn : goal.returns-clause-turn
 returns-clause-turn g c =

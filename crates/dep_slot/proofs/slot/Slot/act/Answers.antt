@@ -1,12 +1,12 @@
 use Rattle.std.proofs.Common.{inl, refl, sym, ap, subst, Bool, ◌∙◌}
 use Rattle.std.proofs.lemmas.Bool.{ltb-true}
-use Rattle.dep_host.specs.declared.connection_state.ConnectionState.{ConnectionState}
-use Rattle.dep_host.specs.declared.connection_state.NextAction.TheVariants.{Flush, Send, Read, Finish, Drain, Wait}
-use Rattle.dep_host.specs.Causes.{causes_of}
-use Rattle.dep_host.specs.Slots.{TakesTurn}
-use Rattle.dep_host.proofs.SlotLemmas.{put_off, due_as, flushed, finished, drained, rested_so}
-use Rattle.dep_host.proofs.PhaseLemmas.{sends_owed, sends_unowed, drains_ended}
-use Rattle.dep_host.proofs.slot.Slot.act.Goals as goal
+use Rattle.dep_slot.specs.declared.connection_state.ConnectionState.{ConnectionState}
+use Rattle.dep_slot.specs.declared.connection_state.NextAction.TheVariants.{Flush, Send, Read, Finish, Drain, Wait}
+use Rattle.dep_slot.specs.Causes.{causes_of}
+use Rattle.dep_slot.specs.Slots.{TakesTurn}
+use Rattle.dep_slot.proofs.SlotLemmas.{put_off, due_as, flushed, finished, drained, rested_so}
+use Rattle.dep_slot.proofs.PhaseLemmas.{sends_owed, sends_unowed, drains_ended}
+use Rattle.dep_slot.proofs.slot.Slot.act.Goals as goal
 
 pub returns-in-Flush-clause-turn : goal.returns-in-Flush-clause-turn
 returns-in-Flush-clause-turn g c = flushed g.A.Archive.condition g.R.Source.unread g.K.Sink.taken g.S.Spool.held g.S.Spool.size (causes_of g.R.Source.halts g.K.Sink.halts g.S.Spool.failures) c.args.hub.now c.args.self.now c.flush.new.self c.args.turn.now.time.moment c.args.turn.now.is_full c.args.turn.now.is_shut c.args.turn.now.may_send _ _

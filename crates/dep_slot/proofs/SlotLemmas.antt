@@ -23,16 +23,16 @@ use Rattle.dep_outbox.specs.declared.socket.Received.{Received}
 use Rattle.dep_outbox.specs.declared.socket.Received.TheVariants as gave
 use Rattle.dep_outbox.specs.declared.wire.Wire.{Wire}
 use Rattle.dep_outbox.specs.Wires.{reported, owed, owed_count}
-use Rattle.dep_host.specs.declared.slot.Slot.{Slot}
-use Rattle.dep_host.specs.declared.connection_state.ConnectionState.{ConnectionState}
-use Rattle.dep_host.specs.declared.connection_state.Phase.{Phase}
-use Rattle.dep_host.specs.declared.connection_state.Phase.TheVariants.{Open, Answering, Draining, Over}
-use Rattle.dep_host.specs.declared.connection_state.NextAction.{NextAction}
-use Rattle.dep_host.specs.declared.connection_state.NextAction.TheVariants.{Flush, Answer, Send, Read, Finish, Drain}
-use Rattle.dep_host.specs.ConnectionStates.{next_action, is_ended, is_sending, SendsStill, StaysOrEnds}
-use Rattle.dep_host.specs.Causes.{Causes, HasCauses}
-use Rattle.dep_host.specs.Slots.{HubStays, PutsOff, SameBehind, SameClient, SendsOn, IsUnknown, Rests, Answers, IsRead, IsReplied, MayRest, ActsOnce, TakesTurn, slot_action, phase_offered, phase_sent}
-use Rattle.dep_host.proofs.PhaseLemmas.{not_open, not_ended, ended_still, still_same, sends_still, opened_still, finishes_last, sends_content, ended_sent, over_sent, not_yet, over_offered, over_answered}
+use Rattle.dep_slot.specs.declared.slot.Slot.{Slot}
+use Rattle.dep_slot.specs.declared.connection_state.ConnectionState.{ConnectionState}
+use Rattle.dep_slot.specs.declared.connection_state.Phase.{Phase}
+use Rattle.dep_slot.specs.declared.connection_state.Phase.TheVariants.{Open, Answering, Draining, Over}
+use Rattle.dep_slot.specs.declared.connection_state.NextAction.{NextAction}
+use Rattle.dep_slot.specs.declared.connection_state.NextAction.TheVariants.{Flush, Answer, Send, Read, Finish, Drain}
+use Rattle.dep_slot.specs.ConnectionStates.{next_action, is_ended, is_sending, SendsStill, StaysOrEnds}
+use Rattle.dep_slot.specs.Causes.{Causes, HasCauses}
+use Rattle.dep_slot.specs.Slots.{HubStays, PutsOff, SameBehind, SameClient, SendsOn, IsUnknown, Rests, Answers, IsRead, IsReplied, MayRest, ActsOnce, TakesTurn, slot_action, phase_offered, phase_sent}
+use Rattle.dep_slot.proofs.PhaseLemmas.{not_open, not_ended, ended_still, still_same, sends_still, opened_still, finishes_last, sends_content, ended_sent, over_sent, not_yet, over_offered, over_answered}
 
 -- its wire and its connection state changed, and changed again
 pub source_of : {R K S : Type 0} (before after : Slot R K S) (w : Wire K S) (c : ConnectionState) → after ≡ record before { wire = w; state = c } → after.source ≡ before.source

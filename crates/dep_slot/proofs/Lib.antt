@@ -1,0 +1,3 @@
+pub mod PhaseLemmas
+pub mod SlotLemmas
+mod CountedLemmas

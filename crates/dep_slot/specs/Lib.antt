@@ -1,0 +1,4 @@
+pub mod ConnectionStates
+pub mod Causes
+pub mod Slots
+pub mod Notes
