@@ -28,7 +28,7 @@ use Rattle.dep_slot.specs.Notes.{Note, LetGo, Grows}
 use Rattle.dep_host.proofs.HostLemmas.{grows_same, slot_read, steps_join, unchanged, woken}
 use Rattle.dep_host.proofs.ActionLemmas.{answers_append, pieces_append, sendings_in_append, counted_by, sendings_after, in_time_append, noted_on, one_at_most, one_here, one_sent, none_sent, none_elsewhere}
 use Rattle.dep_slot.proofs.PhaseLemmas.{asks_sending, begun_once, over_begun, sends_begun, still_begun}
-use Rattle.dep_host.proofs.StretchLemmas.{none_read, lost_before, kept_back_before, closed_there, at_after}
+use Rattle.dep_host.proofs.StretchLemmas.{none_read, lost_before, kept_back_on, once_before, closed_there, at_after}
 
 -- what was set twice is as it was set last
 set_again : {X : Type 0} (l : List X) (at : ℕ) (x y : X) → set (set l at x) at y ≡ set l at y
@@ -98,92 +98,54 @@ module _ {A R K S : Type 0} (condition : A → Condition) (unread : R → Option
   rested_unsent p before after is_full may_send due may =
       let r = subst (λ (d : NextAction). MayRest condition unread taken held size p.hub before after is_full (is_some p.shut) may_send d) due may in r.0
 
+  -- a turn in which no content is sent on
+  unsending : (p q : Position A R K S) (at : ℕ) (time : Time) (is_full may_send : Bool) (before after : Slot R K S) (actions : List HostAction) → Steps condition unread taken held p actions q → sendings_in actions ≡ 0 → ((place : ℕ) → sendings_at place actions ≡ [])
+      → (slot_action size before ≡ to.Send → may_send ≡ true → ⊥) → answers_at at actions ≤ 1 → ((place : ℕ) → (place ≡ at → ⊥) → answers_at place actions ≡ 0)
+      → (is_full ≡ true → 0 < unfinished_of (slot_at at p.slots) → pieces_at at actions ≡ 0) → ((place : ℕ) → (place ≡ at → ⊥) → pieces_at place actions ≡ 0)
+      → IsServed condition unread taken held size causes p q actions is_full may_send before after (answers_at at actions) (pieces_at at actions) (sendings_at at actions) (slot_action size before)
+      → AreDoneAt time actions → closings_of actions ≡ [] → Turned p q at time is_full may_send before after
+  unsending p q at time is_full may_send before after actions steps none unsent other once others waits unread_others does in_time quiet = record {
+    actions = actions;
+    steps = steps;
+    once = once;
+    others = others;
+    waits = waits;
+    unread_others = unread_others;
+    sends_once = let e : length (sendings_at at actions) ≡ 0 = ap (λ (l : List SentOn). length l) (unsent at) in omega (arith, e);
+    unsent_others = λ place ne. unsent place;
+    sends_on = λ due may. absurd (other due may);
+    sends_none = λ no. none;
+    does = does;
+    in_time = in_time;
+    quiet = quiet;
+  }
+
   -- a connection had its turn
   took_turn : (p q : Position A R K S) (at : ℕ) (time : Time) (is_full may_send : Bool) (before after : Slot R K S) → HasTurn condition unread taken held p q at before after
       → before.state.phase ≡ phase_begun before.state.phase (is_some p.shut) → ActsOnce condition unread taken held size p.hub q.hub before after time.moment is_full (is_some p.shut) may_send → Turned p q at time is_full may_send before after
-  took_turn p q at time is_full may_send before after t e (inl (r, may)) = record {
-    actions = [];
-    steps = goes_on begins (rests t r);
-    once = omega arith;
-    others = λ place ne. refl;
-    waits = λ full some. refl;
-    unread_others = λ place ne. refl;
-    sends_once = omega arith;
-    unsent_others = λ place ne. refl;
-    sends_on = λ due now. let r = rested_unsent p before after is_full may_send due may in let bad : true ≡ false = sym now ∙ r in cc;
-    sends_none = λ no. refl;
-    does = rest_served p q is_full may_send before after (slot_action size before) e (goes_on begins (rests t r)) may;
-    in_time = tt;
-    quiet = refl;
-  }
-  took_turn p q at time is_full may_send before after t e (inr (inl (o, due))) = record {
-    actions = Takes at before.connection o.piece ∷ [];
-    steps = goes_on begins (offers t o);
-    once = omega arith;
-    others = λ place ne. refl;
-    waits = λ full some. none_read condition unread taken held size causes p at _ before t.sat (o.read.allowed full) some;
-    unread_others = λ place ne. none_elsewhere at place ne;
-    sends_once = omega arith;
-    unsent_others = λ place ne. refl;
-    sends_on = λ h now. let bad : to.Read ≡ to.Send = sym due ∙ h in cc;
-    sends_none = λ no. refl;
-    does = read_served p q _ is_full may_send before after _ _ _ due (one_here at);
-    in_time = (tt, tt);
-    quiet = refl;
-  }
-  took_turn p q at time is_full may_send before after t e (inr (inr (inl (r, due)))) = record {
-    actions = Declines at before.connection r.piece time.moment r.answers.sent ∷ [];
-    steps = goes_on begins (refuses t r);
-    once = one_at_most (at == at);
-    others = λ place ne. none_elsewhere at place ne;
-    waits = λ full some. none_read condition unread taken held size causes p at _ before t.sat (r.read.allowed full) some;
-    unread_others = λ place ne. none_elsewhere at place ne;
-    sends_once = omega arith;
-    unsent_others = λ place ne. refl;
-    sends_on = λ h now. let bad : to.Read ≡ to.Send = sym due ∙ h in cc;
-    sends_none = λ no. refl;
-    does = read_served p q _ is_full may_send before after _ _ _ due (one_here at);
-    in_time = (refl, tt);
-    quiet = refl;
-  }
-  took_turn p q at time is_full may_send before after t e (inr (inr (inr (inl (a, due))))) = record {
-    actions = Replies at before.connection time.moment a.now a.answers.sent ∷ [];
-    steps = goes_on begins (answers t a);
-    once = one_at_most (at == at);
-    others = λ place ne. none_elsewhere at place ne;
-    waits = λ full some. refl;
-    unread_others = λ place ne. refl;
-    sends_once = omega arith;
-    unsent_others = λ place ne. refl;
-    sends_on = λ h now. let bad : to.Answer ≡ to.Send = sym due ∙ h in cc;
-    sends_none = λ no. refl;
-    does = answer_served p q _ is_full may_send before after _ _ _ due (one_here at);
-    in_time = (refl, tt);
-    quiet = refl;
-  }
+  took_turn p q at time is_full may_send before after t e (inl (r, may)) =
+      unsending p q at time is_full may_send before after [] (goes_on begins (rests t r)) refl (λ place. refl) (λ due now. let r = rested_unsent p before after is_full may_send due may in let bad : true ≡ false = sym now ∙ r in cc)
+      (omega arith) (λ place ne. refl) (λ full some. refl) (λ place ne. refl) (rest_served p q is_full may_send before after (slot_action size before) e (goes_on begins (rests t r)) may) tt refl
+  took_turn p q at time is_full may_send before after t e (inr (inl (o, due))) =
+      unsending p q at time is_full may_send before after (Takes at before.connection o.piece ∷ []) (goes_on begins (offers t o)) refl (λ place. refl) (λ h now. let bad : to.Read ≡ to.Send = sym due ∙ h in cc)
+      (omega arith) (λ place ne. refl) (λ full some. none_read condition unread taken held size causes p at _ before t.sat (o.read.allowed full) some) (λ place ne. none_elsewhere at place ne)
+      (read_served p q _ is_full may_send before after _ _ _ due (one_here at)) (tt, tt) refl
+  took_turn p q at time is_full may_send before after t e (inr (inr (inl (r, due)))) =
+      unsending p q at time is_full may_send before after (Declines at before.connection r.piece time.moment r.answers.sent ∷ []) (goes_on begins (refuses t r)) refl (λ place. refl) (λ h now. let bad : to.Read ≡ to.Send = sym due ∙ h in cc)
+      (one_at_most (at == at)) (λ place ne. none_elsewhere at place ne) (λ full some. none_read condition unread taken held size causes p at _ before t.sat (r.read.allowed full) some) (λ place ne. none_elsewhere at place ne)
+      (read_served p q _ is_full may_send before after _ _ _ due (one_here at)) (refl, tt) refl
+  took_turn p q at time is_full may_send before after t e (inr (inr (inr (inl (a, due))))) =
+      unsending p q at time is_full may_send before after (Replies at before.connection time.moment a.now a.answers.sent ∷ []) (goes_on begins (answers t a)) refl (λ place. refl) (λ h now. let bad : to.Answer ≡ to.Send = sym due ∙ h in cc)
+      (one_at_most (at == at)) (λ place ne. none_elsewhere at place ne) (λ full some. refl) (λ place ne. refl) (answer_served p q _ is_full may_send before after _ _ _ due (one_here at)) (refl, tt) refl
   took_turn p q at time is_full may_send before after t e (inr (inr (inr (inr (inl (d, due)))))) =
-      let s = goes_on begins (delays t d) in
-      record {
-        actions = [];
-        steps = s;
-        once = omega arith;
-        others = λ place ne. refl;
-        waits = λ full some. refl;
-        unread_others = λ place ne. refl;
-        sends_once = omega arith;
-        unsent_others = λ place ne. refl;
-        sends_on = λ h now. let bad : to.Answer ≡ to.Send = sym due ∙ h in cc;
-        sends_none = λ no. refl;
-        does = subst (λ (x : NextAction). IsServed condition unread taken held size causes p q [] is_full may_send before after 0 0 [] x) (sym due) (inr (inr (record {
-          keeps = record { earlier = []; later = []; all = refl; mid = p; next = q; came = begins; is = d.keeps; goes = begins };
-          stays = d.stays;
-          stirs = d.stirs;
-          counts_not = d.counts_not;
-          leaves = d.leaves;
-        })));
-        in_time = tt;
-        quiet = refl;
-      }
+      unsending p q at time is_full may_send before after [] (goes_on begins (delays t d)) refl (λ place. refl) (λ h now. let bad : to.Answer ≡ to.Send = sym due ∙ h in cc)
+      (omega arith) (λ place ne. refl) (λ full some. refl) (λ place ne. refl) (subst (λ (x : NextAction). IsServed condition unread taken held size causes p q [] is_full may_send before after 0 0 [] x) (sym due) (inr (inr (record {
+        keeps = record { earlier = []; later = []; all = refl; mid = p; next = q; came = begins; is = d.keeps; goes = begins };
+        stays = d.stays;
+        stirs = d.stirs;
+        counts_not = d.counts_not;
+        leaves = d.leaves;
+      })))) tt refl
   took_turn p q at time is_full may_send before after t e (inr (inr (inr (inr (inr (s, due, may)))))) = record {
     actions = Sends at before.connection s.sends.sent s.answer ∷ [];
     steps = goes_on begins (sends t s);
@@ -245,7 +207,7 @@ module _ {A R K S : Type 0} (condition : A → Condition) (unread : R → Option
   served_begun p m q actions is_full may_send before mid after answered read sent to.Answer s shut number wire count writable phase (inr (inl lost)) =
       inr (inl (subst (λ (n : ℕ). IsLost condition unread taken held size causes p q actions n) number (lost_before condition unread taken held size causes p m q mid.connection [] actions s lost)))
   served_begun p m q actions is_full may_send before mid after answered read sent to.Answer s shut number wire count writable phase (inr (inr k)) =
-      let b = kept_back_before condition unread taken held size causes p m q [] actions mid after s k in
+      let b = kept_back_on condition unread taken held size causes m q p q actions actions mid after (λ So. once_before condition unread taken held size causes So p m q [] actions s) k in
       inr (inr (record {
         keeps = subst (λ (n : ℕ). IsOnce condition unread taken held size causes (λ old new. KeepsBack condition (reported taken held before.wire) (reported taken held after.wire) before.wire.failures after.wire.failures old new n) p q actions) number
             (subst (λ (w : Wire K S). IsOnce condition unread taken held size causes (λ old new. KeepsBack condition (reported taken held w) (reported taken held after.wire) w.failures after.wire.failures old new mid.connection) p q actions) wire b.keeps);

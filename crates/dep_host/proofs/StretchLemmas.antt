@@ -30,8 +30,8 @@ module _ {A R K S : Type 0} (condition : A → Condition) (unread : R → Option
       let kept : unfinished_of (slot_at at p.slots) ≡ before.state.unfinished = ap (λ (x : Option (Slot R K S)). unfinished_of x) sat in
       let no : ⊥ = omega (arith, kept, none, some) in no)
 
-  -- who was served is served still where the round began earlier
-  once_before : (So : Hub A → Hub A → Type 0) (p q r : Position A R K S) (xs ys : List HostAction) → Steps condition unread taken held p xs q → IsOnce condition unread taken held size causes So q r ys → IsOnce condition unread taken held size causes So p r (xs ++ ys)
+  -- what was so once is so still where the round began earlier
+  pub once_before : (So : Hub A → Hub A → Type 0) (p q r : Position A R K S) (xs ys : List HostAction) → Steps condition unread taken held p xs q → IsOnce condition unread taken held size causes So q r ys → IsOnce condition unread taken held size causes So p r (xs ++ ys)
   once_before So p q r xs ys s once = record {
     earlier = xs ++ once.earlier;
     later = once.later;
@@ -45,38 +45,6 @@ module _ {A R K S : Type 0} (condition : A → Condition) (unread : R → Option
 
   pub lost_before : (p q r : Position A R K S) (number : ℕ) (xs ys : List HostAction) → Steps condition unread taken held p xs q → IsLost condition unread taken held size causes q r ys number → IsLost condition unread taken held size causes p r (xs ++ ys) number
   lost_before p q r number xs ys s lost = once_before (λ old new. IsUnknown old number) p q r xs ys s lost
-
-  pub kept_back_before : (p q r : Position A R K S) (xs ys : List HostAction) (before after : Slot R K S) → Steps condition unread taken held p xs q → IsKeptBack condition unread taken held size causes q r ys before after
-      → IsKeptBack condition unread taken held size causes p r (xs ++ ys) before after
-  kept_back_before p q r xs ys before after s k = record {
-    keeps = once_before (λ old new. KeepsBack condition (reported taken held before.wire) (reported taken held after.wire) before.wire.failures after.wire.failures old new before.connection) p q r xs ys s k.keeps;
-    stays = k.stays;
-    stirs = k.stirs;
-    counts_not = k.counts_not;
-    leaves = k.leaves;
-  }
-
-  served_before : (p q r : Position A R K S) (xs ys : List HostAction) (is_full may_send : Bool) (before after : Slot R K S) (answered read : ℕ) (sent : List SentOn) (d : NextAction) → Steps condition unread taken held p xs q → q.shut ≡ p.shut
-      → IsServed condition unread taken held size causes q r ys is_full may_send before after answered read sent d → IsServed condition unread taken held size causes p r (xs ++ ys) is_full may_send before after answered read sent d
-  served_before p q r xs ys is_full may_send before after answered read sent to.Flush s shut h = (h.0, subst (λ (o : Option Shut). StaysOrIsOver (phase_begun before.state.phase (is_some o)) after.state.phase) shut h.1)
-  served_before p q r xs ys is_full may_send before after answered read sent to.Answer s shut (inl one) = inl one
-  served_before p q r xs ys is_full may_send before after answered read sent to.Answer s shut (inr (inl lost)) = inr (inl (lost_before p q r before.connection xs ys s lost))
-  served_before p q r xs ys is_full may_send before after answered read sent to.Answer s shut (inr (inr k)) = inr (inr (kept_back_before p q r xs ys before after s k))
-  served_before p q r xs ys is_full may_send before after answered read sent to.Send s shut (inl (may, h)) =
-      inl (may, (h.0, h.1, subst (λ (o : Option Shut). after.state.phase ≡ phase_sent (phase_begun before.state.phase (is_some o)) h.0) shut h.2))
-  served_before p q r xs ys is_full may_send before after answered read sent to.Send s shut (inr (none, unsent, off, phase)) =
-      inr (none, unsent, off, subst (λ (o : Option Shut). StaysOrIsOver (phase_begun before.state.phase (is_some o)) after.state.phase) shut phase)
-  served_before p q r xs ys is_full may_send before after answered read sent to.Read s shut (inl one) = inl one
-  served_before p q r xs ys is_full may_send before after answered read sent to.Read s shut (inr (inl back)) = inr (inl (
-    subst (λ (o : Option Shut). is_held_back before.state is_full (is_some o) ≡ true) shut back.0,
-    subst (λ (o : Option Shut). after.state.phase ≡ phase_begun before.state.phase (is_some o)) shut back.1,
-  ))
-  served_before p q r xs ys is_full may_send before after answered read sent to.Read s shut (inr (inr (inl none))) =
-      inr (inr (inl (none.0, subst (λ (o : Option Shut). after.state.phase ≡ phase_begun before.state.phase (is_some o)) shut none.1)))
-  served_before p q r xs ys is_full may_send before after answered read sent to.Read s shut (inr (inr (inr over))) = inr (inr (inr over))
-  served_before p q r xs ys is_full may_send before after answered read sent to.Finish s shut h = h
-  served_before p q r xs ys is_full may_send before after answered read sent to.Drain s shut h = subst (λ (o : Option Shut). StaysOrIsOver (phase_begun before.state.phase (is_some o)) after.state.phase) shut h
-  served_before p q r xs ys is_full may_send before after answered read sent to.Wait s shut h = subst (λ (o : Option Shut). after.state.phase ≡ phase_begun before.state.phase (is_some o)) shut h
 
   -- and where it went on later
   once_later : (So : Hub A → Hub A → Type 0) (p q r : Position A R K S) (xs ys : List HostAction) → Steps condition unread taken held q ys r → IsOnce condition unread taken held size causes So p q xs → IsOnce condition unread taken held size causes So p r (xs ++ ys)
@@ -94,27 +62,39 @@ module _ {A R K S : Type 0} (condition : A → Condition) (unread : R → Option
   lost_later : (p q r : Position A R K S) (number : ℕ) (xs ys : List HostAction) → Steps condition unread taken held q ys r → IsLost condition unread taken held size causes p q xs number → IsLost condition unread taken held size causes p r (xs ++ ys) number
   lost_later p q r number xs ys s lost = once_later (λ old new. IsUnknown old number) p q r xs ys s lost
 
-  kept_back_later : (p q r : Position A R K S) (xs ys : List HostAction) (before after : Slot R K S) → Steps condition unread taken held q ys r → IsKeptBack condition unread taken held size causes p q xs before after
-      → IsKeptBack condition unread taken held size causes p r (xs ++ ys) before after
-  kept_back_later p q r xs ys before after s k = record {
-    keeps = once_later (λ old new. KeepsBack condition (reported taken held before.wire) (reported taken held after.wire) before.wire.failures after.wire.failures old new before.connection) p q r xs ys s k.keeps;
+  -- who was kept back, or served, in one stretch was so in another, if what was so once in it is so once in that
+  pub kept_back_on : (a b p q : Position A R K S) (xs ys : List HostAction) (before after : Slot R K S) → ((So : Hub A → Hub A → Type 0) → IsOnce condition unread taken held size causes So a b xs → IsOnce condition unread taken held size causes So p q ys)
+      → IsKeptBack condition unread taken held size causes a b xs before after → IsKeptBack condition unread taken held size causes p q ys before after
+  kept_back_on a b p q xs ys before after on k = record {
+    keeps = on (λ old new. KeepsBack condition (reported taken held before.wire) (reported taken held after.wire) before.wire.failures after.wire.failures old new before.connection) k.keeps;
     stays = k.stays;
     stirs = k.stirs;
     counts_not = k.counts_not;
     leaves = k.leaves;
   }
 
-  served_later : (p q r : Position A R K S) (xs ys : List HostAction) (is_full may_send : Bool) (before after : Slot R K S) (answered read : ℕ) (sent : List SentOn) (d : NextAction) → Steps condition unread taken held q ys r
-      → IsServed condition unread taken held size causes p q xs is_full may_send before after answered read sent d → IsServed condition unread taken held size causes p r (xs ++ ys) is_full may_send before after answered read sent d
-  served_later p q r xs ys is_full may_send before after answered read sent to.Flush s h = h
-  served_later p q r xs ys is_full may_send before after answered read sent to.Answer s (inl one) = inl one
-  served_later p q r xs ys is_full may_send before after answered read sent to.Answer s (inr (inl lost)) = inr (inl (lost_later p q r before.connection xs ys s lost))
-  served_later p q r xs ys is_full may_send before after answered read sent to.Answer s (inr (inr k)) = inr (inr (kept_back_later p q r xs ys before after s k))
-  served_later p q r xs ys is_full may_send before after answered read sent to.Send s h = h
-  served_later p q r xs ys is_full may_send before after answered read sent to.Read s h = h
-  served_later p q r xs ys is_full may_send before after answered read sent to.Finish s h = h
-  served_later p q r xs ys is_full may_send before after answered read sent to.Drain s h = h
-  served_later p q r xs ys is_full may_send before after answered read sent to.Wait s h = h
+  served_on : (a b p q : Position A R K S) (xs ys : List HostAction) (is_full may_send : Bool) (before after : Slot R K S) (answered read : ℕ) (sent : List SentOn) (d : NextAction)
+      → ((So : Hub A → Hub A → Type 0) → IsOnce condition unread taken held size causes So a b xs → IsOnce condition unread taken held size causes So p q ys) → a.shut ≡ p.shut
+      → IsServed condition unread taken held size causes a b xs is_full may_send before after answered read sent d → IsServed condition unread taken held size causes p q ys is_full may_send before after answered read sent d
+  served_on a b p q xs ys is_full may_send before after answered read sent to.Flush on shut h = (h.0, subst (λ (o : Option Shut). StaysOrIsOver (phase_begun before.state.phase (is_some o)) after.state.phase) shut h.1)
+  served_on a b p q xs ys is_full may_send before after answered read sent to.Answer on shut (inl one) = inl one
+  served_on a b p q xs ys is_full may_send before after answered read sent to.Answer on shut (inr (inl lost)) = inr (inl (on (λ old new. IsUnknown old before.connection) lost))
+  served_on a b p q xs ys is_full may_send before after answered read sent to.Answer on shut (inr (inr k)) = inr (inr (kept_back_on a b p q xs ys before after on k))
+  served_on a b p q xs ys is_full may_send before after answered read sent to.Send on shut (inl (may, h)) =
+      inl (may, (h.0, h.1, subst (λ (o : Option Shut). after.state.phase ≡ phase_sent (phase_begun before.state.phase (is_some o)) h.0) shut h.2))
+  served_on a b p q xs ys is_full may_send before after answered read sent to.Send on shut (inr (none, unsent, off, phase)) =
+      inr (none, unsent, off, subst (λ (o : Option Shut). StaysOrIsOver (phase_begun before.state.phase (is_some o)) after.state.phase) shut phase)
+  served_on a b p q xs ys is_full may_send before after answered read sent to.Read on shut (inl one) = inl one
+  served_on a b p q xs ys is_full may_send before after answered read sent to.Read on shut (inr (inl back)) = inr (inl (
+    subst (λ (o : Option Shut). is_held_back before.state is_full (is_some o) ≡ true) shut back.0,
+    subst (λ (o : Option Shut). after.state.phase ≡ phase_begun before.state.phase (is_some o)) shut back.1,
+  ))
+  served_on a b p q xs ys is_full may_send before after answered read sent to.Read on shut (inr (inr (inl none))) =
+      inr (inr (inl (none.0, subst (λ (o : Option Shut). after.state.phase ≡ phase_begun before.state.phase (is_some o)) shut none.1)))
+  served_on a b p q xs ys is_full may_send before after answered read sent to.Read on shut (inr (inr (inr over))) = inr (inr (inr over))
+  served_on a b p q xs ys is_full may_send before after answered read sent to.Finish on shut h = h
+  served_on a b p q xs ys is_full may_send before after answered read sent to.Drain on shut h = subst (λ (o : Option Shut). StaysOrIsOver (phase_begun before.state.phase (is_some o)) after.state.phase) shut h
+  served_on a b p q xs ys is_full may_send before after answered read sent to.Wait on shut h = subst (λ (o : Option Shut). after.state.phase ≡ phase_begun before.state.phase (is_some o)) shut h
 
   -- who was closed was closed where it began earlier, and where it went on later
   closed_before : (p q r : Position A R K S) (xs ys : List HostAction) (place : ℕ) (slot : Slot R K S) → Steps condition unread taken held p xs q → IsClosed condition unread taken held q r ys place slot → IsClosed condition unread taken held p r (xs ++ ys) place slot
@@ -188,7 +168,7 @@ module _ {A R K S : Type 0} (condition : A → Condition) (unread : R → Option
             (lost_before p q r slot.connection xs ys s) h.caused;
         is_awaited = h.is_awaited;
         asked = once_before (λ old new. is_awaited_at old.connections.items slot.connection ≡ h.is_awaited) p q r xs ys s h.asked;
-        served = served_before p q r xs ys is_full may_send slot h.after (answers_at place (xs ++ ys)) (pieces_at place (xs ++ ys)) (sendings_at place (xs ++ ys)) (turn_action size p.shut slot h.is_awaited) s shut
+        served = served_on q r p r ys (xs ++ ys) is_full may_send slot h.after (answers_at place (xs ++ ys)) (pieces_at place (xs ++ ys)) (sendings_at place (xs ++ ys)) (turn_action size p.shut slot h.is_awaited) (λ So. once_before So p q r xs ys s) shut
             (subst (λ (o : Option Shut). IsServed condition unread taken held size causes q r ys is_full may_send slot h.after (answers_at place (xs ++ ys)) (pieces_at place (xs ++ ys)) (sendings_at place (xs ++ ys)) (turn_action size o slot h.is_awaited)) shut
             (subst (λ (l : List SentOn). IsServed condition unread taken held size causes q r ys is_full may_send slot h.after (answers_at place (xs ++ ys)) (pieces_at place (xs ++ ys)) l (turn_action size q.shut slot h.is_awaited)) sent
             (subst (λ (n : ℕ). IsServed condition unread taken held size causes q r ys is_full may_send slot h.after (answers_at place (xs ++ ys)) n (sendings_at place ys) (turn_action size q.shut slot h.is_awaited)) pieces
@@ -212,7 +192,7 @@ module _ {A R K S : Type 0} (condition : A → Condition) (unread : R → Option
             (lost_later p q r slot.connection xs ys t) h.caused;
         is_awaited = h.is_awaited;
         asked = once_later (λ old new. is_awaited_at old.connections.items slot.connection ≡ h.is_awaited) p q r xs ys t h.asked;
-        served = served_later p q r xs ys is_full may_send slot h.after (answers_at place (xs ++ ys)) (pieces_at place (xs ++ ys)) (sendings_at place (xs ++ ys)) d t
+        served = served_on p q p r xs (xs ++ ys) is_full may_send slot h.after (answers_at place (xs ++ ys)) (pieces_at place (xs ++ ys)) (sendings_at place (xs ++ ys)) d (λ So. once_later So p q r xs ys t) refl
             (subst (λ (l : List SentOn). IsServed condition unread taken held size causes p q xs is_full may_send slot h.after (answers_at place (xs ++ ys)) (pieces_at place (xs ++ ys)) l d) sent
             (subst (λ (n : ℕ). IsServed condition unread taken held size causes p q xs is_full may_send slot h.after (answers_at place (xs ++ ys)) n (sendings_at place xs) d) pieces
             (subst (λ (n : ℕ). IsServed condition unread taken held size causes p q xs is_full may_send slot h.after n (pieces_at place xs) (sendings_at place xs) d) answered h.served)));

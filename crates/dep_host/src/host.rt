@@ -6,7 +6,9 @@ use crate::events::{comes_from, origin, reject};
 use crate::share::Share;
 use dep_hub::{Archive, ConnectFault, Hub};
 use dep_outbox::{Sink, Source, Spool};
-use dep_slot::{Client, Closing, HostLog, Limits, ReadBuffer, Rejection, Slot, Time, Turn};
+use dep_slot::{
+    Client, Closing, HostLog, Limits, ReadBuffer, Rejection, Slot, Time, Turn, TurnOutcome,
+};
 use std::alloc::{AllocError, Global};
 use std::net::IpAddr;
 
@@ -250,10 +252,9 @@ impl<A: Archive, R: Source + Drop, K: Sink + Drop, S: Spool + Drop> Host<A, R, K
         }
     }
 
-    /// Gives each connection its turn, and then closes it where it is over, was silent for too long or is too
-    /// slow. Where more bytes of unfinished requests are kept than may be, it reads no more of these, and
-    /// closes the one that has most. No more than `MOST_SENT` contents are sent on, and each within any 17 rounds.
-    /// It returns whether one of them can go on at once.
+    /// Serves each place once. Where more bytes of unfinished requests are kept than may be, it reads no more of these,
+    /// and then closes the connection that has most. No more than `MOST_SENT` contents are sent on, and each within any
+    /// 17 rounds. It returns whether a connection can go on at once.
     pub fn round<L: HostLog>(&mut self, buffer: &mut ReadBuffer, time: &Time, log: &mut L) -> bool
         ensures goes { GoesRound A.condition R.unread K.taken S.held S.size
             (causes_of R.halts K.halts S.failures) (position self.old) (position self.new)
@@ -285,7 +286,7 @@ impl<A: Archive, R: Source + Drop, K: Sink + Drop, S: Spool + Drop> Host<A, R, K
         is_busy
     }
 
-    /// Gives the connection there its turn, and then closes it where it is done.
+    /// Gives the connection at a place its turn, and closes it where it is over, was silent for too long or is too slow.
     fn serve_at<L: HostLog>(
         &mut self,
         at: usize,
@@ -315,18 +316,16 @@ impl<A: Archive, R: Source + Drop, K: Sink + Drop, S: Spool + Drop> Host<A, R, K
         };
         let is_awaited = slot.is_awaited(&self.hub);
         slot.begin_turn(turn.time.second, &self.limits, turn.is_shut, is_awaited);
-        let has_sent = slot.sends_on(turn);
-        slot.take_turn(&mut self.hub, buffer, turn, log);
-        let is_busy = slot.is_busy();
+        let outcome = slot.take_turn(&mut self.hub, buffer, turn, log);
         let closing = slot.closing(turn.time.second, &self.limits);
         if let Some(closing) = closing {
             self.close(at, turn.time.second, closing, log);
             return TurnOutcome {
-                has_sent,
+                has_sent: outcome.has_sent,
                 is_busy: false,
             };
         }
-        TurnOutcome { has_sent, is_busy }
+        outcome
     }
 
     /// Closes the connection there, for a reason.
@@ -408,15 +407,6 @@ impl<A: Archive, R: Source + Drop, K: Sink + Drop, S: Spool + Drop> Host<A, R, K
         }
         kept > self.limits.unfinished_bytes as u128
     }
-}
-
-/// What a turn came to.
-#[derive(Clone, Copy)]
-struct TurnOutcome {
-    /// Whether a content was sent on.
-    has_sent: bool,
-    /// Whether the connection can go on at once.
-    is_busy: bool,
 }
 
 /// Room for all connections.

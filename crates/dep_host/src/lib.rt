@@ -8,7 +8,9 @@ pub mod laws;
 mod serving;
 mod share;
 
-pub use dep_slot::{Bytes, Client, Closing, HostLog, Limits, MOST_READ, ReadBuffer, Rejection, Time};
+pub use dep_slot::{
+    Bytes, Client, Closing, HostLog, Limits, MOST_READ, ReadBuffer, Rejection, Time,
+};
 pub use ending::{Cause, Shut};
 pub use events::{Event, Events, origin};
 pub use host::{Host, MOST_SEATS};

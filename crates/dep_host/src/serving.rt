@@ -4,7 +4,7 @@ ghost use Rattle.std.specs.List.{AllByRecursion};
 ghost use Rattle.dep_host.specs.Coming.{IsFresh, seconds_of};
 ghost use Rattle.dep_slot.specs.Causes.{causes_of};
 ghost use Rattle.dep_host.specs.Rounds.{is_overdue};
-ghost use Rattle.dep_host.specs.Hosting.{HostAction, GoesOn, IsWaiting, position, slot_at};
+ghost use Rattle.dep_host.specs.Hosting.{HostAction, GoesOn, position};
 ghost use Rattle.dep_host.specs.Meeting.{AsksOn, IsIdle, IsMet, IsOffer, MayEnd, Meets, Met, most_events};
 ghost use Rattle.dep_host.specs.Runs.{Promises};
 
@@ -113,7 +113,8 @@ fn meet<A: Archive, R: Source + Drop, K: Sink + Drop, S: Spool + Drop, L: HostLo
         }
         Event::Round(time) => {
             let is_busy = host.round(buffer, &time, log);
-            let next = go_on(host, is_busy, time.second);
+            let is_left = ask_on(host, time.second);
+            let next = wind_up(host, is_busy | is_left, time.second);
             let_rest(log, &next);
             next
         }
@@ -125,26 +126,17 @@ fn meet<A: Archive, R: Source + Drop, K: Sink + Drop, S: Spool + Drop, L: HostLo
     }
 }
 
-/// Goes on after a round, behind which the store works ahead, also for requests that wait once it is shut.
-fn go_on<A: Archive, R: Source + Drop, K: Sink + Drop, S: Spool + Drop>(
+/// Asks whether the store is open, and then has it work ahead, also for requests that wait once it is shut. It returns
+/// whether work is left.
+fn ask_on<A: Archive, R: Source + Drop, K: Sink + Drop, S: Spool + Drop>(
     host: &mut Host<A, R, K, S>,
-    is_busy: bool,
     second: u64,
-) -> Result<Now, Ended>
-    requires waits { is_busy ≡ false
-        → (at : ℕ) → IsWaiting S.size (slot_at at host.old.slots.items) }
+) -> bool
     ensures asks { AsksOn A.condition A.call_log R.unread K.taken S.held host.old host.new second }
-    ensures vacant { IfOk result (λ next. IsOffer host.new next.vacancy) }
-    ensures idle { IfOk result (λ next. next.is_busy ≡ false → IsIdle S.size host.new) }
-    ensures end { result ≢ Err Ended.Events }
-    ensures unspent { result ≢ Err Ended.Spent }
-    ensures shut { (cause : Cause) → result ≡ Err (Ended.Shut cause)
-        → MayEnd host.new cause (second ∷ []) }
-    ensures time { IfOk result (λ _. is_overdue host.new.shut second host.new.limits ≡ false) }
+    ensures left { host.new.is_left ≡ result }
 {
     let _is_open = host.is_open(second);
-    let is_left = host.work_ahead();
-    wind_up(host, is_busy | is_left, second)
+    host.work_ahead()
 }
 
 /// Goes on, unless it is shut and ends: until all connections are closed, or an idle time has passed.

@@ -1,22 +1,24 @@
 -- What a turn of a connection comes to.
-use Rattle.std.proofs.Common.{◌≡◌, ◌⊎◌, inl, inr, ◌<◌, ◌≤◌, ◌+◌, ◌-◌, ◌^◌, ◌||◌, min, nat_lt, ℕ, Bool, List, [], ◌∷◌, ◌++◌, Option, None, Some, length, take, false, true, refl, sym, subst, ap, ◌∙◌, arith}
+use Rattle.std.proofs.Common.{◌≡◌, ◌≢◌, ◌⊎◌, IsTrue, inl, inr, ◌<◌, ◌≤◌, ◌+◌, ◌-◌, ◌^◌, ◌||◌, min, nat_lt, ℕ, Bool, List, [], ◌∷◌, ◌++◌, Option, None, Some, length, take, false, true, refl, sym, subst, ap, ◌∙◌, arith}
 use Rattle.std.proofs.lemmas.List.{length-take, length-append, append-nil}
 use Rattle.std.proofs.lemmas.Bool.{lt-ltb}
 use Rattle.std.proofs.Math.Bool.{or-true}
 use Rattle.std.proofs.KnownBytes.{Keeps-refl, Appends-kept, Keeps-trans, append_known-kept}
 use Rattle.std.specs.Io.KnownBytes.{Appends, Keeps, Consumes, IsAtEnd, append_known}
-use Rattle.dep_types.specs.Conditions.{Condition}
-use Rattle.dep_hub.specs.Holding.{AnswersOver, ComesToNext, OffersTo, Outcome, IsNext, arrived_by}
+use Rattle.dep_types.specs.Conditions.{Condition, HasCleanDisk}
+use Rattle.dep_hub.specs.Holding.{AnswersOver, ComesToNext, OffersTo, Outcome}
 use Rattle.dep_hub.specs.Owing.{with_more}
 use Rattle.dep_hub.specs.Claims.{is_content}
-use Rattle.dep_hub.specs.RepresentsOwing.{KeepsBack, SendsOn as HubSends, behind_at}
+use Rattle.dep_hub.specs.Representing.{KeepsStore}
+use Rattle.dep_hub.specs.RepresentsOwing.{KeepsBack, NextIsFree, NextIsPrepared, RepliesOver, SendsOn as HubSends, behind_at}
+use Rattle.dep_hub.specs.declared.rest.Behind.TheVariants.{Broken}
 use Rattle.dep_hub.specs.declared.sent_on.SentOn.{SentOn}
 use Rattle.dep_hub.specs.Numbers.{most_read}
 use Rattle.dep_hub.specs.declared.hub.Hub.{Hub}
 use Rattle.dep_hub.specs.declared.arrived.Arrived.{Arrived}
 use Rattle.dep_hub.specs.declared.arrived.Arrived.TheVariants as came
 use Rattle.dep_hub.specs.declared.next.Next.{Next}
-use Rattle.dep_hub.specs.declared.next.Next.TheVariants.{More, Waiting, Closed, Cut, NoSuch}
+use Rattle.dep_hub.specs.declared.next.Next.TheVariants.{NoSuch}
 use Rattle.dep_outbox.specs.Sockets.{Receives, after_receive}
 use Rattle.dep_outbox.specs.declared.socket.Halts.{Halts}
 use Rattle.dep_outbox.specs.declared.socket.Received.{Received}
@@ -31,26 +33,8 @@ use Rattle.dep_slot.specs.declared.connection_state.NextAction.{NextAction}
 use Rattle.dep_slot.specs.declared.connection_state.NextAction.TheVariants.{Flush, Answer, Send, Read, Finish, Drain}
 use Rattle.dep_slot.specs.ConnectionStates.{next_action, is_ended, is_sending, SendsStill, StaysOrEnds}
 use Rattle.dep_slot.specs.Causes.{Causes, HasCauses}
-use Rattle.dep_slot.specs.Slots.{HubStays, PutsOff, SameBehind, SameClient, SendsOn, IsUnknown, Rests, Answers, IsRead, IsReplied, MayRest, ActsOnce, TakesTurn, slot_action, phase_offered, phase_sent}
+use Rattle.dep_slot.specs.Slots.{HubStays, PutsOff, SameBehind, SameClient, SendsOn, IsDue, IsUnknown, Rests, IsRead, MayRest, ActsOnce, TakesTurn, slot_action, left_unfinished, phase_answered, phase_offered, phase_sent}
 use Rattle.dep_slot.proofs.PhaseLemmas.{not_open, not_ended, ended_still, still_same, sends_still, opened_still, finishes_last, sends_content, ended_sent, over_sent, not_yet, over_offered, over_answered}
-
--- its wire and its connection state changed, and changed again
-pub source_of : {R K S : Type 0} (before after : Slot R K S) (w : Wire K S) (c : ConnectionState) → after ≡ record before { wire = w; state = c } → after.source ≡ before.source
-source_of {R = R} {K = K} {S = S} before after w c p = ap (λ (s : Slot R K S). s.source) p
-
-pub client_of : {R K S : Type 0} (before mid after : Slot R K S) (w v : Wire K S) (c d : ConnectionState) → mid ≡ record before { wire = w; state = c } → after ≡ record mid { wire = v; state = d } → SameClient before after
-client_of {R = R} {K = K} {S = S} before mid after w v c d p q = record {
-  connection = ap (λ (s : Slot R K S). s.connection) q ∙ ap (λ (s : Slot R K S). s.connection) p;
-  address = ap (λ (s : Slot R K S). s.address) q ∙ ap (λ (s : Slot R K S). s.address) p;
-}
-
--- a piece was received from its source, and offered
-pub offered_to : {R K S : Type 0} (before after : Slot R K S) (got : R) (w : Wire K S) (c : ConnectionState) (n : ℕ) → after ≡ record before { source = got; wire = w; state = c; received = n }
-    → SameClient before after × (after.source ≡ got)
-offered_to {R = R} {K = K} {S = S} before after got w c n p = (
-  record { connection = ap (λ (s : Slot R K S). s.connection) p; address = ap (λ (s : Slot R K S). s.address) p },
-  ap (λ (s : Slot R K S). s.source) p,
-)
 
 -- a socket that has ended, or failed, gave nothing
 pub ends_read : (old new : Option (List ℕ)) (room : List ℕ) (it : Received) → (it ≡ gave.Ended) ⊎ (it ≡ gave.Failed) → Receives old new room it → Keeps old new
@@ -120,84 +104,74 @@ module _ {A R K S : Type 0} (condition : A → Condition) (unread : R → Option
   over_kept t k l more f g h old new n offered moment answer outcome a q same = subst (λ (x : ℕ). AnswersOver condition t (with_more l more) f x old new n offered moment answer outcome) (sym same)
       (record { sent = a.sent; appends = more_kept t k l more a.sent a.appends q; answers = a.answers; shut = a.shut })
 
-  answers_as : (old new : Hub A) (before mid after : Slot R K S) (moment : ℕ) (next : Next) → (next ≡ NoSuch → ⊥) → IsAtEnd (owed held before.wire) → before.state.phase ≡ Answering
-      → (r : IsReplied condition unread taken held old new before mid moment (Some next))
-      → AnswersOver condition (reported taken held before.wire) (with_more (reported taken held mid.wire) r.0.more) before.wire.failures mid.wire.failures old new before.connection (λ kept. kept) moment (arrived_by next) (IsNext next)
-      → after.source ≡ before.source → Keeps (reported taken held mid.wire) (reported taken held after.wire) → after.wire.failures ≡ mid.wire.failures
-      → after.state ≡ mid.state → mid.state.has_moved ≡ true → Answers condition unread taken held old new before after moment
-  answers_as old new before mid after moment next known none was r c s k f same stirs = record {
-    unowed = none;
-    was_read = was;
-    same_source = s;
-    next = next;
-    known = known;
-    more = r.0.more;
-    now = r.0.now;
-    appends = Appends-kept (reported taken held before.wire) (reported taken held mid.wire) (reported taken held after.wire) r.0.now r.0.appends k;
-    answers = over_kept _ _ _ r.0.more _ _ _ _ _ _ _ _ _ _ c k f;
-    owes = r.0.owes;
-    paid = r.0.paid;
-    free = r.1;
-    prepared = r.5;
-    others = r.0.others;
-    unbroken = r.2;
-    goes = ap (λ (d : ConnectionState). d.phase) same ∙ r.3;
-    stirs = ap (λ (d : ConnectionState). d.has_moved) same ∙ stirs;
-    leaves = ap (λ (d : ConnectionState). d.unfinished) same ∙ r.4;
-  }
+  -- by what comes next it may rest
+  rests_as : (size : S → ℕ) (hub : Hub A) (before after : Slot R K S) (is_full is_shut may_send : Bool) (d : NextAction) → slot_action size before ≡ d
+      → MayRest condition unread taken held size hub before after is_full is_shut may_send d → MayRest condition unread taken held size hub before after is_full is_shut may_send (slot_action size before)
+  rests_as size hub before after is_full is_shut may_send d due may = subst (λ (x : NextAction). MayRest condition unread taken held size hub before after is_full is_shut may_send x) (sym due) may
 
   -- an item was answered, and what was owed for it was sent as far as the socket took it
-  pub answered : (old new : Hub A) (before mid after : Slot R K S) (moment : ℕ) (next : Next)
-      → IsAtEnd (owed held before.wire) → before.state.phase ≡ Answering
-      → IsReplied condition unread taken held old new before mid moment (Some next)
-      → mid.source ≡ before.source
-      → Keeps (reported taken held mid.wire) (reported taken held after.wire) → after.wire.failures ≡ mid.wire.failures → after.source ≡ mid.source
-      → after.state ≡ mid.state → mid.state.has_moved ≡ true
-      → (Rests condition unread taken held old new before after × IsUnknown old before.connection) ⊎ Answers condition unread taken held old new before after moment
-  answered old new before mid after moment NoSuch none was r s k f t same stirs =
-      let over = ap (λ (d : ConnectionState). d.phase) same ∙ r.3 in
-      inl (
-        record {
-          same = r.0.answers.same;
-          keeps = Keeps-trans (reported taken held before.wire) (reported taken held mid.wire) (reported taken held after.wire)
-              (sends_none (reported taken held before.wire) (reported taken held mid.wire) r.0.more r.0.now r.0.appends r.0.answers.sends_nothing) k;
-          gives = λ h. absurd (not_ended after.state.phase over h);
-          opens = λ h. absurd (not_open after.state.phase over h);
-          sends_still = inl over;
-          keeps_count = λ h. absurd (not_ended after.state.phase over h);
-        },
-        r.0.answers.absent,
-      )
-  answered old new before mid after moment More none was r s k f t same stirs = inr (answers_as old new before mid after moment More (λ e. let bad : More ≡ NoSuch = e in cc) none was r r.0.answers (t ∙ s) k f same stirs)
-  answered old new before mid after moment Waiting none was r s k f t same stirs = inr (answers_as old new before mid after moment Waiting (λ e. let bad : Waiting ≡ NoSuch = e in cc) none was r r.0.answers (t ∙ s) k f same stirs)
-  answered old new before mid after moment Closed none was r s k f t same stirs = inr (answers_as old new before mid after moment Closed (λ e. let bad : Closed ≡ NoSuch = e in cc) none was r r.0.answers (t ∙ s) k f same stirs)
-  answered old new before mid after moment Cut none was r s k f t same stirs = inr (answers_as old new before mid after moment Cut (λ e. let bad : Cut ≡ NoSuch = e in cc) none was r r.0.answers (t ∙ s) k f same stirs)
+  answered_acts : (size : S → ℕ) (old new : Hub A) (before after : Slot R K S) (wire : Wire K S) (moment : ℕ) (next : Next) (is_full is_shut may_send : Bool) → after.source ≡ before.source → IsDue held size before Answering Answer
+      → RepliesOver condition (reported taken held before.wire) (reported taken held wire) before.wire.failures wire.failures old new before.connection moment next
+      → NextIsFree old before.connection → NextIsPrepared old before.connection → behind_at new.connections.items before.connection ≢ Broken
+      → Keeps (reported taken held wire) (reported taken held after.wire) → after.wire.failures ≡ wire.failures
+      → after.state.phase ≡ phase_answered next (is_content (behind_at new.connections.items before.connection)) → after.state.has_moved ≡ true → after.state.unfinished ≡ left_unfinished next before.state.unfinished
+      → ActsOnce condition unread taken held size old new before after moment is_full is_shut may_send
+  answered_acts size old new before after wire moment NoSuch is_full is_shut may_send source due r free prepared unbroken k f phase stirs count = inl (
+    record {
+      same = r.answers.same;
+      keeps = Keeps-trans (reported taken held before.wire) (reported taken held wire) (reported taken held after.wire) (sends_none (reported taken held before.wire) (reported taken held wire) r.more r.now r.appends r.answers.sends_nothing) k;
+      gives = λ h. absurd (not_ended after.state.phase phase h);
+      opens = λ h. absurd (not_open after.state.phase phase h);
+      sends_still = inl phase;
+      keeps_count = λ h. absurd (not_ended after.state.phase phase h);
+    },
+    rests_as size old before after is_full is_shut may_send Answer due.due r.answers.absent,
+  )
+  answered_acts size old new before after wire moment next is_full is_shut may_send source due r free prepared unbroken k f phase stirs count = inr (inr (inr (inl (
+    record {
+      unowed = due.unowed;
+      was_read = due.phase;
+      same_source = source;
+      next = next;
+      known = λ e. let bad : next ≡ NoSuch = e in cc;
+      more = r.more;
+      now = r.now;
+      appends = Appends-kept (reported taken held before.wire) (reported taken held wire) (reported taken held after.wire) r.now r.appends k;
+      answers = over_kept _ _ _ r.more _ _ _ _ _ _ _ _ _ _ r.answers k f;
+      owes = r.owes;
+      paid = r.paid;
+      free = free;
+      prepared = prepared;
+      others = r.others;
+      unbroken = unbroken;
+      goes = phase;
+      stirs = stirs;
+      leaves = count;
+    },
+    due.due,
+  ))))
 
-  -- it goes on, unless the hub doesn't know it
-  pub answered_on : (causes : Causes R K S) (old new : Hub A) (before mid after : Slot R K S) (moment : ℕ) (next : Next)
-      → IsReplied condition unread taken held old new before mid moment (Some next)
-      → after.state.phase ≡ mid.state.phase → after.state.is_readable ≡ before.state.is_readable → after.state.is_writable ≡ before.state.is_writable
-      → HasCauses causes (IsUnknown old before.connection) before after
-  answered_on causes old new before mid after moment next r phase readable writable =
-      goes_as_was causes (IsUnknown old before.connection) before after readable writable (λ h.
-      let none = subst (λ (n : Next). ComesToNext condition (reported taken held before.wire) (with_more (reported taken held mid.wire) r.0.more) before.wire.failures mid.wire.failures old new before.connection moment n)
-      (over_answered next (is_content (behind_at new.connections.items before.connection)) after.state.phase (phase ∙ r.3) h) r.0.answers in
-      inr none.absent)
-
-  -- nothing is answered, and what was kept back stays so
-  back_kept : (t k l : Option (List ℕ)) (f g h : ℕ) (old new : Hub A) (n : ℕ) → KeepsBack condition t k f g old new n → Keeps k l → h ≡ g → KeepsBack condition t l f h old new n
-  back_kept t k l f g h old new n b q same = record {
-    same_store = b.same_store;
-    same_config = b.same_config;
-    same_next = b.same_next;
-    sends_nothing = Keeps-trans t k l b.sends_nothing q;
-    same_failures = same ∙ b.same_failures;
-    intakes = b.intakes;
-    others = b.others;
-    reading = b.reading;
-    there = b.there;
-    why = b.why;
-  }
+  pub answered : (size : S → ℕ) (causes : Causes R K S) (old new : Hub A) (before after : Slot R K S) (wire : Wire K S) (moment : ℕ) (next : Next) (sends : Bool) → SameClient before after → after.source ≡ before.source → HubStays condition old new → IsDue held size before Answering Answer
+      → RepliesOver condition (reported taken held before.wire) (reported taken held wire) before.wire.failures wire.failures old new before.connection moment next
+      → NextIsFree old before.connection → NextIsPrepared old before.connection → behind_at new.connections.items before.connection ≢ Broken → sends ≡ is_content (behind_at new.connections.items before.connection)
+      → Keeps (reported taken held wire) (reported taken held after.wire) → after.wire.failures ≡ wire.failures
+      → after.state ≡ record before.state { phase = phase_answered next sends; has_moved = true; unfinished = left_unfinished next before.state.unfinished }
+      → (is_full is_shut may_send : Bool) → TakesTurn condition unread taken held size causes old new before after moment is_full is_shut may_send
+  answered size causes old new before after wire moment next sends client source hub due r free prepared unbroken asked k f state is_full is_shut may_send =
+      let phase : after.state.phase ≡ phase_answered next (is_content (behind_at new.connections.items before.connection)) =
+      ap (λ (d : ConnectionState). d.phase) state ∙ ap (λ (b : Bool). phase_answered next b) asked in
+      record {
+        client = client;
+        hub = hub;
+        ended = not_yet before.state.phase after.state.phase Answering due.phase refl;
+        acts = answered_acts size old new before after wire moment next is_full is_shut may_send source due r free prepared unbroken k f phase
+            (ap (λ (d : ConnectionState). d.has_moved) state) (ap (λ (d : ConnectionState). d.unfinished) state);
+        -- it goes on, unless the hub doesn't know it
+        caused = goes_as_was causes (IsUnknown old before.connection) before after (ap (λ (d : ConnectionState). d.is_readable) state) (ap (λ (d : ConnectionState). d.is_writable) state) (λ h.
+            let none = subst (λ (n : Next). ComesToNext condition (reported taken held before.wire) (with_more (reported taken held wire) r.more) before.wire.failures wire.failures old new before.connection moment n)
+            (over_answered next (is_content (behind_at new.connections.items before.connection)) after.state.phase phase h) r.answers in
+            inr none.absent);
+      }
 
   -- what was sent of a content stays sent
   sends_kept : (t k l : Option (List ℕ)) (f g h : ℕ) (old new : Hub A) (n : ℕ) (answer : SentOn) → HubSends condition t k f g old new n answer → Keeps k l → h ≡ g → HubSends condition t l f h old new n answer
@@ -212,11 +186,6 @@ module _ {A R K S : Type 0} (condition : A → Condition) (unread : R → Option
     left = s.left;
     others = s.others;
   }
-
-  -- by what comes next it may rest
-  rests_as : (size : S → ℕ) (hub : Hub A) (before after : Slot R K S) (is_full is_shut may_send : Bool) (d : NextAction) → slot_action size before ≡ d
-      → MayRest condition unread taken held size hub before after is_full is_shut may_send d → MayRest condition unread taken held size hub before after is_full is_shut may_send (slot_action size before)
-  rests_as size hub before after is_full is_shut may_send d due may = subst (λ (x : NextAction). MayRest condition unread taken held size hub before after is_full is_shut may_send x) (sym due) may
 
   -- nothing came to the hub
   pub rested : (size : S → ℕ) (causes : Causes R K S) (hub : Hub A) (before after : Slot R K S) (moment : ℕ) (is_full is_shut may_send : Bool) (d : NextAction) → SameClient before after → (is_ended before.state.phase ≡ true → is_ended after.state.phase ≡ true)
@@ -368,96 +337,74 @@ module _ {A R K S : Type 0} (condition : A → Condition) (unread : R → Option
       let none = subst (λ (a : Arrived). OffersTo condition (reported taken held before.wire) (reported taken held after.wire) before.wire.failures after.wire.failures old new before.connection piece a) e o in none.absent
 
   -- a front of the room was received, and offered
-  pub received : (size : S → ℕ) (causes : Causes R K S) (old new : Hub A) (before after : Slot R K S) (got : R) (room : List ℕ) (n : ℕ) (answer : Arrived) (is_full is_shut may_send : Bool) → slot_action size before ≡ Read → SameClient before after → HubStays condition old new → IsAtEnd (owed held before.wire) → before.state.phase ≡ Open
-      → 0 < n → n ≤ length room → length room ≤ most_read → Consumes (unread before.source) (unread got) (take n room) → after.source ≡ got → new.store ≡ old.store → SameBehind old new
+  pub received : (size : S → ℕ) (causes : Causes R K S) (old new : Hub A) (before after : Slot R K S) (got : R) (room : List ℕ) (n : ℕ) (answer : Arrived) (is_full is_shut may_send : Bool) → SameClient before after → after.source ≡ got → KeepsStore condition old new → IsDue held size before Open Read
+      → 0 < n → n ≤ length room → length room ≤ most_read → Consumes (unread before.source) (unread got) (take n room) → SameBehind old new
       → OffersTo condition (reported taken held before.wire) (reported taken held after.wire) before.wire.failures after.wire.failures old new before.connection (take n room) answer
-      → after.state.phase ≡ phase_offered answer → after.state.is_readable ≡ before.state.is_readable → after.state.is_writable ≡ before.state.is_writable → (is_full ≡ true → before.state.unfinished ≡ 0) → is_shut ≡ false
-      → after.state.has_moved ≡ (before.state.has_moved || nat_lt 0 (length (take n room)))
-      → after.state.moved ≡ min (before.state.moved + length (take n room)) (2 ^ 64 - 1)
-      → after.state.unfinished ≡ min (before.state.unfinished + length (take n room)) (2 ^ 64 - 1)
+      → after.state ≡ record before.state {
+        phase = phase_offered answer;
+        has_moved = before.state.has_moved || nat_lt 0 n;
+        moved = min (before.state.moved + n) (2 ^ 64 - 1);
+        unfinished = min (before.state.unfinished + n) (2 ^ 64 - 1);
+      }
+      → (is_full ≡ true → before.state.unfinished ≡ 0) → is_shut ≡ false
       → (moment : ℕ) → TakesTurn condition unread taken held size causes old new before after moment is_full is_shut may_send
-  received size causes old new before after got room n answer is_full is_shut may_send due client hub none was some within small gives same store behind o p readable writable allowed is_open stirs moved counts moment =
-      let long : 0 < length (take n room) = let e = length-take n room in omega (arith, e, some, within) in
+  received size causes old new before after got room n answer is_full is_shut may_send client same kept due some within small gives behind o state allowed is_open moment =
+      let e = length-take n room in
+      let moved = ap (λ (d : ConnectionState). d.moved) state in
+      let counts = ap (λ (d : ConnectionState). d.unfinished) state in
+      let phase = ap (λ (d : ConnectionState). d.phase) state in
       record {
         client = client;
-        hub = hub;
-        ended = not_yet before.state.phase after.state.phase Open was refl;
-        acts = offered size old new before after (take n room) answer is_full is_shut may_send due (record {
-          unowed = none;
-          waits = was;
-          some = long;
-          small = let e = length-take n room in omega (arith, e, within, small);
+        hub = record {
+          next = kept.next;
+          same_config = kept.config;
+          clean = λ h. subst (λ (s : A). IsTrue (condition s).is_open) kept.store h;
+          honest = λ h. subst (λ (s : A). HasCleanDisk (condition s)) kept.store h;
+        };
+        ended = not_yet before.state.phase after.state.phase Open due.phase refl;
+        acts = offered size old new before after (take n room) answer is_full is_shut may_send due.due (record {
+          unowed = due.unowed;
+          waits = due.phase;
+          some = omega (arith, e, some, within);
+          small = omega (arith, e, within, small);
           gives = subst (λ (s : R). Consumes (unread before.source) (unread s) (take n room)) (sym same) gives;
           allowed = allowed;
           is_open = is_open;
-          stirs = stirs ∙ (ap (λ (b : Bool). before.state.has_moved || b) (lt-ltb 0 (length (take n room)) long) ∙ or-true before.state.has_moved);
-          moves = omega (arith, moved);
-          counts = counts;
-        }) store behind o p moment;
-        caused = goes_as_was causes (IsUnknown old before.connection) before after readable writable (λ h. inr (unknown_offered old new before after (take n room) answer o (over_offered answer after.state.phase p h)));
+          stirs = ap (λ (d : ConnectionState). d.has_moved) state ∙ (ap (λ (b : Bool). before.state.has_moved || b) (lt-ltb 0 n some) ∙ or-true before.state.has_moved);
+          moves = omega (arith, moved, e, within);
+          counts = omega (arith, counts, e, within);
+        }) kept.store behind o phase moment;
+        caused = goes_as_was causes (IsUnknown old before.connection) before after (ap (λ (d : ConnectionState). d.is_readable) state) (ap (λ (d : ConnectionState). d.is_writable) state)
+            (λ h. inr (unknown_offered old new before after (take n room) answer o (over_offered answer after.state.phase phase h)));
       }
 
-  -- an item was answered, whatever else may be
-  pub answers_turn : (size : S → ℕ) (causes : Causes R K S) (old new : Hub A) (before after : Slot R K S) (moment : ℕ) → SameClient before after → HubStays condition old new → before.state.phase ≡ Answering → slot_action size before ≡ Answer
-      → (Rests condition unread taken held old new before after × IsUnknown old before.connection) ⊎ Answers condition unread taken held old new before after moment
-      → HasCauses causes (IsUnknown old before.connection) before after → (is_full is_shut may_send : Bool) → TakesTurn condition unread taken held size causes old new before after moment is_full is_shut may_send
-  answers_turn size causes old new before after moment client hub was due (inl (r, unknown)) caused is_full is_shut may_send = record {
-    client = client;
-    hub = hub;
-    ended = not_yet before.state.phase after.state.phase Answering was refl;
-    acts = inl (r, rests_as size old before after is_full is_shut may_send Answer due unknown);
-    caused = caused;
-  }
-  answers_turn size causes old new before after moment client hub was due (inr a) caused is_full is_shut may_send = record {
-    client = client;
-    hub = hub;
-    ended = not_yet before.state.phase after.state.phase Answering was refl;
-    acts = inr (inr (inr (inl (a, due))));
-    caused = caused;
-  }
-
-  -- it was kept back
-  pub delayed : (size : S → ℕ) (causes : Causes R K S) (old new : Hub A) (before mid after : Slot R K S) (moment : ℕ) → SameClient before after → HubStays condition old new
-      → IsAtEnd (owed held before.wire) → before.state.phase ≡ Answering → slot_action size before ≡ Answer
-      → IsReplied condition unread taken held old new before mid moment None → after.source ≡ before.source
-      → Keeps (reported taken held mid.wire) (reported taken held after.wire) → after.wire.failures ≡ mid.wire.failures → after.state ≡ mid.state → mid.state.has_moved ≡ true
-      → mid.state.is_readable ≡ before.state.is_readable → mid.state.is_writable ≡ before.state.is_writable
+  -- its next item was kept back
+  pub delayed : (size : S → ℕ) (causes : Causes R K S) (old new : Hub A) (before after : Slot R K S) (moment : ℕ) → SameClient before after → after.source ≡ before.source → HubStays condition old new → IsDue held size before Answering Answer
+      → KeepsBack condition (reported taken held before.wire) (reported taken held after.wire) before.wire.failures after.wire.failures old new before.connection
+      → after.state ≡ record before.state { has_moved = true; is_kept_back = true }
       → (is_full is_shut may_send : Bool) → TakesTurn condition unread taken held size causes old new before after moment is_full is_shut may_send
-  delayed size causes old new before mid after moment client hub none was due r source k f same stirs readable writable is_full is_shut may_send =
-      let phase : after.state.phase ≡ Answering = ap (λ (d : ConnectionState). d.phase) same ∙ (r.1 ∙ was) in
+  delayed size causes old new before after moment client source hub due keeps state is_full is_shut may_send =
+      let phase : after.state.phase ≡ Answering = ap (λ (d : ConnectionState). d.phase) state ∙ due.phase in
       record {
         client = client;
         hub = hub;
-        ended = not_yet before.state.phase after.state.phase Answering was refl;
+        ended = not_yet before.state.phase after.state.phase Answering due.phase refl;
         acts = inr (inr (inr (inr (inl (
           record {
-            unowed = none;
-            was_read = was;
+            unowed = due.unowed;
+            was_read = due.phase;
             same_source = source;
-            keeps = back_kept _ _ _ _ _ _ old new before.connection r.0 k f;
+            keeps = keeps;
             stays = phase;
-            stirs = ap (λ (d : ConnectionState). d.has_moved) same ∙ stirs;
-            counts_not = ap (λ (d : ConnectionState). d.is_kept_back) same ∙ r.2;
-            leaves = ap (λ (d : ConnectionState). d.unfinished) same ∙ r.3;
+            stirs = ap (λ (d : ConnectionState). d.has_moved) state;
+            counts_not = ap (λ (d : ConnectionState). d.is_kept_back) state;
+            leaves = ap (λ (d : ConnectionState). d.unfinished) state;
           },
-          due,
+          due.due,
         )))));
-        caused = goes_as_was causes (IsUnknown old before.connection) before after (ap (λ (d : ConnectionState). d.is_readable) same ∙ readable) (ap (λ (d : ConnectionState). d.is_writable) same ∙ writable)
+        caused = goes_as_was causes (IsUnknown old before.connection) before after (ap (λ (d : ConnectionState). d.is_readable) state) (ap (λ (d : ConnectionState). d.is_writable) state)
             (λ h. absurd (let bad : Answering ≡ Over = sym phase ∙ h in cc));
       }
-
-  -- it was answered, or kept back
-  pub replied : (size : S → ℕ) (causes : Causes R K S) (old new : Hub A) (before mid after : Slot R K S) (moment : ℕ) (next : Option Next) → SameClient before after → HubStays condition old new
-      → IsAtEnd (owed held before.wire) → before.state.phase ≡ Answering → slot_action size before ≡ Answer
-      → IsReplied condition unread taken held old new before mid moment next → mid.source ≡ before.source → after.source ≡ mid.source
-      → Keeps (reported taken held mid.wire) (reported taken held after.wire) → after.wire.failures ≡ mid.wire.failures → after.state ≡ mid.state → mid.state.has_moved ≡ true
-      → mid.state.is_readable ≡ before.state.is_readable → mid.state.is_writable ≡ before.state.is_writable
-      → (is_full is_shut may_send : Bool) → TakesTurn condition unread taken held size causes old new before after moment is_full is_shut may_send
-  replied size causes old new before mid after moment None client hub none was due r s t k f same stirs readable writable =
-      delayed size causes old new before mid after moment client hub none was due r (t ∙ s) k f same stirs readable writable
-  replied size causes old new before mid after moment (Some next) client hub none was due r s t k f same stirs readable writable =
-      answers_turn size causes old new before after moment client hub was due (answered old new before mid after moment next none was r s k f t same stirs)
-      (answered_on causes old new before mid after moment next r (ap (λ (d : ConnectionState). d.phase) same) (ap (λ (d : ConnectionState). d.is_readable) same ∙ readable) (ap (λ (d : ConnectionState). d.is_writable) same ∙ writable))
 
   -- some of a content were sent
   pub sent_on : (size : S → ℕ) (causes : Causes R K S) (old new : Hub A) (before after : Slot R K S) (k : Option (List ℕ)) (g : ℕ) (answer : SentOn) → SameClient before after → HubStays condition old new

@@ -14,6 +14,7 @@ pub record Causes (R K S : Type 0) : Type 0 where
   pub sink : K → Halts
   pub spool : S → ℕ
 
+-- the three together
 abbrev pub causes_of : {R K S : Type 0} → (R → Halts) → (K → Halts) → (S → ℕ) → Causes R K S
 causes_of source sink spool = record { source = source; sink = sink; spool = spool }
 

@@ -19,36 +19,24 @@ action_sending false false w = Send
 -- what it does next, where bytes are owed or not: they are sent before all else
 abbrev pub next_action : Phase → (is_awaited owes is_readable is_writable : Bool) → NextAction
 next_action Over a owes r w = Wait
-next_action Open a true r w = if w then Flush else Wait
-next_action Open a false r w = if r then Read else Wait
-next_action Answering a true r w = if w then Flush else Wait
-next_action Answering a false r w = Answer
 next_action Sending a owes r w = action_sending a owes w
 next_action SendingLast a owes r w = action_sending a owes w
-next_action Last a true r w = if w then Flush else Wait
+next_action p a true r w = if w then Flush else Wait
+next_action Open a false r w = if r then Read else Wait
+next_action Answering a false r w = Answer
 next_action Last a false r w = Finish
-next_action Draining a true r w = if w then Flush else Wait
 next_action Draining a false r w = if r then Drain else Wait
 
 -- a content is sent behind its last reply
 abbrev pub is_sending : Phase → Bool
-is_sending Open = false
-is_sending Answering = false
 is_sending Sending = true
 is_sending SendingLast = true
-is_sending Last = false
-is_sending Draining = false
-is_sending Over = false
+is_sending p = false
 
 -- how far it is once its turn begins: once the host is shut it is read no more
 abbrev pub phase_begun : Phase → (is_shut : Bool) → Phase
 phase_begun Open is_shut = if is_shut then Last else Open
-phase_begun Answering is_shut = Answering
-phase_begun Sending is_shut = Sending
-phase_begun SendingLast is_shut = SendingLast
-phase_begun Last is_shut = Last
-phase_begun Draining is_shut = Draining
-phase_begun Over is_shut = Over
+phase_begun p is_shut = p
 
 -- it isn't read though it could be: the host is shut, or too many bytes of unfinished requests are
 -- kept, and some of these are its
@@ -70,12 +58,7 @@ is_slow c second limits = not c.has_moved && (c.is_due && (is_past c.mark second
 -- why it is closed now, where it is
 abbrev pub closing_of : Phase → (silent slow : Bool) → Option Closing
 closing_of Over silent slow = Some ends.Over
-closing_of Open silent slow = if silent then Some ends.Silent else if slow then Some ends.Slow else None
-closing_of Answering silent slow = if silent then Some ends.Silent else if slow then Some ends.Slow else None
-closing_of Sending silent slow = if silent then Some ends.Silent else if slow then Some ends.Slow else None
-closing_of SendingLast silent slow = if silent then Some ends.Silent else if slow then Some ends.Slow else None
-closing_of Last silent slow = if silent then Some ends.Silent else if slow then Some ends.Slow else None
-closing_of Draining silent slow = if silent then Some ends.Silent else if slow then Some ends.Slow else None
+closing_of p silent slow = if silent then Some ends.Silent else if slow then Some ends.Slow else None
 
 -- why the connection is closed at a second, if it is
 abbrev pub closing : ConnectionState → (second : ℕ) → Limits → Option Closing
@@ -100,10 +83,7 @@ abbrev pub is_ended : Phase → Bool
 is_ended Open = false
 is_ended Answering = false
 is_ended Sending = false
-is_ended SendingLast = true
-is_ended Last = true
-is_ended Draining = true
-is_ended Over = true
+is_ended p = true
 
 -- it goes on as it was, or is over, and nothing counts as moved
 pub record StaysOrEnds (before after : ConnectionState) : Type 0 where

@@ -33,27 +33,20 @@ woken_slot slot r w = record slot { state = woken slot.state r w }
 -- how far a connection is once a piece of it was offered
 abbrev pub phase_offered : Arrived → Phase
 phase_offered came.Open = Answering
-phase_offered came.Closed = Last
-phase_offered came.Cut = Last
 phase_offered came.NoSuch = Over
+phase_offered arrived = Last
 
 -- and once its next item was answered, behind whose reply a content is sent or not
 abbrev pub phase_answered : Next → (is_sending : Bool) → Phase
 phase_answered More sends = if sends then Sending else Answering
 phase_answered Waiting sends = if sends then Sending else Open
-phase_answered Closed sends = if sends then SendingLast else Last
-phase_answered Cut sends = if sends then SendingLast else Last
 phase_answered NoSuch sends = Over
+phase_answered next sends = if sends then SendingLast else Last
 
 -- and once the content behind its last reply is out
 abbrev pub phase_behind : Phase → Phase
-phase_behind Open = Last
-phase_behind Answering = Last
 phase_behind Sending = Answering
-phase_behind SendingLast = Last
-phase_behind Last = Last
-phase_behind Draining = Last
-phase_behind Over = Last
+phase_behind p = Last
 
 -- and once a few blocks of that were sent
 abbrev pub phase_sent : Phase → SentOn → Phase
@@ -63,21 +56,22 @@ phase_sent p BrokenOff = Last
 
 -- how many bytes were read since an item was answered last, once that was answered
 abbrev pub left_unfinished : Next → ℕ → ℕ
-left_unfinished More n = 0
 left_unfinished Waiting n = n
-left_unfinished Closed n = 0
-left_unfinished Cut n = 0
-left_unfinished NoSuch n = 0
+left_unfinished next n = 0
 
 -- a connection is the one that it was, of the same client
 pub record SameClient {R K S : Type 0} (before after : Slot R K S) : Type 0 where
   pub connection : after.connection ≡ before.connection
   pub address : after.address ≡ before.address
 
+-- bytes are owed to it
+abbrev pub owes_some : {R K S : Type 0} → (S → ℕ) → Slot R K S → Bool
+owes_some size slot = nat_lt 0 (owed_count size slot.wire)
+
 -- what a connection does next
 abbrev pub slot_action : {R K S : Type 0} → (S → ℕ) → Slot R K S → NextAction
-slot_action size slot = next_action slot.state.phase slot.state.is_awaited
-    (nat_lt 0 (owed_count size slot.wire)) slot.state.is_readable slot.state.is_writable
+slot_action size slot = next_action slot.state.phase slot.state.is_awaited (owes_some size slot)
+    slot.state.is_readable slot.state.is_writable
 
 -- it does this next, where it is so far and nothing is owed
 pub record IsDue {R K S : Type 0} (held : S → Option (List ℕ)) (size : S → ℕ) (slot : Slot R K S)
@@ -201,24 +195,6 @@ module _ {A R K S : Type 0} (condition : A → Condition) (unread : R → Option
         before.wire.failures after.wire.failures old new before.connection
         (λ kept. kept ++ piece) moment answer (IsRefused answer)
 
-  -- what became of the next item of a connection: it was kept back, or answered
-  abbrev pub IsReplied : (old new : Hub A) → (before after : Slot R K S) → (moment : ℕ) → Option Next
-      → Type 0
-  IsReplied old new before after moment None =
-      KeepsBack condition (reported taken held before.wire) (reported taken held after.wire)
-      before.wire.failures after.wire.failures old new before.connection
-      × (after.state.phase ≡ before.state.phase) × (after.state.is_kept_back ≡ true)
-      × (after.state.unfinished ≡ before.state.unfinished)
-  IsReplied old new before after moment (Some next) =
-      RepliesOver condition (reported taken held before.wire) (reported taken held after.wire)
-      before.wire.failures after.wire.failures old new before.connection moment next
-      × NextIsFree old before.connection
-      × (behind_at new.connections.items before.connection ≢ Broken)
-      × (after.state.phase ≡ phase_answered next
-      (is_content (behind_at new.connections.items before.connection)))
-      × (after.state.unfinished ≡ left_unfinished next before.state.unfinished)
-      × NextIsPrepared old before.connection
-
   -- The next item was answered where nothing was owed, and only what was sent for it was taken; with what
   -- is still to be sent of a content behind it that is the reply.
   pub record Answers (old new : Hub A) (before after : Slot R K S) (moment : ℕ) : Type 0 where
@@ -334,10 +310,3 @@ module _ {A R K S : Type 0} (condition : A → Condition) (unread : R → Option
   abbrev pub MaySend : (S → ℕ) → Causes R K S → (old new : Hub A) → (before after : Slot R K S) → Type 0
   MaySend size causes old new before after = (moment : ℕ) (is_full is_shut : Bool)
       → TakesTurn size causes old new before after moment is_full is_shut true
-
-  -- what becomes of a piece that was offered
-  abbrev pub IsOffered : (old new : Hub A) → (before after : Slot R K S) → (piece : List ℕ) → Type 0
-  IsOffered old new before after piece = (answer : Arrived)
-      × OffersTo condition (reported taken held before.wire) (reported taken held after.wire)
-      before.wire.failures after.wire.failures old new before.connection piece answer
-      × (after.state.phase ≡ phase_offered answer)

@@ -1,9 +1,11 @@
 //! How far a connection is, and what it does next.
 ghost use Rattle.std.specs.Prelude.{◌≡◌, ◌+◌, ◌^◌, ◌-◌, ◌||◌, nat_lt, min, if◌then◌else◌, true, false};
 ghost use Rattle.dep_slot.specs.ConnectionStates.{next_action, closing, counts_anew, is_under_way, is_sending};
+ghost use Rattle.dep_slot.specs.Slots.{left_unfinished, phase_answered, phase_offered, phase_sent};
 
 use crate::limits::Limits;
 use crate::log::Closing;
+use dep_hub::{Arrived, Next, SentOn};
 
 /// How far a connection is.
 #[derive(Clone, Copy, Debug, PartialEq, Eq)]
@@ -161,6 +163,7 @@ impl ConnectionState {
             ≡ (if counts_anew self.old owes second limits.now then 0 else self.old.moved) }
         ensures unfinished { self.new.unfinished ≡ self.old.unfinished }
         ensures kept_back { self.new.is_kept_back ≡ false }
+        ensures awaited { self.new.is_awaited ≡ self.old.is_awaited }
     {
         if self.has_moved {
             self.since = second;
@@ -197,6 +200,42 @@ impl ConnectionState {
         self.moved = self.moved.saturating_add(bytes);
     }
 
+    /// Takes note of a piece of so many bytes, which was offered.
+    pub fn note_piece(&mut self, bytes: u64, arrived: Arrived)
+        ensures { self.new ≡ record self.old {
+          phase = phase_offered arrived;
+          has_moved = self.old.has_moved || nat_lt 0 bytes;
+          moved = min (self.old.moved + bytes) (2 ^ 64 - 1);
+          unfinished = min (self.old.unfinished + bytes) (2 ^ 64 - 1);
+        } }
+    {
+        self.count(bytes);
+        self.unfinished = self.unfinished.saturating_add(bytes);
+        self.phase = phase_offered(arrived);
+    }
+
+    /// Takes note that its next item was answered, behind whose reply a content is sent or not.
+    pub fn note_answer(&mut self, next: Next, is_sending: bool)
+        ensures { self.new ≡ record self.old {
+          phase = phase_answered next is_sending;
+          has_moved = true;
+          unfinished = left_unfinished next self.old.unfinished;
+        } }
+    {
+        self.phase = phase_answered(next, is_sending);
+        self.has_moved = true;
+        if next != Next::Waiting {
+            self.unfinished = 0;
+        }
+    }
+
+    /// Takes note of what sending a few blocks more of a content came to.
+    pub fn note_sent(&mut self, sent_on: SentOn)
+        ensures { self.new ≡ record self.old { phase = phase_sent self.old.phase sent_on } }
+    {
+        self.phase = phase_sent(self.phase, sent_on);
+    }
+
     /// Why it is closed now, if it is: it is over, was silent for too long, or its client is too slow.
     pub fn closing(&self, second: u64, limits: &Limits) -> Option<Closing>
         ensures { result ≡ closing self.now second limits.now }
@@ -215,5 +254,41 @@ impl ConnectionState {
         } else {
             None
         }
+    }
+}
+
+/// How far a connection is once a piece of it was offered.
+fn phase_offered(arrived: Arrived) -> Phase
+    ensures { result ≡ phase_offered arrived }
+{
+    match arrived {
+        Arrived::Open => Phase::Answering,
+        Arrived::Closed | Arrived::Cut => Phase::Last,
+        Arrived::NoSuch => Phase::Over,
+    }
+}
+
+/// How far a connection is once its next item was answered, behind whose reply a content is sent or not.
+fn phase_answered(next: Next, is_sending: bool) -> Phase
+    ensures { result ≡ phase_answered next is_sending }
+{
+    match next {
+        Next::More | Next::Waiting if is_sending => Phase::Sending,
+        Next::Closed | Next::Cut if is_sending => Phase::SendingLast,
+        Next::More => Phase::Answering,
+        Next::Waiting => Phase::Open,
+        Next::Closed | Next::Cut => Phase::Last,
+        Next::NoSuch => Phase::Over,
+    }
+}
+
+/// How far a connection is once a few blocks more were sent to it.
+fn phase_sent(phase: Phase, sent_on: SentOn) -> Phase
+    ensures { result ≡ phase_sent phase sent_on }
+{
+    match sent_on {
+        SentOn::Part => phase,
+        SentOn::All if phase == Phase::Sending => Phase::Answering,
+        SentOn::All | SentOn::Broken => Phase::Last,
     }
 }

@@ -13,4 +13,4 @@ pub use connection_state::{ConnectionState, NextAction, Phase};
 pub use limits::Limits;
 pub use log::{Bytes, Closing, HostLog, Rejection};
 pub use read_buffer::{MOST_READ, ReadBuffer};
-pub use slot::{Slot, Time, Turn};
+pub use slot::{Slot, Time, Turn, TurnOutcome};

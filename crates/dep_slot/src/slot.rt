@@ -1,18 +1,18 @@
 //! A connection that is served.
-ghost use Rattle.std.specs.Prelude.{◌≡◌, ◌≢◌, ◌<◌, ◌≤◌, ◌+◌, ◌-◌, ◌^◌, ◌||◌, ◌&&◌, min, nat_lt, length, true, false};
+ghost use Rattle.std.specs.Prelude.{if◌then◌else◌, ◌≡◌, ◌≢◌, ◌<◌, ◌≤◌, ◌+◌, ◌-◌, ◌^◌, ◌||◌, ◌&&◌, min, nat_lt, length, true, false};
 ghost use Rattle.std.specs.Io.KnownBytes.{IsAtEnd};
 ghost use Rattle.dep_hub.specs.RepresentsOwing.{is_awaited_at};
 ghost use Rattle.dep_outbox.specs.Wires.{owed};
-ghost use Rattle.dep_slot.specs.ConnectionStates.{StaysOrEnds, closing, is_ended, is_held_back, is_sending, phase_begun};
+ghost use Rattle.dep_slot.specs.ConnectionStates.{StaysOrEnds, closing, counts_anew, is_ended, is_held_back, is_sending, is_under_way, phase_begun};
 ghost use Rattle.dep_slot.specs.Causes.{HasCauses, causes_of};
-ghost use Rattle.dep_slot.specs.Slots.{Finishes, Flushes, PutsOff, HubStays, IsDue, SameBehind, TakesTurn, MayRead, MayAnswer, MaySend, IsOffered, IsReplied, slot_action, phase_answered, phase_sent, woken_slot};
+ghost use Rattle.dep_slot.specs.Slots.{Finishes, Flushes, PutsOff, IsDue, TakesTurn, MayRead, MayAnswer, MaySend, owes_some, slot_action, woken_slot};
 
-use crate::connection_state::{ConnectionState, NextAction, Phase};
 use crate::client::Client;
+use crate::connection_state::{ConnectionState, NextAction, Phase};
 use crate::limits::Limits;
 use crate::log::{Bytes, Closing, HostLog};
 use crate::read_buffer::ReadBuffer;
-use dep_hub::{AccessLog, Archive, Arrived, ConnId, Hub, Next, SentOn};
+use dep_hub::{Archive, ConnId, Hub, Next, SentOn};
 use dep_moment::Moment;
 use dep_outbox::{Flushed, Received, Sink, Source, Spool, Wire};
 use std::net::IpAddr;
@@ -37,6 +37,15 @@ pub struct Turn {
     pub is_shut: bool,
     /// Whether its content may be sent on. In a round that is so of a few.
     pub may_send: bool,
+}
+
+/// What a turn came to.
+#[derive(Clone, Copy)]
+pub struct TurnOutcome {
+    /// Whether a content was sent on.
+    pub has_sent: bool,
+    /// Whether the connection can go on at once.
+    pub is_busy: bool,
 }
 
 /// A connection of the hub, the two ways to its client, and how far it is.
@@ -66,6 +75,7 @@ impl<R: Source, K: Sink, S: Spool> Slot<R, K, S> {
         ensures moved { result.state.has_moved ≡ true }
         ensures due { result.state.is_due ≡ false }
         ensures unfinished { result.state.unfinished ≡ 0 }
+        ensures received { result.received ≡ 0 }
     {
         let Client {
             source,
@@ -148,13 +158,7 @@ impl<R: Source, K: Sink, S: Spool> Slot<R, K, S> {
 
     /// Begins its turn. Once the host is shut it is read no more. `is_awaited` tells whether a request waits
     /// for the content that is sent to it.
-    pub fn begin_turn(
-        &mut self,
-        second: u64,
-        limits: &Limits,
-        is_shut: bool,
-        is_awaited: bool,
-    )
+    pub fn begin_turn(&mut self, second: u64, limits: &Limits, is_shut: bool, is_awaited: bool)
         ensures same { self.new ≡ record self.old { state = self.new.state } }
         ensures phase { self.new.state.phase ≡ phase_begun self.old.state.phase is_shut }
         ensures readable { self.new.state.is_readable ≡ self.old.state.is_readable }
@@ -166,6 +170,18 @@ impl<R: Source, K: Sink, S: Spool> Slot<R, K, S> {
         ensures shut { is_shut ≡ true → self.new.state.phase ≢ Phase.Open }
         ensures unfinished { self.new.state.unfinished ≡ self.old.state.unfinished }
         ensures awaited { self.new.state.is_awaited ≡ is_awaited }
+        // Silence and slowness are measured from here on as the state's own turn begins.
+        ensures moved { self.new.state.has_moved ≡ false }
+        ensures since { self.new.state.since
+            ≡ (if self.old.state.has_moved then second else self.old.state.since) }
+        ensures due { self.new.state.is_due ≡ is_under_way self.old.state (owes_some S.size self.old) }
+        ensures mark { self.new.state.mark
+            ≡ (if counts_anew self.old.state (owes_some S.size self.old) second limits.now
+            then second else self.old.state.mark) }
+        ensures bytes { self.new.state.moved
+            ≡ (if counts_anew self.old.state (owes_some S.size self.old) second limits.now
+            then 0 else self.old.state.moved) }
+        ensures kept_back { self.new.state.is_kept_back ≡ false }
     {
         let owes = self.wire.owes();
         self.state.begin_turn(owes, second, limits);
@@ -175,14 +191,6 @@ impl<R: Source, K: Sink, S: Spool> Slot<R, K, S> {
         }
     }
 
-    /// Whether it can go on at once.
-    pub fn is_busy(&self) -> bool
-        ensures waits { result ≡ false → slot_action S.size self.now ≡ NextAction.Wait }
-        ensures busy { slot_action S.size self.now ≡ NextAction.Wait → result ≡ false }
-    {
-        self.state.next_action(self.wire.owes()) != NextAction::Wait
-    }
-
     /// Why it is closed now, if it is.
     pub fn closing(&self, second: u64, limits: &Limits) -> Option<Closing>
         ensures { result ≡ closing self.now.state second limits.now }
@@ -190,25 +198,15 @@ impl<R: Source, K: Sink, S: Spool> Slot<R, K, S> {
         self.state.closing(second, limits)
     }
 
-    /// Whether its content is sent on in a turn.
-    pub fn sends_on(&self, turn: &Turn) -> bool
-        ensures yes { result ≡ true
-            → (turn.now.may_send ≡ true) × (slot_action S.size self.now ≡ NextAction.Send) }
-        ensures no { result ≡ false → turn.now.may_send ≡ true
-            → slot_action S.size self.now ≡ NextAction.Send → ⊥ }
-    {
-        turn.may_send && self.state.next_action(self.wire.owes()) == NextAction::Send
-    }
-
-    /// Does what it does next: at most one piece is read, one item answered, or one step of a content sent.
-    /// What its socket takes and what is read counts as moved.
+    /// Acts once, and counts what its socket took meanwhile, by which a slow client is told from a silent one. At most one
+    /// piece is read, one item answered, or one step of a content sent.
     pub fn take_turn<A: Archive, L: HostLog>(
         &mut self,
         hub: &mut Hub<A>,
         buffer: &mut ReadBuffer,
         turn: &Turn,
         log: &mut L,
-    )
+    ) -> TurnOutcome
         ensures turn { TakesTurn A.condition R.unread K.taken S.held S.size
             (causes_of R.halts K.halts S.failures) hub.old hub.new self.old self.new
             turn.now.time.moment turn.now.is_full turn.now.is_shut turn.now.may_send }
@@ -219,11 +217,27 @@ impl<R: Source, K: Sink, S: Spool> Slot<R, K, S> {
             + (self.new.wire.delivered - self.old.wire.delivered)) (2 ^ 64 - 1)
             ≤ self.new.state.moved }
         ensures noted { L.notes log.new ≡ L.notes log.old }
+        ensures sent { result.has_sent ≡ true
+            → (turn.now.may_send ≡ true) × (slot_action S.size self.old ≡ NextAction.Send) }
+        ensures unsent { result.has_sent ≡ false → turn.now.may_send ≡ true
+            → slot_action S.size self.old ≡ NextAction.Send → ⊥ }
+        ensures waits { result.is_busy ≡ false → slot_action S.size self.new ≡ NextAction.Wait }
+        ensures busy { slot_action S.size self.new ≡ NextAction.Wait → result.is_busy ≡ false }
     {
+        let has_sent = turn.may_send && self.next_action() == NextAction::Send;
         let before = self.wire.delivered();
         self.act(hub, buffer, turn, log);
         let sent = self.wire.delivered().saturating_sub(before);
         self.state.count(sent);
+        let is_busy = self.next_action() != NextAction::Wait;
+        TurnOutcome { has_sent, is_busy }
+    }
+
+    /// What it does next.
+    fn next_action(&self) -> NextAction
+        ensures { result ≡ slot_action S.size self.now }
+    {
+        self.state.next_action(self.wire.owes())
     }
 
     /// Whether it is read: not once the host is shut, and where too many bytes of unfinished requests
@@ -238,7 +252,7 @@ impl<R: Source, K: Sink, S: Spool> Slot<R, K, S> {
         !turn.is_shut && (!turn.is_full || self.state.unfinished == 0)
     }
 
-    /// Does what it does next, and doesn't count what is sent.
+    /// Chooses what it does, by how far it is and by what the turn allows.
     fn act<A: Archive, L: HostLog>(
         &mut self,
         hub: &mut Hub<A>,
@@ -269,7 +283,7 @@ impl<R: Source, K: Sink, S: Spool> Slot<R, K, S> {
         }
     }
 
-    /// Answers the next item, unless it is kept back, and sends what is owed for it.
+    /// Has the hub answer its next item, and tells the log, unless the item is kept back.
     fn answer<A: Archive, L: HostLog>(&mut self, hub: &mut Hub<A>, moment: Moment, log: &mut L)
         requires { IsDue S.held S.size self.old Phase.Answering NextAction.Answer }
         ensures turn { MayAnswer A.condition R.unread K.taken S.held S.size
@@ -278,14 +292,21 @@ impl<R: Source, K: Sink, S: Spool> Slot<R, K, S> {
         ensures noted { L.notes log.new ≡ L.notes log.old }
     {
         let mut item = log.answering(self.connection, self.address);
-        let received = self.state.unfinished;
         self.reply_start = self.wire.written();
-        match self.answer_next(hub, moment, &mut item) {
-            Some(next) => self.report(item, next, received, log),
-            None => log.kept_back(item),
+        match hub.reply(self.connection, moment, &mut self.wire, &mut item) {
+            Some(next) => {
+                let received = self.state.unfinished;
+                self.state
+                    .note_answer(next, hub.is_sending(self.connection));
+                self.report(item, next, received, log);
+                // Where it is stopped short, the next turn tries again, and takes note of that.
+                let _flushed = self.wire.flush();
+            }
+            None => {
+                self.state.keep_back();
+                log.kept_back(item);
+            }
         }
-        // Where it is stopped short, the next turn tries again, and takes note of that.
-        let _flushed = self.wire.flush();
     }
 
     /// Tells the log of an item that was answered.
@@ -308,37 +329,6 @@ impl<R: Source, K: Sink, S: Spool> Slot<R, K, S> {
         self.wire.written().saturating_sub(self.reply_start)
     }
 
-    /// Answers the next item, unless it is kept back.
-    fn answer_next<A: Archive, L: AccessLog>(
-        &mut self,
-        hub: &mut Hub<A>,
-        moment: Moment,
-        log: &mut L,
-    ) -> Option<Next>
-        ensures hub { HubStays A.condition hub.old hub.new }
-        ensures same { self.new ≡ record self.old {
-          wire = self.new.wire;
-          state = self.new.state;
-        } }
-        ensures replies { IsReplied A.condition R.unread K.taken S.held hub.old hub.new self.old
-            self.new moment result }
-        ensures readable { self.new.state.is_readable ≡ self.old.state.is_readable }
-        ensures writable { self.new.state.is_writable ≡ self.old.state.is_writable }
-        ensures stirs { self.new.state.has_moved ≡ true }
-        ensures moved { self.new.state.moved ≡ self.old.state.moved }
-    {
-        let Some(next) = hub.reply(self.connection, moment, &mut self.wire, log) else {
-            self.state.keep_back();
-            return None;
-        };
-        self.state.has_moved = true;
-        self.state.phase = phase_answered(next, hub.is_sending(self.connection));
-        if next != Next::Waiting {
-            self.state.unfinished = 0;
-        }
-        Some(next)
-    }
-
     /// Sends a few blocks more of the content behind its last reply.
     fn send_on<A: Archive, L: HostLog>(&mut self, hub: &mut Hub<A>, log: &mut L)
         requires due { slot_action S.size self.old ≡ NextAction.Send }
@@ -349,7 +339,7 @@ impl<R: Source, K: Sink, S: Spool> Slot<R, K, S> {
         ensures noted { L.notes log.new ≡ L.notes log.old }
     {
         let sent_on = hub.send_on(self.connection, &mut self.wire);
-        self.state.phase = phase_sent(self.state.phase, sent_on);
+        self.state.note_sent(sent_on);
         if sent_on != SentOn::Part {
             log.sent(self.connection, self.address, sent_on, self.replied());
         }
@@ -379,7 +369,7 @@ impl<R: Source, K: Sink, S: Spool> Slot<R, K, S> {
         }
     }
 
-    /// Reads a piece, and offers it.
+    /// Reads a piece, which the hub holds until its items are answered.
     fn read<A: Archive>(&mut self, hub: &mut Hub<A>, buffer: &mut ReadBuffer)
         requires { IsDue S.held S.size self.old Phase.Open NextAction.Read }
         ensures turn { MayRead A.condition R.unread K.taken S.held S.size
@@ -387,42 +377,14 @@ impl<R: Source, K: Sink, S: Spool> Slot<R, K, S> {
         ensures moved { min self.old.state.moved (2 ^ 64 - 1) ≤ self.new.state.moved }
     {
         match buffer.receive(&mut self.source) {
-            Received::Bytes(n) => self.offer(hub, &buffer.bytes[..n]),
+            Received::Bytes(n) => {
+                let arrived = hub.offer(self.connection, &buffer.bytes[..n], &mut self.wire);
+                self.state.note_piece(n as u64, arrived);
+                self.received = self.received.saturating_add(n as u64);
+            }
             Received::Later => self.state.is_readable = false,
             Received::Ended | Received::Failed => self.state.phase = Phase::Over,
         }
-    }
-
-    /// Offers a piece, which counts as moved.
-    fn offer<A: Archive>(&mut self, hub: &mut Hub<A>, piece: &[u8])
-        ensures hub { HubStays A.condition hub.old hub.new }
-        ensures store { hub.new.store ≡ hub.old.store }
-        ensures behind { SameBehind hub.old hub.new }
-        ensures same { self.new ≡ record self.old {
-          wire = self.new.wire;
-          state = self.new.state;
-          received = self.new.received;
-        } }
-        ensures offers { IsOffered A.condition R.unread K.taken S.held hub.old hub.new
-            self.old self.new piece.now }
-        ensures readable { self.new.state.is_readable ≡ self.old.state.is_readable }
-        ensures writable { self.new.state.is_writable ≡ self.old.state.is_writable }
-        ensures has_moved { self.new.state.has_moved
-            ≡ (self.old.state.has_moved || nat_lt 0 (length piece.now)) }
-        ensures moved { self.new.state.moved
-            ≡ min (self.old.state.moved + length piece.now) (2 ^ 64 - 1) }
-        ensures unfinished { self.new.state.unfinished
-            ≡ min (self.old.state.unfinished + length piece.now) (2 ^ 64 - 1) }
-    {
-        let bytes = piece.len() as u64;
-        self.state.count(bytes);
-        self.state.unfinished = self.state.unfinished.saturating_add(bytes);
-        self.received = self.received.saturating_add(bytes);
-        self.state.phase = match hub.offer(self.connection, piece, &mut self.wire) {
-            Arrived::Open => Phase::Answering,
-            Arrived::Closed | Arrived::Cut => Phase::Last,
-            Arrived::NoSuch => Phase::Over,
-        };
     }
 
     /// Sends what is owed, as far as the socket takes it.
@@ -461,30 +423,5 @@ impl<R: Source, K: Sink, S: Spool> Slot<R, K, S> {
             Received::Later => self.state.is_readable = false,
             Received::Ended | Received::Failed => self.state.phase = Phase::Over,
         }
-    }
-}
-
-/// How far a connection is once its next item was answered, behind whose reply a content is sent or not.
-fn phase_answered(next: Next, is_sending: bool) -> Phase
-    ensures { result ≡ phase_answered next is_sending }
-{
-    match next {
-        Next::More | Next::Waiting if is_sending => Phase::Sending,
-        Next::Closed | Next::Cut if is_sending => Phase::SendingLast,
-        Next::More => Phase::Answering,
-        Next::Waiting => Phase::Open,
-        Next::Closed | Next::Cut => Phase::Last,
-        Next::NoSuch => Phase::Over,
-    }
-}
-
-/// How far a connection is once a few blocks more were sent to it.
-fn phase_sent(phase: Phase, sent_on: SentOn) -> Phase
-    ensures { result ≡ phase_sent phase sent_on }
-{
-    match sent_on {
-        SentOn::Part => phase,
-        SentOn::All if phase == Phase::Sending => Phase::Answering,
-        SentOn::All | SentOn::Broken => Phase::Last,
     }
 }

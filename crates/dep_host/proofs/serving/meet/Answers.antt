@@ -20,7 +20,7 @@ pub returns-in-End-clause-met : goal.returns-in-End-clause-met
 returns-in-End-clause-met g c = (c.in-End.is, refl, refl)
 
 pub returns-in-Round-clause-met : goal.returns-in-Round-clause-met
-returns-in-Round-clause-met g c = round_met g.A.Archive.condition g.R.Source.unread g.K.Sink.taken g.S.Spool.held g.A.Archive.call_log g.S.Spool.size (causes_of g.R.Source.halts g.K.Sink.halts g.S.Spool.failures) g.L.HostLog.notes _ _ _ _ c.args.now.vacancy c.args.event c.go_on-next.result c.go_on-next.ensures.end c.go_on-next.ensures.unspent
+returns-in-Round-clause-met g c = round_met g.A.Archive.condition g.R.Source.unread g.K.Sink.taken g.S.Spool.held g.A.Archive.call_log g.S.Spool.size (causes_of g.R.Source.halts g.K.Sink.halts g.S.Spool.failures) g.L.HostLog.notes _ _ _ _ c.args.now.vacancy c.args.event c.wind_up-next.result c.wind_up-next.ensures.end c.wind_up-next.ensures.unspent
     (meets_as g.A.Archive.condition g.R.Source.unread g.K.Sink.taken g.S.Spool.held g.A.Archive.call_log g.S.Spool.size (causes_of g.R.Source.halts g.K.Sink.halts g.S.Spool.failures) g.L.HostLog.notes _ _ _ _ c.args.now.vacancy c.args.event _ c.in-Round.is (
       _,
       makes_round (record {
@@ -28,7 +28,7 @@ returns-in-Round-clause-met g c = round_met g.A.Archive.condition g.R.Source.unr
         goes = subst (λ (o : Option _). GoesRound g.A.Archive.condition g.R.Source.unread g.K.Sink.taken g.S.Spool.held g.S.Spool.size (causes_of g.R.Source.halts g.K.Sink.halts g.S.Spool.failures) (position c.args.host.now) (position c.round-is_busy.new.self) c.args.host.now.first c.round-is_busy.new.self.first c.in-Round.time (g.L.HostLog.notes c.args.log.now) o) (sym c.let_rest.ensures) c.round-is_busy.ensures.goes;
         left = c.round-is_busy.ensures.left;
         stays = c.round-is_busy.ensures.stays;
-        asks = c.go_on-next.ensures.asks;
+        asks = c.ask_on-is_left.ensures.asks;
       }),
     ))
 
@@ -37,10 +37,10 @@ returns-in-Ready-clause-vacant g c = offer_kept c.args.host.now c.set_ready.new.
 
 pub returns-in-Round-clause-time : goal.returns-in-Round-clause-time
 returns-in-Round-clause-time g c =
-    IfOk-weaker c.go_on-next.result _ _ (λ next h. all_round (λ second. is_overdue c.go_on-next.new.host.shut second c.go_on-next.new.host.limits ≡ false) c.args.event c.in-Round.time c.in-Round.is h) c.go_on-next.ensures.time
+    IfOk-weaker c.wind_up-next.result _ _ (λ next h. all_round (λ second. is_overdue c.ask_on-is_left.new.host.shut second c.ask_on-is_left.new.host.limits ≡ false) c.args.event c.in-Round.time c.in-Round.is h) c.wind_up-next.ensures.time
 
 pub returns-in-Round-clause-shut : goal.returns-in-Round-clause-shut
-returns-in-Round-clause-shut g c = λ why ends. subst (λ (event : Event _ _ _). MayEnd c.go_on-next.new.host why (seconds_of event)) (sym c.in-Round.is) (c.go_on-next.ensures.shut why ends)
+returns-in-Round-clause-shut g c = λ why ends. subst (λ (event : Event _ _ _). MayEnd c.ask_on-is_left.new.host why (seconds_of event)) (sym c.in-Round.is) (c.wind_up-next.ensures.shut why ends)
 
 pub returns-in-Stop-clause-met : goal.returns-in-Stop-clause-met
 returns-in-Stop-clause-met g c = round_met g.A.Archive.condition g.R.Source.unread g.K.Sink.taken g.S.Spool.held g.A.Archive.call_log g.S.Spool.size (causes_of g.R.Source.halts g.K.Sink.halts g.S.Spool.failures) g.L.HostLog.notes _ _ _ _ c.args.now.vacancy c.args.event c.wind_up.result c.wind_up.ensures.end c.wind_up.ensures.unspent

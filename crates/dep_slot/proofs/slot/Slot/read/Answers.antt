@@ -2,22 +2,18 @@ use Rattle.std.proofs.Common.{◌≤◌, ℕ, List, length, take, inl, inr, refl
 use Rattle.std.specs.Io.KnownBytes.{Consumes}
 use Rattle.dep_hub.specs.Numbers.{most_read}
 use Rattle.dep_slot.specs.Causes.{causes_of}
-use Rattle.dep_slot.proofs.SlotLemmas.{received, none_read, ends_read, ended_asked, offered_to}
+use Rattle.dep_slot.proofs.SlotLemmas.{received, none_read, ends_read, ended_asked}
 use Rattle.dep_slot.proofs.slot.Slot.read.Goals as goal
 
 pub returns-in-Bytes-clause-turn : goal.returns-in-Bytes-clause-turn
 returns-in-Bytes-clause-turn g c = λ moment is_full is_shut may_send allowed unshut.
-    let offers = c.offer.ensures.offers in
     let bytes = c.in-Bytes.ensures.bytes in
-    let kept = offered_to c.args.self.now c.offer.new.self c.receive.new.source _ _ _ c.offer.ensures.same in
     let within : c.in-Bytes.n ≤ length c.deref.result.now = omega (arith, bytes.1, c.deref.ensures.len) in
     let small : length c.deref.result.now ≤ most_read = omega (arith, c.receive.new.self.small, c.deref.ensures.len) in
-    received g.A.Archive.condition g.R.Source.unread g.K.Sink.taken g.S.Spool.held g.S.Spool.size (causes_of g.R.Source.halts g.K.Sink.halts g.S.Spool.failures) c.args.hub.now c.offer.new.hub c.args.self.now c.offer.new.self c.receive.new.source c.deref.result.now c.in-Bytes.n
-    offers.0 is_full is_shut may_send c.requires.due kept.0 c.offer.ensures.hub
-    c.requires.unowed c.requires.phase bytes.0 within small
+    received g.A.Archive.condition g.R.Source.unread g.K.Sink.taken g.S.Spool.held g.S.Spool.size (causes_of g.R.Source.halts g.K.Sink.halts g.S.Spool.failures) c.args.hub.now c.offer-arrived.new.self c.args.self.now _ c.receive.new.source c.deref.result.now c.in-Bytes.n
+    c.offer-arrived.result is_full is_shut may_send (record { connection = refl; address = refl }) refl c.offer-arrived.ensures.kept c.requires bytes.0 within small
     (subst (λ (l : List ℕ). Consumes (g.R.Source.unread c.args.self.now.source) (g.R.Source.unread c.receive.new.source) (take c.in-Bytes.n l)) (sym c.deref.ensures.value) bytes.2)
-    kept.1 c.offer.ensures.store c.offer.ensures.behind offers.1 offers.2 c.offer.ensures.readable c.offer.ensures.writable
-    allowed unshut c.offer.ensures.has_moved c.offer.ensures.moved c.offer.ensures.unfinished moment
+    c.offer-arrived.ensures.behind c.offer-arrived.ensures.offers c.note_piece.ensures allowed unshut moment
 
 pub returns-in-Later-clause-turn : goal.returns-in-Later-clause-turn
 returns-in-Later-clause-turn g c = λ moment is_full is_shut may_send allowed unshut.

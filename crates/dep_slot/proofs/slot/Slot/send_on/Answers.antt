@@ -1,6 +1,5 @@
-use Rattle.std.proofs.Common.{refl, ap}
+use Rattle.std.proofs.Common.{refl}
 use Rattle.dep_slot.specs.Causes.{causes_of}
-use Rattle.dep_slot.specs.declared.connection_state.Phase.{Phase}
 use Rattle.dep_slot.proofs.SlotLemmas.{sent_on}
 use Rattle.dep_slot.proofs.slot.Slot.send_on.Goals as goal
 
@@ -10,4 +9,4 @@ returns-clause-turn g c =
     sent_on g.A.Archive.condition g.R.Source.unread g.K.Sink.taken g.S.Spool.held g.S.Spool.size (causes_of g.R.Source.halts g.K.Sink.halts g.S.Spool.failures) c.args.hub.now c.send_on-sent_on.new.self c.args.self.now _ _ _ c.send_on-sent_on.result
     (record { connection = refl; address = refl }) (record { next = goes.next; same_config = goes.config; clean = goes.clean; honest = goes.honest })
     c.requires.due c.requires.unowed refl c.send_on-sent_on.ensures.sends c.flush-left.ensures.keeps c.flush-left.ensures.failures
-    (ap (λ (p : Phase). record c.args.self.now.state { phase = p }) c.phase_sent-self.ensures)
+    c.note_sent.ensures
